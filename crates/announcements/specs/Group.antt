@@ -21,24 +21,24 @@ abbrev pub service_text : List ℕ → ℕ → List (List ℕ) → List ℕ
 service_text kind port records =
     codes "<service>\n" ++ (element (codes "type") kind ++ (element (codes "port") (decimal port) ++ (record_lines records ++ codes "</service>\n")))
 
--- a printer over one protocol
+-- the service of a printer over one protocol
 unfoldable pub printer_service : ServerSettings → PrinterEntry → Protocol → ℕ → List ℕ
 printer_service settings printer protocol port = service_text (kind_of protocol) port (records_of settings printer protocol)
 
 -- ---- the group
 
--- what stands in front of the name of every group, and what ends it
+-- the text in front of the name of every group, and the text that ends every group
 unfoldable pub group_head : List ℕ
 group_head = codes "<?xml version='1.0' standalone='no'?>\n<!DOCTYPE service-group SYSTEM 'avahi-service.dtd'>\n<service-group>\n"
 
 unfoldable pub group_end : List ℕ
 group_end = codes "</service-group>\n"
 
--- the name of its services: the printer's, and for `%h` that of the machine
+-- the name of the services: the name of the printer, and `%h` for the name of the machine
 unfoldable pub group_name : List ℕ → List ℕ
 group_name name = codes "<name replace-wildcards='yes'>" ++ (escaped name ++ codes " @ %h</name>\n")
 
--- a printer, over IPP and over LPD
+-- the group of a printer: its services over IPP and over LPD
 abbrev pub printer_group : ServerSettings → PrinterEntry → Ports → List ℕ
 printer_group settings printer ports =
     group_head

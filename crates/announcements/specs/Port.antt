@@ -5,11 +5,11 @@ use Rattle.std.specs.Option.{option_map_or, option_and_then, option_or}
 use Rattle.std.specs.Str.{bytes_eq}
 use Rattle.text.specs.Digits.{number_up_to}
 
--- what follows the beginning of a text
+-- the octets behind a front of a text; `None` where the text has another front
 abbrev pub behind : List ℕ → List ℕ → Option (List ℕ)
 behind front text = if bytes_eq (take (length front) text) front then Some (drop (length front) text) else None
 
--- what follows the scheme, which ends at the first colon
+-- the octets behind the scheme and `://`; the scheme ends at the first colon
 abbrev pub behind_scheme : List ℕ → Option (List ℕ)
 behind_scheme uri = option_and_then (λ colon. behind (codes "://") (drop colon uri)) (position (λ byte. byte == 58) uri)
 
@@ -17,15 +17,15 @@ behind_scheme uri = option_and_then (λ colon. behind (codes "://") (drop colon 
 abbrev pub authority_of : List ℕ → List ℕ
 authority_of uri = option_map_or (before_first (λ byte. byte == 47)) (behind_scheme uri) []
 
--- what follows the last colon, if there is one
+-- the octets behind the last colon, if there is a colon
 abbrev pub behind_colon : List ℕ → Option (List ℕ)
 behind_colon [] = None
 behind_colon (byte ∷ bytes) = option_or (behind_colon bytes) (if byte == 58 then Some bytes else None)
 
--- the port of an authority, if it names one
+-- the port of an authority, if the authority has a valid port
 abbrev pub port_named : List ℕ → Option ℕ
 port_named authority = option_and_then (number_up_to 65535) (behind_colon authority)
 
--- the port of IPP
+-- the port of IPP clients
 abbrev pub ipp_port : List ℕ → ℕ
 ipp_port uri = unwrap_or (port_named (authority_of uri)) 631

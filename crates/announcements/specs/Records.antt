@@ -1,5 +1,5 @@
--- What is told of a printer: the strings of a TXT record (RFC 6763, section 6), with the keys of Apple's
--- Bonjour Printing Specification 1.2.1.
+-- The strings of a printer's TXT record (RFC 6763, section 6), with the keys of Apple's Bonjour Printing
+-- Specification 1.2.1.
 use Rattle.std.specs.Prelude.{ℕ, ◌-◌, nat_lt, nat_le, Bool, if◌then◌else◌, List, [], ◌∷◌, ◌++◌, length, codes}
 use Rattle.settings_file.specs.Settings.{ServerSettings, PrinterEntry}
 use Rattle.announcements.specs.declared.ability.Ability.{Ability}
@@ -13,21 +13,21 @@ abbrev pub kind_of : Protocol → List ℕ
 kind_of Ipp = codes "_ipp._tcp"
 kind_of Lpd = codes "_printer._tcp"
 
--- how much it is preferred: the least number the most
+-- the priority of a protocol: clients prefer the least number
 abbrev pub priority_of : Protocol → List ℕ
 priority_of Ipp = codes "20"
 priority_of Lpd = codes "50"
 
--- how it names the printer: the path of its URI without the first `/`, or its queue
+-- the name of the printer in a protocol: the path of its URI without the first `/`, or its queue
 abbrev pub resource_of : Protocol → List ℕ → List ℕ
 resource_of Ipp name = codes "printers/" ++ name
 resource_of Lpd name = name
 
--- a key and its value
+-- the string of a key and its value
 abbrev pub record_of : List ℕ → List ℕ → List ℕ
 record_of key value = key ++ (codes "=" ++ value)
 
--- ---- the formats, as far as they fit into so many octets, a comma between two
+-- ---- the formats that fit into this number of octets, with a comma between two formats
 
 abbrev pub others_text : ℕ → List (List ℕ) → List ℕ
 others_text room [] = []
@@ -43,7 +43,7 @@ pdl_room = 251
 
 -- ---- the strings
 
--- yes or no
+-- the value of a Boolean key
 abbrev pub yes_or_no : Bool → List ℕ
 yes_or_no able = if able then codes "T" else codes "F"
 
@@ -56,7 +56,7 @@ ability_key Bind = codes "Bind"
 abbrev pub ability_record : ServerSettings → PrinterEntry → Ability → List ℕ
 ability_record settings printer ability = record_of (ability_key ability) (yes_or_no (is_able settings printer ability))
 
--- the queue, and how a protocol names it
+-- the strings about the queue, and about its name in a protocol
 abbrev pub queue_records : Protocol → PrinterEntry → List (List ℕ)
 queue_records protocol printer =
     record_of (codes "txtvers") (codes "1")
@@ -65,15 +65,15 @@ queue_records protocol printer =
     ∷ record_of (codes "priority") (priority_of protocol)
     ∷ []
 
--- what it is
+-- the printer's description
 unfoldable pub model : List ℕ
 model = codes "Hoodbasil print server"
 
--- the same in parentheses, by which drivers are chosen
+-- the same description in parentheses, by which clients choose a driver
 unfoldable pub product : List ℕ
 product = codes "(Hoodbasil print server)"
 
--- what it is, and which formats it takes
+-- the strings of the description, and of the formats that the printer takes
 abbrev pub kind_records : ServerSettings → PrinterEntry → List (List ℕ)
 kind_records settings printer =
     record_of (codes "ty") model
@@ -81,7 +81,7 @@ kind_records settings printer =
     ∷ record_of (codes "pdl") (formats_text pdl_room (formats_of settings printer))
     ∷ []
 
--- what may be asked of a job
+-- the strings of the abilities that a job may ask for
 abbrev pub ability_records : ServerSettings → PrinterEntry → List (List ℕ)
 ability_records settings printer =
     record_of (codes "Copies") (codes "T")

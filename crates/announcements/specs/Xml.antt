@@ -1,7 +1,7 @@
 -- Text and elements as XML writes them (XML 1.0, section 2.4).
 use Rattle.std.specs.Prelude.{ℕ, ◌==◌, if◌then◌else◌, List, [], ◌∷◌, ◌++◌, codes}
 
--- a byte of a text; `&`, `<` and `>` have names
+-- a byte of a text as XML writes it: `&`, `<` and `>` have names
 abbrev pub escaped_byte : ℕ → List ℕ
 escaped_byte byte =
     if byte == 38 then codes "&amp;" else if byte == 60 then codes "&lt;" else if byte == 62 then codes "&gt;" else byte ∷ []

@@ -1,4 +1,4 @@
-//! What the devices of a printer can do to a job's sheets.
+//! The abilities of a printer's devices: sides and finishings of a job's sheets.
 ghost use Rattle.std.specs.Prelude.{◌≡◌};
 ghost use Rattle.announcements.specs.Printer.{has_ability, is_able_at, is_able};
 
@@ -6,20 +6,20 @@ use crate::printer::device_at;
 use base_types::DeviceId;
 use settings_file::{DeviceSettings, PrinterSettings, Settings};
 
-/// What a device can or can't do.
+/// An ability of a device.
 #[derive(Clone, Copy, Debug, PartialEq, Eq)]
 pub(crate) enum Ability {
-    /// It prints on both sides.
+    /// The device prints on both sides.
     TwoSided,
-    /// It staples the sheets of a copy.
+    /// The device staples the sheets of a copy.
     Staple,
-    /// It punches them.
+    /// The device punches the sheets.
     Punch,
-    /// It binds them.
+    /// The device binds the sheets.
     Bind,
 }
 
-/// Whether some device of the printer can.
+/// Returns whether some device of the printer has the ability.
 pub(crate) fn is_able(settings: &Settings, printer: &PrinterSettings, ability: Ability) -> bool
     ensures { result ≡ is_able settings.now printer.now ability }
 {
@@ -30,7 +30,7 @@ pub(crate) fn is_able(settings: &Settings, printer: &PrinterSettings, ability: A
         .any(|place| is_able_at(settings, ability, *place))
 }
 
-/// Whether the device at a place can.
+/// Returns whether the device at a place has the ability.
 fn is_able_at(settings: &Settings, ability: Ability, place: DeviceId) -> bool
     ensures { result ≡ is_able_at settings.now ability place }
 {
@@ -40,7 +40,7 @@ fn is_able_at(settings: &Settings, ability: Ability, place: DeviceId) -> bool
     }
 }
 
-/// Whether a device can.
+/// Returns whether a device has the ability.
 fn has_ability(device: &DeviceSettings, ability: Ability) -> bool
     ensures { result ≡ has_ability ability device.now }
 {

@@ -1,4 +1,4 @@
-//! The document formats that the devices of a printer take, and how many of them are told.
+//! The document formats that the devices of a printer take, and those of them that fit into a TXT record.
 ghost use Rattle.std.specs.Prelude.{◌≡◌, ◌++◌, IfOk, OnOk};
 ghost use Rattle.announcements.specs.Printer.{formats_at, formats_of, is_among, with_entries, with_entry};
 ghost use Rattle.announcements.specs.Records.{formats_text, others_text};
@@ -8,7 +8,7 @@ use base_types::{DeviceId, Text};
 use settings_file::{PrinterSettings, Settings};
 use std::alloc::{AllocError, Global};
 
-/// The formats of the printer's devices in their order, each once.
+/// The formats of the printer's devices in their order, each format once. The only error is out of memory.
 pub(crate) fn formats_of(
     alloc: Global,
     settings: &Settings,
@@ -24,7 +24,7 @@ pub(crate) fn formats_of(
     Ok(found)
 }
 
-/// Adds those of the device at a place, where there is one.
+/// Adds the formats of the device at a place, if there is such a device. The only error is out of memory.
 fn add_formats_at(
     alloc: Global,
     found: &mut Vec<Text>,
@@ -48,7 +48,7 @@ fn add_formats(alloc: Global, found: &mut Vec<Text>, formats: &[Text]) -> Result
     Ok(())
 }
 
-/// Adds a format, if it isn't there yet.
+/// Adds a format, if the list does not have it yet. The only error is out of memory.
 fn add_once(alloc: Global, found: &mut Vec<Text>, format: &Text) -> Result<(), AllocError>
     ensures { OnOk result (found.new.items ≡ with_entry found.old.items format.now) }
 {
@@ -59,7 +59,7 @@ fn add_once(alloc: Global, found: &mut Vec<Text>, format: &Text) -> Result<(), A
     Ok(())
 }
 
-/// Whether a format is there.
+/// Returns whether the list has a format.
 fn is_among(found: &[Text], format: &Text) -> bool
     ensures { result ≡ is_among found.now format.now }
 {
@@ -68,7 +68,8 @@ fn is_among(found: &[Text], format: &Text) -> bool
         .any(|other| other.as_bytes() == format.as_bytes())
 }
 
-/// Appends formats, a comma before each but the first, as far as they fit into so many octets.
+/// Appends the formats that fit into `room` octets, with a comma before each format but the first. The only
+/// error is out of memory.
 pub(crate) fn put_formats(
     output: &mut Vec<u8>,
     formats: &[Text],
@@ -87,7 +88,8 @@ pub(crate) fn put_formats(
     put_others(output, others, room - octets)
 }
 
-/// Appends formats, a comma before each, as far as they fit into so many octets.
+/// Appends the formats that fit into `room` octets, with a comma before each format. The only error is out of
+/// memory.
 fn put_others(output: &mut Vec<u8>, formats: &[Text], room: usize) -> Result<(), AllocError>
     ensures { OnOk result (output.new.items ≡ output.old.items ++ others_text room formats.now) }
 {

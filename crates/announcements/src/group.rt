@@ -9,17 +9,17 @@ use base_types::Text;
 use settings_file::{PrinterSettings, Settings};
 use std::alloc::{AllocError, Global};
 
-/// Where clients come in.
+/// The ports of the doors for clients.
 #[derive(Clone, Copy, Debug, PartialEq, Eq)]
 pub struct Ports {
-    /// Those of IPP.
+    /// The port for clients of IPP.
     pub ipp: u16,
-    /// Those of LPD.
+    /// The port for clients of LPD.
     pub lpd: u16,
 }
 
-/// Appends the service group of a printer of the settings. Where there is no memory, nothing is
-/// appended.
+/// Appends the service group of a printer of the settings. The only error is out of memory, and nothing is
+/// appended then.
 pub fn write_service(
     alloc: Global,
     settings: &Settings,
@@ -65,7 +65,7 @@ fn printer_group(
     Ok(text)
 }
 
-/// Appends what stands in front of the name of every group.
+/// Appends the text in front of the name of every group. The only error is out of memory.
 #[tactic(auto, unfolding(crate::specs::Group::group_head))]
 fn put_head(output: &mut Vec<u8>) -> Result<(), AllocError>
     ensures { OnOk result (output.new.items ≡ output.old.items ++ group_head) }
@@ -75,7 +75,7 @@ fn put_head(output: &mut Vec<u8>) -> Result<(), AllocError>
     )
 }
 
-/// Appends what ends every group.
+/// Appends the text that ends every group. The only error is out of memory.
 #[tactic(auto, unfolding(crate::specs::Group::group_end))]
 fn put_end(output: &mut Vec<u8>) -> Result<(), AllocError>
     ensures { OnOk result (output.new.items ≡ output.old.items ++ group_end) }
@@ -83,7 +83,8 @@ fn put_end(output: &mut Vec<u8>) -> Result<(), AllocError>
     output.extend_from_slice(b"</service-group>\n")
 }
 
-/// Appends the name under which the services are found: the printer's, and that of this machine.
+/// Appends the name of the services: the printer's name, and the name of the machine. The only error is out
+/// of memory.
 #[tactic(auto, unfolding(crate::specs::Group::group_name))]
 fn put_name(output: &mut Vec<u8>, name: &Text) -> Result<(), AllocError>
     ensures { OnOk result (output.new.items ≡ output.old.items ++ group_name name.now) }
@@ -93,7 +94,7 @@ fn put_name(output: &mut Vec<u8>, name: &Text) -> Result<(), AllocError>
     output.extend_from_slice(b" @ %h</name>\n")
 }
 
-/// Appends the service of a printer over one protocol.
+/// Appends the service of a printer over one protocol. The only error is out of memory.
 #[tactic(auto, unfolding(crate::specs::Group::printer_service))]
 fn put_printer(
     alloc: Global,
@@ -109,7 +110,7 @@ fn put_printer(
     put_service(alloc, output, protocol.kind(), port, &records)
 }
 
-/// Appends a service.
+/// Appends a service. The only error is out of memory.
 fn put_service(
     alloc: Global,
     output: &mut Vec<u8>,
@@ -127,7 +128,7 @@ fn put_service(
     output.extend_from_slice(b"</service>\n")
 }
 
-/// Appends an element for each string of TXT.
+/// Appends an element for each string of TXT. The only error is out of memory.
 fn put_records(output: &mut Vec<u8>, records: &[Text]) -> Result<(), AllocError>
     ensures { OnOk result (output.new.items ≡ output.old.items ++ record_lines records.now) }
 {
@@ -137,7 +138,7 @@ fn put_records(output: &mut Vec<u8>, records: &[Text]) -> Result<(), AllocError>
     Ok(())
 }
 
-/// Appends the element of a string of TXT.
+/// Appends the element of a string of TXT. The only error is out of memory.
 fn put_record(output: &mut Vec<u8>, string: &Text) -> Result<(), AllocError>
     ensures { OnOk result (output.new.items ≡ output.old.items ++ record_line string.now) }
 {

@@ -1,14 +1,14 @@
-//! How a printer is announced on its network, so that clients find it: by multicast DNS (RFC 6762) and
-//! DNS-based service discovery (RFC 6763), which a daemon as Avahi speaks.
+//! The announcement of a printer on its network, by which clients find the printer: multicast DNS (RFC 6762)
+//! and DNS-based service discovery (RFC 6763), which a daemon such as Avahi speaks.
 //!
-//! [`write_service`] appends the text of the file that Avahi reads: a service group with what a
-//! client of IPP and one of LPD have to know of the printer, as Apple's Bonjour Printing
-//! Specification 1.2.1 has it. [`printer_named`] and [`only_printer`] find a printer in settings, and
-//! [`ipp_port`] the port that the base of URIs names. It speaks to no daemon and opens no file; what
-//! is announced is what the settings say, and not what a device does at the moment.
+//! [`write_service`] appends the text of the file that Avahi reads: a service group with the facts that a
+//! client of IPP and a client of LPD need about the printer, as Apple's Bonjour Printing Specification 1.2.1
+//! has them. [`printer_named`] and [`only_printer`] find a printer in settings, and [`ipp_port`] finds the
+//! port that the base of URIs names. The crate speaks to no daemon and opens no file. An announcement says
+//! what the settings say, and not what a device does at the moment.
 //!
-//! That Avahi reads such a file, and that clients find the printer by it, `tools/clients/try_avahi.sh`
-//! shows; its rows stand in `unit_tests`.
+//! `tools/clients/try_avahi.sh` shows that Avahi reads such a file, and that clients find the printer by it.
+//! The rows of the crate are in `unit_tests`.
 #![tactic(auto)]
 
 mod ability;

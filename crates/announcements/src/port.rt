@@ -6,10 +6,10 @@ ghost use Rattle.announcements.specs.Port.{behind_scheme, authority_of, behind_c
 
 use text::{find_byte, number_up_to};
 
-/// The port at which IPP is served where a URI names none (RFC 3510, section 3.2).
+/// The port of IPP where a URI names no port (RFC 3510, section 3.2).
 const IPP_PORT: u16 = 631;
 
-/// The port of a base of URIs: the one that it names behind its host, else 631.
+/// The port of a base of URIs: the port behind its host, else 631.
 pub fn ipp_port(uri_base: &[u8]) -> u16
     ensures { result ≡ ipp_port uri_base.now }
 {
@@ -19,7 +19,7 @@ pub fn ipp_port(uri_base: &[u8]) -> u16
     }
 }
 
-/// What follows the scheme and `://`.
+/// The octets behind the scheme and `://`; `None` where there is no scheme.
 fn behind_scheme(uri: &[u8]) -> Option<&[u8]>
     ensures { option_copied result ≡ behind_scheme uri.now }
 {
@@ -29,7 +29,7 @@ fn behind_scheme(uri: &[u8]) -> Option<&[u8]>
     }
 }
 
-/// The host with its port, which end before the first `/`; nothing where there is no scheme.
+/// The host with its port, up to the first `/`; empty where there is no scheme.
 fn authority_of(uri: &[u8]) -> &[u8]
     ensures { result.now ≡ authority_of uri.now }
 {
@@ -48,7 +48,7 @@ fn up_to_slash(rest: &[u8]) -> &[u8]
     }
 }
 
-/// What follows the last colon, if there is one.
+/// The octets behind the last colon, if there is a colon.
 fn behind_colon(authority: &[u8]) -> Option<&[u8]>
     ensures { option_copied result ≡ behind_colon authority.now }
 {
@@ -62,7 +62,7 @@ fn behind_colon(authority: &[u8]) -> Option<&[u8]>
     }
 }
 
-/// The port that a host is followed by.
+/// The port behind a host; `None` where there is no valid port.
 fn port_named(authority: &[u8]) -> Option<u16>
     ensures { result ≡ port_named authority.now }
 {

@@ -1,4 +1,4 @@
-//! The printer that is announced, among those of the settings.
+//! The announced printer, among the printers of the settings.
 ghost use Rattle.std.specs.Prelude.{◌≡◌, find};
 ghost use Rattle.std.specs.Option.{option_copied};
 ghost use Rattle.std.specs.Str.{bytes_eq};
@@ -7,7 +7,7 @@ ghost use Rattle.announcements.specs.Printer.{only, device_at};
 use base_types::DeviceId;
 use settings_file::{DeviceSettings, PrinterSettings, Settings};
 
-/// The printer of this name.
+/// The printer of this name; `None` where the settings have no such printer.
 pub fn printer_named<'a>(settings: &'a Settings, name: &[u8]) -> Option<&'a PrinterSettings>
     ensures { option_copied result ≡ find (λ p. bytes_eq p.name name.now) settings.now.printers }
 {
@@ -17,7 +17,7 @@ pub fn printer_named<'a>(settings: &'a Settings, name: &[u8]) -> Option<&'a Prin
         .find(|printer| printer.name.as_bytes() == name)
 }
 
-/// The printer, where there is one alone.
+/// The only printer of the settings; `None` where there are several or none.
 pub fn only_printer(settings: &Settings) -> Option<&PrinterSettings>
     ensures { option_copied result ≡ only settings.now.printers }
 {
@@ -27,7 +27,7 @@ pub fn only_printer(settings: &Settings) -> Option<&PrinterSettings>
     }
 }
 
-/// The device at a place of the settings.
+/// The device at a place of the settings; `None` where there is no such device.
 pub(crate) fn device_at(settings: &Settings, place: DeviceId) -> Option<&DeviceSettings>
     ensures { option_copied result ≡ device_at settings.now place }
 {

@@ -5,7 +5,7 @@ ghost use Rattle.announcements.specs.Records.{kind_of, priority_of, resource_of}
 use base_types::Text;
 use std::alloc::{AllocError, Global};
 
-/// A protocol that clients print by.
+/// A protocol for printing.
 #[derive(Clone, Copy, Debug, PartialEq, Eq)]
 pub(crate) enum Protocol {
     /// RFC 8011.
@@ -15,7 +15,7 @@ pub(crate) enum Protocol {
 }
 
 impl Protocol {
-    /// Its type of service (RFC 6763, section 7).
+    /// The service type of the protocol (RFC 6763, section 7).
     pub(crate) fn kind(self) -> &'static str
         ensures { result.now ≡ kind_of self }
     {
@@ -25,7 +25,7 @@ impl Protocol {
         }
     }
 
-    /// How much it is preferred: the least number the most, from 0 to 99.
+    /// The priority of the protocol, from 0 to 99: clients prefer the least number.
     pub(crate) fn priority(self) -> &'static str
         ensures { result.now ≡ priority_of self }
     {
@@ -35,7 +35,8 @@ impl Protocol {
         }
     }
 
-    /// How it names the printer of a name: the path of its URI without the first `/`, or its queue.
+    /// The name of a printer in the protocol: the path of its URI without the first `/`, or its queue. The
+    /// only error is out of memory.
     pub(crate) fn resource(self, alloc: Global, name: &Text) -> Result<Vec<u8>, AllocError>
         ensures { IfOk result (λ resource. resource.items ≡ resource_of self name.now) }
     {

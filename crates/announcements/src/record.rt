@@ -10,10 +10,10 @@ use base_types::Text;
 use settings_file::{PrinterSettings, Settings};
 use std::alloc::{AllocError, Global};
 
-/// Octets of a string of TXT (RFC 6763, section 6.1) behind `pdl=`.
+/// The most octets of a string of TXT (RFC 6763, section 6.1) behind `pdl=`.
 const PDL_ROOM: usize = 251;
 
-/// The strings of a printer, for one of its protocols.
+/// The strings of a printer for one of its protocols. The only error is out of memory.
 pub(crate) fn records_of(
     alloc: Global,
     settings: &Settings,
@@ -29,7 +29,7 @@ pub(crate) fn records_of(
     Ok(records)
 }
 
-/// Adds a key with its value.
+/// Adds the string of a key and its value. The only error is out of memory.
 fn add(alloc: Global, records: &mut Vec<Text>, key: &str, value: &[u8]) -> Result<(), AllocError>
     ensures { OnOk result (records.new.items ≡ records.old.items ++ record_of key.now value.now ∷ []) }
 {
@@ -47,7 +47,7 @@ fn record_of(alloc: Global, key: &str, value: &[u8]) -> Result<Text, AllocError>
     Ok(Text::new(bytes))
 }
 
-/// Adds what is told of the queue.
+/// Adds the strings about the queue. The only error is out of memory.
 fn add_queue(
     alloc: Global,
     records: &mut Vec<Text>,
@@ -63,7 +63,7 @@ fn add_queue(
     add(alloc, records, "priority", protocol.priority().as_bytes())
 }
 
-/// Adds what the printer is, and which formats it takes.
+/// Adds the strings of the printer's description and of its formats. The only error is out of memory.
 fn add_kind(
     alloc: Global,
     records: &mut Vec<Text>,
@@ -78,7 +78,7 @@ fn add_kind(
     add(alloc, records, "pdl", &formats)
 }
 
-/// What the printer is.
+/// The printer's description.
 #[tactic(auto, unfolding(crate::specs::Records::model))]
 fn model() -> &'static str
     ensures { result.now ≡ model }
@@ -86,7 +86,7 @@ fn model() -> &'static str
     "Hoodbasil print server"
 }
 
-/// The same, as drivers are chosen by it.
+/// The same description in parentheses, by which clients choose a driver.
 #[tactic(auto, unfolding(crate::specs::Records::product))]
 fn product() -> &'static str
     ensures { result.now ≡ product }
@@ -94,7 +94,7 @@ fn product() -> &'static str
     "(Hoodbasil print server)"
 }
 
-/// The formats, as far as they fit.
+/// The formats that fit into a string. The only error is out of memory.
 fn pdl(alloc: Global, settings: &Settings, printer: &PrinterSettings) -> Result<Vec<u8>, AllocError>
     ensures { IfOk result (λ text. text.items ≡ formats_text pdl_room (formats_of settings.now printer.now)) }
 {
@@ -104,7 +104,7 @@ fn pdl(alloc: Global, settings: &Settings, printer: &PrinterSettings) -> Result<
     Ok(text)
 }
 
-/// Adds what may be asked of a job.
+/// Adds the strings of the abilities that a job may ask for. The only error is out of memory.
 fn add_abilities(
     alloc: Global,
     records: &mut Vec<Text>,
@@ -120,7 +120,8 @@ fn add_abilities(
     add_ability(alloc, records, settings, printer, Ability::Bind)
 }
 
-/// Adds whether some device of the printer can.
+/// Adds the string that says whether some device of the printer has an ability. The only error is out of
+/// memory.
 fn add_ability(
     alloc: Global,
     records: &mut Vec<Text>,

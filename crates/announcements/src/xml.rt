@@ -4,7 +4,7 @@ ghost use Rattle.announcements.specs.Xml.{escaped_byte, escaped, element, openin
 
 use std::alloc::AllocError;
 
-/// Appends the line of an element that holds a text.
+/// Appends the line of an element that holds a text. The only error is out of memory.
 pub(crate) fn put_element(output: &mut Vec<u8>, name: &str, text: &[u8]) -> Result<(), AllocError>
     ensures { OnOk result (output.new.items ≡ output.old.items ++ element name.now text.now) }
 {
@@ -13,7 +13,7 @@ pub(crate) fn put_element(output: &mut Vec<u8>, name: &str, text: &[u8]) -> Resu
     put_closing(output, name)
 }
 
-/// Appends the tag that begins an element.
+/// Appends the tag that begins an element. The only error is out of memory.
 fn put_opening(output: &mut Vec<u8>, name: &str) -> Result<(), AllocError>
     ensures { OnOk result (output.new.items ≡ output.old.items ++ opening name.now) }
 {
@@ -22,7 +22,7 @@ fn put_opening(output: &mut Vec<u8>, name: &str) -> Result<(), AllocError>
     output.extend_from_slice(b">")
 }
 
-/// Appends the tag that ends an element, and its line.
+/// Appends the tag that ends an element, and the end of its line. The only error is out of memory.
 fn put_closing(output: &mut Vec<u8>, name: &str) -> Result<(), AllocError>
     ensures { OnOk result (output.new.items ≡ output.old.items ++ closing name.now) }
 {
@@ -31,7 +31,7 @@ fn put_closing(output: &mut Vec<u8>, name: &str) -> Result<(), AllocError>
     output.extend_from_slice(b">\n")
 }
 
-/// Appends a text as XML writes it.
+/// Appends a text as XML writes it. The only error is out of memory.
 pub(crate) fn put_escaped(output: &mut Vec<u8>, text: &[u8]) -> Result<(), AllocError>
     ensures { OnOk result (output.new.items ≡ output.old.items ++ escaped text.now) }
 {
@@ -41,7 +41,7 @@ pub(crate) fn put_escaped(output: &mut Vec<u8>, text: &[u8]) -> Result<(), Alloc
     Ok(())
 }
 
-/// Appends a byte as XML writes it.
+/// Appends a byte as XML writes it. The only error is out of memory.
 fn put_byte(output: &mut Vec<u8>, byte: u8) -> Result<(), AllocError>
     ensures { OnOk result (output.new.items ≡ output.old.items ++ escaped_byte byte) }
 {

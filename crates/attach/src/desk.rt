@@ -1,4 +1,4 @@
-//! What an adapter does in a turn.
+//! The turns of an adapter.
 use crate::figures::Figures;
 use crate::line::{Came, ServerLine};
 use crate::log::{Log, Note};
@@ -12,15 +12,15 @@ use std::alloc::{AllocError, Global};
 use std::net::Net;
 use std::rt::Files;
 
-/// How many pieces of the server a turn reads at most, and how many items of one piece.
+/// The most pieces of the server's stream that a turn reads, and the most items of one piece.
 const PIECES: u32 = 64;
 
 const ITEMS: u32 = 131_072;
 
-/// How long nothing is waited for at most, in ms.
+/// The longest pause of an adapter, in ms.
 const LONGEST_PAUSE: u64 = 60_000;
 
-/// An adapter: its attachment between the server and the printer.
+/// An adapter, with its attachment between the server and the printer.
 #[derive(Drop)]
 pub(crate) struct Desk<P: Printer> {
     alloc: Global,
@@ -34,10 +34,10 @@ pub(crate) struct Desk<P: Printer> {
     worked: bool,
 }
 
-/// Why the server is no longer heard.
+/// Why a turn is stopped.
 #[derive(Clone, Copy)]
 enum Stop {
-    /// Its connection has ended, or it wrote what it never writes.
+    /// The connection to the server ended, or the server sent a line or job that breaks the protocol.
     Lost,
     OutOfMemory,
 }
@@ -49,7 +49,7 @@ impl From<AllocError> for Stop {
 }
 
 impl<P: Printer> Desk<P> {
-    /// The adapter of a device and its printer, that has done nothing yet.
+    /// Creates the adapter of a device and its printer.
     pub(crate) fn new(
         alloc: Global,
         name: String,
@@ -71,23 +71,24 @@ impl<P: Printer> Desk<P> {
         }
     }
 
-    /// Takes what a wait told.
+    /// Takes an event of the poll.
     pub(crate) fn told(&mut self, event: &Event) {
         self.line.told(event);
         self.printer.told(event);
     }
 
-    /// The lines of the log since the last call.
+    /// Removes and returns the lines of the log since the last call.
     pub(crate) fn take_log(&mut self) -> Vec<u8> {
         self.log.take()
     }
 
-    /// What was measured since the last call.
+    /// Removes and returns the measurements since the last call.
     pub(crate) fn take_figures(&mut self) -> Vec<u8> {
         self.figures.take()
     }
 
-    /// One turn: connects, hears the server, goes on with the printer, and says what is due.
+    /// Takes a turn: connects, reads from the server, goes on with the printer, and sends the reports that
+    /// are due.
     pub(crate) fn turn<R: Net + Files>(&mut self, rt: &R, poll: &Poll, now: u64) {
         self.log.set_now(now);
         self.figures.set_now(now);
@@ -98,7 +99,7 @@ impl<P: Printer> Desk<P> {
         }
     }
 
-    /// The parts of a turn, up to one that stops it.
+    /// Takes the parts of a turn, up to one that stops it.
     fn take_turn<R: Net + Files>(&mut self, rt: &R, poll: &Poll, now: u64) -> Result<(), Stop> {
         self.call_server(rt, poll, now)?;
         self.hear_server(rt)?;
@@ -107,7 +108,7 @@ impl<P: Printer> Desk<P> {
         self.flush()
     }
 
-    /// Heeds why a turn was stopped.
+    /// Acts on the reason why a turn was stopped.
     fn heed_stop<R: Net + Files>(&mut self, rt: &R, stop: Stop, now: u64) {
         match stop {
             Stop::Lost => self.unlink(rt, Breach::Unlinked, now),
@@ -115,7 +116,7 @@ impl<P: Printer> Desk<P> {
         }
     }
 
-    /// The ms until there is something to do though nothing happens.
+    /// Returns the ms until the adapter has work to do without an event.
     pub(crate) fn pause(&self, now: u64) -> u64 {
         if self.worked || self.printer.has_worked() {
             return 0;
@@ -126,7 +127,7 @@ impl<P: Printer> Desk<P> {
         line.min(printer).min(LONGEST_PAUSE)
     }
 
-    /// Connects to the server, and says who this is.
+    /// Connects to the server, and sends the device's name.
     fn call_server(&mut self, net: &impl Net, poll: &Poll, now: u64) -> Result<(), Stop> {
         match self.line.turn(net, poll, now) {
             Reached::Not | Reached::Still => {}
@@ -142,7 +143,7 @@ impl<P: Printer> Desk<P> {
         Ok(())
     }
 
-    /// Hears all that the server says for now.
+    /// Reads all bytes of the server that are there.
     fn hear_server<R: Net + Files>(&mut self, rt: &R) -> Result<(), Stop> {
         for _ in 0..PIECES {
             match self.line.read()? {
@@ -154,7 +155,7 @@ impl<P: Printer> Desk<P> {
         Ok(())
     }
 
-    /// Hears the items of a piece.
+    /// Acts on the items of a piece.
     fn hear_piece<R: Net + Files>(&mut self, rt: &R) -> Result<(), Stop> {
         self.worked = true;
         for _ in 0..ITEMS {
@@ -171,7 +172,7 @@ impl<P: Printer> Desk<P> {
         Ok(())
     }
 
-    /// Heeds an item of the server's.
+    /// Acts on an item of the server's stream.
     fn heed<R: Net + Files>(&mut self, rt: &R, item: OrderItem) -> Result<(), Stop> {
         match item {
             OrderItem::Octets => self.take_octets(rt),
@@ -179,7 +180,7 @@ impl<P: Printer> Desk<P> {
         }
     }
 
-    /// Obeys an order of the server's.
+    /// Acts on an order of the server.
     fn obey<R: Net + Files>(&mut self, rt: &R, order: &Order) -> Result<(), Stop> {
         match order {
             Order::Job(order) => self.begin(order),
@@ -221,7 +222,7 @@ impl<P: Printer> Desk<P> {
         }
     }
 
-    /// Gives the job up that the server cancels, if it is in hand.
+    /// Gives up the job that the server cancels, if it is in hand.
     fn cancel<R: Net + Files>(&mut self, rt: &R, job: JobId) -> Result<(), Stop> {
         self.attachment.cancel(job);
         if self.attachment.job() == Some(job) {
@@ -246,21 +247,21 @@ impl<P: Printer> Desk<P> {
         }
     }
 
-    /// The printer prints nothing for now.
+    /// Records that the printer prints nothing for now.
     fn stop(&mut self, note: Note) {
         self.figures.leave();
         self.attachment.set_printer(PrinterState::Stopped);
         self.log.note(note);
     }
 
-    /// The printer prints.
+    /// Records that the printer prints.
     fn run(&mut self, note: Note) {
         self.figures.leave();
         self.attachment.set_printer(PrinterState::Running);
         self.log.note(note);
     }
 
-    /// The printer has printed so many pages of the job.
+    /// Reports that the printer has printed this many pages of the job.
     fn tell_pages(&mut self, printed: u32) -> Result<(), Stop> {
         self.figures.pages(printed);
         if let Some(report) = self.attachment.pages(printed) {
@@ -269,8 +270,8 @@ impl<P: Printer> Desk<P> {
         Ok(())
     }
 
-    /// The printer has printed the job; where it says only now that so many pages are printed, that is
-    /// told first.
+    /// Reports that the printer has printed the job. If the number of its pages comes only now, that is
+    /// reported first.
     fn finish<R: Net + Files>(&mut self, rt: &R, printed: Option<u32>) -> Result<(), Stop> {
         if let Some(printed) = printed {
             self.tell_pages(printed)?;
@@ -280,14 +281,14 @@ impl<P: Printer> Desk<P> {
         self.answer(report, Breach::Broken)
     }
 
-    /// The job can't be printed.
+    /// Reports that the job can't be printed.
     fn fail<R: Net + Files>(&mut self, rt: &R, breach: Breach) -> Result<(), Stop> {
         let report = self.attachment.fail();
         self.printer.drop_job(rt);
         self.answer(report, breach)
     }
 
-    /// Answers the server what became of a job.
+    /// Sends the report that ends a job.
     fn answer(&mut self, report: Option<Report>, breach: Breach) -> Result<(), Stop> {
         self.worked = true;
         let Some(report) = report else {
@@ -307,7 +308,7 @@ impl<P: Printer> Desk<P> {
         Ok(self.line.say(&report)?)
     }
 
-    /// Tells the server of the printer's media and state, where it doesn't know them.
+    /// Reports the printer's media and state, if the server doesn't know them.
     fn tell_state(&mut self) -> Result<(), Stop> {
         if let Some(names) = self.printer.take_media() {
             self.media.load(names);
@@ -324,7 +325,7 @@ impl<P: Printer> Desk<P> {
         Ok(())
     }
 
-    /// Writes what is to be written to the server.
+    /// Writes the bytes that are due to the server.
     fn flush(&mut self) -> Result<(), Stop> {
         match self.line.flush() {
             Ok(moved) => {
@@ -335,7 +336,7 @@ impl<P: Printer> Desk<P> {
         }
     }
 
-    /// Gives the job in hand up, since the adapter ends.
+    /// Gives up the job in hand, since the adapter ends.
     pub(crate) fn give_up<F: Files>(&mut self, files: &F, now: u64) {
         self.log.set_now(now);
         self.figures.leave();
@@ -347,7 +348,7 @@ impl<P: Printer> Desk<P> {
         self.log.note(Note::Ended);
     }
 
-    /// Tells the server that a job is given up. Where there is no memory for that, the server aborts it.
+    /// Reports that a job is given up. If memory for that is refused, the server aborts the job.
     fn tell_given_up(&mut self, report: &Report) {
         if let Report::Fail { job } = report {
             self.log.note(Note::GivenUp(*job));
@@ -355,12 +356,13 @@ impl<P: Printer> Desk<P> {
         let _said = self.line.say(report);
     }
 
-    /// Writes what is still to be said to the server, and hears no more of it: whether the server is there.
+    /// Writes the bytes that are still due to the server, and drops the bytes that come. Returns whether the
+    /// connection is still open.
     pub(crate) fn take_leave(&mut self) -> bool {
         self.line.take_leave()
     }
 
-    /// The connection to the server is of no use any more: the server aborts the job.
+    /// Drops the connection to the server, which is of no more use. The server aborts the job.
     fn unlink<R: Net + Files>(&mut self, rt: &R, breach: Breach, now: u64) {
         if let Some(job) = self.attachment.job() {
             self.log.note(Note::Failed(job.number(), breach));

@@ -1,11 +1,11 @@
-//! What is measured of the printer, as it is written after each job.
+//! The measurements of the printer, which are written after each job.
 use attach_orders::JobOrder;
 use attachment::Measurement;
 use base_types::Limits;
 use job_objects::estimated_impressions;
 use std::alloc::{AllocError, Global};
 
-/// The printer's rates and its setup, where they are measured.
+/// The printer's rates and its setup, if they are measured.
 #[derive(Drop)]
 pub(crate) struct Figures {
     alloc: Global,
@@ -16,7 +16,7 @@ pub(crate) struct Figures {
 }
 
 impl Figures {
-    /// Nothing is measured yet.
+    /// Creates the record of a printer without measurements.
     pub(crate) fn new(alloc: Global, wanted: bool) -> Figures {
         Figures {
             alloc,
@@ -27,42 +27,42 @@ impl Figures {
         }
     }
 
-    /// It is so late.
+    /// Sets the time.
     pub(crate) fn set_now(&mut self, now: u64) {
         self.now = now;
     }
 
-    /// A job begins.
+    /// Records that a job begins.
     pub(crate) fn begin(&mut self, order: &JobOrder) {
         let octets = (order.octets as usize).min(Limits::JOB_OCTETS);
         let impressions = estimated_impressions(None, octets).saturating_mul(order.copies);
         self.measurement.begin(order.sides, impressions, self.now);
     }
 
-    /// So many impressions of the job are printed.
+    /// Records that this many impressions of the job are printed.
     pub(crate) fn pages(&mut self, printed: u32) {
         self.measurement.pages(printed, self.now);
     }
 
-    /// The job is done.
+    /// Records that the job is done.
     pub(crate) fn finish(&mut self) {
         if self.measurement.finish(self.now) && self.wanted {
             let _added = self.add();
         }
     }
 
-    /// The job has failed, or the printer doesn't print for a while: it isn't measured any further.
+    /// Stops measuring the job: it has failed, or the printer doesn't print for a while.
     pub(crate) fn leave(&mut self) {
         self.measurement.leave();
     }
 
-    /// Adds what is measured. Where there is no memory for it, it is left out.
+    /// Appends the measurements. If memory is refused, they are left out.
     fn add(&mut self) -> Result<(), AllocError> {
         let text = format!(in self.alloc; "{}", self.measurement)?;
         self.text.extend_from_slice(text.as_bytes())
     }
 
-    /// What was added since the last call.
+    /// Removes and returns the text since the last call.
     pub(crate) fn take(&mut self) -> Vec<u8> {
         std::mem::replace(&mut self.text, Vec::new(self.alloc))
     }

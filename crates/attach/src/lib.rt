@@ -1,9 +1,9 @@
-//! A printer's adapter: it is one device of the server, and prints what it is given.
+//! The adapter of a printer. It is one device of the server, and prints the jobs that it gets.
 //!
-//! [`attach`] connects to the devices' port, and again where that went away, and takes turns by the
-//! clock: what the server orders goes to an `attachment`, and what that allows to one of the `attach_printers`.
-//! What is proved of what it says and sends stands in `attachment` and `attach_orders`; here are the line
-//! to the server, the clock and the log.
+//! [`attach`] connects to the devices' port, connects again after a lost connection, and takes turns by the
+//! clock. The server's orders go to an `attachment`, and the work that the attachment allows goes to one of
+//! the `attach_printers`. The contracts of the reports and of the bytes that are sent are in `attachment` and
+//! `attach_orders`. This crate has the connection to the server, the clock and the log.
 //!
 //! It is tested by the program.
 #![tactic(auto)]

@@ -1,4 +1,4 @@
-//! The lines to and from the server.
+//! The connection to the server.
 
 use attach_orders::{OrderError, OrderItem, OrderReader, write_report};
 use attach_printers::{Caller, Reached, has_to_wait};
@@ -9,24 +9,24 @@ use std::alloc::{AllocError, Global};
 use std::net::Net;
 use text::drop_front;
 
-/// How many bytes are read at a time.
+/// The number of bytes that one read asks for.
 const PIECE: usize = 65_536;
 
-/// How many pieces are passed over in a turn at most, once nothing more is said.
+/// The most pieces that are dropped in a turn once the adapter sends nothing more.
 const LAST_PIECES: u32 = 64;
 
-/// What came of the server.
+/// The result of a read from the server.
 #[derive(Clone, Copy)]
 pub(crate) enum Came {
-    /// Nothing for now.
+    /// Nothing has come.
     Nothing,
-    /// Bytes, which the reader has.
+    /// Bytes have come; the reader has them.
     Bytes,
-    /// The end of the connection, or a fault of it.
+    /// The connection ended or broke.
     End,
 }
 
-/// The connection to the server: what it still has to say, and what is still to be written to it.
+/// The connection to the server, with the bytes that were read and those that are to be written.
 #[derive(Drop)]
 pub(crate) struct ServerLine {
     alloc: Global,
@@ -37,7 +37,7 @@ pub(crate) struct ServerLine {
 }
 
 impl ServerLine {
-    /// A server that isn't connected to yet.
+    /// Creates the record of a server without a connection. The only error is out of memory.
     pub(crate) fn new(alloc: Global, caller: Caller) -> Result<ServerLine, AllocError> {
         Ok(ServerLine {
             alloc,
@@ -48,12 +48,12 @@ impl ServerLine {
         })
     }
 
-    /// Takes what a wait told.
+    /// Takes an event of the poll.
     pub(crate) fn told(&mut self, event: &Event) {
         self.caller.told(event);
     }
 
-    /// Connects, where there is no connection.
+    /// Connects, if there is no connection.
     pub(crate) fn turn(&mut self, net: &impl Net, poll: &Poll, now: u64) -> Reached {
         let reached = self.caller.turn(net, poll, now);
         if reached == Reached::Now {
@@ -63,17 +63,17 @@ impl ServerLine {
         reached
     }
 
-    /// Whether there is a connection.
+    /// Returns whether there is a connection.
     pub(crate) fn is_linked(&mut self) -> bool {
         self.caller.link().is_some()
     }
 
-    /// Closes the connection, which is of no use any more.
+    /// Closes the connection, which is of no more use.
     pub(crate) fn lose(&mut self, now: u64) {
         self.caller.lose(now);
     }
 
-    /// Reads some bytes.
+    /// Reads bytes.
     pub(crate) fn read(&mut self) -> Result<Came, AllocError> {
         let Some(link) = self.caller.link() else {
             return Ok(Came::Nothing);
@@ -90,17 +90,17 @@ impl ServerLine {
         }
     }
 
-    /// The next that the server says.
+    /// Returns the next item of the server's stream.
     pub(crate) fn next_item(&mut self) -> Result<Option<OrderItem>, OrderError> {
         self.reader.next_item()
     }
 
-    /// The octets that the last item was.
+    /// The octets of the last item.
     pub(crate) fn part(&self) -> &[u8] {
         self.reader.part()
     }
 
-    /// Has a report to write, where there is a connection.
+    /// Enqueues a report, if there is a connection. The only error is out of memory.
     pub(crate) fn say(&mut self, report: &Report) -> Result<(), AllocError> {
         if !self.is_linked() {
             return Ok(());
@@ -108,7 +108,8 @@ impl ServerLine {
         write_report(self.alloc, report, &mut self.output)
     }
 
-    /// Writes what is to be written: whether some of it was. The error is that the connection is broken.
+    /// Writes the bytes that are due. Returns whether some were written. The error is that the connection is
+    /// broken.
     pub(crate) fn flush(&mut self) -> Result<bool, Came> {
         let Some(link) = self.caller.link() else {
             return Ok(false);
@@ -126,8 +127,8 @@ impl ServerLine {
         }
     }
 
-    /// Writes what is still to be written, ends its side of the connection behind that, and passes over what
-    /// comes: whether the server may still say something.
+    /// Writes the bytes that are still due, ends the writing side of the connection behind them, and drops
+    /// the bytes that come. Returns whether the server may still send bytes.
     pub(crate) fn take_leave(&mut self) -> bool {
         if self.flush().is_err() {
             return false;
@@ -148,7 +149,7 @@ impl ServerLine {
         true
     }
 
-    /// The ms until it has something to do by itself.
+    /// Returns the ms until the connection has work to do without an event.
     pub(crate) fn pause(&self, now: u64) -> Option<u64> {
         self.caller.pause(now)
     }

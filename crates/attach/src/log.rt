@@ -4,33 +4,33 @@ use attach_printers::{Breach, LeftOut, ReplyBreach};
 use std::alloc::{AllocError, Global};
 use std::fmt;
 
-/// What happens that is worth a line.
+/// An event that gets a line in the log.
 #[derive(Clone, Copy)]
 pub(crate) enum Note {
-    /// There is a connection to the server.
+    /// The connection to the server is made.
     Linked,
     /// The connection to the server is lost.
     Unlinked,
     /// The server can't be reached.
     ServerAway,
-    /// The server wrote what it never writes.
+    /// The server sent octets that are no order.
     Refused(OrderFault),
-    /// The server brought a job before the last was answered.
+    /// The server sent a job before the last one was reported as done.
     JobTooEarly(u32),
     PrinterAway,
     PrinterBack,
     PrinterStopped,
     PrinterRuns,
-    /// The printer's state can't be asked.
+    /// The printer's state can't be read.
     Unread(ReplyBreach),
-    /// This of the job isn't asked of the printer.
+    /// A part of the job isn't passed to the printer.
     LeftOut(LeftOut),
     Began { job: u32, octets: u32, copies: u32 },
     Done(u32),
     Failed(u32, Breach),
     /// The job is given up, since the adapter ends.
     GivenUp(u32),
-    /// The adapter ends, since its input has.
+    /// The adapter ends, since its input has ended.
     Ended,
 }
 
@@ -63,7 +63,7 @@ impl fmt::Display for Note {
     }
 }
 
-/// The lines of some turns, each with the ms since the start in front, where a log is kept.
+/// The lines of some turns, each with the ms since the start at its front. No lines, if no log is kept.
 #[derive(Drop)]
 pub(crate) struct Log {
     alloc: Global,
@@ -73,7 +73,7 @@ pub(crate) struct Log {
 }
 
 impl Log {
-    /// No line yet.
+    /// Creates an empty log.
     pub(crate) fn new(alloc: Global, kept: bool) -> Log {
         Log {
             alloc,
@@ -83,26 +83,26 @@ impl Log {
         }
     }
 
-    /// It is so late.
+    /// Sets the time.
     pub(crate) fn set_now(&mut self, now: u64) {
         self.now = now;
     }
 
-    /// Adds a line. Where there is no memory for it, it is left out.
+    /// Appends a line. If memory is refused, the line is left out.
     pub(crate) fn note(&mut self, note: Note) {
         if self.kept {
             let _added = self.add(note);
         }
     }
 
-    /// Adds a line.
+    /// Appends a line. The only error is out of memory.
     fn add(&mut self, note: Note) -> Result<(), AllocError> {
         let now = self.now;
         let line = format!(in self.alloc; "{now} {note}\n")?;
         self.text.extend_from_slice(line.as_bytes())
     }
 
-    /// The lines since the last call.
+    /// Removes and returns the lines since the last call.
     pub(crate) fn take(&mut self) -> Vec<u8> {
         std::mem::replace(&mut self.text, Vec::new(self.alloc))
     }

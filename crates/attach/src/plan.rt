@@ -1,4 +1,4 @@
-//! What an adapter is to do.
+//! The configuration of an adapter.
 use attach_printers::{IppAddress, MediaType, Place};
 use base_types::is_name;
 use std::alloc::{AllocError, Global};
@@ -13,55 +13,56 @@ const LPD: u16 = 515;
 /// The port of IPP (RFC 8010, section 4).
 const IPP: u16 = 631;
 
-/// How many bytes an address has at most: its URI has 1,023, with a port that isn't said (RFC 8011, section
-/// 5.1.6).
+/// The most bytes of an address. Its URI has at most 1,023 bytes (RFC 8011, section 5.1.6), with a port that
+/// isn't written.
 const ADDRESS_BYTES: usize = 1_000;
 
-/// How many bytes a media type has at most (RFC 8011, section 5.1.10).
+/// The most bytes of a media type (RFC 8011, section 5.1.10).
 const MEDIA_TYPE_BYTES: usize = 255;
 
-/// What prints.
+/// The printer, by its protocol.
 #[derive(Drop)]
 pub enum Target {
-    /// Each job becomes a file of this folder.
+    /// A folder, in which each job becomes a file.
     Folder(String),
-    /// A printer that speaks AppSocket.
+    /// A printer with AppSocket.
     AppSocket(Place),
-    /// A queue of a printer that speaks LPD.
+    /// A queue of a printer with LPD.
     Lpd(Place, String),
-    /// A printer that speaks IPP.
+    /// A printer with IPP.
     Ipp(Place, IppAddress),
 }
 
-/// What an adapter is to do.
+/// The configuration of an adapter.
 #[derive(Drop)]
 pub struct Plan {
-    /// The device that it is.
+    /// The name of the device.
     pub name: String,
-    /// Where the server's devices come in.
+    /// The address of the server's port for devices.
     pub server: Place,
     pub target: Target,
-    /// What every document is; where it isn't said, the first bytes tell.
+    /// The media type of each document. `None` if the first bytes of a document determine it.
     pub format: Option<MediaType>,
-    /// How long a folder takes for a page, in ms.
+    /// The time that a folder takes for a page, in ms.
     pub ms_per_page: u32,
-    /// How long a printer that has taken all may be silent before the job counts as printed, in ms.
+    /// The time for which a printer that has taken all bytes may be silent before the job counts as printed,
+    /// in ms.
     pub linger: u64,
-    /// How long a printer may neither take nor say anything, in ms.
+    /// The time for which a printer may neither take nor send bytes, in ms.
     pub timeout: u64,
-    /// A printer that speaks AppSocket speaks PJL too.
+    /// Whether a printer with AppSocket is sent PJL too.
     pub pjl: bool,
-    /// How many turns it takes.
+    /// The number of turns.
     pub turns: u64,
-    /// Whether what happens is written to the log.
+    /// Whether a log is written.
     pub logs: bool,
     /// Whether the printer's rates and its setup are measured and written.
     pub measures: bool,
-    /// Whether it ends when its standard input does.
+    /// Whether the program ends when its standard input ends.
     pub until_closed: bool,
 }
 
-/// The words that say what an adapter is to do.
+/// The words of a command line for the configuration.
 #[derive(Clone, Copy)]
 pub struct PlanWords<'a> {
     pub name: &'a str,
@@ -80,18 +81,18 @@ pub struct PlanWords<'a> {
     pub until_closed: bool,
 }
 
-/// Which of the words makes no sense.
+/// The word that isn't valid.
 #[derive(Clone, Copy)]
 pub enum WordFault {
-    /// The name is none of a device.
+    /// The name isn't that of a device.
     Name,
     /// The server isn't a host and a port.
     Server,
-    /// The target isn't one of those that there are.
+    /// The target isn't one of the known forms.
     To,
-    /// PJL is wanted, and the target doesn't speak AppSocket.
+    /// PJL is wanted, and the target isn't AppSocket.
     Pjl,
-    /// The format is no media type.
+    /// The format isn't a media type.
     Format,
     OutOfMemory,
 }
@@ -102,7 +103,7 @@ impl From<AllocError> for WordFault {
     }
 }
 
-/// What the words say, or the first of them that makes no sense. Nothing is opened.
+/// Reads the configuration of the words. The error is the first word that isn't valid. Nothing is opened.
 pub fn read_plan(alloc: Global, words: PlanWords<'_>) -> Result<Plan, WordFault> {
     if !is_name(words.name.as_bytes()) {
         return Err(WordFault::Name);
@@ -131,7 +132,7 @@ pub fn read_plan(alloc: Global, words: PlanWords<'_>) -> Result<Plan, WordFault>
     })
 }
 
-/// What every document is, where it is said.
+/// Reads the media type of each document, if it is given.
 fn read_format(alloc: Global, text: Option<&str>) -> Result<Option<MediaType>, WordFault> {
     let Some(text) = text else {
         return Ok(None);
@@ -144,7 +145,7 @@ fn read_format(alloc: Global, text: Option<&str>) -> Result<Option<MediaType>, W
     }))
 }
 
-/// Whether a text is a type and a subtype, with a slash between them and no space.
+/// Returns whether a text is a type and a subtype, with a slash between them and without a space.
 fn is_media_type(text: &str) -> bool {
     let Some((kind, subtype)) = text.split_once('/') else {
         return false;
@@ -153,7 +154,7 @@ fn is_media_type(text: &str) -> bool {
     !kind.is_empty() && !subtype.is_empty() && text.len() <= MEDIA_TYPE_BYTES && prints
 }
 
-/// The target that a text names.
+/// Reads the target of a text.
 fn read_target(alloc: Global, text: &str) -> Result<Target, WordFault> {
     if let Some(folder) = text.strip_prefix("file:") {
         if folder.is_empty() {
@@ -169,7 +170,7 @@ fn read_target(alloc: Global, text: &str) -> Result<Target, WordFault> {
     read_url(alloc, &url)
 }
 
-/// The target that a URL names.
+/// Reads the target of a URL.
 fn read_url(alloc: Global, url: &Url) -> Result<Target, WordFault> {
     let Some(host) = url.host_str() else {
         return Err(WordFault::To);
@@ -195,7 +196,7 @@ fn read_url(alloc: Global, url: &Url) -> Result<Target, WordFault> {
     }
 }
 
-/// Where a printer of IPP is, by its host, port, and path without the first slash.
+/// The address of a printer of IPP, from its host, port, and path without the first slash.
 fn read_address(
     alloc: Global,
     host: &str,
@@ -209,7 +210,7 @@ fn read_address(
     })
 }
 
-/// Whether a URL has more than a scheme, a host, a port and a path.
+/// Returns whether a URL has more than a scheme, a host, a port and a path.
 fn has_more(url: &Url) -> bool {
     url.query().is_some()
         || url.fragment().is_some()

@@ -1,4 +1,4 @@
-//! An adapter that runs.
+//! The run of an adapter.
 use crate::clock::millis_since;
 use crate::desk::Desk;
 use crate::figures::Figures;
@@ -19,25 +19,25 @@ use std::os::fd::RawFd;
 use std::rt::Files;
 use std::time::{Clock, Duration, Instant};
 
-/// What waits tell of the server and of the printer under.
+/// The tokens of the server and of the printer at the poll.
 const SERVER: Token = Token(0);
 
 const PRINTER: Token = Token(1);
 
-/// What waits tell of standard input under, and its descriptor.
+/// The token of standard input at the poll, and its descriptor.
 const INPUT: Token = Token(2);
 
 const STANDARD_INPUT: RawFd = 0;
 
-/// How long an adapter that ends hears the server at most, in ms, and how long it waits at a time.
+/// The longest time for which an adapter that ends reads from the server, in ms, and the longest pause then.
 const LEAVING: u64 = 2_000;
 
 const LEAVING_PAUSE: u64 = 50;
 
-/// How many sockets a wait tells of at most.
+/// The most sockets that one wait reports.
 const EVENTS: usize = 8;
 
-/// Which device an adapter is, where its server is, how many turns it takes, whether it ends with its input, and
+/// The name of an adapter's device, its server, the number of its turns, whether it ends with its input, and
 /// what it writes.
 #[derive(Drop)]
 struct Device {
@@ -49,9 +49,9 @@ struct Device {
     measures: bool,
 }
 
-/// Does what a plan says. It writes a line of each thing that happens to the log, and after each job the
-/// rates and the setup of the printer to the figures, where these are wanted. What can't be written stops
-/// nothing. The error is the clock's or the system's, or out of memory at the start.
+/// Runs an adapter by its configuration. It writes a line for each event to the log, and after each job the
+/// rates and the setup of the printer to the figures, if these are wanted. A failed write doesn't stop it.
+/// The error is the clock's or the system's, or out of memory at the start.
 pub fn attach<R: Net + Files + Clock, L: Write, F: Write>(
     alloc: Global,
     rt: &R,
@@ -108,7 +108,7 @@ pub fn attach<R: Net + Files + Clock, L: Write, F: Write>(
     }
 }
 
-/// A printer at this place that speaks a protocol, and may be silent for so many ms.
+/// Creates a printer with a protocol at an address, which may be silent for this many ms.
 fn network_printer<P: Protocol>(
     alloc: Global,
     place: Place,
@@ -119,7 +119,7 @@ fn network_printer<P: Protocol>(
     NetworkPrinter::new(Session::new(caller, timeout), protocol)
 }
 
-/// Makes the adapter of a device and its printer, and has it take its turns.
+/// Creates the adapter of a device and its printer, and takes its turns.
 fn run<P: Printer, R: Net + Files + Clock, L: Write, F: Write>(
     alloc: Global,
     rt: &R,
@@ -140,7 +140,7 @@ fn run<P: Printer, R: Net + Files + Clock, L: Write, F: Write>(
     take_turns(alloc, rt, &mut desk, &mut poll, device.turns, log, figures)
 }
 
-/// Takes so many turns, with waits between them, or those up to the end of the input.
+/// Takes the turns, with waits between them, or those up to the end of the input.
 fn take_turns<P: Printer, R: Net + Files + Clock, L: Write, F: Write>(
     alloc: Global,
     rt: &R,
@@ -168,7 +168,7 @@ fn take_turns<P: Printer, R: Net + Files + Clock, L: Write, F: Write>(
     Ok(())
 }
 
-/// Tells what a wait told: whether the input has ended.
+/// Hands the events of a wait to the adapter. Returns whether the input has ended.
 fn tell<P: Printer>(desk: &mut Desk<P>, events: &Events<Global>) -> bool {
     let mut ended = false;
     for event in events.iter() {
@@ -178,7 +178,7 @@ fn tell<P: Printer>(desk: &mut Desk<P>, events: &Events<Global>) -> bool {
     ended
 }
 
-/// Says the last to the server, and waits until that has ended the connection too, for a while at most.
+/// Writes the last bytes to the server, and waits for a limited time until it has ended the connection too.
 fn leave<P: Printer>(
     desk: &mut Desk<P>,
     poll: &mut Poll,

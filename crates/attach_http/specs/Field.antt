@@ -1,4 +1,4 @@
--- The fields of a head that tell the length of its body (RFC 9112, section 6.3).
+-- The fields of a head that give the length of its body (RFC 9112, section 6.3).
 use Rattle.std.specs.Prelude.{ℕ, ◌+◌, ◌==◌, nat_lt, not, Bool, false, if◌then◌else◌, List, take, drop, position, Option, Some, None, Result, Ok, Err, codes}
 use Rattle.std.specs.Str.{str_eq_ignore_ascii_case}
 use Rattle.text.specs.Digits.{decimal_in}
@@ -8,12 +8,12 @@ use Rattle.attach_http.specs.declared.awaited.ReplyFault.TheVariants.{NotHttp, B
 use Rattle.attach_http.specs.declared.awaited.Framing.{Framing}
 use Rattle.attach_http.specs.declared.awaited.Framing.TheVariants.{Untold, Length, Chunked}
 
--- another length was told before
+-- an earlier field has another length
 abbrev pub differs : Option ℕ → ℕ → Bool
 differs None count = false
 differs (Some told) count = not (told == count)
 
--- a body has at most so many bytes, and all lengths that are told are the same
+-- the framing by a length: within the limit, and the same as that of earlier fields
 abbrev pub counted : Option ℕ → Option ℕ → Result Framing ReplyFault
 counted told None = Err BadLength
 counted told (Some count) = if nat_lt 1048576 count then Err TooLong else if differs told count then Err BadLength else Ok (Length count)
@@ -24,7 +24,7 @@ with_length Chunked length = Ok Chunked
 with_length Untold length = counted None length
 with_length (Length told) length = counted (Some told) length
 
--- no coding but chunked is decoded (RFC 9112, section 6.1)
+-- the framing by a transfer coding; only chunked is decoded (RFC 9112, section 6.1)
 unfoldable pub with_coding : List ℕ → Result Framing ReplyFault
 with_coding value = if str_eq_ignore_ascii_case value (codes "chunked") then Ok Chunked else Err UnknownCoding
 
@@ -34,7 +34,7 @@ with_field framing name value =
     else if str_eq_ignore_ascii_case name (codes "transfer-encoding") then with_coding value
     else Ok framing
 
--- a name and a value, with a colon between them
+-- the framing by a line of a name and a value, with a colon between them
 abbrev pub with_cut : Framing → List ℕ → Option ℕ → Result Framing ReplyFault
 with_cut framing line None = Err NotHttp
 with_cut framing line (Some place) = with_field framing (take place line) (trimmed (drop (place + 1) line))

@@ -1,4 +1,4 @@
--- Where the lines of a reply lead (RFC 9112, sections 4, 6.3 and 7.1).
+-- The state of a reader after each line of a reply (RFC 9112, sections 4, 6.3 and 7.1).
 use Rattle.std.specs.Prelude.{ℕ, ◌+◌, ◌-◌, ◌*◌, ◌==◌, ◌&&◌, ◌||◌, nat_le, nat_lt, Bool, true, if◌then◌else◌, List, [], ◌∷◌, drop, take, Option, Some, None, Result, Ok, Err, codes}
 use Rattle.std.specs.Str.{bytes_eq}
 use Rattle.std.specs.Str.Lines.{strip_carriage_return}
@@ -20,17 +20,17 @@ bare text = strip_carriage_return text
 abbrev pub is_digit : ℕ → Bool
 is_digit byte = nat_le 48 byte && nat_le byte 57
 
--- a reason may be missing; else a space is before it
+-- the reason may be missing; else it is behind a space
 abbrev pub begins_reason : List ℕ → Bool
 begins_reason [] = true
 begins_reason (first ∷ rest) = first == 32
 
--- three digits, 100 at least
+-- the number of three digits, at least 100
 abbrev pub status_of : ℕ → ℕ → ℕ → Option ℕ
 status_of hundreds tens ones =
     if (nat_le 49 hundreds && nat_le hundreds 57) && is_digit tens && is_digit ones then Some ((hundreds - 48) * 100 + (tens - 48) * 10 + (ones - 48)) else None
 
--- a minor version, a space, the status, and the reason
+-- the status of a minor version, a space, the status, and the reason
 abbrev pub status_behind : List ℕ → Option ℕ
 status_behind (minor ∷ space ∷ hundreds ∷ tens ∷ ones ∷ reason) =
     if is_digit minor && (space == 32) && begins_reason reason then status_of hundreds tens ones else None
@@ -49,7 +49,7 @@ status_found (Some status) = after_status status
 abbrev pub status_read : List ℕ → Reached
 status_read text = status_found (status_in text)
 
--- 204 and 304 have no body (RFC 9112, section 6.3)
+-- the body by its framing; an empty body needs nothing
 abbrev pub framed_body : Framing → Awaited
 framed_body framed.Untold = awaits.UntilEnd
 framed_body (framed.Length count) = if count == 0 then awaits.Nothing else awaits.Counted count
@@ -58,7 +58,7 @@ framed_body framed.Chunked = awaits.Line line.Size
 abbrev pub body_of : ℕ → Framing → Awaited
 body_of status framing = if (status == 204) || (status == 304) then awaits.Nothing else framed_body framing
 
--- behind an interim reply comes another (RFC 9110, section 15.2)
+-- the state behind a head; another reply is behind an interim one (RFC 9110, section 15.2)
 abbrev pub after_head : ℕ → Framing → Reached
 after_head status framing =
     if nat_lt status 200 then record { awaited = awaits.Line line.Status; status = 0; framing = framed.Untold }
@@ -71,7 +71,7 @@ field_found at (Err fault) = record { awaited = awaits.Broken fault; status = at
 abbrev pub after_field : Reached → List ℕ → Reached
 after_field at text = field_found at (with_line at.framing text)
 
--- the last chunk has the size 0; all chunks together are no longer than a body
+-- the state behind the size of a chunk; the last chunk has the size 0; all chunks together are within the limit of a body
 abbrev pub sized : ℕ → ℕ → Awaited
 sized size body = if size == 0 then awaits.Line line.Trailer else if nat_le size (1048576 - body) then awaits.Chunk size else awaits.Broken TooLong
 
@@ -87,7 +87,7 @@ abbrev pub after_trailer : List ℕ → Awaited
 after_trailer [] = awaits.Nothing
 after_trailer (byte ∷ bytes) = awaits.Line line.Trailer
 
--- the empty line ends the head
+-- the state behind a field; the empty line ends the head
 abbrev pub field_read : Reached → List ℕ → Reached
 field_read at [] = after_head at.status at.framing
 field_read at (byte ∷ bytes) = after_field at (byte ∷ bytes)
@@ -95,7 +95,7 @@ field_read at (byte ∷ bytes) = after_field at (byte ∷ bytes)
 abbrev pub awaiting : Reached → Awaited → Reached
 awaiting at awaited = record { awaited = awaited; status = at.status; framing = at.framing }
 
--- where a line leads, behind a body so far of so many bytes
+-- the state behind a line, where the body so far has `body` bytes
 abbrev pub line_read : Line → List ℕ → Reached → ℕ → Reached
 line_read line.Status text at body = status_read (bare text)
 line_read line.Field text at body = field_read at (bare text)

@@ -1,4 +1,4 @@
--- Where the bytes of a reply lead, one after the other (RFC 9112, sections 6 and 7): it doesn't matter in which pieces they come.
+-- The state of a reader after each byte of a reply (RFC 9112, sections 6 and 7). The pieces in which the bytes come make no difference.
 use Rattle.std.specs.Prelude.{ℕ, ◌≡◌, ◌==◌, ◌-◌, nat_le, Bool, true, false, if◌then◌else◌, List, [], ◌∷◌, ◌++◌, length, Option, Some, None}
 use Rattle.attach_http.specs.declared.awaited.ReplyFault.{ReplyFault}
 use Rattle.attach_http.specs.declared.awaited.ReplyFault.TheVariants.{TooLong, Ended}
@@ -11,7 +11,7 @@ use Rattle.attach_http.specs.declared.awaited.Awaited.TheVariants as awaits
 use Rattle.attach_http.specs.declared.awaited.Reached.{Reached}
 use Rattle.attach_http.specs.Line.{line_read}
 
--- a reply as far as it has come: what is read next, its status and how the length of its body is told, how many bytes its lines may still have, the line so far, and the body so far
+-- the state of a reader: the part that it reads next, the status and the framing, the number of bytes that the lines may still have, the line so far, and the body so far
 pub record Reply : Type 0 where
   pub awaited : Awaited
   pub status : ℕ
@@ -32,7 +32,7 @@ with_awaited awaited reply = record reply { awaited = awaited }
 
 -- ---- lines
 
--- the lines of a head, and of a trailer, share their room; each size of a chunk has its own
+-- the room behind a line: the lines of a head share theirs, and so do those of a trailer; each line of a chunk's size has its own
 abbrev pub room_behind : Awaited → ℕ → ℕ
 room_behind (awaits.Line Status) rest = rest
 room_behind (awaits.Line Field) rest = rest
@@ -71,7 +71,7 @@ counted_left count = if nat_le count 1 then awaits.Nothing else awaits.Counted (
 abbrev pub chunk_left : ℕ → Awaited
 chunk_left count = if nat_le count 1 then awaits.Line ChunkEnd else awaits.Chunk (count - 1)
 
--- a body of no told length has at most so many bytes
+-- the state behind a byte of a body without a length, within the limit of a body
 abbrev pub body_grown : Reply → ℕ → Reply
 body_grown reply byte =
     if nat_le 1048576 (length reply.body) then with_awaited (awaits.Broken TooLong) reply
@@ -87,16 +87,16 @@ byte_read awaits.UntilEnd reply byte = body_grown reply byte
 byte_read awaits.Nothing reply byte = reply
 byte_read (awaits.Broken fault) reply byte = reply
 
--- where the next byte leads
+-- the state behind the next byte
 abbrev pub after_byte : Reply → ℕ → Reply
 after_byte reply byte = byte_read reply.awaited reply byte
 
--- where bytes lead
+-- the state behind bytes
 abbrev pub behind : Reply → List ℕ → Reply
 behind reply [] = reply
 behind reply (byte ∷ bytes) = behind (after_byte reply byte) bytes
 
--- where the end of the connection leads: it ends a body of no told length, and breaks any other reply
+-- the state at the end of the connection, which ends a body without a length, and breaks any other reply
 abbrev pub end_of : Awaited → Awaited
 end_of awaits.UntilEnd = awaits.Nothing
 end_of awaits.Nothing = awaits.Nothing

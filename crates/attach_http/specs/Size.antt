@@ -10,11 +10,11 @@ hex_digit byte =
     else if nat_le 65 byte && nat_le byte 70 then Some (byte - 65 + 10)
     else None
 
--- the number that digits are behind those of a value; one above 2^24 counts as that
+-- the number of hexadecimal digits behind those of a value; at most 2^24
 abbrev pub hex_from : ℕ → List ℕ → Option ℕ
 hex_from value [] = Some value
 hex_from value (byte ∷ bytes) = option_map_or (λ digit. hex_from (min (value * 16 + digit) 16777216) bytes) (hex_digit byte) None
 
--- the size that a line tells
+-- the size in a line
 unfoldable pub size_in : List ℕ → Option ℕ
 size_in line = if nat_lt 0 (length (without_parameters line)) then hex_from 0 (without_parameters line) else None

@@ -1,16 +1,16 @@
-//! What is read next of a reply.
+//! The states of a reply's reader.
 use thiserror::Error;
 
-/// Why a server's bytes are no reply that is read here.
+/// Why the bytes of a server aren't a reply that can be read.
 #[derive(Clone, Copy, Debug, PartialEq, Eq, Error)]
 pub enum ReplyFault {
-    /// They aren't HTTP/1 as the grammar has it.
+    /// The bytes violate the grammar of HTTP/1.
     #[error("no reply of HTTP")]
     NotHttp,
-    /// The length of the body isn't told, or is told twice and differs.
+    /// The length of the body isn't valid, or two fields with different lengths are there.
     #[error("a body of no known length")]
     BadLength,
-    /// The body has a transfer coding that isn't chunked.
+    /// The body has a transfer coding other than chunked.
     #[error("a body in an unknown coding")]
     UnknownCoding,
     /// The head, a line or the body is too long.
@@ -21,10 +21,10 @@ pub enum ReplyFault {
     Ended,
 }
 
-/// How the length of a body is told (RFC 9112, section 6.3).
+/// The framing of a body (RFC 9112, section 6.3).
 #[derive(Clone, Copy, Debug, PartialEq, Eq)]
 pub(crate) enum Framing {
-    /// Not at all: it ends with the connection.
+    /// No length: the body ends with the connection.
     Untold,
     Length(u32),
     Chunked,
@@ -44,23 +44,23 @@ pub(crate) enum Line {
     Trailer,
 }
 
-/// What is read next of a reply.
+/// The part of a reply that is read next.
 #[derive(Clone, Copy, Debug, PartialEq, Eq)]
 pub(crate) enum Awaited {
     Line(Line),
-    /// So many bytes, one at least, to the end of the body.
+    /// This many bytes, at least one, up to the end of the body.
     Counted(u32),
-    /// So many bytes, one at least, to the end of a chunk.
+    /// This many bytes, at least one, up to the end of a chunk.
     Chunk(u32),
-    /// The body, to the end of the connection.
+    /// The body, up to the end of the connection.
     UntilEnd,
     /// Nothing: the reply is whole.
     Nothing,
-    /// Nothing: this is wrong with it.
+    /// Nothing: the reply has this fault.
     Broken(ReplyFault),
 }
 
-/// Where a line leads.
+/// The state behind a line.
 #[derive(Clone, Copy, Debug, PartialEq, Eq)]
 pub(crate) struct Reached {
     pub(crate) awaited: Awaited,

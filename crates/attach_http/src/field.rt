@@ -1,4 +1,4 @@
-//! The fields of a head that tell the length of its body (RFC 9112, section 6.3).
+//! The fields of a head that give the length of its body (RFC 9112, section 6.3).
 ghost use Rattle.std.specs.Prelude.{◌≡◌};
 ghost use Rattle.attach_http.specs.Field.{differs, counted, with_length, with_coding, with_field, with_line};
 
@@ -8,7 +8,7 @@ use text::{decimal, find_byte, trimmed};
 /// The longest body, in bytes.
 const BODY: u32 = 1_048_576;
 
-/// How the length of the body is told behind a line of the head, or what is wrong with it.
+/// The framing behind a line of the head, or the fault of the line.
 pub(crate) fn with_line(framing: Framing, line: &[u8]) -> Result<Framing, ReplyFault>
     ensures { result ≡ with_line framing line.now }
 {
@@ -18,7 +18,7 @@ pub(crate) fn with_line(framing: Framing, line: &[u8]) -> Result<Framing, ReplyF
     }
 }
 
-/// The same behind a field of this name and value.
+/// The framing behind a field of a name and a value.
 #[tactic(auto, unfolding(crate::specs::Field::with_field))]
 fn with_field(framing: Framing, name: &[u8], value: &[u8]) -> Result<Framing, ReplyFault>
     ensures { result ≡ with_field framing name.now value.now }
@@ -32,7 +32,7 @@ fn with_field(framing: Framing, name: &[u8], value: &[u8]) -> Result<Framing, Re
     }
 }
 
-/// The same behind a length. A transfer coding overrides it; two lengths have to be the same.
+/// The framing behind a length. A transfer coding overrides it; two lengths have to be equal.
 fn with_length(framing: Framing, length: Option<u32>) -> Result<Framing, ReplyFault>
     ensures { result ≡ with_length framing length }
 {
@@ -43,7 +43,7 @@ fn with_length(framing: Framing, length: Option<u32>) -> Result<Framing, ReplyFa
     }
 }
 
-/// The framing by a length, where one was told before or not.
+/// The framing by a length, where an earlier field may have one.
 fn counted(told: Option<u32>, length: Option<u32>) -> Result<Framing, ReplyFault>
     ensures { result ≡ counted told length }
 {
@@ -55,7 +55,7 @@ fn counted(told: Option<u32>, length: Option<u32>) -> Result<Framing, ReplyFault
     }
 }
 
-/// Whether another length was told before.
+/// Returns whether an earlier field has another length.
 fn differs(told: Option<u32>, count: u32) -> bool
     ensures { result ≡ differs told count }
 {
@@ -65,7 +65,7 @@ fn differs(told: Option<u32>, count: u32) -> bool
     }
 }
 
-/// The same behind a transfer coding.
+/// The framing behind a transfer coding.
 #[tactic(auto, unfolding(crate::specs::Field::with_coding))]
 fn with_coding(value: &[u8]) -> Result<Framing, ReplyFault>
     ensures { result ≡ with_coding value.now }

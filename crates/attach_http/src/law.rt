@@ -1,7 +1,7 @@
-//! A law of replies. Its function does nothing: its contract is what it is for.
+//! A law of replies, as the contract of a function that does nothing.
 ghost use Rattle.attach_http.specs.Reply.{CuttingTellsNothing};
 
-/// Bytes lead to the same in one piece and in two.
+/// Bytes in one piece and in two lead to the same state.
 pub fn cutting_tells_nothing()
     ensures { CuttingTellsNothing }
 {}

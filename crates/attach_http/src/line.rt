@@ -1,4 +1,4 @@
-//! Where the lines of a reply lead.
+//! The state of a reader behind each line of a reply.
 ghost use Rattle.std.specs.Prelude.{◌≡◌};
 ghost use Rattle.attach_http.specs.Line.{status_in, status_behind, begins_reason, status_of, status_read, after_status, body_of, after_head, after_field, after_size, after_empty, after_trailer, bare, line_read};
 
@@ -9,7 +9,7 @@ use crate::size::size_in;
 /// The longest body, in bytes.
 const BODY: usize = 1_048_576;
 
-/// Where a line leads, without its line feed, behind a body so far of so many bytes.
+/// The state behind a line, without its line feed, where the body so far has `body` bytes.
 pub(crate) fn line_read(line: Line, text: &[u8], at: Reached, body: usize) -> Reached
     ensures { result ≡ line_read line text.now at body }
 {
@@ -24,7 +24,7 @@ pub(crate) fn line_read(line: Line, text: &[u8], at: Reached, body: usize) -> Re
     }
 }
 
-/// The same status and framing, and this is read next.
+/// The same status and framing, with another part to be read next.
 fn awaiting(at: Reached, awaited: Awaited) -> Reached
     ensures { result ≡ record at { awaited = awaited } }
 {
@@ -38,7 +38,7 @@ fn bare(line: &[u8]) -> &[u8]
     line.strip_suffix(b"\r").unwrap_or(line)
 }
 
-/// Where the status line leads.
+/// The state behind the status line.
 fn status_read(text: &[u8]) -> Reached
     ensures { result ≡ status_read text.now }
 {
@@ -52,7 +52,7 @@ fn status_read(text: &[u8]) -> Reached
     }
 }
 
-/// The fields follow a status.
+/// The state behind a status: fields follow.
 fn after_status(status: u32) -> Reached
     ensures { result ≡ after_status status }
 {
@@ -72,7 +72,7 @@ fn status_in(text: &[u8]) -> Option<u32>
     status_behind(rest)
 }
 
-/// The status behind a minor version and a space, and before another or the end.
+/// The status behind a minor version and a space, and before another space or the end.
 fn status_behind(text: &[u8]) -> Option<u32>
     ensures { result ≡ status_behind text.now }
 {
@@ -85,7 +85,7 @@ fn status_behind(text: &[u8]) -> Option<u32>
     status_of(*hundreds, *tens, *ones)
 }
 
-/// Whether a reason may follow a status so: there is none, or a space is before it.
+/// Returns whether a reason may follow a status: there is none, or it is behind a space.
 fn begins_reason(text: &[u8]) -> bool
     ensures { result ≡ begins_reason text.now }
 {
@@ -95,7 +95,7 @@ fn begins_reason(text: &[u8]) -> bool
     }
 }
 
-/// The status of three digits, 100 at least.
+/// The status of three digits, at least 100.
 fn status_of(hundreds: u8, tens: u8, ones: u8) -> Option<u32>
     ensures { result ≡ status_of hundreds tens ones }
 {
@@ -106,7 +106,7 @@ fn status_of(hundreds: u8, tens: u8, ones: u8) -> Option<u32>
     Some(high + u32::from(tens - b'0') * 10 + u32::from(ones - b'0'))
 }
 
-/// What follows the head of a status and a framing (RFC 9112, section 6.3).
+/// The state behind the head with a status and a framing (RFC 9112, section 6.3).
 fn after_head(status: u32, framing: Framing) -> Reached
     ensures { result ≡ after_head status framing }
 {
@@ -139,7 +139,7 @@ fn body_of(status: u32, framing: Framing) -> Awaited
     }
 }
 
-/// Where a field leads.
+/// The state behind a field.
 fn after_field(at: Reached, text: &[u8]) -> Reached
     ensures { result ≡ after_field at text.now }
 {
@@ -153,7 +153,7 @@ fn after_field(at: Reached, text: &[u8]) -> Reached
     }
 }
 
-/// What follows the size of a chunk, behind a body so far of so many bytes.
+/// The part behind the size of a chunk, where the body so far has `body` bytes.
 fn after_size(size: Option<u32>, body: usize) -> Awaited
     ensures { result ≡ after_size size body }
 {
@@ -165,7 +165,7 @@ fn after_size(size: Option<u32>, body: usize) -> Awaited
     }
 }
 
-/// What follows the end of a chunk.
+/// The part behind the end of a chunk.
 fn after_empty(text: &[u8]) -> Awaited
     ensures { result ≡ after_empty text.now }
 {
@@ -176,7 +176,7 @@ fn after_empty(text: &[u8]) -> Awaited
     }
 }
 
-/// What follows a line of the trailer.
+/// The part behind a line of the trailer.
 fn after_trailer(text: &[u8]) -> Awaited
     ensures { result ≡ after_trailer text.now }
 {

@@ -8,11 +8,10 @@ use crate::line::line_read;
 use std::alloc::{AllocError, Global};
 use std::marker::Model;
 
-/// A reader of a reply, byte by byte. In clauses it is a record of what it reads next, the status and
-/// how the length of the body is told, how many bytes its lines may still have, the line so far, and the
-/// body so far.
+/// A reader of a reply, byte by byte. In clauses it is a record of the part that it reads next, the status
+/// and the framing, the number of bytes that its lines may still have, the line so far, and the body so far.
 ///
-/// Once the reply is whole, or broken, further bytes say nothing.
+/// Once the reply is whole or broken, further bytes change nothing.
 #[derive(Debug, Drop)]
 pub struct ReplyReader {
     awaited: Awaited,
@@ -32,13 +31,13 @@ impl Model for ReplyReader {
 }
 
 impl ReplyReader {
-    /// The longest head, or trailer, and the longest line, in bytes.
+    /// The most bytes of a head, of a trailer and of a line.
     pub const HEAD_BYTES: usize = 16_384;
 
-    /// The longest body, in bytes.
+    /// The most bytes of a body.
     pub const BODY_BYTES: usize = 1_048_576;
 
-    /// A reader of a new connection.
+    /// Creates the reader of a new connection.
     pub fn new(alloc: Global) -> ReplyReader
         ensures { result ≡ start }
     {
@@ -52,7 +51,7 @@ impl ReplyReader {
         }
     }
 
-    /// Takes the next byte. Where there is no memory, it isn't taken.
+    /// Takes the next byte. The only error is out of memory, and the byte isn't taken then.
     pub fn take(&mut self, byte: u8) -> Result<(), AllocError>
         ensures ok { OnOk result (self.new ≡ after_byte self.old byte) }
         ensures err { OnErr result (self.new ≡ self.old) }
@@ -66,7 +65,7 @@ impl ReplyReader {
         }
     }
 
-    /// The connection has ended.
+    /// Records that the connection has ended.
     pub fn end(&mut self)
         ensures { self.new ≡ ended self.old }
     {
@@ -77,14 +76,14 @@ impl ReplyReader {
         }
     }
 
-    /// Whether the reply is whole.
+    /// Returns whether the reply is whole.
     pub fn is_whole(&self) -> bool
         ensures { result ≡ is_whole self.now.awaited }
     {
         matches!(self.awaited(), Awaited::Nothing)
     }
 
-    /// What is wrong with the reply, once something is.
+    /// The fault of the reply, if it has one.
     pub fn fault(&self) -> Option<ReplyFault>
         ensures { result ≡ fault_of self.now.awaited }
     {
@@ -94,7 +93,7 @@ impl ReplyReader {
         }
     }
 
-    /// The status, once its line is read; 0 before.
+    /// The status, if its line is read; else 0.
     pub fn status(&self) -> u32
         ensures { result ≡ self.now.status }
     {
@@ -126,7 +125,7 @@ impl ReplyReader {
         Ok(())
     }
 
-    /// A line has ended.
+    /// Ends a line.
     fn end_line(&mut self, line: Line)
         requires { self.old.awaited ≡ Awaited.Line line }
         ensures { self.new ≡ line_ended line self.old }
@@ -135,7 +134,7 @@ impl ReplyReader {
         self.settle(reached);
     }
 
-    /// Where the line leads.
+    /// The state behind the line.
     fn line_read(&self, line: Line) -> Reached
         ensures { result ≡ line_read line self.now.line (reached_of self.now) (length self.now.body) }
     {
@@ -143,7 +142,7 @@ impl ReplyReader {
         line_read(line, &self.line, at, self.body.len())
     }
 
-    /// Takes a byte of a body whose length isn't told.
+    /// Takes a byte of a body without a length.
     fn take_untold(&mut self, byte: u8) -> Result<(), AllocError>
         requires { self.old.awaited ≡ Awaited.UntilEnd }
         ensures ok { OnOk result (self.new ≡ body_grown self.old byte) }
@@ -156,14 +155,14 @@ impl ReplyReader {
         self.keep(byte, Awaited::UntilEnd)
     }
 
-    /// What is read next.
+    /// The part that is read next.
     fn awaited(&self) -> Awaited
         ensures { result ≡ self.now.awaited }
     {
         self.awaited
     }
 
-    /// How far it is.
+    /// The state without the lines and the body.
     fn reached(&self) -> Reached
         ensures { result ≡ reached_of self.now }
     {
@@ -174,14 +173,14 @@ impl ReplyReader {
         }
     }
 
-    /// Reads this next.
+    /// Sets the part that is read next.
     fn set_awaited(&mut self, awaited: Awaited)
         ensures { self.new ≡ record self.old { awaited = awaited } }
     {
         self.awaited = awaited;
     }
 
-    /// Begins a line where the last has led here.
+    /// Begins a line, with the state behind the last one.
     fn settle(&mut self, reached: Reached)
         ensures { self.new ≡ settled reached self.old }
     {
@@ -193,7 +192,7 @@ impl ReplyReader {
         self.line.clear();
     }
 
-    /// Keeps a byte of the body, and reads this next.
+    /// Appends a byte to the body, and sets the part that is read next.
     fn keep(&mut self, byte: u8, awaited: Awaited) -> Result<(), AllocError>
         ensures ok { OnOk result (self.new ≡ with_byte byte awaited self.old) }
         ensures err { OnErr result (self.new ≡ self.old) }
@@ -204,7 +203,7 @@ impl ReplyReader {
     }
 }
 
-/// How many bytes the lines may have from here on, of which so many are left.
+/// The number of bytes that the lines may still have, where `rest` of the old room are left.
 fn room_behind(awaited: Awaited, rest: usize) -> usize
     ensures { result ≡ room_behind awaited rest }
 {
@@ -214,7 +213,7 @@ fn room_behind(awaited: Awaited, rest: usize) -> usize
     }
 }
 
-/// What is read behind a byte of a counted body.
+/// The part behind a byte of a counted body.
 fn counted_left(count: u32) -> Awaited
     ensures { result ≡ counted_left count }
 {
@@ -225,7 +224,7 @@ fn counted_left(count: u32) -> Awaited
     }
 }
 
-/// What is read behind a byte of a chunk.
+/// The part behind a byte of a chunk.
 fn chunk_left(count: u32) -> Awaited
     ensures { result ≡ chunk_left count }
 {

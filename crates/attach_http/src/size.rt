@@ -4,10 +4,10 @@ ghost use Rattle.attach_http.specs.Size.{hex_digit, hex_from, size_in};
 
 use text::without_parameters;
 
-/// A size that is told as more than this counts as this; it is far above any body's.
+/// The greatest size. A greater size in a line counts as this size, which is far above the limit of a body.
 const MOST: u32 = 16_777_216;
 
-/// The size that a line tells: hexadecimal digits, and extensions behind a semicolon, which say nothing.
+/// The size in a line: hexadecimal digits. Extensions behind a semicolon are ignored.
 #[tactic(auto, unfolding(crate::specs::Size::size_in))]
 pub(crate) fn size_in(line: &[u8]) -> Option<u32>
     ensures { result ≡ size_in line.now }
@@ -19,7 +19,7 @@ pub(crate) fn size_in(line: &[u8]) -> Option<u32>
     hex_from(0, word)
 }
 
-/// The number that hexadecimal digits are behind those of a value.
+/// The number of hexadecimal digits behind those of a value.
 fn hex_from(value: u32, word: &[u8]) -> Option<u32>
     requires { value ≤ 16777216 }
     ensures { result ≡ hex_from value word.now }
@@ -33,7 +33,7 @@ fn hex_from(value: u32, word: &[u8]) -> Option<u32>
     }
 }
 
-/// The value with one digit more.
+/// The value with one more digit.
 fn next_value(value: u32, digit: u32) -> u32
     requires value { value ≤ 16777216 }
     requires digit { digit ≤ 15 }

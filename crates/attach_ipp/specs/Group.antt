@@ -13,7 +13,7 @@ values_of tag name first others = record { name = name; first = plain tag first;
 abbrev pub with_more : IppAttribute → IppGroup → IppGroup
 with_more attribute group = record group { attributes = group.attributes ++ attribute ∷ [] }
 
--- no attribute is without a value
+-- an attribute needs at least one value
 abbrev pub with_values : ℕ → List ℕ → List (List ℕ) → IppGroup → IppGroup
 with_values tag name [] group = group
 with_values tag name (first ∷ others) group = with_more (values_of tag name first others) group
@@ -21,7 +21,7 @@ with_values tag name (first ∷ others) group = with_more (values_of tag name fi
 abbrev pub user : IppAttribute
 user = attribute_of 0x42 (codes "requesting-user-name") (codes "printd")
 
--- charset and language come first (RFC 8011, section 4.1.4)
+-- charset and natural language come first (RFC 8011, section 4.1.4)
 abbrev pub about_printer : List ℕ → IppGroup
 about_printer uri = record {
   tag = tags.operation_attributes;

@@ -1,4 +1,4 @@
--- What a printer tells of itself (RFC 8011, sections 5.4.11 and 5.4.12).
+-- The state of a printer in its reply (RFC 8011, sections 5.4.11 and 5.4.12).
 use Rattle.std.specs.Prelude.{ℕ, ◌-◌, ◌==◌, ◌||◌, Bool, true, false, if◌then◌else◌, List, [], ◌∷◌, length, take, drop, Option, Some, codes, ℤ, pos}
 use Rattle.std.specs.List.{list_any}
 use Rattle.std.specs.Option.{option_map_or}
@@ -8,7 +8,7 @@ use Rattle.ipp_codec.specs.Message.{IppAttribute, IppMessage, bytes_in}
 use Rattle.ipp_codec.specs.Tag.{printer_attributes}
 use Rattle.attach_ipp.specs.Reply.{first_in, number_in}
 
--- someone has to come
+-- the reason needs someone to come to the printer
 unfoldable pub is_stop_reason : List ℕ → Bool
 is_stop_reason reason =
     bytes_eq reason (codes "media-empty")
@@ -24,7 +24,7 @@ is_stop_reason reason =
 unfoldable pub without_error : List ℕ → List ℕ
 without_error reason = if bytes_eq (drop (length reason - 6) reason) (codes "-error") then take (length reason - 6) reason else reason
 
--- a reason without a suffix is an error; a warning or a report stops nothing
+-- a reason without a suffix is an error; a warning or a report doesn't stop the printer
 abbrev pub stops_by : List ℕ → Bool
 stops_by reason = is_stop_reason (without_error reason)
 

@@ -1,4 +1,4 @@
--- What a reply says: of a name the first attribute in the first group of a tag.
+-- The content of a reply: of each name the first attribute in the first group of a tag.
 use Rattle.std.specs.Prelude.{ℕ, ◌==◌, nat_lt, Bool, false, List, ◌∷◌, find, Option}
 use Rattle.std.specs.List.{list_any}
 use Rattle.std.specs.Option.{option_map_or, option_and_then}

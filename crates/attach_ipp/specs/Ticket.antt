@@ -1,4 +1,4 @@
--- What a Print-Job asks for (RFC 8011, section 4.2.1.1).
+-- The groups of a Print-Job (RFC 8011, section 4.2.1.1).
 use Rattle.std.specs.Prelude.{ℕ, if◌then◌else◌, Bool, List, [], ◌∷◌, ◌++◌, Option, Some, None, codes}
 use Rattle.std.specs.Borrow.{Bor}
 use Rattle.std.specs.Int.{w32, to_be_bytes}
@@ -8,7 +8,7 @@ use Rattle.base_types.specs.declared.finishings.Finishings.{Finishings}
 use Rattle.attach_ipp.specs.declared.ticket.Ticket.{Ticket}
 use Rattle.attach_ipp.specs.Group.{attribute_of, with_more, with_values, user, about_printer}
 
--- what the printer doesn't support it may leave out: ipp-attribute-fidelity is false
+-- the operation group; ipp-attribute-fidelity is false, so the printer may leave out what it doesn't support
 abbrev pub document_group : List ℕ → Ticket → IppGroup
 document_group uri ticket =
     with_more (attribute_of 0x49 (codes "document-format") ticket.format.now)

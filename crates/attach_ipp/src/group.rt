@@ -5,7 +5,7 @@ ghost use Rattle.attach_ipp.specs.Group.{attribute_of, values_of, with_values, w
 use ipp_codec::{Attribute, Group, GroupTag, Value, ValueTag};
 use std::alloc::{AllocError, Global};
 
-/// Adds an attribute with one value.
+/// Appends an attribute with one value. The only error is out of memory.
 pub(crate) fn put(
     alloc: Global,
     group: &mut Group,
@@ -20,7 +20,7 @@ pub(crate) fn put(
     group.push(attribute)
 }
 
-/// Adds an attribute with these values, if there are any.
+/// Appends an attribute with these values, if there are any. The only error is out of memory.
 pub(crate) fn put_values(
     alloc: Global,
     group: &mut Group,
@@ -78,7 +78,7 @@ pub(crate) fn about_printer(alloc: Global, uri: &[u8]) -> Result<Group, AllocErr
     Ok(group)
 }
 
-/// Adds who asks.
+/// Appends the name of the user.
 pub(crate) fn put_user(alloc: Global, group: &mut Group) -> Result<(), AllocError>
     ensures { OnOk result (group.new ≡ with_more user group.old) }
 {

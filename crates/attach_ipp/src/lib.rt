@@ -1,9 +1,9 @@
-//! An IPP client's side of printing: requests to a printer as bytes, and what its replies say
+//! The client's side of printing over IPP: requests to a printer as bytes, and the content of its replies
 //! (RFC 8010, RFC 8011).
 //!
-//! Each request is the one spelling of a message that its contract has; what is found in a reply is the
-//! first attribute of its name in the first group of its kind. It sends nothing, and doesn't know what a
-//! reply does to a job.
+//! Each request is the one spelling of the message in its contract. A value in a reply is the value of the
+//! first attribute of its name in the first group of its kind. The crate sends nothing, and doesn't apply a
+//! reply to a job.
 //!
 //! Tests stand in `unit_tests`.
 #![tactic(auto)]

@@ -7,12 +7,12 @@ use base_types::{Limits, Text, is_media};
 use ipp_codec::{AttributeView, GroupTag, MessageView};
 use std::alloc::{AllocError, Global};
 
-/// How many bytes the names of a line may have, each with the byte before it: those of the line without
-/// its word and its line feed.
+/// The most bytes of the names in a line, each with the byte before it: the bytes of the line without its
+/// word and its line feed.
 const NAMES_BYTES: usize = Limits::DEVICE_LINE_BYTES - 6;
 
-/// The media that a printer says are loaded, else the one that it takes by default; none where it says
-/// neither. What is no name of a medium is left out, and what a line to the server has no room for.
+/// The media that a printer reports as loaded, else its default medium; `None` if the reply has neither.
+/// Values that aren't names of media are left out, and so are those that don't fit in a line to the server.
 pub fn loaded_media(alloc: Global, reply: &MessageView<'_>) -> Result<Option<Vec<Text>>, AllocError>
     ensures { IfOk result (λ names. IfSome names (λ some. AreMedia some.items)) }
 {

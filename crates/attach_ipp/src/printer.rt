@@ -1,4 +1,4 @@
-//! What a printer tells of itself (RFC 8011, section 5.4).
+//! The state of a printer in its reply (RFC 8011, section 5.4).
 ghost use Rattle.std.specs.Prelude.{◌≡◌};
 ghost use Rattle.ipp_codec.specs.Views.{attribute_shown, message_shown};
 ghost use Rattle.attach_ipp.specs.Printer.{is_stop_reason, without_error, stops_by, has_stop_reason, is_state_stopped, is_stopped, upper_of, copies_up_to};
@@ -6,10 +6,11 @@ ghost use Rattle.attach_ipp.specs.Printer.{is_stop_reason, without_error, stops_
 use crate::reply::{first_in, number_in};
 use ipp_codec::{AttributeView, GroupTag, MessageView};
 
-/// The printer-state of a printer that is stopped (RFC 8011, section 5.4.11).
+/// The value of printer-state of a stopped printer (RFC 8011, section 5.4.11).
 const STOPPED: i32 = 5;
 
-/// Whether a printer prints nothing until someone comes: it is stopped, or one of its reasons says so.
+/// Returns whether a printer prints nothing until someone comes: it is stopped, or one of its reasons is
+/// such.
 pub fn is_stopped(reply: &MessageView<'_>) -> bool
     ensures { result ≡ is_stopped (message_shown reply.now) }
 {
@@ -22,7 +23,7 @@ pub fn is_stopped(reply: &MessageView<'_>) -> bool
     }
 }
 
-/// Whether a printer-state is that of a stopped printer.
+/// Returns whether a printer-state is that of a stopped printer.
 fn is_state_stopped(state: Option<i32>) -> bool
     ensures { result ≡ is_state_stopped state }
 {
@@ -32,7 +33,7 @@ fn is_state_stopped(state: Option<i32>) -> bool
     }
 }
 
-/// Whether a reason among these stops a printer.
+/// Returns whether one of the reasons stops a printer.
 fn has_stop_reason(reasons: &AttributeView<'_>) -> bool
     ensures { result ≡ has_stop_reason (attribute_shown reasons.now) }
 {
@@ -44,7 +45,7 @@ fn has_stop_reason(reasons: &AttributeView<'_>) -> bool
     false
 }
 
-/// Whether a printer stops by a reason, which is an error where it has no suffix (RFC 8011, section
+/// Returns whether a reason stops a printer. A reason without a suffix is an error (RFC 8011, section
 /// 5.4.12).
 fn stops_by(reason: &[u8]) -> bool
     ensures { result ≡ stops_by reason.now }
@@ -60,7 +61,7 @@ fn without_error(reason: &[u8]) -> &[u8]
     reason.strip_suffix(b"-error").unwrap_or(reason)
 }
 
-/// Whether a reason says that someone has to come.
+/// Returns whether a reason needs someone to come to the printer.
 #[tactic(auto, unfolding(crate::specs::Printer::is_stop_reason))]
 fn is_stop_reason(reason: &[u8]) -> bool
     ensures { result ≡ is_stop_reason reason.now }
@@ -76,7 +77,7 @@ fn is_stop_reason(reason: &[u8]) -> bool
         || reason == b"paused".as_slice()
 }
 
-/// The most copies that a printer makes of a job; 1 where it doesn't say.
+/// The most copies that a printer makes of a job; 1 if the reply doesn't have them.
 pub fn copies_up_to(reply: &MessageView<'_>) -> u32
     ensures { result ≡ copies_up_to (message_shown reply.now) }
 {

@@ -1,4 +1,4 @@
-//! What a reply says.
+//! The content of a reply.
 ghost use Rattle.std.specs.Prelude.{◌≡◌, ℕ, take, option_map, IfSome};
 ghost use Rattle.ipp_codec.specs.Grammar.{Spells};
 ghost use Rattle.ipp_codec.specs.Views.{attribute_shown, group_shown, message_shown};
@@ -6,7 +6,7 @@ ghost use Rattle.attach_ipp.specs.Reply.{group_in, attribute_named, first_in, nu
 
 use ipp_codec::{AttributeView, GroupTag, GroupView, MessageView, decode};
 
-/// The message that a reply's body begins with, if it begins with one.
+/// The message at the front of a reply's body, if there is one.
 pub fn reply_in(body: &[u8]) -> Option<MessageView<'_>>
     ensures { IfSome result (λ reply. (count : ℕ) × Spells (take count body.now) (message_shown reply)) }
 {
@@ -16,7 +16,7 @@ pub fn reply_in(body: &[u8]) -> Option<MessageView<'_>>
     }
 }
 
-/// Whether a reply's status says that the operation was done (RFC 8011, appendix B).
+/// Returns whether the status of a reply is a success (RFC 8011, appendix B).
 pub fn is_successful(status: u16) -> bool
     ensures { result ≡ is_successful status }
 {
@@ -71,7 +71,7 @@ pub fn number_in(reply: &MessageView<'_>, tag: GroupTag, name: &[u8]) -> Option<
     }
 }
 
-/// Whether an attribute has a value of these bytes.
+/// Returns whether an attribute has a value with these bytes.
 fn has_value(attribute: &AttributeView<'_>, bytes: &[u8]) -> bool
     ensures { result ≡ has_value bytes.now (attribute_shown attribute.now) }
 {
@@ -83,7 +83,7 @@ fn has_value(attribute: &AttributeView<'_>, bytes: &[u8]) -> bool
     false
 }
 
-/// Whether an attribute has a value of these bytes: a keyword, a name or a format.
+/// Returns whether an attribute has a value with these bytes: a keyword, a name or a format.
 pub fn lists(reply: &MessageView<'_>, tag: GroupTag, name: &[u8], bytes: &[u8]) -> bool
     ensures { result ≡ lists tag name.now bytes.now (message_shown reply.now) }
 {
@@ -93,7 +93,7 @@ pub fn lists(reply: &MessageView<'_>, tag: GroupTag, name: &[u8], bytes: &[u8]) 
     }
 }
 
-/// Whether an attribute has this number among its values.
+/// Returns whether an attribute has this number among its values.
 pub fn lists_number(reply: &MessageView<'_>, tag: GroupTag, name: &[u8], number: u32) -> bool
     ensures { result ≡ lists_number tag name.now number (message_shown reply.now) }
 {

@@ -8,7 +8,7 @@ use crate::ticket::{Ticket, document_group, job_group};
 use ipp_codec::{EncodeFault, Group, Message, ValueTag, Version, encode};
 use std::alloc::{AllocError, Global};
 
-/// IPP/1.1, which each printer speaks (RFC 8011, section 4.1.8).
+/// IPP/1.1, which each printer supports (RFC 8011, section 4.1.8).
 const VERSION: Version = Version { major: 1, minor: 1 };
 
 const PRINT_JOB: u16 = 0x0002;

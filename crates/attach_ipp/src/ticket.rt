@@ -1,4 +1,4 @@
-//! How a job is to be printed.
+//! The options of a job.
 ghost use Rattle.std.specs.Prelude.{◌≡◌, ◌++◌, IfOk, OnOk, map};
 ghost use Rattle.attach_ipp.specs.Ticket.{document_group, job_group, with_copies, with_words, finishing_codes, code_if};
 
@@ -7,14 +7,14 @@ use base_types::Finishings;
 use ipp_codec::{Group, GroupTag, ValueTag};
 use std::alloc::{AllocError, Global};
 
-/// What a Print-Job asks for (RFC 8011, section 4.2.1.1). What isn't said is left to the printer.
+/// The options of a Print-Job (RFC 8011, section 4.2.1.1). The printer chooses those that are `None`.
 #[derive(Clone, Copy, Debug)]
 pub struct Ticket<'a> {
     /// The job's name.
     pub name: &'a [u8],
     /// The media type of its document.
     pub format: &'a [u8],
-    /// 1 to 999.
+    /// The number of copies, 1 to 999.
     pub copies: Option<u32>,
     /// A keyword of sides (RFC 8011, section 5.2.8).
     pub sides: Option<&'a [u8]>,
@@ -23,7 +23,7 @@ pub struct Ticket<'a> {
     pub finishings: Finishings,
 }
 
-/// The operation group of a Print-Job. What the printer doesn't support it may leave out.
+/// The operation group of a Print-Job. The printer may leave out what it doesn't support.
 pub(crate) fn document_group(
     alloc: Global,
     uri: &[u8],
@@ -70,7 +70,7 @@ pub(crate) fn job_group(alloc: Global, ticket: &Ticket<'_>) -> Result<Group, All
     Ok(group)
 }
 
-/// Adds the number of copies, if it is said.
+/// Appends the number of copies, if it is given.
 fn put_copies(alloc: Global, group: &mut Group, copies: Option<u32>) -> Result<(), AllocError>
     ensures { OnOk result (group.new ≡ with_copies copies group.old) }
 {
@@ -86,7 +86,7 @@ fn put_copies(alloc: Global, group: &mut Group, copies: Option<u32>) -> Result<(
     }
 }
 
-/// Adds a keyword, if it is said.
+/// Appends a keyword, if it is given.
 fn put_word(
     alloc: Global,
     group: &mut Group,
@@ -112,7 +112,7 @@ fn finishing_codes(alloc: Global, finishings: Finishings) -> Result<Vec<&'static
     Ok(codes)
 }
 
-/// Adds a number where it is wanted.
+/// Appends a number, if `wanted` is true.
 fn put_code<'a>(codes: &mut Vec<&'a [u8]>, wanted: bool, code: &'a [u8]) -> Result<(), AllocError>
     ensures { OnOk result (map (λ code. code.now) codes.new.items ≡ map (λ code. code.now) codes.old.items ++ code_if wanted code.now) }
 {

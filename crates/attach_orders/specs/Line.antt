@@ -1,4 +1,4 @@
--- What a line of the server's orders. A line is words with one space between them.
+-- The order in a line of the server. A line is words with one space between them.
 use Rattle.std.specs.Prelude.{ℕ, ◌==◌, Bool, true, false, if◌then◌else◌, List, [], ◌∷◌, Option, Some, None, option_map, codes}
 use Rattle.std.specs.Option.{option_and_then}
 use Rattle.std.specs.Str.{bytes_eq}
@@ -45,7 +45,7 @@ abbrev pub begins_with : ℕ → List ℕ → Bool
 begins_with letter [] = false
 begins_with letter (first ∷ rest) = first == letter
 
--- what follows the letter, where the word begins with it
+-- the bytes behind the letter, if the word begins with it; else the word
 abbrev pub after_letter : ℕ → List ℕ → List ℕ
 after_letter letter [] = []
 after_letter letter (first ∷ rest) = if first == letter then rest else first ∷ rest
@@ -54,7 +54,7 @@ abbrev pub is_nothing : List ℕ → Bool
 is_nothing [] = true
 is_nothing (byte ∷ bytes) = false
 
--- a letter for each finishing that the job has, in this order, and one at least
+-- a letter for each finishing of the job, in this order, at least one
 unfoldable pub finishings_in : List ℕ → Option Finishings
 finishings_in word =
     let rest = after_letter 83 word in
@@ -75,7 +75,7 @@ job_said (Some numbers) (Some sides) media (Some finishings) =
 unfoldable pub cancel_said : List ℕ → List ℕ → Option Order
 cancel_said word job = if bytes_eq word (codes "CANCEL") then option_map Cancel (id_in job) else None
 
--- behind a job's numbers: its sides, its medium, and its finishings where it has some
+-- the sides, the medium and the finishings, if there are any, behind the numbers of a job
 abbrev pub described : Option JobNumbers → List (List ℕ) → Option Order
 described numbers (sides ∷ media ∷ []) = job_said numbers (sides_in sides) media (Some no_finishings)
 described numbers (sides ∷ media ∷ finishings ∷ []) = job_said numbers (sides_in sides) media (finishings_in finishings)
@@ -86,6 +86,6 @@ said (word ∷ job ∷ []) = cancel_said word job
 said (word ∷ job ∷ octets ∷ copies ∷ rest) = described (numbers_in word job octets copies) rest
 said words = None
 
--- what a line orders, if it is one of the server's
+-- the order in a line, if it is one of the server's
 abbrev pub order_in : List ℕ → Option Order
 order_in line = said (words_of line)

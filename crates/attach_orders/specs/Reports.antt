@@ -1,4 +1,4 @@
--- The lines that a device writes.
+-- The lines that a device sends.
 use Rattle.std.specs.Prelude.{ℕ, ◌≡◌, ◌≤◌, All, IsTrue, List, [], ◌∷◌, ◌++◌, Some, codes}
 use Rattle.std.specs.Fmt.{decimal}
 use Rattle.base_types.specs.declared.limits.TheConstants.Limits.{LAST_JOB_ID, BUSY}
@@ -11,7 +11,7 @@ use Rattle.text.specs.Parts.{words_of}
 abbrev pub hello_line : List ℕ → List ℕ
 hello_line name = codes "HELLO " ++ (name ++ codes "\n")
 
--- the names, the first behind this separator and each other behind a comma
+-- the names, the first behind the separator and each other behind a comma
 abbrev pub listed : ℕ → List (List ℕ) → List ℕ
 listed separator [] = []
 listed separator (name ∷ names) = (separator ∷ name) ++ listed 44 names
@@ -25,7 +25,7 @@ number_line word number = word ++ (codes " " ++ (decimal number ++ codes "\n"))
 abbrev pub pages_line : ℕ → ℕ → List ℕ
 pages_line job printed = codes "PAGES " ++ (decimal job ++ (codes " " ++ (decimal printed ++ codes "\n")))
 
--- that its connection has ended a device can't write
+-- the line of a report; the end of the connection has none
 abbrev pub report_line : ReportRecord → List ℕ
 report_line (SaysHello name) = hello_line name
 report_line (SaysMedia names) = media_line names
@@ -37,7 +37,7 @@ report_line (SaysDone job) = number_line (codes "DONE") job
 report_line (SaysFail job) = number_line (codes "FAIL") job
 report_line IsGone = []
 
--- what of a report has a line: names are names, and numbers are in range
+-- the report has a line: names are names, and numbers are in range
 abbrev pub HasLine : ReportRecord → Type 0
 HasLine (SaysHello name) = IsTrue (is_name name)
 HasLine (SaysMedia names) = All (λ name. IsTrue (is_media name)) names
@@ -49,6 +49,6 @@ HasLine (SaysDone job) = job ≤ LAST_JOB_ID
 HasLine (SaysFail job) = job ≤ LAST_JOB_ID
 HasLine IsGone = ⊥
 
--- the line of a report, without its line feed, says just that report
+-- the line of a report, without its line feed, is read as exactly that report
 abbrev pub ReadAsMeant : Type 0
 ReadAsMeant = (report : ReportRecord) → HasLine report → (line : List ℕ) × (report_line report ≡ line ++ codes "\n") × (said (words_of line) ≡ Some report)

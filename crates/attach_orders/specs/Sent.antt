@@ -1,4 +1,4 @@
--- What the server sends, and what it means.
+-- The bytes that the server sends, and their meaning.
 use Rattle.std.specs.Prelude.{ℕ, ◌≡◌, ◌≤◌, IsTrue, List, [], ◌∷◌, ◌++◌, map, length}
 use Rattle.base_types.specs.declared.limits.TheConstants.Limits.{JOB_OCTETS}
 use Rattle.base_types.specs.Needs.{JobNeeds}
@@ -8,23 +8,23 @@ use Rattle.device_link.specs.Orders.{job_line, cancel_line}
 use Rattle.attach_orders.specs.declared.order.Order.TheVariants.{Job, Cancel}
 use Rattle.attach_orders.specs.Stream.{Said, Orders, HasOctet, InLine, orders_heard}
 
--- what the server may want of a device
+-- an order of the server to a device
 pub data Wanted : Type 0 where
   ToPrint : (job : ℕ) (octets : List ℕ) (needs : JobNeeds) → Wanted
   ToCancel : (job : ℕ) → Wanted
 
--- what it sends: the line of a job and its octets, or the line of a cancel
+-- the bytes of an order: the line of a job and its octets, or the line of a cancel
 abbrev pub sent : Wanted → List ℕ
 sent (ToPrint job octets needs) = job_line job (length octets) needs ++ octets
 sent (ToCancel job) = cancel_line job
 
--- what a device is to hear
+-- the items that a device has to read
 abbrev pub meant : Wanted → List Said
 meant (ToPrint job octets needs) =
     Orders (Job (record { job = job; octets = length octets; copies = needs.copies; sides = needs.sides; finishings = needs.finishings; media = needs.media })) ∷ map HasOctet octets
 meant (ToCancel job) = Orders (Cancel job) ∷ []
 
--- ids, octets and copies are within the server's limits, and the medium's name is one
+-- ids, octets and copies are within the server's limits, and the medium's name is valid
 abbrev pub IsWithin : Wanted → Type 0
 IsWithin (ToPrint job octets needs) = IsJobId job × (length octets ≤ JOB_OCTETS) × IsCopies needs.copies × IsTrue (is_media needs.media)
 IsWithin (ToCancel job) = IsJobId job
@@ -41,6 +41,6 @@ abbrev pub all_meant : List Wanted → List Said
 all_meant [] = []
 all_meant (first ∷ later) = meant first ++ all_meant later
 
--- what the server sends is heard as what it means, and the next line may follow
+-- the bytes of orders are read as their items, and the next line may follow
 abbrev pub HeardAsMeant : Type 0
 HeardAsMeant = (wanted : List Wanted) → AreWithin wanted → orders_heard (all_sent wanted) ≡ record { said = all_meant wanted; place = InLine [] }

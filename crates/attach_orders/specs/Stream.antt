@@ -1,4 +1,4 @@
--- What the server's stream says, byte by byte: it doesn't matter in which pieces the bytes come.
+-- The items of the server's stream, byte by byte. The pieces in which the bytes come make no difference.
 use Rattle.std.specs.Prelude.{ℕ, ◌≡◌, ◌==◌, ◌+◌, ◌-◌, nat_lt, if◌then◌else◌, List, [], ◌∷◌, ◌++◌, map, length, Option, Some, None, Result, Ok, Err}
 use Rattle.base_types.specs.declared.limits.TheConstants.Limits.{DEVICE_LINE_BYTES}
 use Rattle.attach_orders.specs.declared.order.Order.{Order}
@@ -11,12 +11,12 @@ use Rattle.attach_orders.specs.declared.fault.OrderError.{OrderError}
 use Rattle.attach_orders.specs.declared.fault.OrderError.TheVariants.{Fault, OutOfMemory}
 use Rattle.attach_orders.specs.Line.{order_in}
 
--- what a stream says
+-- one thing that the stream says: an order, or an octet of a job
 pub data Said : Type 0 where
   Orders : Order → Said
   HasOctet : ℕ → Said
 
--- where a stream has come to: within a line, these bytes of which have come; within a job, so many octets of which are still to come; or at its first fault
+-- the place in a stream: in a line, of which these bytes have come; in a job, of which this many octets are still to come; or at the first fault
 pub data Place : Type 0 where
   InLine : List ℕ → Place
   InJob : ℕ → Place
@@ -35,7 +35,7 @@ silent place = record { said = []; place = place }
 abbrev pub octets_left : ℕ → Place
 octets_left count = if count == 0 then InLine [] else InJob count
 
--- a job's octets follow its line
+-- the number of octets that follow an order's line
 abbrev pub octets_after : Order → ℕ
 octets_after (Job job) = job.octets
 octets_after (Cancel id) = 0
@@ -44,7 +44,7 @@ abbrev pub line_heard : Option Order → Heard
 line_heard None = silent (AtFault BadLine)
 line_heard (Some order) = record { said = Orders order ∷ []; place = octets_left (octets_after order) }
 
--- a line and its line feed together have at most so many bytes
+-- a line and its line feed together have at most DEVICE_LINE_BYTES bytes
 abbrev pub line_grown : List ℕ → ℕ → Heard
 line_grown line byte = if nat_lt (length line + 1) DEVICE_LINE_BYTES then silent (InLine (line ++ byte ∷ [])) else silent (AtFault LineTooLong)
 
@@ -63,7 +63,7 @@ heard_from place (byte ∷ bytes) = with_front (byte_heard place byte).said (hea
 abbrev pub orders_heard : List ℕ → Heard
 orders_heard stream = heard_from (InLine []) stream
 
--- a reader: the octets of a job that it lends, the bytes that it hasn't read, how many octets of a job are among these and those to come, and the fault, once there is one
+-- the state of a reader: the octets of a job that it lends, the bytes that aren't read, how many octets of a job are among these and those to come, and the fault, if there was one
 pub record ReaderState : Type 0 where
   pub part : List ℕ
   pub rest : List ℕ
@@ -77,24 +77,24 @@ place_by (Some fault) octets = AtFault fault
 abbrev pub place_of : ReaderState → Place
 place_of reader = place_by reader.fault reader.octets
 
--- The reader has been fed this stream and has given this: the stream says it first, and then what the bytes say that the reader hasn't read.
+-- The reader was fed this stream and has given this. The stream says that first, and then what its bytes say that the reader hasn't read.
 abbrev pub Stands : List ℕ → List Said → ReaderState → Type 0
 Stands stream given reader = orders_heard stream ≡ with_front given (heard_from (place_of reader) reader.rest)
 
--- from one state the reader came to another and said this, of the same stream
+-- the reader went from one state to another and gave this from its stream
 abbrev pub Advances : ReaderState → List Said → ReaderState → Type 0
 Advances old said new = (stream : List ℕ) (given : List Said) → Stands stream given old → Stands stream (given ++ said) new
 
--- what an item says, with the part that is lent
+-- what an item says, with the part that the reader lends
 abbrev pub said_by : OrderItem → List ℕ → List Said
 said_by (item.Order order) part = Orders order ∷ []
 said_by item.Octets part = map HasOctet part
 
--- how much a reader can say, at most
+-- an upper bound on the items that a reader can still give
 abbrev pub work : ReaderState → ℕ
 work reader = length reader.rest
 
--- what an answer of the reader says of the stream that it was fed, and where the reader stands then
+-- the answer of a reader, and its state then: an item, which the stream says next; or none, and then the stream says no more; or a fault; or refused memory
 abbrev pub Answers : ReaderState → Result (Option OrderItem) OrderError → ReaderState → Type 0
 Answers old (Ok (Some said)) new = Advances old (said_by said new.part) new
 Answers old (Ok None) new = (new ≡ old) × ((stream : List ℕ) (given : List Said) → Stands stream given old → (orders_heard stream).said ≡ given)

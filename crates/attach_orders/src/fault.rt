@@ -1,24 +1,24 @@
 use std::alloc::AllocError;
 use thiserror::Error;
 
-/// What is wrong with what the server sent.
+/// The fault of the server's stream.
 #[derive(Clone, Copy, Debug, PartialEq, Eq, Error)]
 pub enum OrderFault {
     /// A line that isn't one of the server's.
     #[error("a line that isn't one of the server's")]
     BadLine,
-    /// A line of more than [`base_types::Limits::DEVICE_LINE_BYTES`] bytes, its line feed counted.
+    /// A line of more than [`base_types::Limits::DEVICE_LINE_BYTES`] bytes, with its line feed.
     #[error("a line that is too long")]
     LineTooLong,
 }
 
-/// Why no order is given.
+/// Why the reader gives no order.
 #[derive(Clone, Copy, Debug, PartialEq, Eq, Error)]
 pub enum OrderError {
-    /// The server's first fault. From now on there is no other answer.
+    /// The first fault of the stream. The reader gives no other answer from then on.
     #[error("{0}")]
     Fault(OrderFault),
-    /// There is no memory for the names of an order. It stays to be read.
+    /// Memory for the name of an order's medium was refused. The order stays to be read.
     #[error("out of memory")]
     OutOfMemory,
 }

@@ -1,11 +1,11 @@
-//! A device's side of the lines between it and the server: what the server orders, from any cutting
-//! of its stream of bytes, and the lines that a device writes.
+//! The device's side of the protocol between it and the server: the server's orders, read from a stream that
+//! comes in pieces of any length, and the lines that a device sends.
 //!
-//! It promises that an [`OrderReader`] gives exactly the orders of the bytes that it was fed, in
-//! order, the octets of each job among them, and then the first fault; that [`write_report`] appends
-//! exactly a report's line; and that what either side writes is read back by the other as what it
-//! meant ([`orders_read_back`], [`report_read_back`]). It opens no connection and keeps no job; the
-//! server's side of the lines stands in `device_link`. `docs/DEVICES.md` has the protocol.
+//! An [`OrderReader`] gives exactly the orders of the bytes that it was fed, in order, with the octets of
+//! each job, and then the first fault. [`write_report`] appends exactly a report's line. Each side reads the
+//! orders or the report that the other side wrote ([`orders_read_back`], [`report_read_back`]). The crate
+//! opens no connection and keeps no job. The server's side is in `device_link`. `docs/DEVICES.md` describes
+//! the protocol.
 //!
 //! Tests stand in `unit_tests`.
 #![tactic(auto)]

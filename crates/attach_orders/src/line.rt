@@ -1,4 +1,4 @@
-//! What a line of the server's says.
+//! The order in a line of the server.
 ghost use Rattle.std.specs.Prelude.{◌≡◌, ◌∷◌, [], List, ℕ, None, IfOk};
 ghost use Rattle.std.specs.Option.{option_map_or};
 ghost use Rattle.text.specs.Parts.{words_of};
@@ -9,7 +9,7 @@ use base_types::{Finishings, JobId, Limits, Sides, Text, is_media};
 use std::alloc::{AllocError, Global};
 use text::{cut_at, number_up_to};
 
-/// The order that a line is, without its line feed.
+/// Reads the order in a line, given without its line feed. The only error is out of memory.
 pub(crate) fn read_line(alloc: Global, line: &[u8]) -> Result<Option<Order>, AllocError>
     ensures { IfOk result (λ order. order ≡ order_in line.now) }
 {
@@ -24,7 +24,7 @@ pub(crate) fn read_line(alloc: Global, line: &[u8]) -> Result<Option<Order>, All
     }
 }
 
-/// A word up to a space, and what follows the space, where there is one.
+/// Splits a text at its first space: the word before it, and the text behind it, if there is a space.
 #[tactic(auto, using(text::proofs::Cuts::parts_cut, text::proofs::Cuts::parts_uncut))]
 fn split_word(text: &[u8]) -> (&[u8], Option<&[u8]>)
     ensures { words_of text.now ≡ result.0.now ∷ option_map_or (λ more. words_of more.now) result.1 [] }
@@ -35,7 +35,7 @@ fn split_word(text: &[u8]) -> (&[u8], Option<&[u8]>)
     }
 }
 
-/// A word and its one operand.
+/// Reads the order of a word and its one operand.
 #[tactic(auto, unfolding(crate::specs::Line::cancel_said))]
 fn read_cancel(word: &[u8], job: &[u8]) -> Option<Order>
     ensures { result ≡ cancel_said word.now job.now }
@@ -47,7 +47,7 @@ fn read_cancel(word: &[u8], job: &[u8]) -> Option<Order>
     Some(Order::Cancel(job))
 }
 
-/// A word, the id of a job, and at least one more operand.
+/// Reads the order of a word, the id of a job, and at least one more operand.
 fn read_numbers(
     alloc: Global,
     word: &[u8],
@@ -67,7 +67,7 @@ fn read_numbers(
     read_sheets(alloc, numbers_in(word, job, octets, copies), operands)
 }
 
-/// The sides, the medium and the finishings, behind the numbers.
+/// Reads the sides, the medium and the finishings, behind the numbers.
 #[tactic(auto, using(crate::proofs::Words::nothing_described))]
 fn read_sheets(
     alloc: Global,
@@ -103,7 +103,7 @@ fn read_sheets(
     )
 }
 
-/// The job of these parts, if each is one.
+/// The job of these parts, if each is valid.
 #[tactic(auto, unfolding(crate::specs::Line::job_said))]
 fn read_job(
     alloc: Global,
@@ -163,7 +163,7 @@ fn id_in(word: &[u8]) -> Option<JobId>
     JobId::new(number as u32)
 }
 
-/// How many octets a job has.
+/// The number of a job's octets.
 fn octets_in(word: &[u8]) -> Option<u32>
     ensures { result ≡ octets_in word.now }
 {
@@ -171,7 +171,7 @@ fn octets_in(word: &[u8]) -> Option<u32>
     Some(number as u32)
 }
 
-/// How many copies are printed.
+/// The number of copies.
 #[tactic(auto, unfolding(crate::specs::Line::copies_in))]
 fn copies_in(word: &[u8]) -> Option<u32>
     ensures { result ≡ copies_in word.now }
@@ -183,7 +183,7 @@ fn copies_in(word: &[u8]) -> Option<u32>
     Some(number as u32)
 }
 
-/// The sides that are printed on.
+/// The sides of the job.
 #[tactic(auto, unfolding(crate::specs::Line::sides_in))]
 fn sides_in(word: &[u8]) -> Option<Sides>
     ensures { result ≡ sides_in word.now }
@@ -220,7 +220,7 @@ fn finishings_in(word: &[u8]) -> Option<Finishings>
     })
 }
 
-/// Whether a word begins with a letter, and what follows the letter, or the word.
+/// Returns whether a word begins with a letter, and the bytes behind the letter, or the word.
 fn letter_taken(letter: u8, word: &[u8]) -> (bool, &[u8])
     ensures begins { result.0 ≡ begins_with letter word.now }
     ensures rest { result.1.now ≡ after_letter letter word.now }

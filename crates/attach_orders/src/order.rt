@@ -1,36 +1,36 @@
 use base_types::{Finishings, JobId, Sides, Text};
 
-/// A job, as the line says that brings it. Its octets follow the line.
+/// A job, by the line that announces it. Its octets follow the line.
 #[derive(Debug, Drop)]
 pub struct JobOrder {
     pub job: JobId,
-    /// The octets of its documents together: up to [`base_types::Limits::JOB_OCTETS`].
+    /// The number of octets of its documents together, at most [`base_types::Limits::JOB_OCTETS`].
     pub octets: u32,
-    /// 1 to [`base_types::Limits::COPIES`].
+    /// The number of copies: 1 to [`base_types::Limits::COPIES`].
     pub copies: u32,
     pub sides: Sides,
     pub finishings: Finishings,
     pub media: Text,
 }
 
-/// What a line of the server's orders.
+/// An order of the server, by its line.
 #[derive(Debug, Drop)]
 pub enum Order {
-    /// A job is to be printed.
+    /// Print a job.
     Job(JobOrder),
-    /// The job of this id is canceled.
+    /// Cancel the job of this id.
     Cancel(JobId),
 }
 
-/// What the server's stream gives, one after the other.
+/// An item of the server's stream. The items come in the order of the stream.
 #[derive(Debug, Drop)]
 pub enum OrderItem {
     Order(Order),
-    /// Some octets of the last job: those that the reader lends as its part.
+    /// Some octets of the last job, which the reader lends as its part.
     Octets,
 }
 
-/// The numbers of the line that brings a job.
+/// The numbers in the line that announces a job.
 #[derive(Clone, Copy, Debug)]
 pub(crate) struct JobNumbers {
     pub job: JobId,

@@ -13,14 +13,14 @@ use std::alloc::{AllocError, Global};
 use std::marker::Model;
 use text::{FirstLine, Unread, first_line};
 
-/// A reader of what the server sends, in pieces of any length. In clauses it is a record of the octets
-/// of a job that it lends, of what it still has to read, how many octets of a job are among these and
+/// A reader of the server's stream, which is fed in pieces of any length. In clauses it is a record of the
+/// octets of a job that it lends, the bytes that aren't read, how many octets of a job are among these and
 /// those to come, and its fault.
 #[derive(Debug, Drop)]
 pub struct OrderReader {
     alloc: Global,
     unread: Unread,
-    /// How many of the unread bytes are read already, and lent as a part.
+    /// The number of unread bytes that are read already, and lent as a part.
     lent: usize,
     octets: u32,
     fault: Option<OrderFault>,
@@ -37,7 +37,7 @@ impl Model for OrderReader {
     ghost invariant = { λ r. r.lent ≤ length r.unread };
 }
 
-/// How many octets follow the line of an order.
+/// Returns the number of octets that follow the line of an order.
 fn octets_after(order: &Order) -> u32
     ensures { result ≡ octets_after order.now }
 {
@@ -48,7 +48,7 @@ fn octets_after(order: &Order) -> u32
 }
 
 impl OrderReader {
-    /// A reader of a new connection.
+    /// Creates the reader of a new connection.
     pub fn new(alloc: Global) -> OrderReader
         ensures { Stands [] [] result }
     {
@@ -61,10 +61,10 @@ impl OrderReader {
         }
     }
 
-    /// Takes the next bytes of the connection. The part that was lent is given back. After a fault
-    /// they are dropped.
+    /// Feeds the next bytes of the connection. The part that was lent is given back. After a fault they are
+    /// dropped.
     ///
-    /// Where there is no memory, none of them is taken, and the part stays lent.
+    /// The only error is out of memory: then none of the bytes is taken, and the part stays lent.
     pub fn feed(&mut self, piece: &[u8]) -> Result<(), AllocError>
         ensures fed { OnOk result ((stream : List ℕ) (given : List Said) → Stands stream given self.old → Stands (stream ++ piece.now) given self.new) }
         ensures err { OnErr result (self.new ≡ self.old) }
@@ -76,10 +76,11 @@ impl OrderReader {
         self.append(piece)
     }
 
-    /// The next order, if its line is whole, or the next octets of a job: `part` lends them.
+    /// Returns the next order, if its line is whole, or the next octets of a job, which [`OrderReader::part`]
+    /// has.
     ///
-    /// After a fault it answers that fault, whatever it is fed. Where there is no memory for the name
-    /// of a medium, the order stays to be read.
+    /// After a fault it returns that fault at each call. If memory for the name of a medium is refused, the
+    /// order stays to be read.
     pub fn next_item(&mut self) -> Result<Option<OrderItem>, OrderError>
         ensures answer { Answers self.old result self.new }
         ensures falls { IfOk result (λ item. IsSome item → work self.new < work self.old) }
@@ -120,7 +121,7 @@ impl OrderReader {
         Some(OrderItem::Octets)
     }
 
-    /// Reads the line of so many bytes at the front.
+    /// Reads the line of `length` bytes at the front.
     fn take_line(&mut self, length: usize) -> Result<Option<OrderItem>, OrderError>
         requires line { first_line_of Limits.DEVICE_LINE_BYTES self.old.rest ≡ Whole length }
         requires faultless { self.old.fault ≡ None }
@@ -137,28 +138,28 @@ impl OrderReader {
         }
     }
 
-    /// The bytes that are not read yet.
+    /// The bytes that aren't read.
     fn rest(&self) -> &[u8]
         ensures { result.now ≡ self.now.rest }
     {
         &self.unread.bytes()[self.lent..]
     }
 
-    /// The fault, once there is one.
+    /// The fault, if there was one.
     fn fault(&self) -> Option<OrderFault>
         ensures { result ≡ self.now.fault }
     {
         self.fault
     }
 
-    /// How many octets of a job are still to be read.
+    /// The number of octets of a job that are still to be read.
     fn octets(&self) -> u32
         ensures { result ≡ self.now.octets }
     {
         self.octets
     }
 
-    /// The order of the line of so many bytes at the front.
+    /// The order of the line of `length` bytes at the front.
     fn read_front(&self, length: usize) -> Result<Option<Order>, AllocError>
         requires { length < length_of self.now.rest }
         ensures { IfOk result (λ order. order ≡ order_in (take length self.now.rest)) }
@@ -166,7 +167,7 @@ impl OrderReader {
         read_line(self.alloc, &self.rest()[..length])
     }
 
-    /// Goes past the line of so many bytes at the front, which so many octets follow.
+    /// Passes over the line of `length` bytes at the front, which `octets` octets follow.
     fn pass_line(&mut self, length: usize, octets: u32)
         requires { length < length_of self.old.rest }
         ensures { self.new ≡ record { part = []; rest = drop (length + 1) self.old.rest; octets = octets; fault = self.old.fault } }
@@ -177,7 +178,7 @@ impl OrderReader {
         self.octets = octets;
     }
 
-    /// Goes past so many octets of a job, and lends them.
+    /// Passes over `length` octets of a job, and lends them.
     fn lend(&mut self, length: usize)
         requires there { length ≤ length_of self.old.rest }
         requires few { length ≤ self.old.octets }
@@ -188,7 +189,7 @@ impl OrderReader {
         self.octets -= length as u32;
     }
 
-    /// Keeps a fault.
+    /// Records a fault.
     fn fail(&mut self, fault: OrderFault) -> OrderError
         ensures kept { self.new ≡ record self.old { fault = Some fault } }
         ensures answer { result ≡ OrderError.Fault fault }
@@ -197,7 +198,8 @@ impl OrderReader {
         OrderError::Fault(fault)
     }
 
-    /// Keeps these bytes to be read.
+    /// Appends bytes to those that aren't read. The only error is out of memory, and leaves the reader as it
+    /// was.
     fn append(&mut self, piece: &[u8]) -> Result<(), AllocError>
         ensures ok { OnOk result (self.new ≡ record self.old { part = []; rest = self.old.rest ++ piece.now }) }
         ensures err { OnErr result (self.new ≡ self.old) }

@@ -1,4 +1,4 @@
-//! The lines that a device writes.
+//! The lines that a device sends.
 ghost use Rattle.std.specs.Prelude.{◌≡◌, ◌∷◌, ◌++◌, IfOk, OnOk, OnErr};
 ghost use Rattle.base_types.specs.Report.{report_of};
 ghost use Rattle.attach_orders.specs.Reports.{report_line, hello_line, media_line, listed, number_line, pages_line};
@@ -6,8 +6,8 @@ ghost use Rattle.attach_orders.specs.Reports.{report_line, hello_line, media_lin
 use base_types::{Report, Text};
 use std::alloc::{AllocError, Global};
 
-/// Appends the line that tells the server a report; [`Report::Gone`] has none. Where there is no memory,
-/// nothing is appended.
+/// Appends the line of a report; [`Report::Gone`] has none. The only error is out of memory, and nothing is
+/// appended then.
 pub fn write_report(alloc: Global, report: &Report, output: &mut Vec<u8>) -> Result<(), AllocError>
     ensures ok { OnOk result (output.new.items ≡ output.old.items ++ report_line (report_of report.now)) }
     ensures err { OnErr result (output.new.items ≡ output.old.items) }
@@ -53,7 +53,7 @@ fn media_text(alloc: Global, names: &[Text]) -> Result<Vec<u8>, AllocError>
     Ok(line)
 }
 
-/// Appends names, a space before the first and a comma before each other.
+/// Appends names, the first behind a space and each other behind a comma.
 fn put_names(line: &mut Vec<u8>, names: &[Text]) -> Result<(), AllocError>
     ensures { OnOk result (line.new.items ≡ line.old.items ++ listed 32 names.now) }
 {

@@ -1,4 +1,4 @@
--- What a message of PJL's unsolicited status, or of the status that was asked for, says: its first line names what it is of, and the second has it.
+-- The status in a message of PJL's unsolicited or requested status: its first line names the subject, and the second has the value.
 use Rattle.std.specs.Prelude.{ℕ, ◌||◌, if◌then◌else◌, List, ◌∷◌, take, drop, Option, Some, None, codes}
 use Rattle.std.specs.Str.{bytes_eq}
 use Rattle.std.specs.Str.Lines.{strip_carriage_return}
@@ -13,7 +13,7 @@ bare line = strip_carriage_return line
 abbrev pub number_in : List ℕ → Option ℕ
 number_in word = number_up_to 2147483647 word
 
--- CODE=10001
+-- the code of a line such as CODE=10001
 unfoldable pub code_in : List ℕ → Option ℕ
 code_in line = if bytes_eq (take 5 line) (codes "CODE=") then number_in (drop 5 line) else None
 
@@ -45,6 +45,6 @@ abbrev pub lines_said : List (List ℕ) → Status
 lines_said (first ∷ second ∷ more) = said (bare first) (bare second)
 lines_said lines = Other
 
--- what a message says, without its form feed
+-- the status in a message, without its form feed
 abbrev pub status_in : List ℕ → Status
 status_in message = lines_said (texts_of message)

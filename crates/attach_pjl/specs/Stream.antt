@@ -1,9 +1,9 @@
--- What a printer's stream says, byte by byte: messages, each up to a form feed.
+-- The statuses in a printer's stream, byte by byte: messages, each up to a form feed.
 use Rattle.std.specs.Prelude.{ℕ, ◌≡◌, ◌==◌, ◌||◌, nat_le, Bool, true, false, if◌then◌else◌, List, [], ◌∷◌, ◌++◌, length, Option, Some, None}
 use Rattle.attach_pjl.specs.declared.status.Status.{Status}
 use Rattle.attach_pjl.specs.Message.{status_in}
 
--- where a stream has come to: the bytes of a message so far, or that it is too long
+-- the place in a stream: the bytes of a message so far, or that the message is too long
 pub record Place : Type 0 where
   pub message : List ℕ
   pub skips : Bool
@@ -11,7 +11,7 @@ pub record Place : Type 0 where
 abbrev pub start : Place
 start = record { message = []; skips = false }
 
--- a message of more than 4,096 bytes says nothing
+-- a message of more than 4,096 bytes is skipped
 abbrev pub grown : Place → ℕ → Place
 grown place byte =
     if place.skips || nat_le 4096 (length place.message) then record { message = []; skips = true }
@@ -31,7 +31,7 @@ abbrev pub with_first : Option Status → List Status → List Status
 with_first None later = later
 with_first (Some status) later = status ∷ later
 
--- what bytes say from a place on, and where the stream has come to then
+-- the statuses of bytes from a place on
 abbrev pub statuses : Place → List ℕ → List Status
 statuses place [] = []
 statuses place (byte ∷ bytes) = with_first (status_at place byte) (statuses (place_after place byte) bytes)

@@ -1,7 +1,7 @@
-//! A law of a printer's stream. Its function does nothing: its contract is what it is for.
+//! A law of a printer's stream, as the contract of a function that does nothing.
 ghost use Rattle.attach_pjl.specs.Stream.{CuttingTellsNothing};
 
-/// Bytes say the same in one piece and in two.
+/// Bytes in one piece and in two have the same statuses.
 pub fn cutting_tells_nothing()
     ensures { CuttingTellsNothing }
 {}

@@ -1,8 +1,8 @@
-//! What a printer says by PJL of its jobs, its pages and itself.
+//! The statuses that a printer sends by PJL for its jobs, its pages and itself.
 //!
-//! It promises that a [`StatusReader`], given a printer's bytes one after the other, gives exactly the
-//! statuses of its stream: each message up to its form feed, whatever else the printer says between, and
-//! however long that is. It sends nothing, and what a status does to a job stands elsewhere.
+//! A [`StatusReader`] takes the bytes of a printer one after the other, and gives exactly the statuses of the
+//! stream: each message up to its form feed, whatever else is between, of any length. The crate sends
+//! nothing, and doesn't apply a status to a job.
 //!
 //! Tests stand in `unit_tests`.
 #![tactic(auto)]

@@ -1,4 +1,4 @@
-//! What one message says.
+//! The status in a message.
 ghost use Rattle.std.specs.Prelude.{◌≡◌, ◌∷◌, []};
 ghost use Rattle.std.specs.Option.{option_map_or};
 ghost use Rattle.text.specs.Parts.{texts_of};
@@ -7,10 +7,10 @@ ghost use Rattle.attach_pjl.specs.Message.{bare, number_in, code_in, page_said, 
 use crate::status::Status;
 use text::{cut_at, number_up_to};
 
-/// The greatest number that a printer is taken to say.
+/// The greatest number that is read of a printer.
 const MOST: u64 = 2_147_483_647;
 
-/// What a message says, without its form feed.
+/// The status in a message, without its form feed.
 pub fn read_message(message: &[u8]) -> Status
     ensures { result ≡ status_in message.now }
 {
@@ -22,7 +22,7 @@ pub fn read_message(message: &[u8]) -> Status
     read_lines(bare(first), bare(second))
 }
 
-/// A line up to its line feed, and what follows that, where there is one.
+/// Splits a text at its first line feed: the line before it, and the text behind it, if there is a line feed.
 #[tactic(auto, using(text::proofs::Cuts::parts_cut, text::proofs::Cuts::parts_uncut))]
 fn split_line(text: &[u8]) -> (&[u8], Option<&[u8]>)
     ensures { texts_of text.now ≡ result.0.now ∷ option_map_or (λ more. texts_of more.now) result.1 [] }
@@ -40,7 +40,7 @@ fn bare(line: &[u8]) -> &[u8]
     line.strip_suffix(b"\r").unwrap_or(line)
 }
 
-/// What the first two lines of a message say.
+/// The status in the first two lines of a message.
 #[tactic(auto, unfolding(crate::specs::Message::said))]
 fn read_lines(first: &[u8], second: &[u8]) -> Status
     ensures { result ≡ said first.now second.now }
@@ -58,7 +58,7 @@ fn read_lines(first: &[u8], second: &[u8]) -> Status
     }
 }
 
-/// The page that is printed.
+/// The status of a printed page.
 fn read_page(line: &[u8]) -> Status
     ensures { result ≡ page_said line.now }
 {
@@ -68,7 +68,7 @@ fn read_page(line: &[u8]) -> Status
     }
 }
 
-/// What became of a job.
+/// The status of a job.
 #[tactic(auto, unfolding(crate::specs::Message::job_said))]
 fn read_job(line: &[u8]) -> Status
     ensures { result ≡ job_said line.now }
@@ -80,7 +80,7 @@ fn read_job(line: &[u8]) -> Status
     }
 }
 
-/// The printer's state.
+/// The status of the printer.
 fn read_device(line: &[u8]) -> Status
     ensures { result ≡ device_said line.now }
 {
@@ -90,7 +90,7 @@ fn read_device(line: &[u8]) -> Status
     }
 }
 
-/// The code of a line as `CODE=10001`.
+/// The code of a line such as `CODE=10001`.
 #[tactic(auto, unfolding(crate::specs::Message::code_in))]
 fn code_in(line: &[u8]) -> Option<u32>
     ensures { result ≡ code_in line.now }
@@ -99,7 +99,7 @@ fn code_in(line: &[u8]) -> Option<u32>
     number_in(code)
 }
 
-/// The number that a word is in decimal digits.
+/// The number of a word of decimal digits.
 fn number_in(word: &[u8]) -> Option<u32>
     ensures { result ≡ number_in word.now }
 {

@@ -7,14 +7,14 @@ use crate::status::Status;
 use std::alloc::{AllocError, Global};
 use std::marker::Model;
 
-/// How many bytes of a message are kept; a longer one says nothing.
+/// The most bytes of a message that are kept. A longer message is skipped.
 const MOST: usize = 4096;
 
-/// What ends a message.
+/// The byte that ends a message.
 const FORM_FEED: u8 = 12;
 
-/// A reader of what a printer says, byte by byte. In clauses it is the place in the stream that it has come
-/// to: the message so far, or that the message is too long.
+/// A reader of a printer's stream, byte by byte. In clauses it is the place in the stream: the message so
+/// far, or that the message is too long.
 #[derive(Debug, Drop)]
 pub struct StatusReader {
     message: Vec<u8>,
@@ -30,7 +30,7 @@ impl Model for StatusReader {
 }
 
 impl StatusReader {
-    /// A reader of a new connection.
+    /// Creates the reader of a new connection.
     pub fn new(alloc: Global) -> StatusReader
         ensures { result ≡ start }
     {
@@ -40,8 +40,8 @@ impl StatusReader {
         }
     }
 
-    /// Takes the next byte, and gives the status that ends with it. Where there is no memory, the byte
-    /// isn't taken.
+    /// Takes the next byte, and returns the status that ends with it. The only error is out of memory, and
+    /// the byte isn't taken then.
     pub fn take(&mut self, byte: u8) -> Result<Option<Status>, AllocError>
         ensures status { IfOk result (λ status. status ≡ status_at self.old byte) }
         ensures place { OnOk result (self.new ≡ place_after self.old byte) }
@@ -59,7 +59,7 @@ impl StatusReader {
         Ok(None)
     }
 
-    /// Ends a message, and gives what it said.
+    /// Ends a message, and returns its status.
     fn end_message(&mut self) -> Option<Status>
         ensures status { result ≡ status_at self.old 12 }
         ensures place { self.new ≡ start }

@@ -1,12 +1,12 @@
-/// What a printer says.
+/// A status of a printer.
 #[derive(Clone, Copy, Debug, PartialEq, Eq)]
 pub enum Status {
-    /// So many pages of the job are printed.
+    /// This many pages of the job are printed.
     Page(u32),
     /// The job is printed, or was given up.
     JobEnded,
     /// The printer is in the state of this code.
     Device(u32),
-    /// Anything else.
+    /// Any other message.
     Other,
 }

@@ -1,9 +1,9 @@
--- How much a call on a connection moved.
+-- The result of a call on a connection.
 use Rattle.std.specs.Prelude.{ℕ, ◌<◌, ◌≤◌, List, length}
 use Rattle.attach_printers.specs.declared.session.Moved.{Moved}
 use Rattle.attach_printers.specs.declared.session.Moved.TheVariants.{Nothing, Bytes, End, Broken}
 
--- one byte at least, and no more than there are
+-- at least one byte was moved, and at most all bytes
 abbrev pub MovesAtMost : Moved → List ℕ → Type 0
 MovesAtMost (Bytes count) bytes = (0 < count) × (count ≤ length bytes)
 MovesAtMost Nothing bytes = Unit {0}

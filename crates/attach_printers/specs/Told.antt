@@ -1,4 +1,4 @@
--- What is told of a printer's answer about a job.
+-- The impressions that are reported for a printer's answer about a job.
 use Rattle.std.specs.Prelude.{ℕ, if◌then◌else◌, nat_lt, Bool, true, false, Option, Some, None}
 use Rattle.attach_printers.specs.declared.answer.JobState.{JobState}
 use Rattle.attach_printers.specs.declared.answer.JobState.TheVariants.{Completed, GivenUp}
@@ -6,7 +6,7 @@ use Rattle.attach_printers.specs.declared.answer.JobAnswer.{JobAnswer}
 use Rattle.attach_printers.specs.declared.told.Told.{Told}
 use Rattle.attach_printers.specs.declared.told.Told.TheVariants.{Pages, Printed}
 
--- so many impressions, where they are more than before
+-- the number of impressions, if it is greater than before
 abbrev pub more_than : ℕ → Option ℕ → Option ℕ
 more_than before None = None
 more_than before (Some count) = if nat_lt before count then Some count else None
@@ -15,7 +15,7 @@ abbrev pub is_completed : JobState → Bool
 is_completed Completed = true
 is_completed state = false
 
--- the impressions that are to be told of a job in a state: those of one that is given up aren't
+-- the impressions to report for a job in a state: none for one that was given up
 abbrev pub due_in : JobState → ℕ → Option ℕ → Option ℕ
 due_in GivenUp before impressions = None
 due_in state before impressions = more_than before impressions
@@ -23,7 +23,7 @@ due_in state before impressions = more_than before impressions
 abbrev pub pages_due : JobAnswer → ℕ → Option ℕ
 pages_due answer before = due_in answer.state before answer.impressions
 
--- the impressions that are told
+-- the impressions that a result reports
 abbrev pub pages_told : Told → Option ℕ
 pages_told (Pages count) = Some count
 pages_told (Printed pages) = pages

@@ -1,19 +1,20 @@
-//! Where a printer is, for its requests.
+//! The address of a printer, for its requests.
 use std::alloc::{AllocError, Global};
 
-/// Where a printer is, as its requests say it.
+/// The address of a printer, as requests to it have it.
 #[derive(Drop)]
 pub struct IppAddress {
-    /// The printer's URI, as `ipp://host/ipp/print`.
+    /// The printer's URI, such as `ipp://host/ipp/print`.
     pub uri: String,
-    /// The host, and the port if it isn't 80.
+    /// The host, with the port if it isn't 80.
     pub host: String,
     /// The path, which begins with a slash.
     pub path: String,
 }
 
 impl IppAddress {
-    /// The head of a request, without the fields that tell the length of its body.
+    /// The head of a request, without the fields that give the length of its body. The only error is out of
+    /// memory.
     fn head(&self, alloc: Global) -> Result<String, AllocError> {
         let host = self.host.as_str();
         let path = self.path.as_str();
@@ -22,7 +23,7 @@ impl IppAddress {
         )
     }
 
-    /// A request with this body.
+    /// A request with this body. The only error is out of memory.
     pub(crate) fn request(&self, alloc: Global, body: &[u8]) -> Result<Vec<u8>, AllocError> {
         let head = self.head(alloc)?;
         let length = body.len();
@@ -32,7 +33,8 @@ impl IppAddress {
         Ok(bytes)
     }
 
-    /// The front of a request whose body comes in chunks (RFC 9112, section 7.1), and the first of them.
+    /// The front of a request whose body comes in chunks (RFC 9112, section 7.1), with the first chunk. The
+    /// only error is out of memory.
     pub(crate) fn front(&self, alloc: Global, body: &[u8]) -> Result<Vec<u8>, AllocError> {
         let head = self.head(alloc)?;
         let length = body.len();

@@ -1,4 +1,4 @@
-//! What a whole reply says.
+//! The content of a whole reply.
 ghost use Rattle.std.specs.Prelude.{◌≡◌};
 ghost use Rattle.attach_printers.specs.Told.{is_completed, is_printed, more_than, pages_due, pages_told};
 
@@ -7,31 +7,31 @@ use attach_http::ReplyReader;
 use attach_ipp::{is_successful, number_in, reply_in};
 use ipp_codec::{GroupTag, MessageView};
 
-/// The status of HTTP that a reply of IPP has (RFC 8010, section 4).
+/// The HTTP status of an IPP reply (RFC 8010, section 4).
 const OK: u32 = 200;
 
-/// How far a job is at the printer.
+/// The state of a job at the printer.
 #[derive(Clone, Copy)]
 pub(crate) enum JobState {
-    /// It isn't printed yet.
+    /// The job isn't printed yet.
     Goes,
     Completed,
-    /// It was canceled or aborted.
+    /// The job was canceled or aborted.
     GivenUp,
 }
 
-/// What a printer tells of a job.
+/// A printer's answer about a job.
 #[derive(Clone, Copy)]
 pub(crate) struct JobAnswer {
     pub(crate) job: Option<i32>,
     pub(crate) state: JobState,
-    /// How many impressions are printed, where it says so.
+    /// The number of printed impressions, if the answer has it.
     pub(crate) impressions: Option<u32>,
 }
 
 impl JobAnswer {
-    /// What is told of it, where it was told before that so many impressions are printed: those that are
-    /// more now, also where the job is completed by it.
+    /// The result of the answer, where `before` impressions were reported earlier. The result has the
+    /// impressions if they are more than `before`, also for the answer that completes the job.
     pub(crate) fn told(self, before: u32) -> Told
         ensures pages { pages_told result ≡ pages_due self before }
         ensures printed { is_printed result ≡ is_completed self.state }
@@ -48,7 +48,7 @@ impl JobAnswer {
     }
 }
 
-/// How many impressions are printed, where they are more than before.
+/// The number of impressions, if it is greater than before.
 fn more_than(before: u32, impressions: Option<u32>) -> Option<u32>
     ensures { result ≡ more_than before impressions }
 {
@@ -58,7 +58,7 @@ fn more_than(before: u32, impressions: Option<u32>) -> Option<u32>
     }
 }
 
-/// The message of a reply that says that the operation was done.
+/// The message of a reply whose status is a success.
 pub(crate) fn message_of(reader: &ReplyReader) -> Result<MessageView<'_>, ReplyBreach> {
     if let Some(fault) = reader.fault() {
         return Err(ReplyBreach::Fault(fault));
@@ -73,7 +73,7 @@ pub(crate) fn message_of(reader: &ReplyReader) -> Result<MessageView<'_>, ReplyB
     }
 }
 
-/// What a reply tells of a job.
+/// The answer about a job in a reply.
 pub(crate) fn job_answer(reader: &ReplyReader) -> Result<JobAnswer, ReplyBreach> {
     let reply = message_of(reader)?;
     let Some(state) = number_in(&reply, GroupTag::JOB, b"job-state") else {
@@ -87,7 +87,7 @@ pub(crate) fn job_answer(reader: &ReplyReader) -> Result<JobAnswer, ReplyBreach>
     })
 }
 
-/// The state of this number (RFC 8011, section 5.3.7).
+/// The state with this number (RFC 8011, section 5.3.7).
 fn job_state(number: i32) -> JobState {
     match number {
         7 | 8 => JobState::GivenUp,

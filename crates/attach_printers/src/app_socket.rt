@@ -1,4 +1,5 @@
-//! AppSocket: one connection a job, its octets, and then what the printer says until it closes.
+//! AppSocket: one connection for each job. The job's octets are sent, and the printer's bytes are read until
+//! it closes the connection.
 use crate::heard::{Breach, Heard};
 use crate::protocol::Protocol;
 use crate::session::{CALLS, Moved, PIECE, Session};
@@ -6,17 +7,17 @@ use attach_orders::JobOrder;
 use attachment::Attachment;
 use std::alloc::AllocError;
 
-/// AppSocket, as a printer speaks it.
+/// The client's side of AppSocket.
 #[derive(Drop)]
 pub struct AppSocket {
     linger: u64,
-    /// All is sent, and nothing more will be written.
+    /// Whether all is sent, and nothing more will be written.
     ends: bool,
 }
 
 impl AppSocket {
-    /// Once a printer's machine has taken all, the printer may be silent for so many ms before the job counts as
-    /// printed.
+    /// Creates the protocol. Once a printer's machine has taken all bytes, the printer may be silent for
+    /// `linger` ms before the job counts as printed.
     pub fn new(linger: u64) -> AppSocket {
         AppSocket {
             linger,
@@ -24,7 +25,7 @@ impl AppSocket {
         }
     }
 
-    /// Sends what is due, copy by copy, and ends the writing side after the last.
+    /// Sends the octets that are due, copy by copy, and ends the writing side behind the last.
     fn send_all(&mut self, session: &mut Session, attachment: &mut Attachment, now: u64) -> Moved {
         for _ in 0..CALLS {
             if attachment.is_copy_sent() {
@@ -88,7 +89,7 @@ impl Protocol for AppSocket {
     }
 }
 
-/// Passes over all that the printer says for now.
+/// Drops all bytes of the printer that are there.
 fn listen(session: &mut Session, now: u64) -> Moved {
     let mut buffer = [0u8; PIECE];
     for _ in 0..CALLS {

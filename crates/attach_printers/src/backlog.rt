@@ -1,18 +1,18 @@
-//! What of a job waits in this machine, once all of it is written.
+//! The bytes of a job that wait in this machine, once all of them are written.
 use attachment::Pauses;
 
-/// The first pause between two looks, and the longest, in ms.
+/// The first and the longest pause between two looks, in ms.
 const FIRST_PAUSE: u64 = 125;
 
 const LONGEST_PAUSE: u64 = 1_000;
 
-/// So many bytes wait before the first look.
+/// The number of waiting bytes before the first look.
 const UNKNOWN: u64 = u64::MAX;
 
-/// How many bytes the end of the writing side counts as.
+/// The number of bytes as which the end of the writing side counts.
 const END: u64 = 1;
 
-/// What of a job the system has taken and the printer's machine hasn't, as the last look told.
+/// The bytes of a job that the system has taken and the printer's machine hasn't, by the last look.
 #[derive(Clone, Copy)]
 pub(crate) struct Backlog {
     bytes: u64,
@@ -20,7 +20,7 @@ pub(crate) struct Backlog {
 }
 
 impl Backlog {
-    /// Nothing waits.
+    /// Creates the record of no waiting bytes.
     pub(crate) fn none() -> Backlog {
         Backlog {
             bytes: 0,
@@ -28,7 +28,8 @@ impl Backlog {
         }
     }
 
-    /// All is written at this moment. A printer that closes has mostly done so before the first look.
+    /// Creates the record of a moment at which all bytes are written. Most printers that close have done that
+    /// before the first look.
     pub(crate) fn unknown(now: u64) -> Backlog {
         let mut looks = Pauses::new(FIRST_PAUSE, LONGEST_PAUSE);
         looks.tried(now);
@@ -38,23 +39,23 @@ impl Backlog {
         }
     }
 
-    /// Whether something waits, as far as is known.
+    /// Returns whether bytes wait, as far as is known.
     pub(crate) fn waits(self) -> bool {
         self.bytes > 0
     }
 
-    /// Whether it is time for a look.
+    /// Returns whether a look is due.
     pub(crate) fn is_due(self, now: u64) -> bool {
         self.waits() && self.looks.is_due(now)
     }
 
-    /// The ms until the next look, where one is made.
+    /// Returns the ms until the next look, if one is due later.
     pub(crate) fn pause(self, now: u64) -> Option<u64> {
         self.waits().then_some(self.looks.left(now))
     }
 
-    /// Heeds what a look told: whether bytes went. A look may miss a socket that is there, so that what was known
-    /// stays known. Where none told anything, nothing is waited for.
+    /// Records the result of a look. Returns whether bytes went. A look may miss a socket, and the last
+    /// number stays then. If no look had a number, no bytes count as waiting.
     pub(crate) fn heed(&mut self, told: Option<u64>, now: u64) -> bool {
         self.looks.tried(now);
         let bytes = match told {

@@ -1,4 +1,4 @@
-//! A peer that is connected to, again and again.
+//! The caller, which connects to a peer, and connects again when the connection is lost.
 use crate::link::Link;
 use crate::place::Place;
 use attachment::Pauses;
@@ -9,47 +9,47 @@ use std::io;
 use std::net::Net;
 use std::rt::Files;
 
-/// How long a connection may take to come about, in ms.
+/// The longest time for making a connection, in ms.
 const CONNECTING: u64 = 20_000;
 
-/// The first pause after a try that failed, and the longest, in ms.
+/// The first and the longest pause after a failed try, in ms.
 const FIRST_PAUSE: u64 = 1_000;
 
 const LONGEST_PAUSE: u64 = 30_000;
 
-/// What became of a peer in a turn.
+/// The result of a turn of a caller.
 #[derive(Clone, Copy, PartialEq, Eq)]
 pub enum Reached {
     /// There is no connection yet.
     Not,
-    /// It can't be reached, for the first time since it was.
+    /// The peer can't be reached. This is reported once after it could be.
     Away,
-    /// The connection has just come about.
+    /// The connection was just made.
     Now,
     /// There is a connection.
     Still,
 }
 
-/// A peer that is connected to, and tried again where it can't be reached.
+/// A peer, with the connection to it. A failed try is repeated.
 #[derive(Drop)]
 pub struct Caller {
     alloc: Global,
     place: Place,
     token: Token,
-    /// When it is tried again.
+    /// The time of the next try.
     tries: Pauses,
-    /// How many tries failed since there was a connection.
+    /// The number of failed tries since there was a connection.
     failures: u32,
-    /// Which of its addresses is tried: the next after each failure.
+    /// The number of the address that is tried: the next one after each failure.
     choice: usize,
     link: Option<Link>,
     open: bool,
-    /// When the connection began.
+    /// The moment at which the connection was begun.
     since: u64,
 }
 
 impl Caller {
-    /// A peer at this place that isn't connected to yet, of which waits tell under this token.
+    /// Creates the caller of a peer, without a connection. `token` is that of the connection at the poll.
     pub fn new(alloc: Global, place: Place, token: Token) -> Caller {
         Caller {
             alloc,
@@ -64,7 +64,7 @@ impl Caller {
         }
     }
 
-    /// Takes what a wait told of this token.
+    /// Takes an event of the poll, if it has the caller's token.
     pub fn told(&mut self, event: &Event) {
         if event.token() != self.token {
             return;
@@ -74,7 +74,7 @@ impl Caller {
         }
     }
 
-    /// Connects where there is no connection and it is time for a try, at this moment in ms.
+    /// Connects, if there is no connection and a try is due. `now` is the moment in ms.
     pub fn turn(&mut self, net: &impl Net, poll: &Poll, now: u64) -> Reached {
         if self.open {
             return Reached::Still;
@@ -96,7 +96,7 @@ impl Caller {
         }
     }
 
-    /// Heeds how far a connection is.
+    /// Acts on the state of a connection that is being made.
     fn heed(&mut self, is_open: io::Result<bool>, now: u64) -> Reached {
         match is_open {
             Ok(true) => {
@@ -109,7 +109,7 @@ impl Caller {
         }
     }
 
-    /// Begins to connect, to one address of the place after the other.
+    /// Begins a connection to the next address of the place.
     fn begin(&self, net: &impl Net, poll: &Poll) -> io::Result<Link> {
         let addresses = self.place.addresses(self.alloc, net)?;
         if addresses.is_empty() {
@@ -119,7 +119,7 @@ impl Caller {
         Link::begin(net, poll, addresses[place], self.token)
     }
 
-    /// A try failed.
+    /// Records that a try failed.
     fn miss(&mut self, now: u64) -> Reached {
         self.link = None;
         self.tries.tried(now);
@@ -137,7 +137,8 @@ impl Caller {
         if self.open { self.link.as_mut() } else { None }
     }
 
-    /// Whether both sides of the connection have ended, and the peer has acknowledged all. The error is why it broke.
+    /// Returns whether both sides of the connection have ended, and the peer has acknowledged all bytes. The
+    /// error is why the connection broke.
     pub(crate) fn has_ended(&self) -> io::Result<bool> {
         match &self.link {
             Some(link) => link.has_ended(),
@@ -145,32 +146,32 @@ impl Caller {
         }
     }
 
-    /// How many bytes that were written the peer hasn't acknowledged, where the system tells.
+    /// Returns how many written bytes the peer hasn't acknowledged, if the system reports it.
     pub(crate) fn unacknowledged(&self, files: &impl Files) -> Option<u64> {
         let link = self.link.as_ref()?;
         link.unacknowledged(self.alloc, files).ok()?
     }
 
-    /// Closes the connection, if there is one; the next try is made at once.
+    /// Closes the connection, if there is one. The next try is due at once.
     pub fn close(&mut self) {
         self.link = None;
         self.open = false;
         self.tries = Pauses::new(FIRST_PAUSE, LONGEST_PAUSE);
     }
 
-    /// Closes the connection, which has broken; the next try is made after a pause.
+    /// Closes the connection, which has broken. The next try is due after a pause.
     pub fn lose(&mut self, now: u64) {
         self.link = None;
         self.open = false;
         self.tries.tried(now);
     }
 
-    /// The peer has said something: it is there, and the pauses begin anew.
+    /// Records that the peer has sent bytes: it is there, and the pauses begin anew.
     pub fn heard(&mut self) {
         self.tries = Pauses::new(FIRST_PAUSE, LONGEST_PAUSE);
     }
 
-    /// The ms until the next try, where there is no connection.
+    /// Returns the ms until the next try, if there is no connection.
     pub fn pause(&self, now: u64) -> Option<u64> {
         match &self.link {
             None => Some(self.tries.left(now)),

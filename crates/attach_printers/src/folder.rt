@@ -12,16 +12,16 @@ use std::net::Net;
 use std::rt::Files;
 use std::{fs, io};
 
-/// Where a job's file is written, and where it stands once the job is printed.
+/// The files of a job: the file that is written, and the file that the job has once it is printed.
 #[derive(Drop)]
 struct Sheet {
     beside: String,
     whole: String,
-    /// When it is printed.
+    /// The moment at which the job is printed.
     end: u64,
 }
 
-/// A printer that keeps each job as a file, after the time that its pages take.
+/// A printer that writes each job to a file, which is complete after the time of the job's pages.
 #[derive(Drop)]
 pub struct Folder {
     alloc: Global,
@@ -29,14 +29,14 @@ pub struct Folder {
     name: String,
     format: Option<MediaType>,
     ms_per_page: u32,
-    /// The copies of the job.
+    /// The number of copies of the job.
     copies: u32,
     sheet: Option<Sheet>,
 }
 
 impl Folder {
-    /// A folder in which the jobs of a device of this name become files of this format, where it is said.
-    /// A page takes so many ms.
+    /// Creates a folder printer. The jobs of a device of this name become files of this format, if it is
+    /// given. A page takes `ms_per_page` ms.
     pub fn new(
         alloc: Global,
         path: String,
@@ -55,7 +55,7 @@ impl Folder {
         }
     }
 
-    /// Writes the job beside, once its octets are there.
+    /// Writes the job to a temporary file, once all its octets are there.
     fn write_job(&mut self, files: &impl Files, attachment: &Attachment, now: u64) -> Heard {
         let Some(job) = attachment.job() else {
             return Heard::Nothing;
@@ -73,7 +73,7 @@ impl Folder {
         }
     }
 
-    /// Writes octets beside.
+    /// Writes octets to a temporary file.
     fn put(&self, files: &impl Files, job: u32, octets: &[u8], now: u64) -> io::Result<Sheet> {
         let sheet = self.sheet_of(job, octets, now)?;
         fs::create_dir_all(files, self.path.as_str())?;
@@ -81,7 +81,7 @@ impl Folder {
         Ok(sheet)
     }
 
-    /// The files of a job, and when it is printed.
+    /// The files of a job, and the moment at which it is printed.
     fn sheet_of(&self, job: u32, octets: &[u8], now: u64) -> Result<Sheet, AllocError> {
         let ending = match &self.format {
             Some(format) => format.ending(),
@@ -96,7 +96,7 @@ impl Folder {
         })
     }
 
-    /// How long so many octets take, in as many copies as are wanted.
+    /// The time in ms for this number of octets, in the number of copies of the job.
     fn time_of(&self, octets: usize) -> u64 {
         let pages = octets.div_ceil(Limits::OCTETS_PER_IMPRESSION).max(1) as u64;
         pages
@@ -110,7 +110,7 @@ impl Printer for Folder {
         self.copies = order.copies;
     }
 
-    /// Writes the job once its octets are there, and has it printed once its time has passed.
+    /// Writes the job once its octets are there, and completes it once its time has passed.
     fn turn<R: Net + Files>(
         &mut self,
         rt: &R,
@@ -134,7 +134,7 @@ impl Printer for Folder {
 
     fn told(&mut self, _event: &Event) {}
 
-    /// What was written beside is removed.
+    /// Removes the temporary file.
     fn drop_job<F: Files>(&mut self, files: &F) {
         if let Some(sheet) = &self.sheet {
             let _removed = fs::remove_file(files, sheet.beside.as_str());

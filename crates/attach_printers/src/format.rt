@@ -1,6 +1,6 @@
-//! What a document is, by its first bytes, or as it was said.
+//! The format of a document, by its first bytes or as given.
 
-/// What a document is.
+/// The format of a document.
 #[derive(Clone, Copy)]
 pub enum Format {
     Pdf,
@@ -12,11 +12,11 @@ pub enum Format {
     Jpeg,
     Png,
     Text,
-    /// Anything else.
+    /// Any other format.
     Octets,
 }
 
-/// The first bytes of documents, and what they are.
+/// The first bytes of documents, with their formats.
 const FRONTS: [(&[u8], Format); 12] = [
     (b"%PDF-", Format::Pdf),
     (b"%!", Format::PostScript),
@@ -45,11 +45,11 @@ const ALL: [Format; 9] = [
     Format::Octets,
 ];
 
-/// How many bytes are looked at to tell whether a document is text.
+/// The number of bytes that are examined to decide whether a document is text.
 const LOOKED_AT: usize = 512;
 
 impl Format {
-    /// What a document is whose first bytes are these.
+    /// The format of a document with these first bytes.
     pub fn sniffed(bytes: &[u8]) -> Format {
         for (front, format) in FRONTS {
             if bytes.starts_with(front) {
@@ -64,7 +64,7 @@ impl Format {
         }
     }
 
-    /// The format of this media type, in any case; any other is octets.
+    /// The format of a media type, without regard to the case of letters; any unknown one is `Octets`.
     fn named(media_type: &str) -> Format {
         for format in ALL {
             if format.media_type().eq_ignore_ascii_case(media_type) {
@@ -74,7 +74,7 @@ impl Format {
         Format::Octets
     }
 
-    /// Its media type.
+    /// The media type of the format.
     pub fn media_type(self) -> &'static str {
         match self {
             Format::Pdf => "application/pdf",
@@ -89,7 +89,7 @@ impl Format {
         }
     }
 
-    /// The ending of its files.
+    /// The ending of files of the format.
     pub fn ending(self) -> &'static str {
         match self {
             Format::Pdf => "pdf",
@@ -105,20 +105,20 @@ impl Format {
     }
 }
 
-/// What every document is, as it was said.
+/// The media type of all documents, as given.
 #[derive(Drop)]
 pub struct MediaType {
     pub name: String,
 }
 
 impl MediaType {
-    /// The ending of files of it.
+    /// The ending of files of the media type.
     pub(crate) fn ending(&self) -> &'static str {
         Format::named(self.name.as_str()).ending()
     }
 }
 
-/// Whether a byte may stand in a text.
+/// Returns whether a byte may be in a text.
 fn is_text(byte: u8) -> bool {
     matches!(byte, 9 | 10 | 12 | 13 | 32..=126 | 128..=255)
 }

@@ -1,4 +1,4 @@
-//! What is heard of a printer.
+//! The results of a printer's turn.
 use crate::told::{LeftOut, ReplyBreach};
 use std::fmt;
 
@@ -9,17 +9,17 @@ pub enum Breach {
     Canceled,
     /// The connection to the server was lost.
     Unlinked,
-    /// The printer closed or broke its connection before it had all.
+    /// The printer closed or broke its connection before it had all bytes.
     Broken,
-    /// The printer refused it.
+    /// The printer refused the job.
     Refused,
-    /// The printer took and said nothing for too long.
+    /// The printer took and sent no bytes for too long.
     Silent,
     /// A file can't be written.
     Unwritten,
-    /// The printer's reply is of no use.
+    /// The printer's reply isn't usable.
     Reply(ReplyBreach),
-    /// There is no memory for its octets.
+    /// Memory for the job's octets was refused.
     OutOfMemory,
 }
 
@@ -38,29 +38,29 @@ impl fmt::Display for Breach {
     }
 }
 
-/// What a printer came to in a turn.
+/// The result of a printer's turn.
 #[derive(Clone, Copy)]
 pub enum Heard {
     Nothing,
-    /// It can't be reached, for the first time since it was.
+    /// The printer can't be reached. This is reported once after it could be.
     Away,
-    /// It can be reached, after it couldn't.
+    /// The printer can be reached again.
     Back,
-    /// It says that it needs someone: paper is out or jammed, a cover is open.
+    /// The printer reports that it needs someone: paper is out or jammed, or a cover is open.
     Stops,
-    /// It says that it prints again.
+    /// The printer reports that it prints again.
     Runs,
-    /// So many pages of the job are printed.
+    /// This many pages of the job are printed.
     Pages(u32),
-    /// This of the job isn't asked of it, since it doesn't say that it supports it.
+    /// These parts of the job aren't passed to the printer, since it doesn't report that it supports them.
     LeftOut(LeftOut),
-    /// Its state can't be asked.
+    /// The printer's state can't be read.
     Unread(ReplyBreach),
-    /// It has printed the job; where it says only now that so many pages are printed, how many.
+    /// The printer has printed the job. The number of its pages, if that comes only now.
     Printed(Option<u32>),
-    /// It can't print the job.
+    /// The printer can't print the job.
     Failed(Breach),
 }
 
-/// There is no memory to go on with a job.
+/// Memory to go on with a job was refused.
 pub(crate) const NO_MEMORY: Heard = Heard::Failed(Breach::OutOfMemory);

@@ -1,4 +1,4 @@
-//! IPP: the connections of a printer's tasks.
+//! IPP: the connections for a printer's tasks.
 use crate::format::{Format, MediaType};
 use crate::heard::{Breach, Heard};
 use crate::ipp_printer::IppPrinter;
@@ -10,19 +10,19 @@ use attachment::Attachment;
 use base_types::Text;
 use std::alloc::AllocError;
 
-/// IPP, as a client of a printer speaks it: each task has a connection of its own.
+/// The client's side of IPP: each task has a connection of its own.
 #[derive(Drop)]
 pub struct Ipp {
     printer: IppPrinter,
     format: Option<MediaType>,
-    /// When the printer last answered, or had no job.
+    /// The moment at which the printer last answered, or had no job.
     answered: u64,
-    /// A task has ended in the last turn, so that another may begin.
+    /// Whether a task has ended in the last turn, and another may begin.
     ended: bool,
 }
 
 impl Ipp {
-    /// The printer is given documents of this format, where it is said.
+    /// Creates the protocol. The printer gets documents of this format, if it is given.
     pub fn new(printer: IppPrinter, format: Option<MediaType>) -> Ipp {
         Ipp {
             printer,
@@ -32,7 +32,7 @@ impl Ipp {
         }
     }
 
-    /// Hears all that the printer says for now, to the end of its reply.
+    /// Reads all bytes of the printer that are there, up to the end of its reply.
     fn listen(&mut self, session: &mut Session, now: u64) -> Result<Moved, AllocError> {
         let mut buffer = [0u8; PIECE];
         for _ in 0..CALLS {
@@ -47,7 +47,7 @@ impl Ipp {
         Ok(Moved::Nothing)
     }
 
-    /// Sends what is due: the request, and the job in chunks.
+    /// Sends the bytes that are due: the request, and the job in chunks.
     fn send_all(
         &mut self,
         session: &mut Session,
@@ -64,7 +64,7 @@ impl Ipp {
         Ok(Moved::Nothing)
     }
 
-    /// Sends some of what is due.
+    /// Sends some of the bytes that are due.
     fn send(
         &mut self,
         session: &mut Session,
@@ -87,7 +87,7 @@ impl Ipp {
         Ok(moved)
     }
 
-    /// The reply is whole, or no reply.
+    /// Ends the task: the reply is whole, or isn't valid.
     fn conclude(&mut self, session: &mut Session, now: u64) -> Result<Heard, AllocError> {
         session.close();
         self.answered = now;
@@ -95,7 +95,7 @@ impl Ipp {
         Ok(heard_of(self.printer.conclude(now)?))
     }
 
-    /// The connection broke, or nothing was said for too long.
+    /// Ends the task: the connection broke, or no byte came for too long.
     fn break_off(&mut self, session: &mut Session, breach: Breach, now: u64) -> Heard {
         session.close();
         self.ended = true;
@@ -115,13 +115,13 @@ impl Protocol for Ipp {
         self.printer.begin(order);
     }
 
-    /// While there is a task.
+    /// Returns whether there is a task.
     fn wants_connection(&mut self, attachment: &Attachment, now: u64) -> bool {
         self.ended = false;
         self.printer.wants_connection(attachment, now)
     }
 
-    /// A job that the printer has fails where it can't be asked for it for too long.
+    /// A job that the printer has fails if the printer can't be asked about it for too long.
     fn wait(&mut self, session: &Session, heard: Heard, now: u64) -> Heard {
         if !self.printer.has_job() {
             self.answered = now;
@@ -191,7 +191,7 @@ impl Protocol for Ipp {
     }
 }
 
-/// What an adapter hears where its printer told this.
+/// The result of an adapter's turn for a result of the printer's task.
 fn heard_of(told: Told) -> Heard {
     match told {
         Told::Nothing => Heard::Nothing,

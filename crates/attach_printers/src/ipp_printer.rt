@@ -1,4 +1,4 @@
-//! A printer that speaks IPP.
+//! A printer with IPP, without sockets.
 use crate::address::IppAddress;
 use crate::answer::{JobAnswer, JobState, job_answer, message_of};
 use crate::job::JobWish;
@@ -15,21 +15,22 @@ use ipp_codec::EncodeFault;
 use std::alloc::{AllocError, Global};
 use text::drop_front;
 
-/// How long the printer's state isn't asked again, in ms.
+/// The time after which the printer's state is asked again, in ms.
 const BETWEEN_STATES: u64 = 10_000;
 
-/// How long a job isn't asked for after it is sent, and how long at most after it was asked for, in ms.
+/// The time after which a sent job is first asked about, and the longest time between two such requests, in
+/// ms.
 const FIRST_LOOK: u64 = 125;
 
 const BETWEEN_LOOKS: u64 = 1_000;
 
-/// How many octets a chunk has at most.
+/// The most octets of a chunk.
 const CHUNK: usize = 65_536;
 
-/// How many octets tell what a document is.
+/// The number of octets that determine the format of a document.
 const FRONT: usize = 512;
 
-/// What is asked of a printer.
+/// The attributes that are requested of a printer.
 const PRINTER_NAMES: [&[u8]; 9] = [
     b"printer-state",
     b"printer-state-reasons",
@@ -42,10 +43,10 @@ const PRINTER_NAMES: [&[u8]; 9] = [
     b"document-format-supported",
 ];
 
-/// What is asked of a job.
+/// The attributes that are requested of a job.
 const JOB_NAMES: [&[u8]; 3] = [b"job-id", b"job-state", b"job-impressions-completed"];
 
-/// A printer that speaks IPP: what is to be done, and what it said.
+/// A printer with IPP: its task, and the content of its replies.
 #[derive(Drop)]
 pub struct IppPrinter {
     alloc: Global,
@@ -53,28 +54,28 @@ pub struct IppPrinter {
     task: Task,
     stage: Stage,
     wish: JobWish,
-    /// A job that is given up, and is to be canceled at the printer.
+    /// A job that was given up, and is to be canceled at the printer.
     cancels: Option<i32>,
     reader: ReplyReader,
-    /// What is to be written before anything else.
+    /// The bytes that are to be written before all others.
     output: Vec<u8>,
-    /// How many octets of the chunk are still to be written.
+    /// The number of octets of the chunk that are still to be written.
     chunk: usize,
-    /// The body of the printer's last reply of its state.
+    /// The body of the printer's last reply about its state.
     state: Option<Vec<u8>>,
     ask_at: u64,
-    /// When the job is asked for.
+    /// The times at which the job is asked about.
     looks: Pauses,
     impressions: u32,
     stopped: bool,
-    /// Its state couldn't be asked when that was last tried.
+    /// Whether the printer's state couldn't be read at the last try.
     unread: bool,
     left_out: Option<LeftOut>,
     media: Option<Vec<Text>>,
 }
 
 impl IppPrinter {
-    /// A printer that hasn't been asked for anything.
+    /// Creates a printer that hasn't been asked anything.
     pub fn new(alloc: Global, address: IppAddress) -> IppPrinter {
         IppPrinter {
             alloc,
@@ -106,8 +107,8 @@ impl IppPrinter {
         self.left_out = None;
     }
 
-    /// Forgets the job. One that the printer has is to be canceled there, and the printer is asked for its
-    /// state behind that.
+    /// Drops the job. A job that the printer has is to be canceled there, and then the printer's state is
+    /// asked.
     pub fn drop_job(&mut self) {
         if let Stage::Printing(job) = self.stage {
             self.cancels = Some(job);
@@ -117,7 +118,7 @@ impl IppPrinter {
         self.end_task();
     }
 
-    /// Whether a connection is wanted: something is to be done now.
+    /// Returns whether a connection is wanted: there is a task now.
     pub fn wants_connection(&mut self, attachment: &Attachment, now: u64) -> bool {
         if self.task == Task::Nothing {
             self.task = self.next_task(attachment, now);
@@ -125,7 +126,7 @@ impl IppPrinter {
         self.task != Task::Nothing
     }
 
-    /// What is to be done next.
+    /// Returns the next task.
     fn next_task(&self, attachment: &Attachment, now: u64) -> Task {
         if let Some(job) = self.cancels {
             return Task::Cancel(job);
@@ -140,8 +141,8 @@ impl IppPrinter {
         }
     }
 
-    /// A connection has come about: the request of the task is to be written. A document is of this
-    /// format, if it is sent now.
+    /// Begins the task's request on a new connection. `format` is that of the document, if the task sends it.
+    /// The only error is out of memory.
     pub fn open(&mut self, format: &str) -> Result<(), AllocError> {
         self.reader = ReplyReader::new(self.alloc);
         self.chunk = 0;
@@ -153,7 +154,7 @@ impl IppPrinter {
         Ok(())
     }
 
-    /// The request of the task.
+    /// The request of the task. The only error is out of memory.
     fn request(&mut self, format: &str) -> Result<Vec<u8>, AllocError> {
         let uri = self.address.uri.as_bytes();
         let body = match self.task {
@@ -166,7 +167,7 @@ impl IppPrinter {
         self.address.request(self.alloc, &encoded(body)?)
     }
 
-    /// The front of the request that sends the job.
+    /// The front of the request that sends the job. The only error is out of memory.
     fn document_front(&mut self, format: &str) -> Result<Vec<u8>, AllocError> {
         let job = self.wish.job();
         let name = format!(in self.alloc; "printd-{job}")?;
@@ -187,17 +188,17 @@ impl IppPrinter {
         Ok(front)
     }
 
-    /// What is to be written before anything else.
+    /// The bytes that are to be written before all others.
     pub fn text(&self) -> &[u8] {
         &self.output
     }
 
-    /// How many octets of the job may be written now, where there is no text to be written.
+    /// Returns how many octets of the job may be written now, if no text is to be written.
     pub fn octets(&self) -> usize {
         self.chunk
     }
 
-    /// So many bytes are written: of the text, or, where there is none, of the job.
+    /// Records that `count` bytes are written: those of the text, or, if there is none, of the job.
     pub fn pass(&mut self, count: usize) -> Result<(), AllocError> {
         if !self.output.is_empty() {
             let count = count.min(self.output.len());
@@ -211,7 +212,8 @@ impl IppPrinter {
         Ok(())
     }
 
-    /// Begins the next chunk of the job, or ends it, where there is nothing else to be written.
+    /// Begins the next chunk of the job, or ends the job, if nothing else is to be written. The only error is
+    /// out of memory.
     pub fn go_on(&mut self, attachment: &mut Attachment) -> Result<(), AllocError> {
         if self.stage != Stage::Sending || !self.output.is_empty() || self.chunk > 0 {
             return Ok(());
@@ -231,12 +233,12 @@ impl IppPrinter {
         Ok(())
     }
 
-    /// Whether only the server can bring what is to be written next.
+    /// Returns whether the next bytes have to come from the server.
     pub fn waits_for_octets(&self) -> bool {
         self.stage == Stage::Sending && self.output.is_empty() && self.chunk == 0
     }
 
-    /// Hears bytes of the printer.
+    /// Takes bytes of the printer. The only error is out of memory.
     pub fn hear(&mut self, bytes: &[u8]) -> Result<(), AllocError> {
         for byte in bytes {
             self.reader.take(*byte)?;
@@ -244,17 +246,18 @@ impl IppPrinter {
         Ok(())
     }
 
-    /// The printer has closed the connection.
+    /// Records that the printer has closed the connection.
     pub fn hear_end(&mut self) {
         self.reader.end();
     }
 
-    /// Whether the task is at its end.
+    /// Returns whether the task's reply is whole or faulty.
     pub fn has_reply(&self) -> bool {
         self.reader.is_whole() || self.reader.fault().is_some()
     }
 
-    /// What of the job isn't asked for, if that isn't told yet.
+    /// Removes and returns the parts of the job that aren't passed to the printer, if they weren't reported
+    /// yet.
     pub fn take_left_out(&mut self) -> Told {
         match self.left_out.take() {
             Some(left_out) => Told::LeftOut(left_out),
@@ -262,17 +265,17 @@ impl IppPrinter {
         }
     }
 
-    /// The media that are loaded, where the printer told them anew.
+    /// Removes and returns the loaded media, if the printer reported them anew.
     pub fn take_media(&mut self) -> Option<Vec<Text>> {
         self.media.take()
     }
 
-    /// The printer is there again: whether it is stopped is told anew.
+    /// Forgets whether the printer was stopped, since it is there again: that is reported anew.
     pub fn forget_stop(&mut self) {
         self.stopped = false;
     }
 
-    /// The task is over: what came of it.
+    /// Ends the task, and returns its result. The only error is out of memory.
     pub fn conclude(&mut self, now: u64) -> Result<Told, AllocError> {
         let task = self.task;
         let told = match task {
@@ -289,14 +292,14 @@ impl IppPrinter {
         Ok(told)
     }
 
-    /// Nothing is done now.
+    /// Clears the task.
     fn end_task(&mut self) {
         self.task = Task::Nothing;
         self.output.clear();
         self.chunk = 0;
     }
 
-    /// The printer told its state, or didn't.
+    /// Ends the task that asks for the printer's state.
     fn end_asking(&mut self, now: u64) -> Result<Told, AllocError> {
         self.ask_at = now.saturating_add(BETWEEN_STATES);
         match message_of(&self.reader) {
@@ -309,7 +312,7 @@ impl IppPrinter {
         }
     }
 
-    /// Keeps what the printer told of its state.
+    /// Stores the printer's state. The only error is out of memory.
     fn keep_state(&mut self, stopped: bool, media: Option<Vec<Text>>) -> Result<Told, AllocError> {
         self.state = Some(Vec::from_slice(self.alloc, self.reader.body())?);
         self.media = media;
@@ -321,7 +324,8 @@ impl IppPrinter {
         Ok(if stopped { Told::Stops } else { Told::Runs })
     }
 
-    /// The state couldn't be asked: a job that waits for it fails, and else it is told once.
+    /// Records that the state couldn't be read. A job that waits for it fails; otherwise that is reported
+    /// once.
     fn miss_state(&mut self, breach: ReplyBreach) -> Told {
         if self.stage == Stage::Waits {
             self.stage = Stage::None;
@@ -334,7 +338,7 @@ impl IppPrinter {
         Told::Unread(breach)
     }
 
-    /// The printer took the job, or didn't. Its state is asked at once where it didn't.
+    /// Ends the task that sends the job. If the printer didn't take the job, its state is asked at once.
     fn end_printing(&mut self, now: u64) -> Told {
         let all_sent = self.stage == Stage::Sent;
         self.stage = Stage::None;
@@ -348,7 +352,7 @@ impl IppPrinter {
         }
     }
 
-    /// The printer told of the job, or didn't. Where it closed its connection, it is asked again.
+    /// Ends the task that asks about the job. If the printer closed its connection, it is asked again.
     fn end_following(&mut self, job: i32, now: u64) -> Told {
         match job_answer(&self.reader) {
             Ok(answer) => self.heed(job, answer, now),
@@ -363,7 +367,7 @@ impl IppPrinter {
         }
     }
 
-    /// Heeds what the printer tells of the job.
+    /// Acts on the printer's answer about the job.
     fn heed(&mut self, job: i32, answer: JobAnswer, now: u64) -> Told {
         self.stage = Stage::None;
         match answer.state {
@@ -379,14 +383,15 @@ impl IppPrinter {
         told
     }
 
-    /// The job has failed: the printer's state is asked at once.
+    /// Records that the job has failed. The printer's state is asked at once.
     fn fail(&mut self, breach: ReplyBreach, now: u64) -> Told {
         self.ask_at = now;
         Told::Failed(breach)
     }
 
-    /// The connection broke, or nothing was said for too long: whether the job has failed by that. A job
-    /// that the printer has is asked for again where the connection only broke.
+    /// Ends the task, since the connection broke, or no byte came for too long (`silent`). Returns whether
+    /// the job has failed by that. A job that the printer has is asked about again if the connection only
+    /// broke.
     pub fn break_off(&mut self, silent: bool, now: u64) -> bool {
         let task = self.task;
         self.end_task();
@@ -412,17 +417,17 @@ impl IppPrinter {
         }
     }
 
-    /// Whether the printer has a job that isn't printed yet.
+    /// Returns whether the printer has a job that isn't printed yet.
     pub fn has_job(&self) -> bool {
         matches!(self.stage, Stage::Printing(_))
     }
 
-    /// Whether something is being done.
+    /// Returns whether there is a task.
     pub fn is_busy(&self) -> bool {
         self.task != Task::Nothing
     }
 
-    /// The ms until something is to be done though nothing happens.
+    /// Returns the ms until there is work to do without an event.
     pub fn pause(&self, now: u64) -> u64 {
         let ask = self.ask_at.saturating_sub(now);
         match self.stage {
@@ -432,7 +437,7 @@ impl IppPrinter {
     }
 }
 
-/// The bytes of a request. Each that is made here has a spelling.
+/// The bytes of a request. Each request that is made here has a spelling.
 fn encoded(body: Result<Vec<u8>, EncodeFault>) -> Result<Vec<u8>, AllocError> {
     match body {
         Ok(bytes) => Ok(bytes),
@@ -440,7 +445,7 @@ fn encoded(body: Result<Vec<u8>, EncodeFault>) -> Result<Vec<u8>, AllocError> {
     }
 }
 
-/// Whether enough of the job is there to tell what its document is.
+/// Returns whether enough of the job is there to determine the document's format.
 fn has_front(attachment: &Attachment) -> bool {
     attachment.room() == Some(0) || attachment.due().len() >= FRONT
 }

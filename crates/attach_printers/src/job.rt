@@ -1,4 +1,4 @@
-//! What a job asks for, and what of it a printer supports.
+//! The options of a job, and those that a printer supports.
 use crate::told::LeftOut;
 use attach_ipp::{Ticket, copies_up_to, lists, lists_number};
 use attach_orders::JobOrder;
@@ -9,19 +9,19 @@ use std::alloc::Global;
 /// The format of any document.
 const OCTETS: &str = "application/octet-stream";
 
-/// What a job asks for.
+/// The options of a job.
 #[derive(Drop)]
 pub(crate) struct JobWish {
     job: u32,
     copies: u32,
     sides: Sides,
     finishings: Finishings,
-    /// None where there was no memory for its name.
+    /// The medium. `None` if memory for its name was refused.
     media: Option<Text>,
 }
 
 impl JobWish {
-    /// What no job asks for.
+    /// The options of no job.
     pub(crate) fn none() -> JobWish {
         JobWish {
             job: 0,
@@ -32,7 +32,7 @@ impl JobWish {
         }
     }
 
-    /// What an order asks for.
+    /// The options of an order's job.
     pub(crate) fn of(alloc: Global, order: &JobOrder) -> JobWish {
         JobWish {
             job: order.job.number(),
@@ -48,7 +48,7 @@ impl JobWish {
         self.job
     }
 
-    /// What of it a printer is asked for that says what it supports.
+    /// The ticket for a printer, with the options that it reports as supported.
     pub(crate) fn ticket<'a>(
         &'a self,
         name: &'a [u8],
@@ -65,7 +65,7 @@ impl JobWish {
         }
     }
 
-    /// What of it isn't asked for on such a ticket.
+    /// The options that aren't in a ticket.
     pub(crate) fn left_out(&self, ticket: &Ticket<'_>) -> LeftOut {
         LeftOut {
             copies: ticket.copies.is_none(),
@@ -75,7 +75,7 @@ impl JobWish {
         }
     }
 
-    /// Its media, where the printer has them.
+    /// The medium of the job, if the printer has it.
     fn supported_media<'a>(&'a self, printer: &MessageView<'_>) -> Option<&'a [u8]> {
         match &self.media {
             Some(name) => supported(name.as_bytes(), printer, b"media-supported"),
@@ -84,7 +84,7 @@ impl JobWish {
     }
 }
 
-/// A word, where an attribute of the printer lists it.
+/// The word, if an attribute of the printer lists it.
 fn supported<'a>(word: &'a [u8], printer: &MessageView<'_>, name: &[u8]) -> Option<&'a [u8]> {
     if lists(printer, GroupTag::PRINTER, name, word) {
         Some(word)
@@ -93,7 +93,7 @@ fn supported<'a>(word: &'a [u8], printer: &MessageView<'_>, name: &[u8]) -> Opti
     }
 }
 
-/// A format, where the printer supports it, else that of any document.
+/// The format, if the printer supports it; else the format of any document.
 fn supported_format<'a>(format: &'a str, printer: &MessageView<'_>) -> &'a str {
     let name = b"document-format-supported";
     if lists(printer, GroupTag::PRINTER, name, format.as_bytes()) {
@@ -103,7 +103,7 @@ fn supported_format<'a>(format: &'a str, printer: &MessageView<'_>) -> &'a str {
     }
 }
 
-/// A number of copies, where the printer makes so many.
+/// The number of copies, if the printer makes that many.
 fn supported_copies(copies: u32, printer: &MessageView<'_>) -> Option<u32> {
     if copies <= copies_up_to(printer) {
         Some(copies)
@@ -112,12 +112,12 @@ fn supported_copies(copies: u32, printer: &MessageView<'_>) -> Option<u32> {
     }
 }
 
-/// The keyword of sides, where the printer supports it.
+/// The keyword of the sides, if the printer supports it.
 fn supported_sides(sides: Sides, printer: &MessageView<'_>) -> Option<&'static [u8]> {
     supported(sides.keyword().as_bytes(), printer, b"sides-supported")
 }
 
-/// Those finishings that the printer supports.
+/// The finishings that the printer supports.
 fn supported_finishings(wanted: Finishings, printer: &MessageView<'_>) -> Finishings {
     Finishings {
         staple: wanted.staple && finishes(printer, 4),
@@ -126,7 +126,7 @@ fn supported_finishings(wanted: Finishings, printer: &MessageView<'_>) -> Finish
     }
 }
 
-/// Whether the printer supports the finishing of a number (RFC 8011, section 5.2.6).
+/// Returns whether the printer supports the finishing of a number (RFC 8011, section 5.2.6).
 fn finishes(printer: &MessageView<'_>, number: u32) -> bool {
     lists_number(printer, GroupTag::PRINTER, b"finishings-supported", number)
 }

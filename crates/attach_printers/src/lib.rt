@@ -1,20 +1,20 @@
-//! Printers over sockets, and a folder that is one: what a printer's adapter can print on.
+//! The printers of an adapter: printers on the network, and a folder.
 //!
-//! A [`Printer`] is given jobs, and goes on with what it has at each turn: it is sent what an
-//! `attachment` says is due, and tells what became of it. There are two: a [`Folder`], and a
-//! [`NetworkPrinter`], which speaks a [`Protocol`]: [`AppSocket`], [`Pjl`], [`Lpd`] or [`Ipp`]. The
-//! sockets below are `mio`'s: a [`Caller`] makes a connection, and makes it again after a pause where it
-//! can't be made.
+//! A [`Printer`] takes a job, and goes on with it in each turn: it sends the octets that an `attachment`
+//! allows, and returns the result. There are two kinds: a [`Folder`], and a [`NetworkPrinter`] with a
+//! [`Protocol`]: [`AppSocket`], [`Pjl`], [`Lpd`] or [`Ipp`]. The sockets are `mio`'s. A [`Caller`] makes a
+//! connection, and tries again after a pause if it can't be made.
 //!
-//! What is written to a printer of IPP, and what its replies do to a job (RFC 8010, RFC 8011), stands in
-//! an [`IppPrinter`], without sockets. It does one task after the other, each on a connection of its own: it
-//! asks for the printer's state every ten seconds, sends a job, asks for the job until it has ended, soon at
-//! first and in the end every second, and cancels a job that was given up. It keeps the printer's last reply,
-//! and asks of a job only what that says is supported. The octets of a job stay with its attachment.
+//! [`IppPrinter`] has the bytes that are written to a printer of IPP, and the effect of its replies on a job
+//! (RFC 8010, RFC 8011), without sockets. It does one task after the other, each on a connection of its own.
+//! It asks for the printer's state every ten seconds, sends a job, asks about the job until the job has
+//! ended, soon at first and finally every second, and cancels a job that was given up. It keeps the printer's
+//! last reply, and passes only those options of a job that the reply reports as supported. The octets of a
+//! job stay with its attachment.
 //!
-//! It promises that what it does is safe and ends, and that of each answer of IPP about a job the
-//! impressions are told that are new, also of the last. What a printer is sent of a job, and what is said of
-//! it, stands in `attachment`. It is tested by the program.
+//! The functions are proved safe and to end. For each answer of IPP about a job, the impressions that are new
+//! are reported, also those of the last answer. The contracts of the octets that a printer is sent and of the
+//! reports are in `attachment`. The crate is tested by the program.
 #![tactic(auto)]
 
 mod address;

@@ -12,8 +12,8 @@ use std::io::{ErrorKind, Read, Write};
 use std::net::{Net, Shutdown, SocketAddr};
 use std::rt::Files;
 
-/// A socket to a peer, with what was told of it. Where a call had to wait, none is made until something is
-/// told.
+/// A socket to a peer, with the events that the poll reported. After a call that would have to wait, none is
+/// made until the poll reports the socket.
 #[derive(Drop)]
 pub struct Link {
     stream: TcpStream,
@@ -21,13 +21,13 @@ pub struct Link {
     writable: bool,
 }
 
-/// A call that has to wait.
+/// The error of a call that would have to wait.
 fn waits() -> io::Error {
     io::Error::from(ErrorKind::WouldBlock)
 }
 
 impl Link {
-    /// Begins to connect. Waits tell of it under this token.
+    /// Begins a connection, registered at the poll under `token`.
     pub(crate) fn begin(
         net: &impl Net,
         poll: &Poll,
@@ -44,13 +44,13 @@ impl Link {
         })
     }
 
-    /// Takes what a wait told.
+    /// Takes an event of the poll.
     pub(crate) fn told(&mut self, event: &Event) {
         self.readable |= event.is_readable() || event.is_read_closed() || event.is_error();
         self.writable |= event.is_writable() || event.is_write_closed() || event.is_error();
     }
 
-    /// Whether it is connected by now. The error is why it can't be.
+    /// Returns whether the connection is made. The error is why it can't be.
     pub(crate) fn is_open(&self) -> io::Result<bool> {
         if !self.writable {
             return Ok(false);
@@ -63,7 +63,7 @@ impl Link {
         Ok(true)
     }
 
-    /// Reads some bytes; the count is 0 where none will come any more.
+    /// Reads bytes into `buffer`. Returns 0 at the end of the stream.
     pub fn read(&mut self, buffer: &mut [u8]) -> io::Result<usize>
         ensures { ReadsAtMost result buffer.new }
     {
@@ -77,7 +77,7 @@ impl Link {
         read
     }
 
-    /// Writes some bytes.
+    /// Writes bytes. Returns how many it took.
     pub fn write(&mut self, bytes: &[u8]) -> io::Result<usize>
         ensures { WritesAtMost result bytes.now }
     {
@@ -91,12 +91,13 @@ impl Link {
         written
     }
 
-    /// Nothing more will be written.
+    /// Ends the writing side.
     pub fn end_writing(&self) -> io::Result<()> {
         self.stream.shutdown(Shutdown::Write)
     }
 
-    /// Whether both sides have ended, and the peer has acknowledged all. The error is why the connection broke.
+    /// Returns whether both sides have ended, and the peer has acknowledged all bytes. The error is why the
+    /// connection broke.
     pub(crate) fn has_ended(&self) -> io::Result<bool> {
         if let Some(error) = self.stream.take_error()? {
             return Err(error);
@@ -107,7 +108,7 @@ impl Link {
         }
     }
 
-    /// How many bytes that were written the peer hasn't acknowledged, where the system tells. The end of the
+    /// Returns how many written bytes the peer hasn't acknowledged, if the system reports it. The end of the
     /// writing side counts as a byte.
     pub(crate) fn unacknowledged(
         &self,
@@ -118,7 +119,7 @@ impl Link {
     }
 }
 
-/// Whether a call only has to be made again.
+/// Returns whether a call has only to be made again.
 pub fn has_to_wait(error: &io::Error) -> bool {
     matches!(error.kind(), ErrorKind::WouldBlock | ErrorKind::Interrupted)
 }

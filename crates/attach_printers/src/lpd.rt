@@ -1,4 +1,4 @@
-//! LPD (RFC 1179): a job is a control file and a data file, each acknowledged.
+//! LPD (RFC 1179): a job is a control file and a data file, and the printer acknowledges each part.
 use crate::heard::{Breach, Heard};
 use crate::protocol::Protocol;
 use crate::session::{CALLS, Moved, Session};
@@ -6,25 +6,25 @@ use attach_orders::JobOrder;
 use attachment::Attachment;
 use std::alloc::{AllocError, Global};
 
-/// The host that the names of files end in.
+/// The host in the names of files.
 const HOST: &str = "printd";
 
-/// What is sent now, each once the part before it is acknowledged.
+/// The part that is sent now. Each part is sent once the part before it is acknowledged.
 #[derive(Clone, Copy, PartialEq, Eq)]
 enum Part {
-    /// The command that the queue is to receive a job.
+    /// The command to receive a job for the queue.
     Queue,
-    /// The subcommand that a control file comes, and the file.
+    /// The subcommand for a control file, and the file.
     ControlHead,
     Control,
-    /// The subcommand that a data file comes, and the file.
+    /// The subcommand for a data file, and the file.
     DataHead,
     Data,
     /// The end of the data file.
     End,
 }
 
-/// LPD, as a client of a printer's queue speaks it.
+/// The client's side of LPD.
 #[derive(Drop)]
 pub struct Lpd {
     alloc: Global,
@@ -35,12 +35,12 @@ pub struct Lpd {
     octets: u32,
     copies: u32,
     part: Part,
-    /// What of the part, if it isn't the data, is still to be written.
+    /// The bytes of the part that are still to be written; the data isn't among them.
     output: Vec<u8>,
 }
 
 impl Lpd {
-    /// The jobs go to this queue, and come from the device of this name.
+    /// Creates the protocol for a queue of the printer. `name` is that of the device.
     pub fn new(alloc: Global, queue: String, name: String) -> Lpd {
         Lpd {
             alloc,
@@ -54,8 +54,7 @@ impl Lpd {
         }
     }
 
-    /// Hears the next octet that the printer says, which acknowledges a part that is written, or refuses
-    /// it.
+    /// Takes the next octet of the printer, which acknowledges a written part, or refuses it.
     fn hear(&mut self, session: &mut Session, now: u64) -> Result<Heard, AllocError> {
         let mut buffer = [0u8; 1];
         match session.read(&mut buffer, now) {
@@ -66,7 +65,7 @@ impl Lpd {
         }
     }
 
-    /// A part is acknowledged.
+    /// Goes on after a part is acknowledged.
     fn acknowledged(&mut self) -> Result<Heard, AllocError> {
         if !self.output.is_empty() {
             return Ok(Heard::Failed(Breach::Refused));
@@ -83,14 +82,14 @@ impl Lpd {
         Ok(Heard::Nothing)
     }
 
-    /// Has the next part to write.
+    /// Begins to write the next part. The only error is out of memory.
     fn go_on(&mut self, part: Part) -> Result<(), AllocError> {
         self.output = self.text_of(part)?;
         self.part = part;
         Ok(())
     }
 
-    /// What of a part, if it isn't the data, is written.
+    /// The bytes of a part, if it isn't the data. The only error is out of memory.
     fn text_of(&self, part: Part) -> Result<Vec<u8>, AllocError> {
         let queue = self.queue.as_str();
         let number = self.job % 1000;
@@ -112,8 +111,8 @@ impl Lpd {
         Vec::from_slice(self.alloc, text.as_bytes())
     }
 
-    /// The control file: whose job it is, in 31 octets at most (RFC 1179, section 7.8), and a line for each
-    /// copy of the data file, which is printed as it is.
+    /// The control file: the name of the job's owner, in at most 31 octets (RFC 1179, section 7.8), and a
+    /// line for each copy of the data file, which is printed without a change.
     fn control(&self) -> Result<String, AllocError> {
         let name = self.name.as_str();
         let job = self.job;
@@ -131,7 +130,7 @@ impl Lpd {
         line.repeat(self.alloc, self.copies as usize)
     }
 
-    /// Sends some of the part; behind the data their end.
+    /// Sends some bytes of the part; behind the data their end.
     fn send(
         &mut self,
         session: &mut Session,
@@ -156,13 +155,13 @@ impl Protocol for Lpd {
         self.copies = order.copies;
     }
 
-    /// The first part is to be written.
+    /// Begins to write the first part.
     fn open(&mut self, _attachment: &Attachment, heard: Heard) -> Result<Heard, AllocError> {
         self.go_on(Part::Queue)?;
         Ok(heard)
     }
 
-    /// Hears what the printer acknowledges, and sends it what is due.
+    /// Takes the printer's acknowledgements, and sends the bytes that are due.
     fn exchange(
         &mut self,
         session: &mut Session,

@@ -11,7 +11,7 @@ use mio::event::Event;
 use std::net::Net;
 use std::rt::Files;
 
-/// A printer on the network: the connection to it, and the protocol that it speaks.
+/// A printer on the network, with the connection to it and its protocol.
 #[derive(Drop)]
 pub struct NetworkPrinter<P: Protocol> {
     session: Session,
@@ -19,7 +19,7 @@ pub struct NetworkPrinter<P: Protocol> {
 }
 
 impl<P: Protocol> NetworkPrinter<P> {
-    /// A printer that isn't connected to yet.
+    /// Creates a printer without a connection.
     pub fn new(session: Session, protocol: P) -> NetworkPrinter<P> {
         NetworkPrinter { session, protocol }
     }

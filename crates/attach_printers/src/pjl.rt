@@ -1,4 +1,4 @@
-//! AppSocket and PJL: a job is wrapped in PJL, and the printer tells of it.
+//! AppSocket and PJL: a job is wrapped in PJL, and the printer reports on it.
 ghost use Rattle.std.specs.Prelude.{◌≤◌, IfOk, length};
 
 use crate::heard::{Breach, Heard};
@@ -11,10 +11,10 @@ use base_types::Sides;
 use std::alloc::{AllocError, Global};
 use text::drop_front;
 
-/// The first code of a printer that needs someone: a cover is open, paper is out or jammed.
+/// The least code of a printer that needs someone: a cover is open, or paper is out or jammed.
 const NEEDS_SOMEONE: u32 = 40_000;
 
-/// What is sent now, or that all is.
+/// The part that is sent now, or that all parts are sent.
 #[derive(Clone, Copy, PartialEq, Eq)]
 enum Part {
     Head,
@@ -23,7 +23,7 @@ enum Part {
     Nothing,
 }
 
-/// AppSocket and PJL, as a printer speaks them.
+/// The client's side of AppSocket and PJL.
 #[derive(Drop)]
 pub struct Pjl {
     alloc: Global,
@@ -32,16 +32,16 @@ pub struct Pjl {
     copies: u32,
     sides: Sides,
     part: Part,
-    /// What of the part, if it isn't the data, is still to be written.
+    /// The bytes of the part that are still to be written; the data isn't among them.
     output: Vec<u8>,
-    /// What the printer said and isn't read yet.
+    /// The bytes of the printer that aren't read yet.
     input: Vec<u8>,
-    /// The printer said that it needs someone.
+    /// Whether the printer reported that it needs someone.
     stopped: bool,
 }
 
 impl Pjl {
-    /// There is no job yet.
+    /// Creates the protocol, without a job.
     pub fn new(alloc: Global) -> Pjl {
         Pjl {
             alloc,
@@ -56,8 +56,8 @@ impl Pjl {
         }
     }
 
-    /// Hears the next that the printer says of a job, a page or itself. Where that is nothing, there is
-    /// nothing more for now, or bytes were moved.
+    /// Returns the next report of the printer about a job, a page or itself. `Nothing` if there is none for
+    /// now, or if bytes were moved.
     fn hear(&mut self, session: &mut Session, now: u64) -> Result<Heard, AllocError> {
         for _ in 0..CALLS {
             if self.input.is_empty() {
@@ -75,7 +75,7 @@ impl Pjl {
         Ok(Heard::Nothing)
     }
 
-    /// Takes a piece of what the printer says.
+    /// Reads a piece of the printer's bytes.
     fn read_piece(&mut self, session: &mut Session, now: u64) -> Result<Moved, AllocError> {
         let mut buffer = [0u8; PIECE];
         let moved = session.read(&mut buffer, now);
@@ -85,7 +85,7 @@ impl Pjl {
         Ok(moved)
     }
 
-    /// Reads what the printer said, up to the first that is worth telling.
+    /// Reads the printer's bytes up to the first report.
     fn read_input(&mut self) -> Result<Heard, AllocError> {
         let read = read_front(&mut self.reader, &self.input, self.part, self.stopped)?;
         drop_front(&mut self.input, read.0);
@@ -97,7 +97,7 @@ impl Pjl {
         Ok(read.1)
     }
 
-    /// Sends some of the part.
+    /// Sends some bytes of the part.
     fn send(
         &mut self,
         session: &mut Session,
@@ -122,7 +122,8 @@ impl Pjl {
         Ok(session.write_front(&mut self.output, now))
     }
 
-    /// What stands before a job: that the printer is to tell of it, and how it is printed.
+    /// The bytes before a job: the request for reports, and the options of the job. The only error is out of
+    /// memory.
     fn head(&self) -> Result<Vec<u8>, AllocError> {
         let job = self.job;
         let copies = self.copies;
@@ -137,7 +138,7 @@ impl Pjl {
         Vec::from_slice(self.alloc, text.as_bytes())
     }
 
-    /// What stands behind a job.
+    /// The bytes behind a job. The only error is out of memory.
     fn foot(&self) -> Result<Vec<u8>, AllocError> {
         let job = self.job;
         let text = format!(in self.alloc;
@@ -154,7 +155,7 @@ impl Protocol for Pjl {
         self.sides = order.sides;
     }
 
-    /// A printer that isn't listened to is taken to run.
+    /// Takes a printer without a connection as running.
     fn wait(&mut self, _session: &Session, heard: Heard, _now: u64) -> Heard {
         let stopped = std::mem::replace(&mut self.stopped, false);
         match heard {
@@ -163,7 +164,7 @@ impl Protocol for Pjl {
         }
     }
 
-    /// The head is to be written.
+    /// Begins to write the head.
     fn open(&mut self, _attachment: &Attachment, heard: Heard) -> Result<Heard, AllocError> {
         self.reader = StatusReader::new(self.alloc);
         self.input.clear();
@@ -201,13 +202,13 @@ impl Protocol for Pjl {
         self.input.clear();
     }
 
-    /// What was read and isn't heard yet is gone on with.
+    /// Returns whether there are bytes that were read and aren't used yet.
     fn goes_on(&self) -> bool {
         !self.input.is_empty()
     }
 }
 
-/// Reads bytes up to the first that is worth telling: how many were read, and that.
+/// Reads bytes up to the first report. Returns how many were read, and the report.
 fn read_front(
     reader: &mut StatusReader,
     input: &[u8],
@@ -227,7 +228,7 @@ fn read_front(
     Ok((input.len(), Heard::Nothing))
 }
 
-/// What a status says of a job of which this part is sent, by a printer that was stopped or not.
+/// The report of a status, where this part of the job is sent, and the printer was stopped or not.
 fn heard_of(status: Status, part: Part, stopped: bool) -> Heard {
     match status {
         Status::Page(page) => Heard::Pages(page),

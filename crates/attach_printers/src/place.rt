@@ -1,4 +1,4 @@
-//! Where a peer is.
+//! The address of a peer.
 use std::alloc::{AllocError, Global};
 use std::io;
 use std::net::{Net, SocketAddr, ToSocketAddrs};
@@ -11,7 +11,8 @@ pub struct Place {
 }
 
 impl Place {
-    /// The place of this host and port. An address of version 6 may stand in brackets.
+    /// Creates the address of a host and a port. An IPv6 address may be in brackets. The only error is out of
+    /// memory.
     pub fn new(alloc: Global, host: &str, port: u16) -> Result<Place, AllocError> {
         let bare = host.strip_prefix('[').unwrap_or(host);
         let bare = bare.strip_suffix(']').unwrap_or(bare);
@@ -21,7 +22,7 @@ impl Place {
         })
     }
 
-    /// The place that a text names, as `localhost:8632`.
+    /// Reads an address such as `localhost:8632`. The only error is out of memory.
     pub fn read(alloc: Global, text: &str) -> Result<Option<Place>, AllocError> {
         let Some((host, port)) = text.rsplit_once(':') else {
             return Ok(None);
@@ -35,7 +36,7 @@ impl Place {
         Ok(Some(Place::new(alloc, host, port)?))
     }
 
-    /// Its addresses, as the system's resolver has them now, in its order.
+    /// The addresses of the host, from the system's resolver, in its order.
     pub(crate) fn addresses(&self, alloc: Global, net: &impl Net) -> io::Result<Vec<SocketAddr>> {
         let mut addresses = Vec::new(alloc);
         for address in (self.host.as_str(), self.port).to_socket_addrs(net)? {

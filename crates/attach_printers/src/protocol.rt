@@ -1,4 +1,4 @@
-//! What is said on the connections to a printer.
+//! The trait of protocols.
 use crate::heard::Heard;
 use crate::session::Session;
 use attach_orders::JobOrder;
@@ -6,32 +6,32 @@ use attachment::Attachment;
 use base_types::Text;
 use std::alloc::AllocError;
 
-/// What is said on the connections to a printer, in its protocol. It has one job at most.
+/// The protocol of the connections to a printer. It has at most one job.
 pub trait Protocol: Drop {
     /// Begins a job.
     fn begin(&mut self, order: &JobOrder);
 
-    /// How often the printer is sent the octets of a job: once, where it makes the copies itself.
+    /// How often the printer is sent the octets of a job: once, if it makes the copies itself.
     fn times(&self, _order: &JobOrder) -> u32 {
         1
     }
 
-    /// Whether a connection is wanted now: while there is a job.
+    /// Returns whether a connection is wanted now: while there is a job.
     fn wants_connection(&mut self, attachment: &Attachment, _now: u64) -> bool {
         attachment.job().is_some()
     }
 
-    /// There is no connection now, and this was heard of it: what is heard of the printer.
+    /// The result of a turn without a connection, where `heard` is that of the connection.
     fn wait(&mut self, _session: &Session, heard: Heard, _now: u64) -> Heard {
         heard
     }
 
-    /// The connection has come about, and this was heard of it: what is heard of the printer.
+    /// The result of a turn in which the connection was made, where `heard` is that of the connection.
     fn open(&mut self, _attachment: &Attachment, heard: Heard) -> Result<Heard, AllocError> {
         Ok(heard)
     }
 
-    /// Hears the printer and sends it what is due, as far as can be without waiting.
+    /// Reads from the printer and sends the bytes that are due, without blocking.
     fn exchange(
         &mut self,
         session: &mut Session,
@@ -39,20 +39,20 @@ pub trait Protocol: Drop {
         now: u64,
     ) -> Result<Heard, AllocError>;
 
-    /// The media that are loaded, where the printer told them anew.
+    /// Removes and returns the loaded media, if the printer reported them anew.
     fn take_media(&mut self) -> Option<Vec<Text>> {
         None
     }
 
-    /// Forgets the job, whose connection is closed.
+    /// Drops the job, whose connection is closed.
     fn drop_job(&mut self);
 
-    /// Whether there is something to go on with though nothing has moved.
+    /// Returns whether there is work to do although no bytes were moved.
     fn goes_on(&self) -> bool {
         false
     }
 
-    /// The ms until there is something to do though nothing happens, where there is.
+    /// Returns the ms until there is work to do without an event, if there will be.
     fn pause(&self, session: &Session, now: u64, has_job: bool) -> Option<u64> {
         session.pause(now, has_job, session.timeout())
     }

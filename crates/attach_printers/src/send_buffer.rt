@@ -1,16 +1,16 @@
-//! How much of what is sent may wait in this machine.
+//! The limit on sent bytes that wait in this machine.
 use libc::net as system;
 use mio::net::TcpStream;
 use std::os::fd::AsRawFd;
 
-/// How many bytes may wait; Linux counts what it needs beside them, and takes twice as many.
+/// The most bytes that may wait. Linux counts what it needs beside them, and takes twice as many.
 const BYTES: i32 = 65_536;
 
-/// How many bytes of an option's value are its number.
+/// The length of an option's value in bytes.
 const NUMBER_BYTES: u32 = 4;
 
-/// Has the system take little that a peer doesn't take: what it took counts as sent, and it would take some
-/// megabytes. Whether it does.
+/// Limits the bytes that the system takes and a peer hasn't taken. Bytes that the system took count as sent,
+/// and without the limit it would take some megabytes. Returns whether the limit is set.
 pub(crate) fn keep_small(stream: &TcpStream) -> bool {
     let mut value = [0; 16];
     value[..4].copy_from_slice(&BYTES.to_ne_bytes());

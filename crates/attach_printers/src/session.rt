@@ -16,27 +16,27 @@ use std::net::Net;
 use std::rt::Files;
 use text::drop_front;
 
-/// How many calls to a printer a turn makes at most.
+/// The most calls to a printer in a turn.
 pub(crate) const CALLS: u32 = 64;
 
-/// How many bytes of what it says are read at a time.
+/// The number of bytes that one read asks for.
 pub(crate) const PIECE: usize = 1024;
 
-/// How far a printer is reached.
+/// The state of the connection to a printer.
 #[derive(Clone, Copy)]
 pub(crate) enum Stage {
     /// There is no connection now.
     Waits(Heard),
-    /// The connection has just come about.
+    /// The connection was just made.
     Opened(Heard),
     Open,
 }
 
-/// What a call on a connection moved.
+/// The result of a call on a connection.
 #[derive(Clone, Copy, PartialEq, Eq)]
 pub(crate) enum Moved {
     Nothing,
-    /// So many bytes, one at least.
+    /// This many bytes were moved, at least one.
     Bytes(usize),
     /// The other side has ended.
     End,
@@ -48,17 +48,17 @@ pub(crate) enum Moved {
 pub struct Session {
     caller: Caller,
     timeout: u64,
-    /// It couldn't be reached when that was last tried.
+    /// Whether the printer couldn't be reached at the last try.
     away: bool,
-    /// When bytes last went or came, or none were to.
+    /// The moment at which bytes last went or came, or none had to.
     last: u64,
     worked: bool,
-    /// What waits in this machine once the writing side is ended.
+    /// The bytes that wait in this machine once the writing side is ended.
     backlog: Backlog,
 }
 
 impl Session {
-    /// A printer that isn't connected to yet, which may neither take nor say anything for so many ms.
+    /// Creates a session without a connection. The printer may neither take nor send bytes for `timeout` ms.
     pub fn new(caller: Caller, timeout: u64) -> Session {
         Session {
             caller,
@@ -70,12 +70,13 @@ impl Session {
         }
     }
 
-    /// Takes what a wait told.
+    /// Takes an event of the poll.
     pub(crate) fn told(&mut self, event: &Event) {
         self.caller.told(event);
     }
 
-    /// Connects where there is a job, or the printer is away, and looks at what waits of a job that is written.
+    /// Connects, if there is a job or the printer is away, and looks at the waiting bytes of a job that is
+    /// written.
     pub(crate) fn reach<R: Net + Files>(
         &mut self,
         rt: &R,
@@ -101,8 +102,8 @@ impl Session {
         }
     }
 
-    /// Looks at what waits in this machine, where it is time. The printer's time begins anew with each byte that
-    /// its machine takes.
+    /// Looks at the bytes that wait in this machine, if a look is due. The printer's time begins anew with
+    /// each byte that its machine takes.
     fn look(&mut self, files: &impl Files, now: u64) {
         if !self.backlog.is_due(now) {
             return;
@@ -113,7 +114,7 @@ impl Session {
         }
     }
 
-    /// The connection has come about. Without a job it only showed that the printer is there.
+    /// Records that the connection was made. Without a job it only shows that the printer is there.
     fn open(&mut self, has_job: bool, now: u64) -> Stage {
         self.last = now;
         self.worked = true;
@@ -128,7 +129,7 @@ impl Session {
         Stage::Opened(Heard::Back)
     }
 
-    /// Reads some of what the printer says.
+    /// Reads bytes of the printer.
     pub(crate) fn read(&mut self, buffer: &mut [u8], now: u64) -> Moved
         ensures { MovesAtMost result buffer.new }
     {
@@ -139,7 +140,7 @@ impl Session {
         self.heed(read, Moved::End, now)
     }
 
-    /// Writes some bytes, where there are any.
+    /// Writes bytes, if there are any.
     pub(crate) fn write(&mut self, bytes: &[u8], now: u64) -> Moved
         ensures { MovesAtMost result bytes.now }
     {
@@ -153,7 +154,7 @@ impl Session {
         self.heed(written, Moved::Nothing, now)
     }
 
-    /// Heeds what a call moved: of no byte it means this.
+    /// Records the result of a call. `none` is the result of a call that moved no byte.
     fn heed(&mut self, call: io::Result<usize>, none: Moved, now: u64) -> Moved
         requires { none ≡ End ⊎ none ≡ Nothing }
         ensures { (bytes : List ℕ) → WritesAtMost call bytes → MovesAtMost result bytes }
@@ -170,7 +171,7 @@ impl Session {
         }
     }
 
-    /// Writes some of a text, and drops what went of it.
+    /// Writes a front of a text, and removes the bytes that went.
     pub(crate) fn write_front(&mut self, text: &mut Vec<u8>, now: u64) -> Moved {
         let moved = self.write(text, now);
         if let Moved::Bytes(count) = moved {
@@ -179,7 +180,7 @@ impl Session {
         moved
     }
 
-    /// Sends some octets of a job that are due. Where none are, the printer isn't waited for.
+    /// Sends some octets of a job that are due. If none are due, the printer's time isn't counted.
     pub(crate) fn send_due(&mut self, attachment: &mut Attachment, now: u64) -> Moved {
         if attachment.due().is_empty() {
             self.rest(now);
@@ -188,7 +189,7 @@ impl Session {
         self.send_some(attachment, usize::MAX, now)
     }
 
-    /// Sends some octets of a job that are due, so many at most.
+    /// Sends some octets of a job that are due, at most `most`.
     pub(crate) fn send_some(
         &mut self,
         attachment: &mut Attachment,
@@ -203,7 +204,7 @@ impl Session {
         moved
     }
 
-    /// Ends the writing side. What waits is looked at from now on.
+    /// Ends the writing side. The waiting bytes are looked at from then on.
     pub(crate) fn end_writing(&mut self, now: u64) -> Moved {
         self.last = now;
         self.worked = true;
@@ -214,12 +215,13 @@ impl Session {
         }
     }
 
-    /// Whether something of a job that is written waits in this machine.
+    /// Returns whether bytes of a written job wait in this machine.
     pub(crate) fn has_backlog(&self) -> bool {
         self.backlog.waits()
     }
 
-    /// The printer has closed its side after all was written: the job is printed once nothing of it waits.
+    /// Records that the printer has closed its side after all was written. The job is printed once no bytes
+    /// of it wait.
     pub(crate) fn heed_end(&mut self, now: u64) -> Heard {
         if !self.has_backlog() {
             return Heard::Printed(None);
@@ -231,17 +233,17 @@ impl Session {
         }
     }
 
-    /// Nothing is to be sent or heard for now: the printer's time begins anew.
+    /// Restarts the printer's time, since no bytes are to be sent or read for now.
     pub(crate) fn rest(&mut self, now: u64) {
         self.last = now;
     }
 
-    /// How long the printer has been silent, in ms.
+    /// The time for which the printer has been silent, in ms.
     pub(crate) fn silence(&self, now: u64) -> u64 {
         now.saturating_sub(self.last)
     }
 
-    /// Whether the printer has been silent for too long.
+    /// Returns whether the printer has been silent for too long.
     pub(crate) fn wait(&self, now: u64) -> Heard {
         if self.silence(now) >= self.timeout {
             Heard::Failed(Breach::Silent)
@@ -250,20 +252,20 @@ impl Session {
         }
     }
 
-    /// Closes the connection, where there is one.
+    /// Closes the connection, if there is one.
     pub(crate) fn close(&mut self) {
         if !self.away {
             self.caller.close();
         }
     }
 
-    /// Whether the last turn moved bytes.
+    /// Returns whether the last turn moved bytes.
     pub(crate) fn has_worked(&self) -> bool {
         self.worked
     }
 
-    /// The ms until there is something to do though nothing happens, where the printer may be silent for
-    /// so many.
+    /// Returns the ms until there is work to do without an event, where the printer may be silent for
+    /// `patience` ms.
     pub(crate) fn pause(&self, now: u64, has_job: bool, patience: u64) -> Option<u64> {
         if !has_job && !self.away {
             return None;
@@ -277,7 +279,7 @@ impl Session {
         }
     }
 
-    /// How long the printer may be silent, in ms.
+    /// The time for which the printer may be silent, in ms.
     pub(crate) fn timeout(&self) -> u64 {
         self.timeout
     }

@@ -1,7 +1,8 @@
-//! What the system tells of a socket's bytes.
+//! The system's information on a socket's bytes.
 //!
-//! Linux tells how many wait by the ioctl SIOCOUTQ and by the option TCP_INFO. The kit's C library has no ioctl,
-//! and its `getsockopt` takes neither that option nor a value of more than 16 bytes. The same number stands in the
+//! Linux reports the number of waiting bytes by the ioctl SIOCOUTQ and by the option TCP_INFO. The kit's C
+//! library has no ioctl, and its `getsockopt` takes neither that option nor a value of more than 16 bytes.
+//! The same number is in the tables of this machine's sockets, which are files.
 //! tables of this machine's sockets, which are files.
 use mio::net::TcpStream;
 use std::alloc::Global;
@@ -15,14 +16,14 @@ use std::{fs, io};
 /// The tables of the sockets of IPv4 and of IPv6: a line for each socket, behind a line of headings.
 const TABLES: [&str; 2] = ["/proc/self/net/tcp", "/proc/self/net/tcp6"];
 
-/// Which word of a line has the bytes that wait, to be sent and to be read, and how many words behind it the
-/// socket's number stands.
+/// The index of the word in a line with the waiting bytes, to be sent and to be read, and the number of words
+/// behind it at which the socket's number is.
 const WAITING: usize = 4;
 
 const NUMBER_BEHIND: usize = 4;
 
-/// How many bytes that a socket took its peer hasn't acknowledged, where the system tells. The end of the writing
-/// side counts as a byte.
+/// Returns how many bytes that a socket took its peer hasn't acknowledged, if the system reports it. The end
+/// of the writing side counts as a byte.
 pub(crate) fn unacknowledged(
     alloc: Global,
     files: &impl Files,
@@ -39,7 +40,7 @@ pub(crate) fn unacknowledged(
     Ok(None)
 }
 
-/// What a table tells of the socket of this number, if it has it.
+/// The entry of a table for the socket of this number, if there is one.
 fn look_up(alloc: Global, files: &impl Files, table: &str, number: u64) -> io::Result<Option<u64>> {
     let reader = BufReader::new(alloc, File::open(files, table)?)?;
     for line in reader.lines(alloc) {
@@ -51,7 +52,7 @@ fn look_up(alloc: Global, files: &impl Files, table: &str, number: u64) -> io::R
     Ok(None)
 }
 
-/// What a line tells, if it is that of the socket of this number.
+/// The entry of a line, if it is that of the socket of this number.
 fn bytes_of(line: &str, number: u64) -> Option<u64> {
     let mut words = line.split_whitespace();
     let waiting = words.nth(WAITING)?;

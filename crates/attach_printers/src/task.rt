@@ -1,30 +1,30 @@
-//! What is done on a connection, and how far a job is.
+//! The tasks on a connection, and the stages of a job.
 
-/// What is done on a connection.
+/// A task on a connection.
 #[derive(Clone, Copy, PartialEq, Eq)]
 pub(crate) enum Task {
     Nothing,
-    /// The printer's state is asked.
+    /// Ask for the printer's state.
     Ask,
-    /// The job is sent.
+    /// Send the job.
     Print,
-    /// The printer is asked for the job of this id.
+    /// Ask about the job of this id.
     Follow(i32),
-    /// The job of this id is canceled.
+    /// Cancel the job of this id.
     Cancel(i32),
 }
 
-/// How far the job is that the server brought.
+/// The stage of the server's job.
 #[derive(Clone, Copy, PartialEq, Eq)]
 pub(crate) enum Stage {
-    /// There is none.
+    /// There is no job.
     None,
-    /// Nothing of it is sent.
+    /// Nothing of the job is sent.
     Waits,
-    /// Some of it is sent.
+    /// A part of the job is sent.
     Sending,
-    /// All of it is sent.
+    /// All of the job is sent.
     Sent,
-    /// The printer has it under this id.
+    /// The printer has the job under this id.
     Printing(i32),
 }

@@ -1,32 +1,32 @@
-//! What a printer came to.
+//! The results of a printer's task.
 use attach_http::ReplyFault;
 use std::fmt;
 use thiserror::Error;
 
-/// Why a printer's reply is of no use.
+/// Why a printer's reply isn't usable.
 #[derive(Clone, Copy, Debug, Error)]
 pub enum ReplyBreach {
-    /// It is no reply of HTTP, or too long.
+    /// The reply isn't a reply of HTTP, or is too long.
     #[error("{0}")]
     Fault(ReplyFault),
-    /// Its status is another than 200.
+    /// The status of the reply isn't 200.
     #[error("http {0}")]
     Http(u32),
-    /// Its body is no message of IPP, or lacks what was asked for.
+    /// The body of the reply isn't a message of IPP, or lacks a requested attribute.
     #[error("no reply of IPP")]
     NotIpp,
-    /// Its status says that the operation wasn't done (RFC 8011, appendix B).
+    /// The status of the operation is a failure (RFC 8011, appendix B).
     #[error("ipp 0x{0:04x}")]
     Ipp(u16),
-    /// The printer canceled the job, or gave it up.
+    /// The printer canceled or aborted the job.
     #[error("given up")]
     GivenUp,
-    /// It came before all of the job was sent.
+    /// The reply came before all of the job was sent.
     #[error("too early a reply")]
     TooEarly,
 }
 
-/// What of a job isn't asked for, since the printer doesn't say that it supports it.
+/// The options of a job that aren't passed on, since the printer doesn't report that it supports them.
 #[derive(Clone, Copy)]
 pub struct LeftOut {
     pub copies: bool,
@@ -36,7 +36,7 @@ pub struct LeftOut {
 }
 
 impl LeftOut {
-    /// Whether anything is left out.
+    /// Returns whether any option is left out.
     pub(crate) fn is_something(self) -> bool {
         self.copies || self.sides || self.media || self.finishings
     }
@@ -51,22 +51,22 @@ impl fmt::Display for LeftOut {
     }
 }
 
-/// What a printer came to.
+/// The result of a printer's task.
 #[derive(Clone, Copy)]
 pub enum Told {
     Nothing,
-    /// It says that it needs someone.
+    /// The printer reports that it needs someone.
     Stops,
-    /// It says that it prints again.
+    /// The printer reports that it prints again.
     Runs,
-    /// So many impressions of the job are printed.
+    /// This many impressions of the job are printed.
     Pages(u32),
-    /// This of the job isn't asked for.
+    /// These options of the job aren't passed on.
     LeftOut(LeftOut),
-    /// The job is printed; where it wasn't told yet that so many impressions are, how many.
+    /// The job is printed. The number of its impressions, if it wasn't reported yet.
     Printed(Option<u32>),
     /// The job can't be printed.
     Failed(ReplyBreach),
-    /// Its state can't be asked.
+    /// The printer's state can't be read.
     Unread(ReplyBreach),
 }

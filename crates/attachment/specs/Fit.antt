@@ -4,23 +4,23 @@ use Rattle.base_types.specs.declared.limits.TheConstants.Limits.{RATE, SETUP}
 use Rattle.attachment.specs.declared.sample.Sample.{Sample}
 use Rattle.attachment.specs.Sums.{Sums}
 
--- the whole number that is nearest to a quotient, the greater of two
+-- the whole number nearest to a quotient; of two, the greater one
 abbrev pub nearest : ℕ → ℕ → ℕ
 nearest dividend divisor = (2 * dividend + divisor) / (2 * divisor)
 
--- the determinant of the normal equations: 0 where all samples have the same number of impressions
+-- the determinant of the normal equations: 0 if all samples have the same number of impressions
 abbrev pub determinant : Sums → ℕ
 determinant sums = sums.count * sums.squares - sums.impressions * sums.impressions
 
--- the setup that solves them, times the determinant; 0 where it is below 0
+-- the setup that solves the equations, times the determinant; 0 if it is negative
 abbrev pub setup_numerator : Sums → ℕ
 setup_numerator sums = sums.ms * sums.squares - sums.impressions * sums.products
 
--- the setup that solves both equations, to the nearest whole ms within its limit
+-- the setup that solves both equations, rounded to whole ms, within its limit
 abbrev pub setup_of : Sums → Option ℕ
 setup_of sums = if determinant sums == 0 then None else Some (min (nearest (setup_numerator sums) (determinant sums)) SETUP)
 
--- the rate that solves the second equation with this setup, to the nearest whole ms within its limits: that of least squares where the setup is known
+-- the rate that solves the second equation with this setup, rounded to whole ms, within its limits: the rate of least squares for a known setup
 abbrev pub rate_of : ℕ → Sums → Option ℕ
 rate_of setup sums = if sums.squares == 0 then None else Some (min (max (nearest (sums.products - setup * sums.impressions) sums.squares) 1) RATE)
 

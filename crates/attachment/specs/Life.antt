@@ -1,12 +1,12 @@
--- A life of an attachment: what comes of the server and of the printer, what is sent to the printer, and what is said to the server, in the order in which it happens.
+-- The life of an attachment: the events of the server and of the printer, the octets that are sent to the printer, and the reports to the server, in the order in which they happen.
 use Rattle.std.specs.Prelude.{ℕ, ◌≡◌, List, [], ◌∷◌}
 use Rattle.base_types.specs.Report.{ReportRecord}
 use Rattle.attachment.specs.declared.state.PrinterState.{PrinterState}
 
 pub data Event : Type 0 where
-  -- a connection to the server begins: it knows nothing of a job or of the printer's state
+  -- a connection to the server begins; the server knows no job and no state of the printer
   Links : Event
-  -- the server brings a job of so many octets, which are to be sent so many times
+  -- the server sends a job of this many octets, which are to be sent `times` times
   Ordered : (job octets times : ℕ) → Event
   -- octets of the job come
   Came : (octets : List ℕ) → Event
@@ -14,16 +14,16 @@ pub data Event : Type 0 where
   Canceled : (job : ℕ) → Event
   -- the printer takes octets
   Sent : (octets : List ℕ) → Event
-  -- the job is sent to its end, once
+  -- one copy of the job is sent to its end
   EndsCopy : Event
-  -- the printer says, or its protocol implies, that the job is printed
+  -- the printer reports, or its protocol implies, that the job is printed
   Printed : Event
   -- the printer runs, or stops
   Is : PrinterState → Event
-  -- the server is told
+  -- a report to the server
   Says : ReportRecord → Event
 
--- a life leads from one place to another, event by event
+-- a life leads from one state to another, event by event
 abbrev pub Leads : {P : Type 0} → (P → Event → P → Type 0) → P → List Event → P → Type 0
 Leads step at [] end = end ≡ at
 Leads {P} step at (event ∷ later) end = (next : P) × step at event next × Leads step next later end

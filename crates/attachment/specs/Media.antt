@@ -1,9 +1,9 @@
--- What is said of the media that a printer has loaded: what it has, where the server was told something else or nothing, so never the same twice.
+-- The reports of the media that a printer has loaded: the loaded media are reported if the last report was another or there was none, so never twice.
 use Rattle.std.specs.Prelude.{ℕ, ◌&&◌, if◌then◌else◌, Bool, true, false, List, [], ◌∷◌, Option, Some, None}
 use Rattle.std.specs.Str.{bytes_eq}
 use Rattle.base_types.specs.Report.{ReportRecord, SaysMedia}
 
--- what is loaded, once the printer has said it, and what the server was told on this connection
+-- the loaded media, once the printer has reported them, and the media that were last reported to the server on this connection
 pub record MediaRecord : Type 0 where
   pub loaded : Option (List (List ℕ))
   pub told : Option (List (List ℕ))
@@ -22,7 +22,7 @@ abbrev pub media_report : Option (List (List ℕ)) → Option (List (List ℕ)) 
 media_report None told = None
 media_report (Some names) told = if is_told names told then None else Some (SaysMedia names)
 
--- what the server was told then
+-- the media reported to the server after a report
 abbrev pub told_after : Option (List (List ℕ)) → Option (List (List ℕ)) → Option (List (List ℕ))
 told_after None told = None
 told_after (Some names) told = if is_told names told then told else Some names

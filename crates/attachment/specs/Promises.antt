@@ -1,11 +1,11 @@
--- What an attachment promises of its life. Each promise says what may happen next, and is silent of what it doesn't speak of.
+-- The promises of an attachment about its life. Each promise says which events may come next, and allows the events that it isn't about.
 use Rattle.std.specs.Prelude.{ℕ, ◌≡◌, ◌+◌, ◌<◌, ◌≤◌, ◌==◌, if◌then◌else◌, Bool, true, false, List, [], ◌++◌, length, take, drop, Option, Some, None}
 use Rattle.base_types.specs.Report.{SaysReady, SaysStop, SaysPages, SaysDone, SaysFail}
 use Rattle.attachment.specs.declared.state.PrinterState.{PrinterState}
 use Rattle.attachment.specs.declared.state.PrinterState.TheVariants.{Running, Stopped}
 use Rattle.attachment.specs.Life.{Event, Links, Ordered, Came, Canceled, Sent, EndsCopy, Printed, Is, Says}
 
--- ---- each job is answered once: between a job and the next there is just one DONE or FAIL, and it names that job, as does each PAGES before it. The place is the job that isn't answered yet.
+-- ---- each job is answered once: between a job and the next there is exactly one DONE or FAIL with the job's id, and each PAGES before it has that id too. The state is the job that isn't answered yet.
 
 abbrev pub AnswersOnce : Option ℕ → Event → Option ℕ → Type 0
 AnswersOnce asked Links next = next ≡ None
@@ -15,9 +15,9 @@ AnswersOnce asked (Says (SaysFail job)) next = (asked ≡ Some job) × (next ≡
 AnswersOnce asked (Says (SaysPages job printed)) next = (asked ≡ Some job) × (next ≡ asked)
 AnswersOnce asked event next = next ≡ asked
 
--- ---- what is sent is the job's: of each copy the octets that came, in order, and the next copy once all of them are sent; DONE once it was sent as often as it is to be, and is printed.
+-- ---- the octets that are sent are the job's: those of each copy as they came, in order, and the next copy once all of them are sent; DONE is reported once the job was sent as often as it is to be, and is printed.
 
--- a job as it is sent: how many octets it has, those that have come, how many are sent of this copy, the copies sent before, and whether it is printed
+-- a job that is sent: the number of its octets, those that have come, how many of this copy are sent, the number of copies sent before, and whether the job is printed
 pub record Sending : Type 0 where
   pub octets : ℕ
   pub times : ℕ
@@ -26,11 +26,11 @@ pub record Sending : Type 0 where
   pub copies : ℕ
   pub printed : Bool
 
--- these octets are the next of a list behind so many
+-- the octets are the next octets of a list behind the first `count`
 abbrev pub AreNext : List ℕ → ℕ → List ℕ → Type 0
 AreNext octets count came = take (length octets) (drop count came) ≡ octets
 
--- what happens to a job that is sent
+-- the change that an event makes of a job that is sent
 abbrev pub JobSends : Sending → Event → Option Sending → Type 0
 JobSends job Links next = next ≡ None
 JobSends job (Ordered id octets times) next = ⊥
@@ -54,7 +54,7 @@ abbrev pub SendsTheJob : Option Sending → Event → Option Sending → Type 0
 SendsTheJob None event next = NothingSends event next
 SendsTheJob (Some job) event next = JobSends job event next
 
--- ---- a cancel is heeded: after it no octet of the job is sent. The place is the job, and whether it is canceled.
+-- ---- a cancel is obeyed: no octet of the job is sent after it. The state is the job, and whether it is canceled.
 
 pub record Heeded : Type 0 where
   pub job : ℕ
@@ -76,7 +76,7 @@ HeedsCancel None (Ordered job octets times) next = next ≡ Some (record { job =
 HeedsCancel None event next = next ≡ None
 HeedsCancel (Some at) event next = JobHeeds at event next
 
--- ---- READY and STOP alternate as the printer's state does: each is said of the printer as it is then, and not twice. The place is how the printer is, and how the server was told that it is.
+-- ---- READY and STOP alternate as the printer's state does: each is reported for the printer's state at that time, and not twice. The record has the printer's state, and the state that was last reported.
 
 pub record Told : Type 0 where
   pub printer : PrinterState

@@ -1,4 +1,4 @@
--- Where an attachment stands, and what its life was then.
+-- The state of an attachment, and its life so far.
 use Rattle.std.specs.Prelude.{ℕ, ◌+◌, ◌≤◌, ◌==◌, ◌&&◌, if◌then◌else◌, nat_lt, Bool, true, false, List, [], ◌∷◌, ◌++◌, length, drop, Option, Some, None, option_map}
 use Rattle.base_types.specs.declared.report.Report.{Report}
 use Rattle.base_types.specs.Report.{ReportRecord, report_of, SaysReady, SaysStop, SaysPages, SaysDone, SaysFail}
@@ -7,7 +7,7 @@ use Rattle.attachment.specs.declared.state.PrinterState.TheVariants.{Running, St
 use Rattle.attachment.specs.Life.{Event, Says, Leads}
 use Rattle.attachment.specs.Promises.{Sending, Heeded, Told, AnswersOnce, SendsTheJob, HeedsCancel, TellsState}
 
--- a job in hand: its octets and those that have come, how often they are to be sent and were sent, how many are sent of this copy, and whether it is canceled
+-- a job in hand: the number of its octets and those that have come, how often it is to be sent and was sent, how many octets of this copy are sent, and whether it is canceled
 pub record WorkRecord : Type 0 where
   pub job : ℕ
   pub octets : ℕ
@@ -34,22 +34,22 @@ heeded_of work = record { job = work.job; canceled = work.canceled }
 abbrev pub told_of : AttachmentRecord → Told
 told_of at = record { printer = at.printer; told = at.told }
 
--- before anything happens a printer is taken to run
+-- before any event a printer counts as running
 abbrev pub unsaid : Told
 unsaid = record { printer = Running; told = None }
 
--- an attachment stands where this life has led, and the life keeps each promise
+-- this life led to the attachment's state, and keeps each promise
 pub record Stands (life : List Event) (at : AttachmentRecord) : Type 0 where
   pub answers : Leads AnswersOnce None life (option_map id_of at.work)
   pub sends : Leads SendsTheJob None life (option_map sending_of at.work)
   pub heeds : Leads HeedsCancel None life (option_map heeded_of at.work)
   pub tells : Leads TellsState unsaid life (told_of at)
 
--- these events lead an attachment on, whatever its life was
+-- these events lead the attachment on, for each life before
 abbrev pub Lives : AttachmentRecord → List Event → AttachmentRecord → Type 0
 Lives old events new = (life : List Event) → Stands life old → Stands (life ++ events) new
 
--- what may be sent of a job
+-- the octets of a job that may be sent
 abbrev pub due_of : WorkRecord → List ℕ
 due_of work = if work.canceled then [] else if nat_lt work.copies work.times then drop work.sent work.came else []
 
@@ -69,7 +69,7 @@ abbrev pub is_sent_in : Option WorkRecord → Bool
 is_sent_in None = false
 is_sent_in (Some work) = work.copies == work.times
 
--- how many octets of the job are still to come
+-- at least `count` octets of the job are still to come
 abbrev pub HasRoom : Option WorkRecord → ℕ → Type 0
 HasRoom None count = ⊥
 HasRoom (Some work) count = length work.came + count ≤ work.octets
@@ -88,14 +88,14 @@ pages_report printed work = SaysPages work.job printed
 abbrev pub fail_report : WorkRecord → ReportRecord
 fail_report work = SaysFail work.job
 
--- what is to be said of the printer, where the server doesn't know it
+-- the report of the printer's state, if the server doesn't know it
 abbrev pub state_report : PrinterState → Option PrinterState → Option ReportRecord
 state_report Running (Some Running) = None
 state_report Running told = Some SaysReady
 state_report Stopped (Some Stopped) = None
 state_report Stopped told = Some SaysStop
 
--- ---- what changes
+-- ---- changes
 
 abbrev pub begun : ℕ → ℕ → ℕ → WorkRecord
 begun job octets times = record { job = job; octets = octets; times = times; came = []; sent = 0; copies = 0; canceled = false }
@@ -112,6 +112,6 @@ with_copy work = record work { sent = 0; copies = work.copies + 1 }
 abbrev pub with_cancel : ℕ → WorkRecord → WorkRecord
 with_cancel job work = if work.job == job then record work { canceled = true } else work
 
--- the same attachment with its job changed
+-- the attachment with its job changed
 abbrev pub changed : (WorkRecord → WorkRecord) → AttachmentRecord → AttachmentRecord
 changed change at = record at { work = option_map change at.work }

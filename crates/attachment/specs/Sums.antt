@@ -1,13 +1,13 @@
--- The samples of jobs, and what is kept of them.
+-- The samples of jobs, and their sums.
 use Rattle.std.specs.Prelude.{ℕ, ◌+◌, ◌*◌, ◌<◌, ◌≤◌, List, length, sum_by}
 use Rattle.base_types.specs.declared.limits.TheConstants.Limits.{JOB_TIME}
 use Rattle.attachment.specs.declared.sample.Sample.{Sample}
 
--- the impressions of all copies of a job, at most: IMPRESSIONS * COPIES
+-- the most impressions of all copies of a job: IMPRESSIONS * COPIES
 abbrev pub most_impressions : ℕ
 most_impressions = 9990000
 
--- how many samples are kept, at most: 2 ^ 20
+-- the most samples: 2 ^ 20
 abbrev pub most_samples : ℕ
 most_samples = 1048576
 
@@ -17,7 +17,7 @@ pub record IsSample (s : Sample) : Type 0 where
   pub impressions : s.impressions ≤ most_impressions
   pub ms : s.ms ≤ JOB_TIME
 
--- how many samples there are, and the sums of their impressions, of their ms, of the squares of the impressions, and of the products of both
+-- the number of samples, and the sums of their impressions, of their ms, of the squares of the impressions, and of the products of both
 pub record Sums : Type 0 where
   pub count : ℕ
   pub impressions : ℕ
@@ -40,7 +40,7 @@ sums_of samples = record {
   products = sum_by product_of samples;
 }
 
--- the sums with one sample more
+-- the sums with one more sample
 abbrev pub with_sample : Sample → Sums → Sums
 with_sample s sums = record {
   count = sums.count + 1;
@@ -50,7 +50,7 @@ with_sample s sums = record {
   products = sums.products + product_of s;
 }
 
--- how large the sums are
+-- the bounds of the sums
 pub record InRange (sums : Sums) : Type 0 where
   pub count : sums.count ≤ most_samples
   pub impressions : sums.impressions ≤ sums.count * most_impressions

@@ -10,8 +10,8 @@ use base_types::{JobId, Report};
 use std::alloc::{AllocError, Global};
 use std::marker::Model;
 
-/// A printer's attachment. In clauses it is a record of the job in hand, of how the printer is, and of how
-/// the server was told that it is.
+/// A printer's attachment. In clauses it is a record of the job in hand, the printer's state, and the state
+/// that was last reported to the server.
 #[derive(Debug, Drop)]
 pub struct Attachment {
     alloc: Global,
@@ -29,7 +29,7 @@ impl Model for Attachment {
 }
 
 impl Attachment {
-    /// An attachment to which nothing has happened yet. Its printer is taken to run.
+    /// Creates an attachment. Its printer counts as running.
     pub fn new(alloc: Global) -> Attachment
         ensures { Stands [] result }
     {
@@ -41,7 +41,7 @@ impl Attachment {
         }
     }
 
-    /// A connection to the server begins. A job that there was is gone: the server has aborted it.
+    /// Begins a connection to the server. A job in hand is dropped: the server has aborted it.
     pub fn link(&mut self)
         ensures life { Lives self.old (Links ∷ []) self.new }
         ensures none { self.new.work ≡ None }
@@ -49,7 +49,7 @@ impl Attachment {
         self.forget();
     }
 
-    /// The server brings a job of so many octets, which are to be sent so many times.
+    /// Takes a job of the server, of this many octets, which are to be sent `times` times.
     pub fn order(&mut self, job: JobId, octets: u32, times: u32)
         requires { self.old.work ≡ None }
         ensures life { Lives self.old (Ordered job octets times ∷ []) self.new }
@@ -68,7 +68,7 @@ impl Attachment {
         }
     }
 
-    /// How many octets of the job are still to come, where there is one.
+    /// Returns how many octets of the job are still to come, if there is a job.
     pub fn room(&self) -> Option<usize>
         ensures { IfSome result (λ room. (count : ℕ) → count ≤ room → HasRoom self.now.work count) }
     {
@@ -78,7 +78,7 @@ impl Attachment {
         }
     }
 
-    /// Octets of the job come. Where there is no memory, none of them is taken.
+    /// Takes octets of the job. The only error is out of memory, and none of them is taken then.
     pub fn take(&mut self, octets: &[u8]) -> Result<(), AllocError>
         requires { HasRoom self.old.work (length octets.now) }
         ensures life { OnOk result (Lives self.old (Came octets.now ∷ []) self.new) }
@@ -87,7 +87,7 @@ impl Attachment {
         self.keep(octets)
     }
 
-    /// The server cancels a job, which is the one in hand or none.
+    /// Cancels the job in hand for the server. If the job in hand has another id, nothing changes.
     pub fn cancel(&mut self, job: JobId)
         ensures life { Lives self.old (Canceled job ∷ []) self.new }
         ensures stays { option_map id_of self.new.work ≡ option_map id_of self.old.work }
@@ -95,7 +95,7 @@ impl Attachment {
         self.mark(job);
     }
 
-    /// The octets that may be sent now: none after a cancel.
+    /// The octets that may be sent now; none after a cancel.
     pub fn due(&self) -> &[u8]
         ensures { result.now ≡ due_in self.now.work }
     {
@@ -105,7 +105,7 @@ impl Attachment {
         }
     }
 
-    /// The printer took so many octets of those that are due, one at least.
+    /// Records that the printer took `count` of the octets that are due, at least one.
     pub fn send(&mut self, count: usize)
         requires some { 0 < count }
         requires due { count ≤ length (due_in self.old.work) }
@@ -115,7 +115,7 @@ impl Attachment {
         self.pass(count);
     }
 
-    /// Whether the octets of a copy are all sent.
+    /// Returns whether all octets of a copy are sent.
     pub fn is_copy_sent(&self) -> bool
         ensures { result ≡ copy_sent_in self.now.work }
     {
@@ -125,7 +125,7 @@ impl Attachment {
         }
     }
 
-    /// A copy is sent; the next is due, if one is to follow.
+    /// Ends a copy. The next one is due, if there is to be one.
     pub fn end_copy(&mut self)
         requires { copy_sent_in self.old.work ≡ true }
         ensures life { Lives self.old (EndsCopy ∷ []) self.new }
@@ -134,7 +134,7 @@ impl Attachment {
         self.pass_copy();
     }
 
-    /// Whether the job was sent as often as it is to be.
+    /// Returns whether the job was sent as often as it is to be.
     pub fn is_sent(&self) -> bool
         ensures { result ≡ is_sent_in self.now.work }
     {
@@ -144,7 +144,7 @@ impl Attachment {
         }
     }
 
-    /// What is said where the printer has printed so many impressions of the job, all copies together.
+    /// The report that the printer has printed this many impressions of the job, all copies together.
     pub fn pages(&self, printed: u32) -> Option<Report>
         ensures life { Lives self.now (said_by result) self.now }
         ensures value { option_map report_of result ≡ option_map (pages_report printed) self.now.work }
@@ -155,8 +155,8 @@ impl Attachment {
         }
     }
 
-    /// What is said where the printer has printed the job: DONE if it was sent as often as it is to be,
-    /// else FAIL. The job is no longer in hand.
+    /// The report that the printer has printed the job: DONE if it was sent as often as it is to be, else
+    /// FAIL. The job is not in hand any more.
     pub fn finish(&mut self) -> Option<Report>
         ensures life { Lives self.old (Printed ∷ said_by result) self.new }
         ensures value { option_map report_of result ≡ option_map end_report self.old.work }
@@ -167,7 +167,7 @@ impl Attachment {
         report
     }
 
-    /// What is said where the job can't be printed: FAIL. It is no longer in hand.
+    /// The report that the job can't be printed: FAIL. The job is not in hand any more.
     pub fn fail(&mut self) -> Option<Report>
         ensures life { Lives self.old (said_by result) self.new }
         ensures value { option_map report_of result ≡ option_map fail_report self.old.work }
@@ -178,7 +178,7 @@ impl Attachment {
         report
     }
 
-    /// The printer is so from now on.
+    /// Sets the printer's state.
     pub fn set_printer(&mut self, printer: PrinterState)
         ensures life { Lives self.old (Is printer ∷ []) self.new }
         ensures stays { self.new.work ≡ self.old.work }
@@ -186,7 +186,7 @@ impl Attachment {
         self.put_printer(printer);
     }
 
-    /// What is to be said of the printer's state, where the server doesn't know it.
+    /// The report of the printer's state, if the server doesn't know it.
     pub fn tell(&mut self) -> Option<Report>
         ensures life { Lives self.old (said_by result) self.new }
         ensures value { option_map report_of result ≡ state_report self.old.printer self.old.told }
@@ -197,28 +197,28 @@ impl Attachment {
         report
     }
 
-    /// What is to be said of the printer's state.
+    /// The report of the printer's state that is due.
     fn due_report(&self) -> Option<Report>
         ensures { option_map report_of result ≡ state_report self.now.printer self.now.told }
     {
         state_report(self.printer, self.told)
     }
 
-    /// The printer's state is told.
+    /// Records that the printer's state is reported.
     fn mark_told(&mut self)
         ensures { self.new ≡ record self.old { told = Some self.old.printer } }
     {
         self.told = Some(self.printer);
     }
 
-    /// Has a printer that is so.
+    /// Sets the printer's state.
     fn put_printer(&mut self, printer: PrinterState)
         ensures { self.new ≡ record self.old { printer = printer } }
     {
         self.printer = printer;
     }
 
-    /// What is said of a job that is printed.
+    /// The report of a job that is printed.
     fn end_report(&self) -> Option<Report>
         ensures { option_map report_of result ≡ option_map end_report self.now.work }
     {
@@ -228,7 +228,7 @@ impl Attachment {
         }
     }
 
-    /// What is said of a job that can't be printed.
+    /// The report of a job that can't be printed.
     fn fail_report(&self) -> Option<Report>
         ensures { option_map report_of result ≡ option_map fail_report self.now.work }
     {
@@ -238,7 +238,7 @@ impl Attachment {
         }
     }
 
-    /// Has no job, and has told nothing.
+    /// Drops the job, and forgets the reported state.
     fn forget(&mut self)
         ensures { self.new ≡ record self.old { work = None; told = None } }
     {
@@ -246,21 +246,21 @@ impl Attachment {
         self.told = None;
     }
 
-    /// Has no job.
+    /// Drops the job.
     fn drop_work(&mut self)
         ensures { self.new ≡ record self.old { work = None } }
     {
         self.work = None;
     }
 
-    /// Has this job.
+    /// Sets the job in hand.
     fn begin(&mut self, job: JobId, octets: u32, times: u32)
         ensures { self.new ≡ record self.old { work = Some (begun job octets times) } }
     {
         self.work = Some(Work::new(self.alloc, job, octets, times));
     }
 
-    /// Keeps octets of the job.
+    /// Appends octets of the job. The only error is out of memory.
     fn keep(&mut self, octets: &[u8]) -> Result<(), AllocError>
         requires { HasRoom self.old.work (length octets.now) }
         ensures ok { OnOk result (self.new ≡ changed (with_came octets.now) self.old) }
@@ -281,7 +281,7 @@ impl Attachment {
         }
     }
 
-    /// Goes past octets that are sent.
+    /// Passes over octets that are sent.
     fn pass(&mut self, count: usize)
         requires { count ≤ length (due_in self.old.work) }
         ensures { self.new ≡ changed (with_sent count) self.old }
@@ -302,7 +302,7 @@ impl Attachment {
     }
 }
 
-/// What is to be said of a printer, of which the server was told so.
+/// The report of a printer's state, where `told` was last reported.
 fn state_report(printer: PrinterState, told: Option<PrinterState>) -> Option<Report>
     ensures { option_map report_of result ≡ state_report printer told }
 {

@@ -1,4 +1,4 @@
-//! Laws of least squares. Their functions do nothing: their contracts are what they are for.
+//! Laws of least squares, as contracts of functions that do nothing.
 ghost use Rattle.std.specs.Prelude.{◌≡◌, ◌≢◌, ◌<◌, Contains, Some};
 ghost use Rattle.base_types.specs.Ranges.{IsRate, IsSetup};
 ghost use Rattle.attachment.specs.Sums.{sums_of};
@@ -6,7 +6,7 @@ ghost use Rattle.attachment.specs.Fit.{AreOn, setup_of, rate_of};
 
 use crate::sample::Sample;
 
-/// Samples on a line, of which two have different numbers of impressions, give its setup.
+/// The setup of samples on a line is that of the line, if two of them have different numbers of impressions.
 pub fn setup_is_found(samples: &[Sample], one: Sample, other: Sample, setup: u32, rate: u32)
     requires on { AreOn setup rate samples.now }
     requires one { Contains samples.now one }
@@ -16,7 +16,8 @@ pub fn setup_is_found(samples: &[Sample], one: Sample, other: Sample, setup: u32
     ensures { setup_of (sums_of samples.now) ≡ Some setup }
 {}
 
-/// Samples on a line with this setup, of which one has impressions, give its rate.
+/// The rate of samples on a line with this setup is the rate of the line, if one of the samples has
+/// impressions.
 pub fn rate_is_found(samples: &[Sample], one: Sample, setup: u32, rate: u32)
     requires on { AreOn setup rate samples.now }
     requires one { Contains samples.now one }

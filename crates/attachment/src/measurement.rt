@@ -1,10 +1,10 @@
-//! What is measured of a device, job by job.
+//! The measurements of a device, job by job.
 use crate::sample::Sample;
 use crate::samples::Samples;
 use base_types::Sides;
 use std::fmt;
 
-/// Why a number can't be told yet.
+/// The reasons why a number isn't known yet.
 const NO_JOB: &str = "no such job yet";
 
 const ONE_LENGTH: &str = "jobs of different lengths are needed";
@@ -13,13 +13,13 @@ const ONE_LENGTH: &str = "jobs of different lengths are needed";
 #[derive(Clone, Copy, Debug)]
 struct Running {
     sides: Sides,
-    /// When it began, in ms.
+    /// The moment at which the job began, in ms.
     start: u64,
-    /// The impressions of all its copies: those that were told last, or an estimate where none were.
+    /// The impressions of all its copies: as last reported, or as estimated before the first report.
     impressions: u32,
 }
 
-/// The jobs that were printed on one side, or those on two.
+/// The printed one-sided jobs, or the printed two-sided jobs.
 #[derive(Debug, Drop)]
 struct Tally {
     jobs: u64,
@@ -36,7 +36,7 @@ impl Tally {
         }
     }
 
-    /// Keeps how long a job took so far.
+    /// Adds the time of a job so far as a sample.
     fn keep(&mut self, job: Running, now: u64) {
         let sample = Sample {
             impressions: job.impressions,
@@ -45,14 +45,14 @@ impl Tally {
         let _kept = self.samples.add(sample);
     }
 
-    /// Keeps a job that is done.
+    /// Adds a job that is done.
     fn finish(&mut self, job: Running, now: u64) {
         self.keep(job, now);
         self.jobs = self.jobs.saturating_add(1);
         self.impressions = self.impressions.saturating_add(u64::from(job.impressions));
     }
 
-    /// The rate, where the setup is known and there is a job; else why it can't be told.
+    /// The rate, if the setup is known and there is a job; else the reason why it isn't known.
     fn rate(&self, setup: Option<u32>) -> Result<u32, &'static str> {
         if self.jobs == 0 {
             return Err(NO_JOB);
@@ -64,8 +64,8 @@ impl Tally {
     }
 }
 
-/// What is measured of a device. It is written as lines of the settings: how many jobs it stands on, each
-/// of `rate_one`, `rate_two` and `setup`, or a remark where one can't be told yet.
+/// The measurements of a device. They are written as lines of the settings: a remark with the number of jobs,
+/// and each of `rate_one`, `rate_two` and `setup`, or a remark if it isn't known yet.
 #[derive(Debug, Drop)]
 pub struct Measurement {
     job: Option<Running>,
@@ -74,7 +74,7 @@ pub struct Measurement {
 }
 
 impl Measurement {
-    /// Nothing is measured yet.
+    /// Creates an empty record.
     pub fn new() -> Measurement {
         Measurement {
             job: None,
@@ -83,7 +83,7 @@ impl Measurement {
         }
     }
 
-    /// A job begins at this moment, in ms. Its impressions, all copies together, are an estimate.
+    /// Begins a job at a moment in ms. `impressions` is an estimate for all copies together.
     pub fn begin(&mut self, sides: Sides, impressions: u32, now: u64) {
         self.job = Some(Running {
             sides,
@@ -92,7 +92,7 @@ impl Measurement {
         });
     }
 
-    /// So many impressions of the job are printed, all copies together.
+    /// Records that this many impressions of the job are printed, all copies together.
     pub fn pages(&mut self, printed: u32, now: u64) {
         let Some(job) = self.job else {
             return;
@@ -108,7 +108,7 @@ impl Measurement {
         }
     }
 
-    /// The job is done: whether it was measured.
+    /// Ends the job. Returns whether it was measured.
     pub fn finish(&mut self, now: u64) -> bool {
         let Some(job) = self.job else {
             return false;
@@ -121,12 +121,12 @@ impl Measurement {
         true
     }
 
-    /// The job isn't measured any further: it has failed, or the device didn't print all the time.
+    /// Stops measuring the job: it has failed, or the device didn't print all the time.
     pub fn leave(&mut self) {
         self.job = None;
     }
 
-    /// The setup: of the jobs on one side where they tell, else of those on two.
+    /// The setup, from the one-sided jobs if they determine it, else from the two-sided jobs.
     fn setup(&self) -> Option<u32> {
         self.one_side
             .samples
@@ -151,7 +151,7 @@ impl fmt::Display for Measurement {
     }
 }
 
-/// Writes a key of the settings with its value, or as a remark why that can't be told.
+/// Writes a key of the settings with its value, or a remark why the value isn't known.
 fn write_entry<W: fmt::Write>(
     f: &mut fmt::Formatter<W>,
     key: &str,

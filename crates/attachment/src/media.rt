@@ -8,7 +8,8 @@ use base_types::{Report, Text};
 use std::alloc::{AllocError, Global};
 use std::marker::Model;
 
-/// What a printer has loaded, and what the server was told of it. In clauses it is a record of both.
+/// The loaded media of a printer, and those that were last reported to the server. In clauses it is a record
+/// of both.
 #[derive(Debug, Drop)]
 pub struct LoadedMedia {
     alloc: Global,
@@ -26,7 +27,7 @@ impl Model for LoadedMedia {
 }
 
 impl LoadedMedia {
-    /// Of a printer that hasn't said what it has loaded.
+    /// Creates the record of a printer that hasn't reported its media.
     pub fn new(alloc: Global) -> LoadedMedia
         ensures { result ≡ record { loaded = None; told = None } }
     {
@@ -37,22 +38,22 @@ impl LoadedMedia {
         }
     }
 
-    /// A connection to the server begins, which was told nothing.
+    /// Begins a connection to the server, without a report.
     pub fn link(&mut self)
         ensures { self.new ≡ record self.old { told = None } }
     {
         self.told = None;
     }
 
-    /// The printer has these media loaded, and no others.
+    /// Records that exactly these media are loaded.
     pub fn load(&mut self, names: Vec<Text>)
         ensures { self.new ≡ record self.old { loaded = Some names.items } }
     {
         self.loaded = Some(names);
     }
 
-    /// What is to be said of the media, where the server was told another list or none. Where there is no
-    /// memory, nothing is told.
+    /// The report of the media, if the last report was another list or there was none. The only error is out
+    /// of memory, and nothing is recorded as reported then.
     pub fn tell(&mut self) -> Result<Option<Report>, AllocError>
         ensures report { IfOk result (λ report. option_map report_of report ≡ media_report self.old.loaded self.old.told) }
         ensures told { OnOk result (self.new ≡ record self.old { told = told_after self.old.loaded self.old.told }) }
@@ -71,7 +72,7 @@ impl LoadedMedia {
     }
 }
 
-/// Whether the server was told these names.
+/// Returns whether the names were last reported to the server.
 fn is_told(names: &[Text], told: &Option<Vec<Text>>) -> bool
     ensures { result ≡ is_told names.now (option_map (λ told. told.items) told.now) }
 {
@@ -81,7 +82,7 @@ fn is_told(names: &[Text], told: &Option<Vec<Text>>) -> bool
     }
 }
 
-/// Whether names are the same, in the same order.
+/// Returns whether the lists have the same names, in the same order.
 fn are_same(names: &[Text], others: &[Text]) -> bool
     ensures { result ≡ are_same names.now others.now }
 {
@@ -94,14 +95,14 @@ fn are_same(names: &[Text], others: &[Text]) -> bool
     }
 }
 
-/// Whether two names are the same.
+/// Returns whether two names are the same.
 fn is_same(name: &Text, other: &Text) -> bool
     ensures { result ≡ bytes_eq name.now other.now }
 {
     name.as_bytes() == other.as_bytes()
 }
 
-/// The same names.
+/// A copy of the names. The only error is out of memory.
 fn copied(alloc: Global, names: &[Text]) -> Result<Vec<Text>, AllocError>
     ensures { IfOk result (λ copies. copies.items ≡ names.now) }
 {

@@ -1,8 +1,8 @@
 //! Pauses that double.
 ghost use Rattle.std.specs.Prelude.{◌≡◌, ◌+◌, ◌-◌, ◌*◌, nat_le, min};
 
-/// When something is tried again: after a pause, and after each further try a pause twice as long, up to
-/// a longest.
+/// The times of tries: a pause follows each try, and each pause is twice as long as the pause before, up to a
+/// longest one.
 #[derive(Clone, Copy, Debug)]
 pub struct Pauses {
     /// The moment of the next try, in ms.
@@ -12,7 +12,7 @@ pub struct Pauses {
 }
 
 impl Pauses {
-    /// It is tried at once; after that the first pause and the longest have so many ms.
+    /// Creates the times of tries. The first try is due at once; the first and the longest pause are in ms.
     pub fn new(first: u64, longest: u64) -> Pauses
         ensures { result ≡ record { at = 0; pause = first; longest = longest } }
     {
@@ -23,7 +23,7 @@ impl Pauses {
         }
     }
 
-    /// Whether it is time for the next try.
+    /// Returns whether the next try is due.
     pub fn is_due(self, now: u64) -> bool
         ensures { result ≡ nat_le self.at now }
     {
@@ -37,7 +37,7 @@ impl Pauses {
         self.at.saturating_sub(now)
     }
 
-    /// A try was made: the next is due after the pause.
+    /// Records a try: the next one is due after the pause.
     pub fn tried(&mut self, now: u64)
         ensures next { self.new.at ≡ min (now + self.old.pause) u64.MAX }
         ensures pause { self.new.pause ≡ min (self.old.pause * 2) self.old.longest }

@@ -2,7 +2,7 @@
 ghost use Rattle.std.specs.Prelude.{◌≡◌, ◌<◌, ◌^◌};
 ghost use Rattle.attachment.specs.Fit.{nearest};
 
-/// The whole number that is nearest to a quotient, the greater of two.
+/// The whole number nearest to a quotient; of two, the greater one.
 pub(crate) fn nearest(dividend: u128, divisor: u128) -> u128
     requires some { 0 < divisor }
     requires dividend { dividend < 2 ^ 126 }

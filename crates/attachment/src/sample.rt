@@ -1,9 +1,10 @@
-//! What is measured of a job.
+//! The sample of a job.
 ghost use Rattle.std.specs.Prelude.{◌↔◌, IsTrue};
 
 use base_types::Limits;
 
-/// So many impressions of a job, all copies together, were printed so many ms after it began.
+/// A number of impressions of a job, all copies together, and the ms from the job's beginning until they were
+/// printed.
 #[derive(Clone, Copy, Debug, PartialEq, Eq)]
 pub struct Sample {
     pub impressions: u32,
@@ -13,11 +14,11 @@ pub struct Sample {
 impl Sample {
     ghost use Rattle.attachment.specs.Sums.{IsSample};
 
-    /// The impressions of a job, at most: `IMPRESSIONS * COPIES` of [`Limits`].
+    /// The most impressions of a job: `IMPRESSIONS * COPIES` of [`Limits`].
     pub const IMPRESSIONS: u32 = 9_990_000;
 
-    /// Whether a job can have this sample: it has some impressions and no more than a job has at most, and
-    /// takes no longer than [`Limits::JOB_TIME`].
+    /// Returns whether a job can have this sample: it has some impressions and at most as many as a job can
+    /// have, and takes at most [`Limits::JOB_TIME`].
     pub fn is_in_range(self) -> bool
         ensures { IsTrue result ↔ IsSample self }
     {

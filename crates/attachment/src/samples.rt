@@ -9,7 +9,7 @@ use crate::sample::Sample;
 use base_types::Limits;
 use std::marker::Model;
 
-/// Samples of jobs that need the same rate, of which sums are kept. In clauses it is a record of the sums.
+/// Samples of jobs with the same rate, stored as sums. In clauses it is a record of the sums.
 #[derive(Debug, Drop)]
 pub struct Samples {
     count: u32,
@@ -30,10 +30,10 @@ impl Model for Samples {
 }
 
 impl Samples {
-    /// How many samples are kept, at most.
+    /// The most samples.
     pub const MOST: u32 = 1_048_576;
 
-    /// No sample.
+    /// Creates the sums of no samples.
     pub fn new() -> Samples
         ensures { result ≡ sums_of [] }
     {
@@ -46,7 +46,8 @@ impl Samples {
         }
     }
 
-    /// Keeps a sample, where it is in range and there are fewer than [`Samples::MOST`]: whether it is kept.
+    /// Adds a sample, if it is in range and there are fewer than [`Samples::MOST`]. Returns whether it was
+    /// added.
     pub fn add(&mut self, sample: Sample) -> bool
         ensures kept { IsTrue result ↔ (IsSample sample × (self.old.count < most_samples)) }
         ensures sums { IsTrue result → (samples : List Sample) → self.old ≡ sums_of samples → self.new ≡ sums_of (samples ++ sample ∷ []) }
@@ -74,8 +75,8 @@ impl Samples {
         self.products += u128::from(product);
     }
 
-    /// The setup of least squares, in ms up to [`Limits::SETUP`], where two samples have different numbers
-    /// of impressions.
+    /// The setup of least squares, in ms up to [`Limits::SETUP`], if two samples have different numbers of
+    /// impressions.
     pub fn setup(&self) -> Option<u32>
         ensures { result ≡ setup_of self.now }
     {
@@ -87,8 +88,7 @@ impl Samples {
         Some(setup.min(u128::from(Limits::SETUP)) as u32)
     }
 
-    /// The rate of least squares where the setup is this, in ms from 1 to [`Limits::RATE`], where there is
-    /// a sample.
+    /// The rate of least squares for this setup, in ms from 1 to [`Limits::RATE`], if there is a sample.
     pub fn rate(&self, setup: u32) -> Option<u32>
         ensures { result ≡ rate_of setup self.now }
     {
@@ -110,7 +110,7 @@ impl Samples {
         squares.saturating_sub(impressions * impressions)
     }
 
-    /// What the setup is of that determinant.
+    /// The setup times the determinant.
     fn setup_numerator(&self) -> u128
         ensures value { result ≡ setup_numerator self.now }
         ensures small { result < 2 ^ 126 }

@@ -1,7 +1,7 @@
-/// Whether a printer prints.
+/// The state of a printer.
 #[derive(Clone, Copy, Debug, PartialEq, Eq)]
 pub enum PrinterState {
     Running,
-    /// It prints nothing for now: paper is out, a cover is open, it can't be reached.
+    /// The printer prints nothing for now: paper is out, a cover is open, or it can't be reached.
     Stopped,
 }

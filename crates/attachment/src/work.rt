@@ -7,16 +7,16 @@ use base_types::{JobId, Report};
 use std::alloc::{AllocError, Global};
 use std::marker::Model;
 
-/// A job in hand, with those of its octets that have come. In clauses it is a record of it.
+/// A job in hand, with those of its octets that have come. In clauses it is a record of them.
 #[derive(Debug, Drop)]
 pub(crate) struct Work {
     job: JobId,
     octets: u32,
     times: u32,
     came: Vec<u8>,
-    /// How many octets of this copy are sent.
+    /// The number of octets of this copy that are sent.
     sent: usize,
-    /// How often the job was sent before.
+    /// The number of copies that were sent before.
     copies: u32,
     canceled: bool,
 }
@@ -41,7 +41,7 @@ impl Model for Work {
 }
 
 impl Work {
-    /// A job of which nothing has come yet.
+    /// Creates a job of which no octets have come.
     pub(crate) fn new(alloc: Global, job: JobId, octets: u32, times: u32) -> Work
         ensures { result ≡ begun job octets times }
     {
@@ -56,21 +56,21 @@ impl Work {
         }
     }
 
-    /// Its id.
+    /// The id of the job.
     pub(crate) fn job(&self) -> JobId
         ensures { result ≡ self.now.job }
     {
         self.job
     }
 
-    /// How many octets are still to come.
+    /// Returns how many octets are still to come.
     pub(crate) fn room(&self) -> usize
         ensures { length self.now.came + result ≡ self.now.octets }
     {
         self.octets as usize - self.came.len()
     }
 
-    /// Takes octets that come.
+    /// Takes octets of the job. The only error is out of memory.
     pub(crate) fn take(&mut self, octets: &[u8]) -> Result<(), AllocError>
         requires { length self.old.came + length octets.now ≤ self.old.octets }
         ensures ok { OnOk result (self.new ≡ with_came octets.now self.old) }
@@ -79,7 +79,7 @@ impl Work {
         self.came.extend_from_slice(octets)
     }
 
-    /// What may be sent now.
+    /// The octets that may be sent now.
     pub(crate) fn due(&self) -> &[u8]
         ensures { result.now ≡ due_of self.now }
     {
@@ -89,7 +89,7 @@ impl Work {
         &self.came[self.sent..]
     }
 
-    /// So many octets of what is due are sent.
+    /// Records that `count` of the octets that are due are sent.
     pub(crate) fn send(&mut self, count: usize)
         requires { count ≤ length (due_of self.old) }
         ensures { self.new ≡ with_sent count self.old }
@@ -97,7 +97,7 @@ impl Work {
         self.sent += count;
     }
 
-    /// Whether a copy is sent to its end.
+    /// Returns whether a copy is sent to its end.
     pub(crate) fn is_copy_sent(&self) -> bool
         ensures { result ≡ copy_sent_of self.now }
     {
@@ -113,14 +113,14 @@ impl Work {
         self.copies += 1;
     }
 
-    /// Whether it was sent as often as it is to be.
+    /// Returns whether the job was sent as often as it is to be.
     pub(crate) fn is_sent(&self) -> bool
         ensures { result ≡ (self.now.copies == self.now.times) }
     {
         self.copies == self.times
     }
 
-    /// Where it is the job of this id, nothing more of it is sent.
+    /// Cancels the job, if it has this id: no more octets of it are sent.
     pub(crate) fn cancel(&mut self, job: JobId)
         ensures { self.new ≡ with_cancel job self.old }
     {
@@ -129,7 +129,7 @@ impl Work {
         }
     }
 
-    /// What is said of it where the printer has printed it.
+    /// The report that the printer has printed the job.
     pub(crate) fn end_report(&self) -> Report
         ensures { report_of result ≡ end_report self.now }
     {
@@ -141,7 +141,7 @@ impl Work {
         }
     }
 
-    /// What is said of it where it can't be printed.
+    /// The report that the job can't be printed.
     pub(crate) fn fail_report(&self) -> Report
         ensures { report_of result ≡ fail_report self.now }
     {
@@ -150,7 +150,7 @@ impl Work {
         }
     }
 
-    /// What is said of it where so many impressions are printed.
+    /// The report that this many impressions are printed.
     pub(crate) fn pages_report(&self, printed: u32) -> Report
         ensures { report_of result ≡ pages_report printed self.now }
     {

@@ -1,4 +1,4 @@
--- What a device is at a moment.
+-- The state of a device at a moment.
 use Rattle.std.specs.Prelude.{ℕ, List, Option, map, filter}
 use Rattle.base_types.specs.declared.device.Activity.{Activity}
 use Rattle.base_types.specs.declared.device.Medium.{Medium}
@@ -12,7 +12,7 @@ pub record Device : Type 0 where
   pub finishings : Finishings
   pub media : List Medium
   pub activity : Activity
-  -- it begins no job before this moment
+  -- the moment before which the device begins no job
   pub not_before : ℕ
 
 -- the names of the media that are loaded

@@ -1,4 +1,4 @@
--- What is done to the sheets of a job once they are printed.
+-- The finishings of a job's sheets.
 use Rattle.std.specs.Prelude.{Bool, false, not, ◌&&◌, ◌||◌, IsTrue}
 use Rattle.base_types.specs.declared.finishings.Finishings.{Finishings}
 

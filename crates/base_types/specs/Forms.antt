@@ -4,7 +4,7 @@ use Rattle.std.specs.List.{list_all, AllPass}
 use Rattle.std.specs.Char.{is_ascii_alphanumeric, is_ascii_lowercase, is_ascii_uppercase, is_ascii_digit, is_ascii_graphic}
 use Rattle.base_types.specs.declared.limits.TheConstants.Limits.{NAME_BYTES, MEDIA_BYTES, FORMAT_BYTES, URI_BASE_BYTES}
 
--- the text has a byte and no more than so many
+-- the text has 1 to `most` bytes
 abbrev pub has_length : ℕ → List ℕ → Bool
 has_length most text = nat_le 1 (length text) && nat_le (length text) most
 
@@ -36,13 +36,13 @@ is_format text = if has_length FORMAT_BYTES text then list_all is_format_byte te
 unfoldable pub is_uri_base : List ℕ → Bool
 is_uri_base text = if has_length URI_BASE_BYTES text then list_all is_ascii_graphic text else false
 
--- the text has one to so many bytes, and each passes the test
+-- the text has 1 to `most` bytes, and each passes the test
 pub record HasForm (passes : ℕ → Bool) (most : ℕ) (text : List ℕ) : Type 0 where
   pub some : 1 ≤ length text
   pub few : length text ≤ most
   pub each : AllPass passes text
 
--- what the four tests stand for
+-- the propositions of the four tests
 abbrev pub IsName : List ℕ → Type 0
 IsName text = HasForm is_name_byte NAME_BYTES text
 

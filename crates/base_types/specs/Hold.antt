@@ -4,12 +4,12 @@ use Rattle.std.specs.Str.{bytes_eq}
 use Rattle.base_types.specs.declared.hold.Hold.{Hold}
 use Rattle.base_types.specs.declared.hold.Hold.TheVariants.{NoHold, Indefinite}
 
--- until when a job is held that is held, or isn't
+-- the keyword of a job that is held or not
 abbrev pub hold_where : Bool → Hold
 hold_where true = Indefinite
 hold_where false = NoHold
 
--- whether a job is held so
+-- whether the keyword holds a job
 abbrev pub is_held : Hold → Bool
 is_held NoHold = false
 is_held Indefinite = true
@@ -18,7 +18,7 @@ abbrev pub hold_keyword : Hold → List ℕ
 hold_keyword NoHold = codes "no-hold"
 hold_keyword Indefinite = codes "indefinite"
 
--- the one of a keyword
+-- the value of a keyword
 abbrev pub hold_of_keyword : List ℕ → Option Hold
 hold_of_keyword word =
     if bytes_eq word (hold_keyword NoHold) then Some NoHold

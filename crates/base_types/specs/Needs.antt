@@ -1,4 +1,4 @@
--- What a job needs of a device.
+-- The needs of a job.
 use Rattle.std.specs.Prelude.{ℕ, List}
 use Rattle.base_types.specs.declared.finishings.Finishings.{Finishings}
 use Rattle.base_types.specs.declared.needs.Sides.{Sides}

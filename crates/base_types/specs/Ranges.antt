@@ -14,7 +14,7 @@ IsMoment millis = millis ≤ LAST_MOMENT
 abbrev pub IsPriority : ℕ → Type 0
 IsPriority level = (1 ≤ level) × (level ≤ HIGHEST_PRIORITY)
 
--- impressions of one copy of a job, as they are estimated
+-- the estimated impressions of one copy of a job
 abbrev pub IsImpressions : ℕ → Type 0
 IsImpressions impressions = (1 ≤ impressions) × (impressions ≤ IMPRESSIONS)
 

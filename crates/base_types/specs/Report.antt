@@ -1,4 +1,4 @@
--- What a device reports, as plain data.
+-- The reports of a device, as plain data.
 use Rattle.std.specs.Prelude.{ℕ, List}
 use Rattle.base_types.specs.declared.report.Report.{Report}
 use Rattle.base_types.specs.declared.report.Report.TheVariants as reported
@@ -14,7 +14,7 @@ pub data ReportRecord : Type 0 where
   SaysFail : (job : ℕ) → ReportRecord
   IsGone : ReportRecord
 
--- what a report says
+-- the record of a report
 abbrev pub report_of : Report → ReportRecord
 report_of (reported.Hello name) = SaysHello name
 report_of (reported.Media names) = SaysMedia names.items

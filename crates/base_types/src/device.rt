@@ -1,4 +1,4 @@
-//! What a device is at a moment: what it can do, which media it has, and what it does.
+//! The state of a device at a moment: its abilities, its media, and its activity.
 ghost use Rattle.std.specs.Prelude.{◌≡◌};
 
 use crate::finishings::Finishings;
@@ -10,7 +10,7 @@ use std::marker::Model;
 #[derive(Clone, Copy, Debug, PartialEq, Eq)]
 pub struct Printing {
     pub job: JobId,
-    /// The moment at which it is expected to end, in ms. It may lie after the last moment.
+    /// The moment at which the job is expected to end, in ms. It may be after the last moment.
     pub end: u64,
 }
 
@@ -18,7 +18,7 @@ pub struct Printing {
 #[derive(Clone, Copy, Debug, PartialEq, Eq)]
 pub struct Interrupted {
     pub job: JobId,
-    /// The time that it will still take, in ms.
+    /// The time that the job still takes, in ms.
     pub left: u64,
 }
 
@@ -36,24 +36,24 @@ pub struct Medium {
     pub loaded: bool,
 }
 
-/// What a device is at a moment. In clauses it is a record of the same fields.
+/// The state of a device at a moment. In clauses it is a record of the same fields.
 #[derive(Debug, Drop)]
 pub struct DeviceNow {
-    /// Time for an impression on one side, in ms: 1 to [`Limits::RATE`].
+    /// The time for an impression in a one-sided job, in ms: 1 to [`Limits::RATE`].
     pub rate_one: u32,
-    /// The same on two sides, where the device prints them.
+    /// The time for an impression in a two-sided job, if the device prints two-sided.
     pub rate_two: Option<u32>,
-    /// Time before a job's first impression, in ms, at most [`Limits::SETUP`].
+    /// The time before a job's first impression, in ms, at most [`Limits::SETUP`].
     pub setup: u32,
-    /// The document formats that it prints.
+    /// The document formats that the device prints.
     pub formats: Vec<Text>,
-    /// The finishings that it has.
+    /// The finishings that the device has.
     pub finishings: Finishings,
     /// The media of its settings, in their order, each loaded or not.
     pub media: Vec<Medium>,
     pub activity: Activity,
-    /// The moment before which it begins no job, in ms, at most [`Limits::NOT_BEFORE`]; 0 where it
-    /// named none.
+    /// The moment before which the device begins no job, in ms, at most [`Limits::NOT_BEFORE`]; 0 if the
+    /// device named none.
     pub not_before: u64,
 }
 
@@ -93,14 +93,14 @@ impl Model for PrinterSet {
 }
 
 impl PrinterSet {
-    /// The set of these devices.
+    /// A set of devices.
     pub fn new(devices: Vec<DeviceId>) -> PrinterSet
         ensures { result ≡ devices.items }
     {
         PrinterSet { devices }
     }
 
-    /// Its devices.
+    /// The devices of the set.
     pub fn devices(&self) -> &[DeviceId]
         ensures { result.now ≡ self.now }
     {

@@ -1,20 +1,20 @@
-//! What is done to the sheets of a job once they are printed.
+//! The finishings of a job's sheets.
 ghost use Rattle.std.specs.Prelude.{◌≡◌};
 ghost use Rattle.base_types.specs.Finishings.{no_finishings, has_finishings};
 
-/// The finishings that a job wants, or that a device has (RFC 8011, section 5.2.6).
+/// The finishings that a job needs, or that a device has (RFC 8011, section 5.2.6).
 #[derive(Clone, Copy, Debug, PartialEq, Eq)]
 pub struct Finishings {
     /// The sheets of a copy are stapled.
     pub staple: bool,
-    /// They are punched.
+    /// The sheets are punched.
     pub punch: bool,
-    /// They are bound.
+    /// The sheets of a copy are bound.
     pub bind: bool,
 }
 
 impl Finishings {
-    /// No finishing at all.
+    /// No finishings.
     pub fn none() -> Finishings
         ensures { result ≡ no_finishings }
     {
@@ -25,7 +25,7 @@ impl Finishings {
         }
     }
 
-    /// Whether each of the wanted finishings is among these.
+    /// Returns whether each of the wanted finishings is among these.
     pub fn has(self, wanted: Finishings) -> bool
         ensures { result ≡ has_finishings self wanted }
     {

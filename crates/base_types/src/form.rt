@@ -1,4 +1,4 @@
-//! The forms of names, formats, media and addresses.
+//! The forms of names, formats, media and URI bases.
 ghost use Rattle.std.specs.Prelude.{◌≡◌};
 ghost use Rattle.std.specs.Char.{is_ascii_graphic};
 ghost use Rattle.std.specs.List.{list_all};
@@ -6,21 +6,21 @@ ghost use Rattle.base_types.specs.Forms.{has_length, is_name_byte, is_media_byte
 
 use crate::limits::Limits;
 
-// Whether a text has a byte, and no more than `most`.
+// Returns whether a text has 1 to `most` bytes.
 fn has_length(text: &[u8], most: usize) -> bool
     ensures { result ≡ has_length most text.now }
 {
     1 <= text.len() && text.len() <= most
 }
 
-// A letter, a digit, `_` or `-`.
+// Returns whether a byte is a letter, a digit, `_` or `-`.
 fn is_name_byte(byte: u8) -> bool
     ensures { result ≡ is_name_byte byte }
 {
     byte.is_ascii_alphanumeric() || byte == b'_' || byte == b'-'
 }
 
-// A small letter, a digit, `.`, `_` or `-`.
+// Returns whether a byte is a small letter, a digit, `.`, `_` or `-`.
 fn is_media_byte(byte: u8) -> bool
     ensures { result ≡ is_media_byte byte }
 {
@@ -31,14 +31,14 @@ fn is_media_byte(byte: u8) -> bool
         || byte == b'-'
 }
 
-// A byte that prints and is no space, comma or capital letter.
+// Returns whether a byte prints and isn't a space, a comma or a capital letter.
 fn is_format_byte(byte: u8) -> bool
     ensures { result ≡ is_format_byte byte }
 {
     byte.is_ascii_graphic() && byte != b',' && !byte.is_ascii_uppercase()
 }
 
-/// Whether a text is the name of a device or a printer: 1 to [`Limits::NAME_BYTES`] letters, digits,
+/// Returns whether a text is the name of a device or a printer: 1 to [`Limits::NAME_BYTES`] letters, digits,
 /// `_` and `-`.
 #[tactic(auto, unfolding(crate::specs::Forms::is_name))]
 pub fn is_name(text: &[u8]) -> bool
@@ -50,7 +50,7 @@ pub fn is_name(text: &[u8]) -> bool
     has_name_bytes(text)
 }
 
-/// Whether a text is the name of a medium: 1 to [`Limits::MEDIA_BYTES`] small letters, digits, `.`,
+/// Returns whether a text is the name of a medium: 1 to [`Limits::MEDIA_BYTES`] small letters, digits, `.`,
 /// `_` and `-`.
 #[tactic(auto, unfolding(crate::specs::Forms::is_media))]
 pub fn is_media(text: &[u8]) -> bool
@@ -62,8 +62,8 @@ pub fn is_media(text: &[u8]) -> bool
     has_media_bytes(text)
 }
 
-/// Whether a text is a document format: 1 to [`Limits::FORMAT_BYTES`] bytes that print, none of them
-/// a space, a comma or a capital letter.
+/// Returns whether a text is a document format: 1 to [`Limits::FORMAT_BYTES`] bytes that print, without
+/// spaces, commas and capital letters.
 #[tactic(auto, unfolding(crate::specs::Forms::is_format))]
 pub fn is_format(text: &[u8]) -> bool
     ensures { result ≡ is_format text.now }
@@ -74,8 +74,8 @@ pub fn is_format(text: &[u8]) -> bool
     has_format_bytes(text)
 }
 
-/// Whether a text is the base of the server's URIs: 1 to [`Limits::URI_BASE_BYTES`] bytes that print,
-/// none of them a space.
+/// Returns whether a text is the base of the server's URIs: 1 to [`Limits::URI_BASE_BYTES`] bytes that print,
+/// without spaces.
 #[tactic(auto, unfolding(crate::specs::Forms::is_uri_base))]
 pub fn is_uri_base(text: &[u8]) -> bool
     ensures { result ≡ is_uri_base text.now }

@@ -1,26 +1,25 @@
-//! Until when a job is held.
+//! The values of job-hold-until.
 ghost use Rattle.std.specs.Prelude.{◌≡◌};
 ghost use Rattle.base_types.specs.Hold.{hold_keyword, hold_of_keyword, hold_where, is_held};
 
-/// Until when a job is held, as far as the server holds jobs: a job-hold-until (RFC 8011, section
-/// 5.2.2).
+/// The values of job-hold-until that the server supports (RFC 8011, section 5.2.2).
 #[derive(Clone, Copy, Debug, PartialEq, Eq)]
 pub enum Hold {
-    /// It isn't held.
+    /// The job isn't held.
     NoHold,
-    /// It is held until it is released.
+    /// The job is held until it is released.
     Indefinite,
 }
 
 impl Hold {
-    /// Until when a job is held that is held, or isn't.
+    /// The value of a job that is held or not.
     pub fn held_where(held: bool) -> Hold
         ensures { result ≡ hold_where held }
     {
         if held { Hold::Indefinite } else { Hold::NoHold }
     }
 
-    /// Whether a job is held so.
+    /// Returns whether the value holds a job.
     pub fn is_held(self) -> bool
         ensures { result ≡ is_held self }
     {
@@ -30,7 +29,7 @@ impl Hold {
         }
     }
 
-    /// Its keyword.
+    /// The keyword of the value.
     pub fn keyword(self) -> &'static str
         ensures { result.now ≡ hold_keyword self }
     {
@@ -40,7 +39,7 @@ impl Hold {
         }
     }
 
-    /// The one of a keyword.
+    /// The value of a keyword.
     pub fn of_keyword(word: &[u8]) -> Option<Hold>
         ensures { result ≡ hold_of_keyword word.now }
     {

@@ -22,10 +22,10 @@ impl Model for JobId {
 }
 
 impl JobId {
-    /// The first id of a server that starts anew.
+    /// The first job id of a new server.
     pub const FIRST: u32 = 1;
 
-    /// The id of this number, if it is in range.
+    /// The id of a number, if the number is in range.
     pub fn new(number: u32) -> Option<JobId>
         ensures in_range { IsSome result ↔ IsJobId number }
         ensures value { IfSome result (λ id. id ≡ number) }
@@ -37,7 +37,7 @@ impl JobId {
         }
     }
 
-    /// The number of this id.
+    /// The number of the id.
     pub fn number(self) -> u32
         ensures value { result ≡ self }
         ensures in_range { IsJobId self }
@@ -61,14 +61,14 @@ impl Model for DeviceId {
 }
 
 impl DeviceId {
-    /// The device at this place of the settings.
+    /// The device at a place of the settings.
     pub fn new(place: usize) -> DeviceId
         ensures { result ≡ place }
     {
         DeviceId { place }
     }
 
-    /// Its place in the settings.
+    /// The device's place in the settings.
     pub fn place(self) -> usize
         ensures { result ≡ self }
     {
@@ -91,14 +91,14 @@ impl Model for PrinterId {
 }
 
 impl PrinterId {
-    /// The printer at this place of the settings.
+    /// The printer at a place of the settings.
     pub fn new(place: usize) -> PrinterId
         ensures { result ≡ place }
     {
         PrinterId { place }
     }
 
-    /// Its place in the settings.
+    /// The printer's place in the settings.
     pub fn place(self) -> usize
         ensures { result ≡ self }
     {

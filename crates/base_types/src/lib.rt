@@ -1,12 +1,11 @@
-//! The words that every crate of the server shares: ids, moments, priorities, limits, the forms of
-//! names, what a job needs, until when it is held, what a device is at a moment, and what a device
-//! reports.
+//! The types that all crates of the server share: ids, moments, priorities, limits, the forms of names, the
+//! needs of a job, the values of job-hold-until, the state of a device at a moment, and the reports of a
+//! device.
 //!
-//! It promises the range of each type: a number that is out of range can't be made, as
-//! [`JobId::new`] shows. The forms ([`is_name`], [`is_media`], [`is_format`], [`is_uri_base`]) stand
-//! here and not in `text`, since their lengths are limits of the server. It decides nothing; what
-//! happens to a job or a device stands in the crates above, and what any bytes are in `text`. Its
-//! calls are tried by the rows of the crates above.
+//! Each type has its range: a number out of range can't be made, as [`JobId::new`] shows. The forms
+//! ([`is_name`], [`is_media`], [`is_format`], [`is_uri_base`]) are here and not in `text`, since their
+//! lengths are limits of the server. The crate makes no decisions: the crates above change jobs and devices,
+//! and `text` has functions on any bytes. Rows of the crates above run its calls.
 //!
 //! Tests stand in `unit_tests`.
 #![tactic(auto)]

@@ -30,7 +30,7 @@ impl Moment {
         Moment { millis: 0 }
     }
 
-    /// The moment so many ms after the start, if it is in range.
+    /// The moment this many ms after the start, if it is in range.
     pub fn new(millis: u64) -> Option<Moment>
         ensures in_range { IsSome result ↔ IsMoment millis }
         ensures value { IfSome result (λ m. m ≡ millis) }

@@ -1,4 +1,4 @@
-//! What a job needs of a device, and why none has it.
+//! The needs of a job, and the causes that no device has them.
 ghost use Rattle.std.specs.Prelude.{◌≡◌};
 ghost use Rattle.base_types.specs.Sides.{sides_keyword, sides_of_keyword};
 
@@ -7,7 +7,7 @@ use crate::ids::{JobId, PrinterId};
 use crate::text::Text;
 use std::marker::Model;
 
-/// On which sides of the sheets a job is printed (RFC 8011, section 5.2.8).
+/// The sides of the sheets that are printed (RFC 8011, section 5.2.8).
 #[derive(Clone, Copy, Debug, PartialEq, Eq)]
 pub enum Sides {
     /// One side of each sheet.
@@ -19,7 +19,7 @@ pub enum Sides {
 }
 
 impl Sides {
-    /// Its keyword.
+    /// The keyword of the sides.
     pub fn keyword(self) -> &'static str
         ensures { result.now ≡ sides_keyword self }
     {
@@ -46,44 +46,44 @@ impl Sides {
     }
 }
 
-/// Why no device can print a job: the first of these tests that leaves none of its printer's
-/// devices.
+/// The cause that no device can print a job: the first of these tests that none of its printer's devices
+/// passes.
 #[derive(Clone, Copy, Debug, PartialEq, Eq)]
 pub enum Cause {
     /// The printer has no device.
     NoDevice,
-    /// None has every document format of the job.
+    /// No device has every document format of the job.
     Format,
-    /// None of those prints two-sided, and the job is.
+    /// None of the remaining devices prints two-sided, and the job is two-sided.
     Sides,
-    /// None of those has every finishing of the job.
+    /// None of the remaining devices has every finishing of the job.
     Finishings,
-    /// None of those has the job's media loaded.
+    /// None of the remaining devices has the job's media loaded.
     Media,
-    /// None of those runs.
+    /// None of the remaining devices runs.
     Running,
 }
 
-/// A ready job that no device can print, and why.
+/// A ready job that no device can print, with the cause.
 #[derive(Clone, Copy, Debug, PartialEq, Eq)]
 pub struct Stranded {
     pub job: JobId,
     pub cause: Cause,
 }
 
-/// What a job needs of a device, and how long it is. In clauses it is a record of the same fields.
+/// The needs of a job, and its length. In clauses it is a record of the same fields.
 #[derive(Debug, Drop)]
 pub struct Needs {
-    /// The printer that it was sent to.
+    /// The printer that the job was sent to.
     pub printer: PrinterId,
     /// The format of each document.
     pub formats: Vec<Text>,
     pub sides: Sides,
     pub finishings: Finishings,
     pub media: Text,
-    /// Impressions of one copy, as estimated: 1 to [`Limits::IMPRESSIONS`].
+    /// The estimated impressions of one copy: 1 to [`Limits::IMPRESSIONS`].
     pub impressions: u32,
-    /// 1 to [`Limits::COPIES`].
+    /// The number of copies: 1 to [`Limits::COPIES`].
     pub copies: u32,
 }
 

@@ -23,7 +23,7 @@ impl Model for Priority {
 }
 
 impl Priority {
-    /// The priority of this level, if it is in range.
+    /// The priority of a level, if the level is in range.
     pub fn new(level: u8) -> Option<Priority>
         ensures in_range { IsSome result ↔ IsPriority level }
         ensures value { IfSome result (λ p. p ≡ level) }
@@ -35,7 +35,7 @@ impl Priority {
         }
     }
 
-    /// The priority of a job that names none.
+    /// The priority of a job without job-priority.
     pub fn normal() -> Priority
         ensures { result ≡ Limits.DEFAULT_PRIORITY }
     {
@@ -44,7 +44,7 @@ impl Priority {
         }
     }
 
-    /// Its level, 1 to 100.
+    /// The level of the priority, 1 to 100.
     pub fn level(self) -> u8
         ensures value { result ≡ self }
         ensures in_range { IsPriority self }

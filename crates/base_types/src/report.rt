@@ -1,26 +1,26 @@
 use crate::text::Text;
 
-/// What the server is told of a device: a line that the device sent, or that it is gone.
+/// A report of a device: a line that the device sent, or the end of its connection.
 ///
-/// A job is named by the number that the device wrote, which may be no job's.
+/// A job is named by the number that the device wrote, which may be that of no job.
 #[derive(Debug, Drop)]
 pub enum Report {
-    /// It says its name, once and first.
+    /// The device gives its name. It does that once, in its first line.
     Hello(Text),
-    /// These media are loaded, and no others.
+    /// Exactly these media are loaded.
     Media(Vec<Text>),
-    /// It runs.
+    /// The device runs.
     Ready,
-    /// It stops, with the job that it has.
+    /// The device stops, with the job that it has.
     Stop,
-    /// It begins no job for so many ms, counted from now. What it said of this before is past.
+    /// The device begins no job for this many ms from now on. The report replaces an earlier one.
     Busy(u32),
-    /// So many impressions of the job are printed, all copies together.
+    /// This many impressions of the job are printed, all copies together.
     Pages { job: u32, printed: u32 },
     /// The job is printed.
     Done { job: u32 },
     /// The job can't be printed.
     Fail { job: u32 },
-    /// Its connection ended.
+    /// The device's connection ended.
     Gone,
 }

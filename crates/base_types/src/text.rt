@@ -1,12 +1,12 @@
-//! Texts of any bytes, owned.
+//! Owned texts of any bytes.
 ghost use Rattle.std.specs.Prelude.{◌≡◌, ℕ, List, IsTrue, ◌↔◌, IfOk, length};
 
 use std::alloc::{AllocError, Global};
 use std::marker::Model;
 
-/// The bytes of a name or text, kept as they came. In clauses it is the list of its bytes.
+/// The unchanged bytes of a name or a text. In clauses it is the list of them.
 ///
-/// A name of the settings is ASCII; an owner's or a job's name may be any bytes.
+/// A name in the settings is ASCII; the name of an owner or of a job may have any bytes.
 #[derive(Debug, Drop)]
 pub struct Text {
     bytes: Vec<u8>,
@@ -19,14 +19,14 @@ impl Model for Text {
 }
 
 impl Text {
-    /// A text of these bytes, which it takes over.
+    /// A text that takes over the bytes.
     pub fn new(bytes: Vec<u8>) -> Text
         ensures { result ≡ bytes.items }
     {
         Text { bytes }
     }
 
-    /// A copy of these bytes.
+    /// A copy of the bytes. The only error is out of memory.
     pub fn copy_of(alloc: Global, bytes: &[u8]) -> Result<Text, AllocError>
         ensures { IfOk result (λ text. text ≡ bytes.now) }
     {
@@ -34,21 +34,21 @@ impl Text {
         Ok(Text { bytes: copy })
     }
 
-    /// Its bytes.
+    /// The bytes of the text.
     pub fn as_bytes(&self) -> &[u8]
         ensures { result.now ≡ self.now }
     {
         &self.bytes
     }
 
-    /// Whether it has just these bytes.
+    /// Returns whether the text has exactly these bytes.
     pub fn is(&self, bytes: &[u8]) -> bool
         ensures { IsTrue result ↔ (self.now ≡ bytes.now) }
     {
         self.as_bytes() == bytes
     }
 
-    /// A text of the same bytes.
+    /// A copy of the text. The only error is out of memory.
     pub fn copied(&self, alloc: Global) -> Result<Text, AllocError>
         ensures { IfOk result (λ text. text ≡ self.now) }
     {

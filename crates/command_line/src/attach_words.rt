@@ -2,35 +2,36 @@
 
 use clap::ArgMatches;
 
-/// How to attach a printer.
+/// The options of `printd attach`.
 #[derive(Clone, Copy, Debug)]
 pub struct Attaching<'a> {
-    /// The device of the settings that the printer is.
+    /// The name of the device of the settings that the printer stands for.
     pub name: &'a str,
-    /// The host and the port at which the server's devices come in.
+    /// The host and the port of the server's door for devices.
     pub server: &'a str,
-    /// What prints, as it was written.
+    /// The address of the printer or folder that prints, as it was written.
     pub to: &'a str,
-    /// The media type of every document, if it is said.
+    /// The media type of every document, if it is given.
     pub format: Option<&'a str>,
-    /// How long a folder takes for a page, in ms.
+    /// The time that a folder takes for a page, in ms.
     pub ms_per_page: u32,
-    /// How long a printer that has taken all may be silent before the job counts as printed, in seconds.
+    /// The silence after which the job of a printer that has taken all its octets counts as printed, in
+    /// seconds.
     pub linger: u32,
-    /// How long a printer may neither take nor say anything, in seconds.
+    /// The longest time in which a printer may neither take nor send any octet, in seconds.
     pub timeout: u32,
     /// Whether the printer speaks PJL.
     pub pjl: bool,
     pub turns: u64,
-    /// Whether what happens is written to standard error.
+    /// Whether a log is written to standard error.
     pub log: bool,
-    /// Whether the printer's rates and its setup are measured and written.
+    /// Whether the printer's rates and its setup time are measured and written.
     pub measure: bool,
-    /// Whether it ends when its standard input does.
+    /// Whether the program ends when its standard input ends.
     pub until_closed: bool,
 }
 
-/// What the words of the command say.
+/// The options that the words of the command give; `None` where a required word is missing.
 pub(crate) fn attach_words<'a>(found: &ArgMatches<'a>) -> Option<Attaching<'a>> {
     Some(Attaching {
         name: found.get_str("name")?,

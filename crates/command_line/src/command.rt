@@ -1,11 +1,11 @@
-//! The commands of the program as `clap` wants them, made of the tables in `words`.
+//! The commands of the program in the form of `clap`, made from the tables in `words`.
 
 use crate::read::VERSION;
 use crate::words::{ArgumentWords, CommandWords, command_words};
 use clap::{Arg, Command};
 use std::alloc::{AllocError, Global};
 
-/// An argument by its name, and an option with two dashes before it.
+/// An argument with its name; an option's name has two dashes before it.
 fn named<'a>(alloc: Global, words: &ArgumentWords<'a>) -> Arg<'a> {
     let argument = Arg::new(alloc, words.name)
         .help(words.help)
@@ -17,7 +17,7 @@ fn named<'a>(alloc: Global, words: &ArgumentWords<'a>) -> Arg<'a> {
     }
 }
 
-/// An argument with what is known of its values.
+/// The argument with the names, the defaults and the limits of its values.
 fn with_values<'a>(argument: Arg<'a>, words: &'a ArgumentWords<'a>) -> Arg<'a> {
     let most = usize::from(words.value_name.is_some());
     let least = if words.default_if_bare.is_some() {
@@ -67,7 +67,7 @@ fn commands<'a>(alloc: Global) -> Result<Vec<Command<'a>>, AllocError> {
     Ok(commands)
 }
 
-/// The program, which has no command yet.
+/// The program without any command.
 fn bare_program<'a>(alloc: Global) -> Command<'a> {
     Command::new(alloc, "printd")
         .about("A print server that proves its plans are the best")
@@ -76,7 +76,7 @@ fn bare_program<'a>(alloc: Global) -> Command<'a> {
         .subcommand_required(true)
 }
 
-/// The program with its commands.
+/// The program with its commands. The only error is out of memory.
 pub(crate) fn program<'a>(alloc: Global) -> Result<Command<'a>, AllocError> {
     match commands(alloc) {
         Ok(commands) => bare_program(alloc).subcommands(commands),

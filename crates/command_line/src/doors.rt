@@ -1,11 +1,11 @@
-//! The addresses at which doors listen.
+//! The addresses of doors.
 
 use crate::words_error::WordsError;
 use clap::ArgMatches;
 use std::alloc::Global;
 use std::net::{IpAddr, SocketAddr};
 
-/// The value of an option makes no sense, and what would.
+/// The error for an invalid value of an option; `wanted` says which values are valid.
 pub(crate) fn invalid(alloc: Global, value: &str, option: &str, wanted: &str) -> WordsError {
     let text = format!(in alloc;
         "error: invalid value '{value}' for '--{option}': {wanted}\n\nFor more information, try '--help'.\n"
@@ -16,7 +16,7 @@ pub(crate) fn invalid(alloc: Global, value: &str, option: &str, wanted: &str) ->
     }
 }
 
-/// The address of the doors that name none.
+/// The address of the doors that are given as a port alone.
 pub(crate) fn default_address(alloc: Global, found: &ArgMatches<'_>) -> Result<IpAddr, WordsError> {
     let text = found.get_str("address").unwrap_or("127.0.0.1");
     match text.parse::<IpAddr>() {
@@ -30,7 +30,7 @@ pub(crate) fn default_address(alloc: Global, found: &ArgMatches<'_>) -> Result<I
     }
 }
 
-/// An address with its port; or a port alone, at this address.
+/// The address and the port of a text; a text with a port alone has this address. `None` for any other text.
 fn address_of(text: &str, address: IpAddr) -> Option<SocketAddr> {
     match text.parse::<u16>() {
         Ok(port) => Some(SocketAddr::new(address, port)),
@@ -38,7 +38,7 @@ fn address_of(text: &str, address: IpAddr) -> Option<SocketAddr> {
     }
 }
 
-/// The addresses of a door.
+/// The addresses of a door, in the order of the words.
 pub(crate) fn addresses(
     alloc: Global,
     found: &ArgMatches<'_>,

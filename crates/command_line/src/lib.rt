@@ -1,9 +1,9 @@
-//! The words of the program's command line.
+//! The program's command line.
 //!
-//! It promises that what it does is safe and ends, and no more: which words are read, and the texts
-//! of `--help` and of what is wrong, are `clap`'s. It opens no file, looks at no port and writes nothing.
+//! The crate promises that it is safe and ends, and no more: `clap` reads the words, and writes the texts of
+//! `--help` and of errors. The crate opens no file, listens at no port and writes nothing.
 //!
-//! Tests stand in `unit_tests`.
+//! Its tests are in `unit_tests`.
 #![tactic(auto)]
 
 mod attach_words;

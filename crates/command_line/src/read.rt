@@ -1,4 +1,4 @@
-//! What the words ask for, as `clap` reads them.
+//! The subcommand that words ask for, as `clap` reads them.
 
 use crate::attach_words::attach_words;
 use crate::command::program;
@@ -11,7 +11,7 @@ use clap::error::ErrorKind;
 use clap::{ArgMatches, Error};
 use std::alloc::Global;
 
-/// The version of the program, which is that of the file VERSION.
+/// The version of the program, as in the file VERSION.
 pub const VERSION: &str = "0.9.0";
 
 /// The port of LPD (RFC 1179, section 3.1).
@@ -24,7 +24,7 @@ fn parse<'a>(alloc: Global, words: &'a [&'a str]) -> Result<ArgMatches<'a>, Erro
     }
 }
 
-/// Where a log goes, by its word.
+/// The destination of a log, by its word.
 fn log_to(word: &str) -> Log<'_> {
     if word == STANDARD_ERROR {
         Log::StandardError
@@ -33,7 +33,7 @@ fn log_to(word: &str) -> Log<'_> {
     }
 }
 
-/// How to serve. The error is the text about the words that make no sense, or out of memory.
+/// The options of `printd serve`. The error is the text about invalid words, or out of memory.
 fn serve_words<'a>(alloc: Global, found: &ArgMatches<'a>) -> Result<Serving<'a>, WordsError> {
     let address = default_address(alloc, found)?;
     Ok(Serving {
@@ -87,7 +87,7 @@ fn draw_words<'a>(found: &ArgMatches<'a>) -> Subcommand<'a> {
     }
 }
 
-/// Words that `clap` takes and that name no command, which it is asked to refuse.
+/// The error for words that `clap` takes and that name no command.
 fn no_command(alloc: Global) -> WordsError {
     match String::from_str(alloc, "error: the words name no command\n") {
         Ok(text) => WordsError::Fault(text),
@@ -95,7 +95,7 @@ fn no_command(alloc: Global) -> WordsError {
     }
 }
 
-/// How to attach a printer.
+/// The subcommand of `printd attach`.
 fn asked_to_attach<'a>(
     alloc: Global,
     inner: &ArgMatches<'a>,
@@ -106,7 +106,7 @@ fn asked_to_attach<'a>(
     }
 }
 
-/// What the command of this name asks for, with these words.
+/// The subcommand of this name, with these words.
 fn meaning<'a>(
     alloc: Global,
     name: &str,
@@ -125,7 +125,7 @@ fn meaning<'a>(
     }
 }
 
-/// What words ask for that `clap` takes.
+/// The subcommand of words that `clap` takes.
 fn asked<'a>(alloc: Global, found: &ArgMatches<'a>) -> Result<Subcommand<'a>, WordsError> {
     match found.subcommand() {
         Some((name, inner)) => meaning(alloc, name, inner),
@@ -133,7 +133,7 @@ fn asked<'a>(alloc: Global, found: &ArgMatches<'a>) -> Result<Subcommand<'a>, Wo
     }
 }
 
-/// What `clap` says of the words: help or the version, or what is wrong.
+/// The text of `clap` about the words: help, the version, or an error.
 fn told(alloc: Global, error: &Error) -> WordsError {
     if error.kind() == ErrorKind::OutOfMemory {
         return WordsError::OutOfMemory;
@@ -145,11 +145,12 @@ fn told(alloc: Global, error: &Error) -> WordsError {
     }
 }
 
-/// What the words ask for.
+/// Returns the subcommand that the words ask for.
 ///
 /// # Errors
 ///
-/// The text about the words, where they ask for help or the version or make no sense; or out of memory.
+/// The text of help or of the version, where the words ask for it; the text about the error, where they are
+/// invalid; or out of memory.
 pub fn read_words<'a>(alloc: Global, words: &'a [&'a str]) -> Result<Subcommand<'a>, WordsError> {
     match parse(alloc, words) {
         Ok(matches) => asked(alloc, &matches),

@@ -5,25 +5,25 @@ use crate::words_error::WordsError;
 use clap::ArgMatches;
 use std::alloc::{AllocError, Global};
 
-/// How to play a day.
+/// The options of `printd simulate`.
 #[derive(Debug, Drop)]
 pub struct Simulating<'a> {
     /// The file of the settings.
     pub settings: &'a str,
     /// The file of the list of jobs.
     pub jobs: &'a str,
-    /// By how many per cent devices miss their estimates at most.
+    /// The most by which devices miss their estimates, in per cent.
     pub noise: u8,
     pub seed: u64,
     /// The names of devices that are away.
     pub without: Vec<&'a str>,
-    /// Devices that there are more: the name of each.
+    /// The names of additional devices.
     pub with: Vec<&'a str>,
-    /// The name of the device that each of these is like.
+    /// For each additional device, the name of the device whose settings it has.
     pub like: Vec<&'a str>,
-    /// The name of a policy, whose day is to be drawn below the planned one.
+    /// The name of a policy whose day is drawn below the planned day.
     pub draw: Option<&'a str>,
-    /// Whether it is to be drawn for a terminal.
+    /// Whether the drawing is for a terminal.
     pub text: bool,
 }
 
@@ -36,7 +36,7 @@ fn all_of<'a>(
     Vec::from_slice(alloc, found.get_strs(name).unwrap_or(&[]))
 }
 
-/// Adds a device more by its text: its name, and that of the device that it is like.
+/// Adds an additional device by its text: its name, and the name of the device whose settings it has.
 fn add_pair<'a>(
     alloc: Global,
     text: &'a str,
@@ -56,7 +56,7 @@ fn add_pair<'a>(
     Ok(())
 }
 
-/// What the words of the command say. The error is the text about a word that makes no sense, or out of
+/// The options that the words of the command give. The error is the text about an invalid word, or out of
 /// memory.
 pub(crate) fn simulate_words<'a>(
     alloc: Global,

@@ -1,24 +1,23 @@
-//! What the program may be asked to do.
+//! The subcommands of the program.
 use crate::attach_words::Attaching;
 use crate::simulate_words::Simulating;
 use std::net::SocketAddr;
 
-/// What the program is asked to do.
+/// A subcommand, with its options.
 #[derive(Debug, Drop)]
 pub enum Subcommand<'a> {
     /// Serve over sockets.
     Serve(Serving<'a>),
-    /// Something about settings.
+    /// Show or judge settings.
     Settings(AboutSettings<'a>),
     /// Replay a trace.
     Replay(Replaying<'a>),
-    /// Write the log's lines of a recorded day.
+    /// Write the log lines of a recorded day.
     Log {
-        /// Its file; standard input, where there is none.
+        /// The file of the day; `None` for standard input.
         file: Option<&'a str>,
     },
-    /// Judge the text of a plan from standard input, and where the starts are asked for tell when
-    /// each job starts.
+    /// Judge the text of a plan from standard input, and write the start of each job if `starts` is set.
     Check {
         starts: bool,
     },
@@ -33,37 +32,37 @@ pub enum Subcommand<'a> {
     Attach(Attaching<'a>),
 }
 
-/// How to serve.
+/// The options of `printd serve`.
 #[derive(Debug, Drop)]
 pub struct Serving<'a> {
-    /// The file of the settings; those that are built in, where there is none.
+    /// The file of the settings; `None` for the built-in settings.
     pub settings: Option<&'a str>,
-    /// Where clients of IPP and of LPD and devices come in: one address of each at least, in the order
-    /// in which they were written. The port 0 is any that is free.
+    /// The addresses of the doors for clients of IPP, for clients of LPD and for devices: at least one of
+    /// each, in the order of the words. The port 0 stands for any free port.
     pub ipp: Vec<SocketAddr>,
     pub lpd: Vec<SocketAddr>,
     pub devices: Vec<SocketAddr>,
     pub turns: u64,
-    /// Where what happens is written, if it is.
+    /// The destination of the log, if a log is written.
     pub log: Option<Log<'a>>,
-    /// The file to which the day is recorded, if it is.
+    /// The file of the day's recording, if the day is recorded.
     pub record: Option<&'a str>,
-    /// The octets of documents are recorded as zeros.
+    /// Whether the octets of documents are recorded as zeros.
     pub record_heads: bool,
 }
 
-/// How a trace is replayed.
+/// The options of `printd replay`.
 #[derive(Clone, Copy, Debug, PartialEq, Eq)]
 pub struct Replaying<'a> {
-    /// Its file; standard input, where there is none.
+    /// The file of the trace; `None` for standard input.
     pub file: Option<&'a str>,
-    /// The text of each plan is written too.
+    /// Whether the text of each plan is written too.
     pub plans: bool,
-    /// Of a recorded day is only written whether it is the same.
+    /// Whether of a recorded day only the result of the comparison is written.
     pub verify: bool,
 }
 
-/// Where a log goes.
+/// The destination of a log.
 #[derive(Clone, Copy, Debug, PartialEq, Eq)]
 pub enum Log<'a> {
     StandardError,
@@ -71,20 +70,20 @@ pub enum Log<'a> {
     File(&'a str),
 }
 
-/// What is asked about settings.
+/// The subcommands about settings.
 #[derive(Clone, Copy, Debug, PartialEq, Eq)]
 pub enum AboutSettings<'a> {
-    /// Show those that are built in.
+    /// Show the built-in settings.
     BuiltIn,
-    /// Judge those of this file.
+    /// Judge the settings of this file.
     Judge {
         file: &'a str,
     },
-    /// Show the Avahi service of a printer of this file: of the named one, or of its only one.
+    /// Show the Avahi service of a printer of this file: of the named printer, or of the only printer.
     Avahi {
         file: &'a str,
         printer: Option<&'a str>,
-        /// The port at which LPD clients come in; that of IPP clients stands in the settings.
+        /// The port of the door for LPD clients. The port of the door for IPP clients is in the settings.
         lpd: u16,
     },
 }

@@ -1,45 +1,46 @@
-//! The program's commands and their arguments, as tables. `command` makes of them what `clap` reads.
+//! Tables of the program's commands and their arguments. `command` makes the commands of `clap` from them.
 
 use clap::ArgAction;
 use clap::builder::ValueParser;
 
-/// What stands for standard error in the place of a file.
+/// The word for standard error in the place of a file.
 pub(crate) const STANDARD_ERROR: &str = "-";
 
-/// Turns without an end: at ten a second, three thousand years.
+/// A number of turns without practical end: at ten a second, three thousand years.
 pub(crate) const MOST_TURNS: u64 = 1_000_000_000_000;
 
-/// The names of the policies, by which a day may be drawn.
+/// The names of the policies whose day can be drawn.
 const POLICIES: &[&str] = &["round-robin", "first-free", "shortest-queue"];
 
 /// A command.
 pub(crate) struct CommandWords<'a> {
     pub(crate) name: &'a str,
-    /// What it does, as help says it.
+    /// The text of help about the command.
     pub(crate) about: &'a str,
-    /// Its arguments, in the order of help.
+    /// The arguments of the command, in the order of help.
     pub(crate) arguments: &'a [ArgumentWords<'a>],
 }
 
 /// An argument of a command.
 pub(crate) struct ArgumentWords<'a> {
     pub(crate) name: &'a str,
-    /// Whether it is known by its place, and not by its name behind two dashes.
+    /// Whether the argument is found by its place, and not by its name behind two dashes.
     pub(crate) is_positional: bool,
-    /// Whether it is a flag, has one value, or may be given several times.
+    /// Whether the argument is a flag, has one value, or may be given several times.
     pub(crate) action: ArgAction,
-    /// What help calls its value. A flag has none.
+    /// The name of the value in help. A flag has none.
     pub(crate) value_name: Option<&'a str>,
-    /// Which values it takes.
+    /// The values that the argument takes.
     pub(crate) parser: ValueParser<'a>,
-    /// Its value where it isn't given.
+    /// The value of an argument that is not given.
     pub(crate) default: Option<&'a str>,
-    /// Its value where it is given without one. With none here, that is refused.
+    /// The value of an argument that is given without a value. Without this default, `clap` refuses such an
+    /// argument.
     pub(crate) default_if_bare: Option<&'a str>,
     pub(crate) is_required: bool,
-    /// The argument without which it is refused.
+    /// The argument without which `clap` refuses this argument.
     pub(crate) needs: Option<&'a str>,
-    /// What help says of it.
+    /// The text of help about the argument.
     pub(crate) help: &'a str,
 }
 
@@ -57,7 +58,7 @@ const FLAG: ArgumentWords<'static> = ArgumentWords {
     help: "",
 };
 
-/// An option with one value, which is any text.
+/// An option with one value, which may be any text.
 const TEXT: ArgumentWords<'static> = ArgumentWords {
     action: ArgAction::Set,
     parser: ValueParser::String,
@@ -70,7 +71,7 @@ const FILE: ArgumentWords<'static> = ArgumentWords {
     ..TEXT
 };
 
-/// The file that a command reads, known by its place.
+/// The file that a command reads, found by its place.
 const FILE_READ: ArgumentWords<'static> = ArgumentWords {
     name: "file",
     is_positional: true,
@@ -97,7 +98,7 @@ const LONG_NUMBER: ArgumentWords<'static> = ArgumentWords {
     ..TEXT
 };
 
-/// Where clients of a door come in.
+/// An option with the addresses of a door.
 const DOOR: ArgumentWords<'static> = ArgumentWords {
     action: ArgAction::Append,
     value_name: Some("[ADDRESS:]PORT"),
@@ -399,8 +400,8 @@ const COMMANDS: &[CommandWords<'static>] = &[
     },
 ];
 
-/// The commands of the program, for words of any lifetime. A `Command` owns memory, and what it refers to
-/// can't be given a shorter lifetime later.
+/// The commands of the program, for words of any lifetime. A `Command` owns memory, and the lifetime of what
+/// it refers to can't be made shorter later.
 pub(crate) fn command_words<'a>() -> &'a [CommandWords<'a>] {
     COMMANDS
 }

@@ -1,13 +1,13 @@
-//! Words that ask for nothing that the program does.
+//! The errors of words that name no subcommand.
 
 use std::alloc::{AllocError, AllocFailed};
 
-/// Why words ask for nothing that the program does. A text is whole lines, as it is to be written.
+/// The reason why words name no subcommand. A text consists of whole lines, as they are to be written.
 #[derive(Debug, Drop)]
 pub enum WordsError {
-    /// They ask for help or for the version, which is this text.
+    /// The words ask for help or for the version: the text of it.
     Help(String),
-    /// They make no sense: the text about them, for their writer.
+    /// The words are invalid: the text about the error, for the writer of the words.
     Fault(String),
     OutOfMemory,
 }

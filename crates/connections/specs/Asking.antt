@@ -1,4 +1,4 @@
--- What a connection asks next, as a relation on its entry: on all that was read and on the part of it that was acted on.
+-- The next ask of a connection, as a relation on its entry: on all bytes that were read and on the part of them that was acted on.
 use Rattle.std.specs.Prelude.{ℕ, ◌≡◌, ◌⊎◌, ◌||◌, Bool, true, false, List, [], ◌∷◌, ◌++◌, Option, Some, None}
 use Rattle.base_types.specs.Report.{ReportRecord}
 use Rattle.settings_file.specs.Settings.{ServerSettings, device_named}

@@ -50,7 +50,7 @@ lost_of (ask.Report device report) = None
 lost_of (ask.Stranger name) = None
 lost_of (ask.Fault device) = None
 
--- ---- what is asked
+-- ---- asks
 
 -- two asks are the same, with equal events and equal reports
 abbrev pub SameAsk : Ask → Ask → Type 0

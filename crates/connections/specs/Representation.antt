@@ -1,4 +1,4 @@
--- The entries that a connection represents: the bytes that its reader was fed are the bytes read, and its queue is what is due and wasn't taken.
+-- The entries that a connection represents: the bytes that its reader was fed are the bytes read, and its queue is the bytes that are due and weren't taken.
 use Rattle.std.specs.Prelude.{ℕ, ◌≡◌, Bool, false, List, [], ◌++◌, map, None}
 use Rattle.base_types.specs.Report.{ReportRecord}
 use Rattle.device_link.specs.Stream as Link

@@ -1,8 +1,8 @@
-//! What a connection asks of the server.
+//! The asks of a connection to the server.
 use base_types::{DeviceId, Report, Text};
 use events::Event;
 
-/// What a connection needed memory for that was refused.
+/// The purpose of the memory that was refused to a connection.
 #[derive(Clone, Copy, Debug, PartialEq, Eq)]
 pub enum Growth {
     /// To read the bytes that its peer sends.
@@ -29,7 +29,7 @@ pub enum Client {
     LpdCommand,
 }
 
-/// What a connection asks of the server.
+/// An ask of a connection to the server, or the end of the connection.
 #[derive(Drop)]
 pub enum Ask {
     /// Nothing: the connection acted on an item by itself, and may have more items.

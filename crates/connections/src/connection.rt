@@ -268,8 +268,8 @@ impl Connection {
         self.broken
     }
 
-    /// Enqueues the line of a job of so many octets and then its documents, unless the connection is broken.
-    /// Returns whether memory was refused, and the connection broke.
+    /// Enqueues the line of a job of this many octets and then its documents, unless the connection is
+    /// broken. Returns whether memory was refused, and the connection broke.
     pub fn enqueue_job(
         &mut self,
         job: JobId,

@@ -1,4 +1,4 @@
-//! A law of what connections ask, as the contract of a function that does nothing.
+//! A law of the asks of connections, as the contract of a function that does nothing.
 ghost use Rattle.connections.specs.Choice.{AsksOne};
 
 /// Two asks of one entry with the same choices are the same, and lead to the same entry.

@@ -1,14 +1,13 @@
-//! The connections of a server: the stream of each peer, what it asks of the server, and the bytes that are
-//! due.
+//! The connections of a server: the stream of each peer, its asks to the server, and the bytes that are due.
 //!
 //! A [`Connection`] has an IPP client, an LPD client or a device as its peer. It is fed the bytes of its
-//! peer, and acts by itself on bodies of HTTP, files of LPD and names of devices. It asks the server for the
-//! rest, one thing at a time ([`Connection::next`]). Bytes that are due wait in a [`send_queues::SendQueue`]
+//! peer, and acts by itself on bodies of HTTP, files of LPD and names of devices. The rest are asks to the
+//! server, one at a time ([`Connection::next`]). Bytes that are due wait in a [`send_queues::SendQueue`]
 //! until a wire takes them.
 //!
-//! Its contracts are relations on an entry: all that was read, the part of it that was acted on, all that was
-//! due and all that was taken (`specs/Entry.antt`). Its rows are sessions of `server_tests` and traces of
-//! `play_examples`.
+//! Its contracts are relations on an entry: all bytes that were read, the part of them that was acted on, all
+//! bytes that were due and all bytes that were taken (`specs/Entry.antt`). Its rows are sessions of
+//! `server_tests` and traces of `play_examples`.
 #![tactic(auto)]
 
 mod ask;

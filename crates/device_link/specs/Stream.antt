@@ -23,11 +23,11 @@ pub record Heard : Type 0 where
 abbrev pub silence : Ending → Heard
 silence ending = record { reports = []; ending = ending }
 
--- these reports, in front of the later ones
+-- these reports, in front of the later reports
 abbrev pub with_front : List ReportRecord → Heard → Heard
 with_front reports later = record { reports = reports ++ later.reports; ending = later.ending }
 
--- the report of a line, in front of the later ones; a line that isn't a report is a fault, and the end
+-- the report of a line, in front of the later reports; a line that isn't a report is a fault, and the end
 abbrev pub heard_after : Option ReportRecord → Heard → Heard
 heard_after None later = silence (Faulty BadLine)
 heard_after (Some report) later = with_front (report ∷ []) later
@@ -55,13 +55,13 @@ abbrev pub Leads : Bool → List ℕ → List ReportRecord → Bool → List ℕ
 Leads greeted bytes [] next left = (next ≡ greeted) × (left ≡ bytes)
 Leads greeted bytes (report ∷ reports) next left = (rest : List ℕ) × SaysAtFront greeted bytes report rest × Leads true rest reports next left
 
--- the stream says these reports first, whatever bytes follow
+-- the stream says these reports first, for all bytes that may follow
 pub record SaysFirst (stream : List ℕ) (reports : List ReportRecord) : Type 0 where
   pub next : Bool
   pub left : List ℕ
   pub leads : Leads false stream reports next left
 
--- the state of a reader: the bytes that are no report yet, whether the device has given its name, and the fault, if there was one
+-- the state of a reader: the bytes that are no report yet, whether the device has given its name, and the fault, if there was a fault
 pub record LinkState : Type 0 where
   pub rest : List ℕ
   pub greeted : Bool
@@ -80,7 +80,7 @@ abbrev pub IsLeft : Option LinkFault → Bool → List ℕ → List ℕ → Type
 IsLeft (Some fault) greeted rest left = heard_in greeted (texts_of left) ≡ silence (Faulty fault)
 IsLeft None greeted rest left = left ≡ rest
 
--- The reader was fed this stream and has given these reports. The stream says them first, and leads to what the reader awaits with the bytes that are left.
+-- The reader was fed this stream and has given these reports. The stream says them first, and leads to the state of the reader, with the bytes that are left.
 pub record Stands (stream : List ℕ) (given : List ReportRecord) (reader : LinkState) : Type 0 where
   pub left : List ℕ
   pub leads : Leads false stream given reader.greeted left
@@ -90,7 +90,7 @@ pub record Stands (stream : List ℕ) (given : List ReportRecord) (reader : Link
 abbrev pub work : LinkState → ℕ
 work reader = length reader.rest
 
--- the answer of a reader, and its state then: a report, which the stream says next; or none, and then the stream says no more; or a fault; or refused memory
+-- the answer of a reader, and its state then: a report, which the stream says next; or no report, and then the stream says no more; or a fault; or refused memory
 abbrev pub Answers : LinkState → Result (Option Report) LinkError → LinkState → Type 0
 Answers old (Ok (Some report)) new =
     (stream : List ℕ) (given : List ReportRecord) → Stands stream given old → Stands stream (given ++ report_of report ∷ []) new
@@ -103,11 +103,11 @@ Answers old (Err OutOfMemory) new = new ≡ old
 
 -- ---- laws
 
--- the reports that a stream says first are a front of what it says with more bytes behind it
+-- the reports that a stream says first are a front of the reports of the stream with more bytes behind it
 abbrev pub FirstStays : Type 0
 FirstStays = (stream more : List ℕ) (first : List ReportRecord) → SaysFirst stream first → (later : Heard) × (device_reports (stream ++ more) ≡ with_front first later)
 
--- two fronts of a stream's reports are equal if their lengths are
+-- two fronts of a stream's reports are equal if their lengths are equal
 abbrev pub FirstIsOne : Type 0
 FirstIsOne = (stream : List ℕ) (one other : List ReportRecord) → SaysFirst stream one → SaysFirst stream other → length one ≡ length other → one ≡ other
 
@@ -115,6 +115,6 @@ FirstIsOne = (stream : List ℕ) (one other : List ReportRecord) → SaysFirst s
 abbrev pub NoneFollows : Type 0
 NoneFollows = (stream : List ℕ) (reports : List ReportRecord) (said : ReportRecord) (ending : Ending) → SaysFirst stream (reports ++ said ∷ []) → device_reports stream ≡ record { reports = reports; ending = ending } → ⊥
 
--- a whole stream says the reports that a reader has given, and then what the reader's state says of its bytes and those that come
+-- a whole stream says the reports that a reader has given, and then the reports that the reader's state says of its bytes and of the bytes that follow
 abbrev pub HearsTheRest : Type 0
 HearsTheRest = (stream coming : List ℕ) (given : List ReportRecord) (reader : LinkState) → Stands stream given reader → device_reports (stream ++ coming) ≡ with_front given (ahead reader coming)

@@ -7,8 +7,8 @@ use base_types::{Finishings, JobId, Needs, Sides};
 use itoa::Buffer;
 use std::alloc::{AllocError, Global};
 
-/// Appends the line that announces a job of so many octets to a device. The job's documents follow it on the
-/// connection. The only error is out of memory, and nothing is appended then.
+/// Appends the line that announces a job of this many octets to a device. The job's documents follow it on
+/// the connection. The only error is out of memory, and nothing is appended then.
 pub fn write_job(
     alloc: Global,
     job: JobId,

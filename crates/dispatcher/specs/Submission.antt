@@ -36,7 +36,7 @@ submission_of asked now printer =
 abbrev pub of_documents : List DocumentRecord → Accepted → Accepted
 of_documents documents accepted = record accepted { job = record accepted.job { documents = documents } }
 
--- the accepted job at a printer, for so many octets, or the rejection of the first check that fails
+-- the accepted job at a printer, for this many octets, or the rejection of the first check that fails
 abbrev pub job_asked : JobCreation → ℕ → ℕ → State → NamedPrinter → Result Accepted Rejection
 job_asked asked octets now old printer =
     unsupported_asked asked.fidelity asked.template printer.offer >>= (λ unsupported.

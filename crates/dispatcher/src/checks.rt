@@ -214,7 +214,7 @@ pub(crate) fn unsupported_asked(
     Ok(unsupported)
 }
 
-/// Checks that there is room for a job of so many octets.
+/// Checks that there is room for a job of this many octets.
 pub(crate) fn room_for(alloc: Global, room: &PrintRoom, octets: usize) -> Result<(), Rejection>
     ensures { result ≡ room_for octets room.now }
 {

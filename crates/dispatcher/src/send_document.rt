@@ -159,7 +159,7 @@ fn sent_in_format(
     }))
 }
 
-/// The group of the job after the document: documents are still to come, unless this one was the last.
+/// The group of the job after the document: documents are still to come, unless this document was the last.
 fn sent_groups(
     alloc: Global,
     room: &PrintRoom,

@@ -20,7 +20,7 @@ pub(crate) struct Accepted {
     pub(crate) unsupported: RequestAttributes,
 }
 
-/// The accepted job at a printer for so many octets, without documents yet, or the rejection of the first
+/// The accepted job at a printer for this many octets, without documents yet, or the rejection of the first
 /// check that fails. Memory is taken only for an accepted job.
 pub(crate) fn job_asked(
     alloc: Global,

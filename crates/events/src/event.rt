@@ -22,7 +22,7 @@ pub enum Target {
 }
 
 impl Target {
-    /// Returns whether the target names a printer. `First` names any printer, so that the first of a list is
+    /// Returns whether the target names a printer. `First` names any printer: the first printer of a list is
     /// found.
     pub fn names(&self, printer: &PrinterSettings) -> bool
         ensures { result ≡ names self.now printer.now }

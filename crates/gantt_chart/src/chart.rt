@@ -2,17 +2,17 @@
 
 use base_types::{Stranded, Text};
 
-/// What becomes of a job on its device.
+/// How a job ends on its device.
 #[derive(Clone, Copy, PartialEq, Eq)]
 pub enum Ending {
     Printed,
     Canceled,
     Failed,
-    /// The chart ends before the job does.
+    /// The chart ends before the job ends.
     Open,
 }
 
-/// A job by its number, of the class at a place of the chart's classes.
+/// A job by its number; its class is a place in the classes of the chart.
 #[derive(Clone, Copy)]
 pub struct ChartJob {
     pub number: u32,
@@ -39,34 +39,34 @@ pub struct Bar {
     pub end: u64,
 }
 
-/// A device, or the jobs that came, with its bars by rising start.
+/// The bars of a device, or of the jobs that came, by rising start.
 #[derive(Drop)]
 pub struct Lane {
     pub name: Text,
     pub bars: Vec<Bar>,
 }
 
-/// What devices print, and when.
+/// The prints of devices over time.
 #[derive(Drop)]
 pub struct Chart {
-    /// What it is a chart of, in a line.
+    /// The subject of the chart, in one line.
     pub title: String,
     pub lanes: Vec<Lane>,
     /// The priorities of the classes, the highest first.
     pub classes: Vec<u8>,
     /// The jobs that no device can print.
     pub stranded: Vec<Stranded>,
-    /// What else is said of jobs, a sentence each.
+    /// Further sentences about jobs.
     pub notes: Vec<String>,
     /// The sum of the times to paper of all jobs that are printed, in ms.
     pub total: u128,
 }
 
-/// How long a chart is in which nothing happens, in ms.
+/// The length of a chart without any bar, in ms.
 const EMPTY: u64 = 60_000;
 
 impl Bar {
-    /// How long it is, in ms.
+    /// The length of the bar, in ms.
     pub(crate) fn length(&self) -> u64 {
         self.end.saturating_sub(self.start)
     }
@@ -87,7 +87,7 @@ impl Bar {
         matches!(self.mark, Mark::Came(_))
     }
 
-    /// Whether a job ends so.
+    /// Returns whether the bar is that of a job with this ending.
     pub(crate) fn ends_as(&self, ending: Ending) -> bool {
         match self.job() {
             Some(job) => job.ending == ending,
@@ -97,7 +97,7 @@ impl Bar {
 }
 
 impl Lane {
-    /// How many jobs it has, or how many came.
+    /// The number of bars of the lane that stand for a job or for an arrival.
     pub(crate) fn jobs(&self) -> usize {
         let mut jobs = 0usize;
         for bar in &self.bars {
@@ -108,7 +108,7 @@ impl Lane {
         jobs
     }
 
-    /// How many jobs end so.
+    /// The number of jobs of the lane with this ending.
     fn count_ending(&self, ending: Ending) -> u64 {
         let mut jobs = 0u64;
         for bar in &self.bars {
@@ -119,7 +119,7 @@ impl Lane {
         jobs
     }
 
-    /// When its last job ended, or came; 0 where it has none.
+    /// The latest end of a print or moment of an arrival in the lane; 0 where there is none.
     fn last_end(&self) -> u64 {
         let mut last = 0;
         for bar in &self.bars {
@@ -130,12 +130,12 @@ impl Lane {
         last
     }
 
-    /// Whether the device waits at any time.
+    /// Returns whether the lane has a wait of its device.
     fn waits(&self) -> bool {
         self.jobs() < self.bars.len()
     }
 
-    /// Whether it is the lane of the jobs that came.
+    /// Returns whether the lane is that of the jobs that came.
     pub(crate) fn has_arrivals(&self) -> bool {
         for bar in &self.bars {
             if bar.is_arrival() {
@@ -147,7 +147,7 @@ impl Lane {
 }
 
 impl Chart {
-    /// How many jobs end so.
+    /// The number of jobs of the chart with this ending.
     fn count_ending(&self, ending: Ending) -> u64 {
         let mut jobs = 0u64;
         for lane in &self.lanes {
@@ -156,12 +156,12 @@ impl Chart {
         jobs
     }
 
-    /// Whether a job ends so.
+    /// Returns whether a job of the chart has this ending.
     pub(crate) fn has_ending(&self, ending: Ending) -> bool {
         self.count_ending(ending) > 0
     }
 
-    /// Whether a device waits at any time.
+    /// Returns whether a lane of the chart has a wait of its device.
     pub(crate) fn waits(&self) -> bool {
         for lane in &self.lanes {
             if lane.waits() {
@@ -171,7 +171,7 @@ impl Chart {
         false
     }
 
-    /// Whether a lane is that of the jobs that came.
+    /// Returns whether a lane of the chart is that of the jobs that came.
     pub(crate) fn has_arrivals(&self) -> bool {
         for lane in &self.lanes {
             if lane.has_arrivals() {
@@ -181,7 +181,7 @@ impl Chart {
         false
     }
 
-    /// When the last job ended, or came, in ms; where there is none, a minute.
+    /// The latest end of a print or moment of an arrival, in ms; one minute where there is none.
     pub(crate) fn span(&self) -> u64 {
         let mut last = 0;
         for lane in &self.lanes {
@@ -190,7 +190,7 @@ impl Chart {
         if last == 0 { EMPTY } else { last }
     }
 
-    /// The mean time to paper, in ms, cut off; 0 where no job is printed.
+    /// The mean time to paper, in ms, rounded down; 0 where no job is printed.
     pub(crate) fn mean(&self) -> u128 {
         self.total
             .checked_div(u128::from(self.count_ending(Ending::Printed)))
@@ -198,7 +198,7 @@ impl Chart {
     }
 }
 
-/// How long the longest of charts is, in ms; 1 where there is none.
+/// The length of the longest chart, in ms; 1 where there is no chart.
 pub(crate) fn longest_span(charts: &[Chart]) -> u64 {
     let mut longest = 1;
     for chart in charts {

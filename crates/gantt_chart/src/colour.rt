@@ -1,10 +1,10 @@
-//! The colours of classes, from dark to light, so that they differ in grey too.
+//! The colours of classes, from dark to light: they differ in grey too.
 
 use crate::page::Page;
 use std::fmt;
 use std::num::{nearest_usize_to_f64, saturating_f64_to_u8, saturating_f64_to_usize};
 
-/// A colour by its red, green and blue. Shown, it is as SVG writes it.
+/// A colour by its red, green and blue. `Display` writes it as SVG does.
 #[derive(Clone, Copy)]
 pub(crate) struct Colour {
     red: u8,
@@ -41,10 +41,11 @@ const VIRIDIS: [Colour; 5] = [
     },
 ];
 
-/// The lightest grey, of 255, on which white letters are read better than black ones.
+/// The lightest grey, of 255, on which white letters are easier to read than black letters.
 const LIGHTEST_UNDER_WHITE: f64 = 130.0;
 
-/// The colour of the class at a place, of so many: the highest is the darkest.
+/// The colour of the class at a place, among this number of classes: the highest class has the darkest
+/// colour.
 pub(crate) fn class_colour(place: usize, classes: usize) -> Colour {
     let classes = nearest_usize_to_f64(classes.max(1));
     let step = 4.0 * (nearest_usize_to_f64(place) + 0.5) / classes;
@@ -53,7 +54,7 @@ pub(crate) fn class_colour(place: usize, classes: usize) -> Colour {
     VIRIDIS[below].mixed(VIRIDIS[below + 1], part)
 }
 
-/// A number between two, this part of the way.
+/// The number this part of the way from one number to another.
 fn between(one: u8, other: u8, part: f64) -> u8 {
     saturating_f64_to_u8(f64::from(one) * (1.0 - part) + f64::from(other) * part + 0.5)
 }
@@ -68,12 +69,12 @@ impl Colour {
         }
     }
 
-    /// Its grey, of 255 (ITU-R BT.601, section 2.5.1).
+    /// The grey of the colour, of 255 (ITU-R BT.601, section 2.5.1).
     fn grey(self) -> f64 {
         0.299 * f64::from(self.red) + 0.587 * f64::from(self.green) + 0.114 * f64::from(self.blue)
     }
 
-    /// The colour of letters on it.
+    /// The colour of letters on an area of this colour.
     pub(crate) fn ink(self) -> &'static str {
         if self.grey() <= LIGHTEST_UNDER_WHITE {
             "#fff"
@@ -83,16 +84,16 @@ impl Colour {
     }
 }
 
-/// What an area is filled with.
+/// The filling of an area.
 #[derive(Clone, Copy)]
 pub(crate) enum Fill {
     Plain(Colour),
-    /// What has a name: a pattern, or a colour.
+    /// A filling by its name: a pattern, or a colour.
     Named(&'static str),
 }
 
 impl Page {
-    /// Appends what an area is filled with, as SVG writes it.
+    /// Appends a filling, as SVG writes it.
     pub(crate) fn put_fill(self, fill: Fill) -> Page {
         match fill {
             Fill::Plain(colour) => self.put_shown(colour),

@@ -1,4 +1,4 @@
-//! The chart of a day: when each job came, and what each device printed when.
+//! The chart of a day: the moments at which jobs came, and the prints of each device.
 
 use crate::chart::{Bar, Chart, ChartJob, Ending, Lane, Mark};
 use base_types::{Limits, Stranded, Text};
@@ -9,11 +9,11 @@ use std::alloc::{AllocError, Global};
 pub struct Arrival {
     pub number: u32,
     pub priority: u8,
-    /// In ms since the moment at which the day begins.
+    /// The moment at which the job came, in ms since the begin of the day.
     pub moment: u64,
 }
 
-/// What a device printed of a job, from when to when, in ms since the moment at which the day begins.
+/// The print of a job on a device, from its start to its end, in ms since the begin of the day.
 #[derive(Clone, Copy)]
 pub struct Print {
     /// The place of the job among those that came.
@@ -28,23 +28,23 @@ pub struct Print {
 /// A day of some devices.
 #[derive(Drop)]
 pub struct Day<'a> {
-    /// What it is a day of, in a line.
+    /// The subject of the day, in one line.
     pub title: String,
     /// The names of the devices.
     pub devices: &'a [Text],
     pub arrivals: &'a [Arrival],
-    /// By rising start.
+    /// The prints, by rising start.
     pub prints: &'a [Print],
     /// The jobs that no device can print.
     pub stranded: Vec<Stranded>,
-    /// What else is said of jobs, a sentence each.
+    /// Further sentences about jobs.
     pub notes: Vec<String>,
 }
 
 /// The name of the lane of the jobs that came.
 const CAME: &[u8] = b"came";
 
-/// Whether a job that came has a priority.
+/// Returns whether a job that came has this priority.
 fn has_priority(arrivals: &[Arrival], priority: u8) -> bool {
     for job in arrivals {
         if job.priority == priority {
@@ -54,7 +54,7 @@ fn has_priority(arrivals: &[Arrival], priority: u8) -> bool {
     false
 }
 
-/// The priorities of jobs, the highest first.
+/// The priorities of the jobs, the highest first. The only error is out of memory.
 fn classes_of(alloc: Global, arrivals: &[Arrival]) -> Result<Vec<u8>, AllocError> {
     let mut classes = Vec::new(alloc);
     for step in 0..=Limits::HIGHEST_PRIORITY {
@@ -66,7 +66,7 @@ fn classes_of(alloc: Global, arrivals: &[Arrival]) -> Result<Vec<u8>, AllocError
     Ok(classes)
 }
 
-/// The bars of the jobs that came.
+/// The bars of the jobs that came. The only error is out of memory.
 fn came_bars(alloc: Global, arrivals: &[Arrival]) -> Result<Vec<Bar>, AllocError> {
     let mut bars = Vec::new(alloc);
     for job in arrivals {
@@ -79,7 +79,7 @@ fn came_bars(alloc: Global, arrivals: &[Arrival]) -> Result<Vec<Bar>, AllocError
     Ok(bars)
 }
 
-/// The place of a priority among the classes; the first one where it isn't there.
+/// The place of a priority among the classes; 0 where the priority is not there.
 fn class_of(classes: &[u8], priority: u8) -> usize {
     for (place, class) in classes.iter().enumerate() {
         if *class == priority {
@@ -89,7 +89,7 @@ fn class_of(classes: &[u8], priority: u8) -> usize {
     0
 }
 
-/// The bar of what the device at a place printed of a job that came; none where another one printed it.
+/// The bar of a print on the device at a place; `None` where another device printed the job.
 fn bar_of(day: &Day<'_>, classes: &[u8], place: usize, print: Print) -> Option<Bar> {
     if print.device != place {
         return None;
@@ -106,7 +106,7 @@ fn bar_of(day: &Day<'_>, classes: &[u8], place: usize, print: Print) -> Option<B
     })
 }
 
-/// The bars of the device at a place.
+/// The bars of the device at a place. The only error is out of memory.
 fn bars_of(
     alloc: Global,
     day: &Day<'_>,
@@ -122,7 +122,7 @@ fn bars_of(
     Ok(bars)
 }
 
-/// The name of the device at a place; an empty one where there is none.
+/// The name of the device at a place; an empty name where there is no such device.
 fn name_of(devices: &[Text], place: usize) -> &[u8] {
     match devices.get(place) {
         Some(name) => name.as_bytes(),
@@ -130,19 +130,19 @@ fn name_of(devices: &[Text], place: usize) -> &[u8] {
     }
 }
 
-/// A lane of some bars.
+/// A lane of this name and these bars. The only error is out of memory.
 fn lane_of(alloc: Global, name: &[u8], bars: Vec<Bar>) -> Result<Lane, AllocError> {
     let name = Text::copy_of(alloc, name)?;
     Ok(Lane { name, bars })
 }
 
-/// The lane of the jobs that came.
+/// The lane of the jobs that came. The only error is out of memory.
 fn came_lane(alloc: Global, arrivals: &[Arrival]) -> Result<Lane, AllocError> {
     let bars = came_bars(alloc, arrivals)?;
     lane_of(alloc, CAME, bars)
 }
 
-/// The lane of the device at a place.
+/// The lane of the device at a place. The only error is out of memory.
 fn device_lane(
     alloc: Global,
     day: &Day<'_>,
@@ -153,7 +153,7 @@ fn device_lane(
     lane_of(alloc, name_of(day.devices, place), bars)
 }
 
-/// The lane of the jobs that came, and below it those of the devices.
+/// The lane of the jobs that came, and below it the lanes of the devices. The only error is out of memory.
 fn lanes_of(alloc: Global, day: &Day<'_>, classes: &[u8]) -> Result<Vec<Lane>, AllocError> {
     let mut lanes = Vec::new(alloc);
     lanes.push(came_lane(alloc, day.arrivals)?)?;
@@ -163,7 +163,7 @@ fn lanes_of(alloc: Global, day: &Day<'_>, classes: &[u8]) -> Result<Vec<Lane>, A
     Ok(lanes)
 }
 
-/// How long a job took from when it came to when it was printed.
+/// The time from the arrival of a job to the end of its print, in ms.
 fn time_to_paper(arrivals: &[Arrival], print: &Print) -> u64 {
     match arrivals.get(print.job) {
         Some(job) if print.ending == Ending::Printed => print.end.saturating_sub(job.moment),
@@ -171,7 +171,7 @@ fn time_to_paper(arrivals: &[Arrival], print: &Print) -> u64 {
     }
 }
 
-/// The sum of the times to paper.
+/// The sum of the times to paper of the prints, in ms.
 fn total_of(arrivals: &[Arrival], prints: &[Print]) -> u128 {
     let mut total = 0u128;
     for print in prints {
@@ -180,7 +180,7 @@ fn total_of(arrivals: &[Arrival], prints: &[Print]) -> u128 {
     total
 }
 
-/// The chart of a day, of these classes and lanes.
+/// The chart of a day with these classes and lanes.
 fn chart_with(day: Day<'_>, classes: Vec<u8>, lanes: Vec<Lane>) -> Chart {
     let total = total_of(day.arrivals, day.prints);
     Chart {
@@ -193,7 +193,7 @@ fn chart_with(day: Day<'_>, classes: Vec<u8>, lanes: Vec<Lane>) -> Chart {
     }
 }
 
-/// The chart of a day: a lane of the jobs that came, and one for each device. The only error is out of
+/// The chart of a day: a lane of the jobs that came, and a lane for each device. The only error is out of
 /// memory.
 pub fn chart_of_day(alloc: Global, day: Day<'_>) -> Result<Chart, AllocError> {
     let classes = classes_of(alloc, day.arrivals)?;

@@ -1,12 +1,12 @@
-//! What becomes of jobs on their devices, as it is shown.
+//! The endings of jobs on their devices, as pictures show them.
 
 use crate::chart::Ending;
 use crate::colour::Fill;
 
-/// The endings that are shown: a bar without one of them was printed.
+/// The endings that a picture shows: a bar without such an ending was printed.
 pub(crate) const SHOWN: [Ending; 3] = [Ending::Canceled, Ending::Failed, Ending::Open];
 
-/// What is said of it; nothing, of a job that was printed.
+/// The words for an ending; none for a printed job.
 pub(crate) fn words_of(ending: Ending) -> &'static str {
     match ending {
         Ending::Printed => "",
@@ -16,7 +16,7 @@ pub(crate) fn words_of(ending: Ending) -> &'static str {
     }
 }
 
-/// The filling of the strip below a bar, if it has one.
+/// The filling of the strip below a bar with this ending; `None` for a printed job.
 pub(crate) fn strip_of(ending: Ending) -> Option<Fill> {
     let name = match ending {
         Ending::Printed => return None,
@@ -27,7 +27,7 @@ pub(crate) fn strip_of(ending: Ending) -> Option<Fill> {
     Some(Fill::Named(name))
 }
 
-/// What stands in a terminal where a bar ends.
+/// The character at the end of a bar in a terminal's picture.
 pub(crate) fn edge_of(ending: Ending) -> u8 {
     match ending {
         Ending::Printed => b'|',

@@ -5,7 +5,7 @@ use crate::picture::write_svg;
 use crate::terminal::write_text;
 use std::alloc::{AllocError, Global};
 
-/// What a picture is made of.
+/// The form of a picture.
 #[derive(Clone, Copy)]
 pub enum Form {
     /// Elements of SVG.
@@ -14,8 +14,8 @@ pub enum Form {
     Text,
 }
 
-/// A picture of charts, below one another and over one scale: whole lines, as they are to be written. The
-/// only error is out of memory.
+/// Returns a picture of charts, below one another and over one scale, as whole lines. The only error is out
+/// of memory.
 pub fn draw_charts(alloc: Global, charts: &[Chart], form: Form) -> Result<String, AllocError> {
     match form {
         Form::Svg => write_svg(alloc, charts),

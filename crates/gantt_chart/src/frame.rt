@@ -1,4 +1,4 @@
-//! Where things stand in a picture.
+//! The places of lanes and moments in a picture.
 
 use crate::chart::{Chart, Lane, longest_span};
 use crate::scale::Scale;
@@ -7,30 +7,30 @@ use std::num::nearest_usize_to_f64;
 /// The least width of the lanes.
 const LANES_WIDTH: f64 = 960.0;
 
-/// The width of a letter of a device's name.
+/// The width of a letter in the name of a device.
 const LETTER_WIDTH: f64 = 7.5;
 
-/// How far apart labels stand side by side below a lane.
+/// The distance between two labels side by side below a lane.
 pub(crate) const LABEL_PITCH: f64 = 11.0;
 
-/// The room that the label of a job that came has, so that it stands near its pin.
+/// The room for the label of a job that came: the label stands near its pin.
 const ARRIVAL_PITCH: f64 = 16.5;
 
-/// How many labels a lane may have, for which a picture is made wider.
+/// The most labels of a lane for which a picture is made wider.
 const LABELS: usize = 600;
 
-/// How many jobs may have come, for whose labels a picture is made wider.
+/// The most arrivals for whose labels a picture is made wider.
 const ARRIVAL_LABELS: usize = 100;
 
 /// The room around everything.
 pub(crate) const MARGIN: f64 = 16.0;
 
-/// The lanes of a picture from left to right, and the scale by which moments stand there.
+/// The lanes of a picture from left to right, and the scale that gives moments their places.
 #[derive(Clone, Copy)]
 pub(crate) struct Frame {
-    /// Where the lanes begin.
+    /// The left end of the lanes.
     pub(crate) left: f64,
-    /// How wide they are.
+    /// The width of the lanes.
     pub(crate) width: f64,
     pub(crate) scale: Scale,
 }
@@ -40,7 +40,7 @@ fn name_width(lane: &Lane) -> f64 {
     LETTER_WIDTH * nearest_usize_to_f64(lane.name.as_bytes().len())
 }
 
-/// The room that so many labels of a lane take.
+/// The room that this number of labels of a lane takes.
 pub(crate) fn labels_width(lane: &Lane, labels: usize) -> f64 {
     let pitch = if lane.has_arrivals() {
         ARRIVAL_PITCH
@@ -50,7 +50,7 @@ pub(crate) fn labels_width(lane: &Lane, labels: usize) -> f64 {
     pitch * nearest_usize_to_f64(labels)
 }
 
-/// How many labels of a lane a picture is made wider for.
+/// The number of labels of a lane for which a picture is made wider.
 fn labels_of(lane: &Lane) -> usize {
     let jobs = lane.jobs();
     if !lane.has_arrivals() {
@@ -63,7 +63,7 @@ fn labels_of(lane: &Lane) -> usize {
 }
 
 impl Frame {
-    /// A frame without lanes, over so many ms.
+    /// Creates a frame of the least width, over this span in ms.
     fn empty(span: u64) -> Frame {
         Frame {
             left: MARGIN,
@@ -72,7 +72,7 @@ impl Frame {
         }
     }
 
-    /// Makes room for a chart.
+    /// Widens the frame for a chart.
     fn fit(&mut self, chart: &Chart) {
         for lane in &chart.lanes {
             self.left = self.left.max(2.0 * MARGIN + name_width(lane));
@@ -80,7 +80,7 @@ impl Frame {
         }
     }
 
-    /// The frame of these charts: from the moment 0 until the last job of all ends.
+    /// The frame of these charts, from the moment 0 to the end of the last job of all charts.
     pub(crate) fn of(charts: &[Chart]) -> Frame {
         let mut frame = Frame::empty(longest_span(charts));
         for chart in charts {
@@ -89,12 +89,12 @@ impl Frame {
         frame
     }
 
-    /// Where a moment stands.
+    /// The place of a moment, from left to right.
     pub(crate) fn x(self, moment: u64) -> f64 {
         self.left + self.width * self.scale.part(moment)
     }
 
-    /// Where the lanes end.
+    /// The right end of the lanes.
     pub(crate) fn right(self) -> f64 {
         self.left + self.width
     }

@@ -1,4 +1,4 @@
-//! The labels of jobs: in a bar where it is wide enough, else below its lane.
+//! The labels of jobs: in a bar of sufficient width, else below the lane.
 
 use crate::chart::{Bar, Lane, Mark};
 use crate::frame::{Frame, LABEL_PITCH, labels_width};
@@ -12,7 +12,7 @@ const LETTER_WIDTH: f64 = 6.4;
 /// The room around a label in its bar.
 const ROOM: f64 = 5.0;
 
-/// The number of a job, and how long it is, where it was printed.
+/// The number of a job, and the length of its print where the job was printed.
 #[derive(Clone, Copy)]
 pub(crate) struct Label {
     pub(crate) number: u32,
@@ -23,14 +23,14 @@ pub(crate) struct Label {
 #[derive(Clone, Copy)]
 pub(crate) struct Tag {
     pub(crate) label: Label,
-    /// The middle of its bar.
+    /// The middle of the bar.
     pub(crate) middle: f64,
-    /// Where it stands.
+    /// The place of the label.
     pub(crate) x: f64,
 }
 
 impl Label {
-    /// The label of a job of this number that takes so many ms.
+    /// The label of the job with this number, whose print takes this time in ms.
     pub(crate) fn of(number: u32, length: u64) -> Label {
         Label {
             number,
@@ -38,7 +38,7 @@ impl Label {
         }
     }
 
-    /// How many letters its number has, and how many its length.
+    /// The number of letters of the job's number, and of the length.
     fn letters(self) -> (usize, usize) {
         let number = digits_of(u64::from(self.number));
         match self.length {
@@ -47,20 +47,20 @@ impl Label {
         }
     }
 
-    /// Whether its two lines fit into a bar of this width.
+    /// Returns whether the two lines of the label fit into a bar of this width.
     pub(crate) fn fits(self, width: f64) -> bool {
         let (number, length) = self.letters();
         LETTER_WIDTH * nearest_usize_to_f64(number.max(length)) + ROOM <= width
     }
 
-    /// How long it is in one line.
+    /// The length of the label in one line.
     fn extent(self) -> f64 {
         let (number, length) = self.letters();
         LETTER_WIDTH * (nearest_usize_to_f64(number.saturating_add(length)) + 1.0)
     }
 }
 
-/// The label of a bar, if it has one.
+/// The label of a bar; `None` for a bar without a label.
 fn label_of(bar: &Bar) -> Option<Label> {
     match bar.mark {
         Mark::Wait => None,
@@ -72,7 +72,7 @@ fn label_of(bar: &Bar) -> Option<Label> {
     }
 }
 
-/// The label of a bar below its lane, where the bar has no room for it.
+/// The label of a bar below its lane; `None` where the label fits into the bar, or the bar has none.
 fn tag_of(frame: Frame, bar: &Bar) -> Option<Tag> {
     let label = label_of(bar)?;
     let (start, end) = (frame.x(bar.start), frame.x(bar.end));
@@ -87,7 +87,7 @@ fn tag_of(frame: Frame, bar: &Bar) -> Option<Tag> {
     })
 }
 
-/// Moves each label so far to the right that it stands clear of the one before.
+/// Moves each label to the right until it is clear of the label before it.
 fn push_right(tags: &mut [Tag], left: f64) {
     let mut least = left;
     for tag in tags.iter_mut() {
@@ -96,7 +96,7 @@ fn push_right(tags: &mut [Tag], left: f64) {
     }
 }
 
-/// Moves each label so far to the left that it stands clear of the one behind.
+/// Moves each label to the left until it is clear of the label behind it.
 fn push_left(tags: &mut [Tag], right: f64) {
     let mut most = right;
     for place in (0..tags.len()).rev() {
@@ -106,7 +106,8 @@ fn push_left(tags: &mut [Tag], right: f64) {
     }
 }
 
-/// The labels below a lane, clear of each other; none where there are more than fit.
+/// The labels below a lane, clear of each other; none where the lane has more labels than fit. The only error
+/// is out of memory.
 pub(crate) fn tags_of(alloc: Global, frame: Frame, lane: &Lane) -> Result<Vec<Tag>, AllocError> {
     let mut tags = Vec::new(alloc);
     for bar in &lane.bars {

@@ -18,16 +18,16 @@ const BAR_HEIGHT: u8 = 32;
 /// The room above a bar.
 const ABOVE: f64 = 8.0;
 
-/// How far below a bar its label begins, where it stands there.
+/// The distance from a bar to its label below.
 const LEADER: f64 = 12.0;
 
-/// The height of the strip that shows what became of a job.
+/// The height of the strip that shows the ending of a job.
 const STRIP_HEIGHT: u8 = 4;
 
-/// The least width of a bar, so that it is seen.
+/// The least width of a bar, at which it is visible.
 const THINNEST: f64 = 0.6;
 
-/// A bar as it is drawn: where it begins, and how wide it is.
+/// The place of a bar in a picture: its left end, its top and its width.
 #[derive(Clone, Copy)]
 struct Extent {
     x: f64,
@@ -35,7 +35,7 @@ struct Extent {
     width: f64,
 }
 
-/// Where a bar stands, whose top is there.
+/// The place of a bar whose top is `y`.
 fn extent_of(frame: Frame, bar: &Bar, y: f64) -> Extent {
     let x = frame.x(bar.start);
     Extent {
@@ -60,7 +60,7 @@ fn put_grid(page: Page, frame: Frame, top: f64, bottom: f64) -> Page {
     page
 }
 
-/// Appends the name of a lane, which ends before the bars begin.
+/// Appends the name of a lane, which ends before the bars start.
 fn put_name(page: Page, frame: Frame, lane: &Lane, y: f64) -> Page {
     page.put_text(
         frame.left - MARGIN / 2.0,
@@ -70,7 +70,7 @@ fn put_name(page: Page, frame: Frame, lane: &Lane, y: f64) -> Page {
     )
 }
 
-/// Appends the two lines of a label in its bar: the number of the job, and how long it is.
+/// Appends the two lines of a label in its bar: the number of the job, and the length of its print.
 fn put_label(page: Page, extent: Extent, ink: &str, number: u32, length: u64) -> Page {
     let middle = extent.x + extent.width / 2.0;
     page.place_text(middle, extent.y + 14.0)
@@ -86,7 +86,7 @@ fn put_label(page: Page, extent: Extent, ink: &str, number: u32, length: u64) ->
         .end_text()
 }
 
-/// Appends a rectangle of this height, up to its filling.
+/// Appends a rectangle of this height, up to the end of its filling.
 fn begin_rectangle(page: Page, extent: Extent, height: u8, fill: Fill) -> Page {
     page.put_length("<rect x=\"", extent.x)
         .put_length("\" y=\"", extent.y)
@@ -96,14 +96,14 @@ fn begin_rectangle(page: Page, extent: Extent, height: u8, fill: Fill) -> Page {
         .put_fill(fill)
 }
 
-/// Appends the rectangle of a bar, up to what it says where it is pointed at.
+/// Appends the rectangle of a bar, up to the text that a pointer shows.
 fn begin_bar(page: Page, extent: Extent, fill: Fill) -> Page {
     begin_rectangle(page, extent, BAR_HEIGHT, fill).put(
         "\" stroke=\"#fff\" stroke-width=\"0.5\"><title>",
     )
 }
 
-/// Appends when a bar begins and ends, and the end of its rectangle.
+/// Appends the start and the end of a bar, and the end of its rectangle.
 fn end_bar(page: Page, bar: &Bar) -> Page {
     page.put_number(": ", bar.start)
         .put_number(" to ", bar.end)
@@ -123,7 +123,7 @@ fn put_priority(page: Page, classes: &[u8], class: usize) -> Page {
     }
 }
 
-/// Appends what is told of a job.
+/// Appends the text about a job that a pointer shows.
 fn put_telling(page: Page, job: ChartJob, classes: &[u8]) -> Page {
     let words = words_of(job.ending);
     let page = page.put_number("job ", u64::from(job.number));
@@ -134,7 +134,7 @@ fn put_telling(page: Page, job: ChartJob, classes: &[u8]) -> Page {
     page.put(", ").put(words)
 }
 
-/// Appends the strip below a bar that shows what became of a job that wasn't printed.
+/// Appends the strip below a bar that shows the ending of a job that was not printed.
 fn put_strip(page: Page, extent: Extent, ending: Ending) -> Page {
     let Some(fill) = strip_of(ending) else {
         return page;
@@ -200,7 +200,7 @@ fn put_tag(page: Page, tag: &Tag, top: f64) -> Page {
     page.end_text()
 }
 
-/// Appends the bars of a lane, whose top is there.
+/// Appends the bars of a lane, whose tops are at `y`.
 fn put_bars(page: Page, frame: Frame, chart: &Chart, lane: &Lane, y: f64) -> Page {
     let mut page = page;
     for bar in &lane.bars {
@@ -218,7 +218,7 @@ fn put_tags(page: Page, tags: &[Tag], top: f64) -> Page {
     page
 }
 
-/// Where a lane ends, of whose bars the lower edge is there.
+/// The lower end of a lane whose bars end at `below`.
 fn bottom_of(tags: &[Tag], below: f64) -> f64 {
     if tags.is_empty() {
         below
@@ -227,7 +227,7 @@ fn bottom_of(tags: &[Tag], below: f64) -> f64 {
     }
 }
 
-/// Appends a lane, whose top is there, with these labels below its bars.
+/// Appends a lane whose top is `top`, with these labels below its bars.
 fn put_tagged(
     page: Page,
     frame: Frame,
@@ -244,7 +244,7 @@ fn put_tagged(
     put_tags(page, tags, below)
 }
 
-/// Draws a lane.
+/// Draws a lane below the drawing.
 pub(crate) fn put_lane(
     alloc: Global,
     drawing: Drawing,

@@ -1,4 +1,4 @@
-//! What stands above the lanes of a chart in a picture: its title, its times, and what its colours mean.
+//! The heading of a chart in a picture: its title, its times, and the meanings of its colours.
 
 use crate::chart::{Chart, Ending};
 use crate::colour::{Colour, Fill, class_colour};
@@ -13,10 +13,10 @@ pub(crate) const WAIT: Fill = Fill::Named("url(#wait)");
 /// The height of a line.
 const LINE: f64 = 20.0;
 
-/// The room from one entry to the next.
+/// The distance from one entry to the next.
 const ENTRY_WIDTH: f64 = 120.0;
 
-/// Where entries are put, from left to right and then in the next line.
+/// The place of the next entry. Entries go from left to right, then to the next line.
 #[derive(Clone, Copy)]
 struct Pen {
     x: f64,
@@ -25,7 +25,7 @@ struct Pen {
 }
 
 impl Pen {
-    /// The place behind an entry.
+    /// The place for the entry behind this entry.
     fn next(self) -> Pen {
         if self.x + 2.0 * ENTRY_WIDTH > self.right {
             Pen {
@@ -42,14 +42,14 @@ impl Pen {
     }
 }
 
-/// Entries under way, and where the next one is put.
+/// The page with the entries up to now, and the place of the next entry.
 #[derive(Drop)]
 struct Legend {
     page: Page,
     pen: Pen,
 }
 
-/// Appends a filling, and the begin of what it means.
+/// Appends a filling, and the begin of its meaning.
 fn begin_entry(page: Page, pen: Pen, fill: Fill) -> Page {
     page.put_length("<rect x=\"", pen.x)
         .put_length("\" y=\"", pen.y - 11.0)
@@ -59,12 +59,12 @@ fn begin_entry(page: Page, pen: Pen, fill: Fill) -> Page {
         .begin_text(pen.x + 20.0, pen.y, "")
 }
 
-/// Appends what a filling means.
+/// Appends a filling and its meaning.
 fn put_entry(page: Page, pen: Pen, fill: Fill, meaning: &str) -> Page {
     begin_entry(page, pen, fill).put(meaning).end_text()
 }
 
-/// Appends what the colour of a class means.
+/// Appends the colour of a class and its meaning.
 fn put_class(legend: Legend, colour: Colour, priority: u8) -> Legend {
     let Legend { page, pen } = legend;
     let page = begin_entry(page, pen, Fill::Plain(colour))
@@ -76,7 +76,7 @@ fn put_class(legend: Legend, colour: Colour, priority: u8) -> Legend {
     }
 }
 
-/// Appends what the colours of the classes mean.
+/// Appends the colours of the classes and their meanings.
 fn put_classes(legend: Legend, classes: &[u8]) -> Legend {
     let mut legend = legend;
     for (place, priority) in classes.iter().enumerate() {
@@ -85,7 +85,7 @@ fn put_classes(legend: Legend, classes: &[u8]) -> Legend {
     legend
 }
 
-/// Appends what the strip below a bar means that shows an ending, if there is one.
+/// Appends the strip that shows an ending, and its meaning; nothing where the ending has no strip.
 fn put_ending(legend: Legend, ending: Ending) -> Legend {
     let Some(fill) = strip_of(ending) else {
         return legend;
@@ -97,7 +97,7 @@ fn put_ending(legend: Legend, ending: Ending) -> Legend {
     }
 }
 
-/// Appends what the strips below bars mean, of those that there are.
+/// Appends the strips below bars that the chart has, and their meanings.
 fn put_endings(legend: Legend, chart: &Chart) -> Legend {
     let mut legend = legend;
     for ending in SHOWN {
@@ -108,7 +108,7 @@ fn put_endings(legend: Legend, chart: &Chart) -> Legend {
     legend
 }
 
-/// Appends the times of a chart, in a sentence.
+/// Appends the times of a chart, in one sentence.
 pub(crate) fn put_times(page: Page, chart: &Chart) -> Page {
     page.put("time to paper: ")
         .put_long_time(chart.total)
@@ -130,7 +130,7 @@ fn put_title(page: Page, chart: &Chart, top: f64) -> Page {
     put_times(page, chart).end_text()
 }
 
-/// Draws what stands above the lanes.
+/// Draws the heading of a chart, above its lanes.
 pub(crate) fn put_heading(drawing: Drawing, frame: Frame, chart: &Chart) -> Drawing {
     let Drawing { page, bottom: top } = drawing;
     let begun = Legend {

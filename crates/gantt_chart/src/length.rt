@@ -9,11 +9,11 @@ const MINUTE: u128 = 60 * SECOND;
 
 const HOUR: u128 = 60 * MINUTE;
 
-/// A time in ms, in few characters: `15ms`, `12.5s`, `2m30`, `1h05`. What is left over is cut off.
+/// A time in ms, in few characters: `15ms`, `12.5s`, `2m30`, `1h05`. The rest is cut off.
 #[derive(Clone, Copy)]
 pub struct ShortTime(pub u64);
 
-/// A time by its hours, and what is left of it then by its minutes, seconds and tenths of a second.
+/// A time by its whole hours, minutes, seconds and tenths of a second, each without the larger units.
 #[derive(Clone, Copy)]
 struct Parts {
     hours: u128,
@@ -32,7 +32,7 @@ fn parts_of(millis: u128) -> Parts {
     }
 }
 
-/// How many digits a number has.
+/// The number of decimal digits of a number.
 pub fn digits_of(number: u64) -> usize {
     match number.checked_ilog10() {
         Some(more) => (more as usize).saturating_add(1),
@@ -41,7 +41,7 @@ pub fn digits_of(number: u64) -> usize {
 }
 
 impl ShortTime {
-    /// How many characters it has.
+    /// The number of characters of the time.
     pub fn letters(self) -> usize {
         let millis = self.0;
         let (number, behind) = if millis < 1_000 {
@@ -57,7 +57,7 @@ impl ShortTime {
     }
 }
 
-/// Writes a number, its unit, and the two digits of what is left.
+/// Writes a number, its unit, and the two digits of the next smaller unit.
 fn write_two<W: fmt::Write>(
     f: &mut fmt::Formatter<W>,
     number: u128,
@@ -90,7 +90,7 @@ impl fmt::Display for ShortTime {
 }
 
 impl Page {
-    /// Appends two numbers, each with what stands behind it.
+    /// Appends two numbers, each with the text behind it.
     fn put_two(self, one: u128, behind_one: &str, other: u128, behind_other: &str) -> Page {
         self.put_shown(one)
             .put(behind_one)
@@ -98,8 +98,7 @@ impl Page {
             .put(behind_other)
     }
 
-    /// Appends a time in ms, in words: `15 ms`, `12.5 s`, `2 min 30 s`, `1 h 5 min`. What is left over is
-    /// cut off.
+    /// Appends a time in ms, in words: `15 ms`, `12.5 s`, `2 min 30 s`, `1 h 5 min`. The rest is cut off.
     pub(crate) fn put_long_time(self, millis: u128) -> Page {
         let Parts {
             hours,

@@ -1,11 +1,11 @@
-//! Charts of what devices print, drawn: a lane for each device, a bar for each job, as long as its time.
+//! Drawn charts of the prints of devices: a lane for each device, a bar for each job, as long as its print.
 //!
-//! A [`Chart`] has the starts and ends of its bars, which its maker knows. [`draw_charts`] draws
-//! charts below one another over one scale, as a picture in SVG or for a terminal. It promises that it is
-//! safe and ends. Nothing here says when a job starts. A [`Page`] is a text under way, for what is written
-//! beside a chart too.
+//! The maker of a [`Chart`] gives the starts and ends of its bars. [`draw_charts`] draws charts below one
+//! another over one scale, as a picture in SVG or for a terminal. The crate promises that it is safe and
+//! ends. No function of the crate decides when a job starts. A [`Page`] is a text under way, also for texts
+//! beside a chart.
 //!
-//! Its rows are plans and days of `play_examples`.
+//! The rows of the crate are plans and days of `play_examples`.
 #![tactic(auto)]
 
 mod chart;

@@ -1,4 +1,4 @@
-//! The jobs of each lane in words, for a terminal, and what its fillings mean.
+//! The jobs of each lane in words, for a terminal, and the meanings of the fillings.
 
 use crate::chart::{Bar, Chart, Ending, Lane, Mark};
 use crate::ending::{SHOWN, edge_of, words_of};
@@ -8,7 +8,7 @@ use crate::row::filling_of;
 use crate::terminal::{WIDTH, put_name};
 use std::fmt;
 
-/// A line under way: the page it is on, where it ends, and how far its continuation is indented.
+/// A line under way: its page, its end, and the indentation of its continuation.
 #[derive(Drop)]
 struct Line {
     page: Page,
@@ -17,7 +17,7 @@ struct Line {
 }
 
 impl Line {
-    /// A line that begins with a name of so many columns.
+    /// Starts a line with a name filled up to this number of columns.
     fn new(page: Page, name: &[u8], columns: usize) -> Line {
         Line {
             page: put_name(page, name, columns),
@@ -26,7 +26,7 @@ impl Line {
         }
     }
 
-    /// Makes room for so many columns: in a new line where this one has none.
+    /// Makes room for this number of columns: starts a new line where the line has no room.
     fn with_room(self, columns: usize) -> Line {
         if self.end.saturating_add(columns) <= WIDTH {
             return self;
@@ -34,8 +34,8 @@ impl Line {
         Line::new(self.page.put_letter('\n'), b"", self.indent)
     }
 
-    /// Appends the two spaces in front of an entry of so many letters, in a new line where this one has no
-    /// room for it. The letters are to be appended next.
+    /// Appends the two spaces in front of an entry of this number of letters, in a new line where the line
+    /// has no room for the entry. The caller appends the letters next.
     fn begin_entry(self, letters: usize) -> Line {
         let columns = letters.saturating_add(2);
         let line = self.with_room(columns);
@@ -46,7 +46,7 @@ impl Line {
         }
     }
 
-    /// Appends a text of the entry that was begun.
+    /// Appends a text of the entry under way.
     fn put(self, text: &str) -> Line {
         Line {
             page: self.page.put(text),
@@ -55,7 +55,7 @@ impl Line {
         }
     }
 
-    /// Appends a value of the entry that was begun.
+    /// Appends a value of the entry under way.
     fn put_shown<T: fmt::Display + Drop>(self, value: T) -> Line {
         Line {
             page: self.page.put_shown(value),
@@ -64,7 +64,7 @@ impl Line {
         }
     }
 
-    /// Appends an entry, if it is wanted.
+    /// Appends an entry where `is_wanted` is set.
     fn put_entry_if(self, is_wanted: bool, entry: &str) -> Line {
         if is_wanted {
             return self.begin_entry(entry.len()).put(entry);
@@ -72,13 +72,13 @@ impl Line {
         self
     }
 
-    /// Ends it, and gives the page.
+    /// Ends the line, and returns the page.
     fn ended(self) -> Page {
         self.page.put_letter('\n')
     }
 }
 
-/// How many letters an entry of a job has.
+/// The number of letters of the entry of a job.
 fn letters_of(number: u32, time: ShortTime, words: &str) -> usize {
     let letters = digits_of(u64::from(number))
         .saturating_add(1)
@@ -89,7 +89,7 @@ fn letters_of(number: u32, time: ShortTime, words: &str) -> usize {
     letters.saturating_add(1).saturating_add(words.len())
 }
 
-/// Appends the number of a job, a time in ms and, behind a space, words, if there are any.
+/// Appends the number of a job, a time in ms and, behind a space, the words, if there are any.
 fn put_entry(line: Line, number: u32, millis: u64, words: &str) -> Line {
     let time = ShortTime(millis);
     let line = line
@@ -103,7 +103,7 @@ fn put_entry(line: Line, number: u32, millis: u64, words: &str) -> Line {
     line.put(" ").put(words)
 }
 
-/// Appends what a bar says of a job: how long it is and what became of it, or when it came.
+/// Appends the entry of a bar: a job with its length and ending, or an arrival with its moment.
 fn put_job(line: Line, bar: &Bar) -> Line {
     match bar.mark {
         Mark::Wait => line,
@@ -112,7 +112,7 @@ fn put_job(line: Line, bar: &Bar) -> Line {
     }
 }
 
-/// Appends the jobs of a lane, from the first to be printed on.
+/// Appends the jobs of a lane, from the first to the last.
 pub(crate) fn put_jobs(page: Page, lane: &Lane, indent: usize) -> Page {
     let mut line = Line::new(page, lane.name.as_bytes(), indent);
     for bar in &lane.bars {
@@ -121,7 +121,7 @@ pub(crate) fn put_jobs(page: Page, lane: &Lane, indent: usize) -> Page {
     line.put_entry_if(lane.jobs() == 0, "no job").ended()
 }
 
-/// Appends what the filling of the class at a place means.
+/// Appends the filling of the class at a place, and its meaning.
 fn put_class(line: Line, place: usize, priority: u8) -> Line {
     let letters = digits_of(u64::from(priority)).saturating_add("# priority ".len());
     line.begin_entry(letters)
@@ -130,7 +130,7 @@ fn put_class(line: Line, place: usize, priority: u8) -> Line {
         .put_shown(priority)
 }
 
-/// Appends what the fillings of classes mean.
+/// Appends the fillings of the classes and their meanings.
 fn put_classes(line: Line, classes: &[u8]) -> Line {
     let mut line = line;
     for (place, priority) in classes.iter().enumerate() {
@@ -139,7 +139,7 @@ fn put_classes(line: Line, classes: &[u8]) -> Line {
     line
 }
 
-/// Appends what the end of a bar means that shows an ending.
+/// Appends the end of a bar that shows an ending, and its meaning.
 fn put_ending(line: Line, ending: Ending) -> Line {
     let words = words_of(ending);
     line.begin_entry(words.len().saturating_add(2))
@@ -148,7 +148,7 @@ fn put_ending(line: Line, ending: Ending) -> Line {
         .put(words)
 }
 
-/// Appends what the ends of bars mean, of those that there are.
+/// Appends the ends of bars that the chart has, and their meanings.
 fn put_endings(line: Line, chart: &Chart) -> Line {
     let mut line = line;
     for ending in SHOWN {
@@ -159,7 +159,7 @@ fn put_endings(line: Line, chart: &Chart) -> Line {
     line
 }
 
-/// Appends what the characters of a chart mean.
+/// Appends the characters of a chart and their meanings.
 pub(crate) fn put_fillings(page: Page, chart: &Chart, indent: usize) -> Page {
     let line = put_classes(Line::new(page, b"", indent), &chart.classes);
     put_endings(line, chart)

@@ -5,7 +5,7 @@ use std::fmt;
 
 /// A text under way, which remembers that memory was refused: nothing is appended from then on.
 ///
-/// What appends to it takes it and gives it back, so that calls stand behind one another.
+/// Each function that appends to a page takes the page and returns it: calls may be chained.
 #[derive(Drop)]
 pub struct Page {
     text: String,
@@ -21,7 +21,7 @@ impl Page {
         }
     }
 
-    /// The page to which nothing more is appended, as memory was refused.
+    /// Marks the page as refused: nothing more is appended.
     pub fn refused(self) -> Page {
         let mut page = self;
         page.is_refused = true;
@@ -42,7 +42,7 @@ impl Page {
         page
     }
 
-    /// Appends a value as it is shown.
+    /// Appends a value as its `Display` writes it.
     pub fn put_shown<T: fmt::Display + Drop>(self, value: T) -> Page {
         let mut page = self;
         page.is_refused = page.is_refused || write!(page.text, "{value}").is_err();
@@ -54,7 +54,7 @@ impl Page {
         self.put(before).put_shown(number)
     }
 
-    /// Appends a text, and behind it a length to so many decimal places.
+    /// Appends a text, and behind it a length to this many decimal places.
     fn put_rounded(self, before: &str, length: f64, places: usize) -> Page {
         let mut page = self.put(before);
         page.is_refused = page.is_refused || write!(page.text, "{length:.places$}").is_err();
@@ -66,12 +66,12 @@ impl Page {
         self.put_rounded(before, length, 1)
     }
 
-    /// Appends a text, and behind it a length to one.
+    /// Appends a text, and behind it a length without decimal places.
     pub(crate) fn put_whole_length(self, before: &str, length: f64) -> Page {
         self.put_rounded(before, length, 0)
     }
 
-    /// The text. The only error is out of memory.
+    /// Returns the text. The only error is out of memory, also at an earlier append.
     pub fn finish(self) -> Result<String, AllocError> {
         if self.is_refused {
             Err(AllocError)

@@ -81,7 +81,7 @@ fn put_stranded(drawing: Drawing, stranded: &[Stranded]) -> Drawing {
     drawing
 }
 
-/// Draws what else is said of a job.
+/// Draws a further sentence about a job.
 fn put_note(drawing: Drawing, note: &str) -> Drawing {
     let bottom = drawing.bottom + LINE;
     Drawing {
@@ -90,7 +90,7 @@ fn put_note(drawing: Drawing, note: &str) -> Drawing {
     }
 }
 
-/// Draws what else is said of jobs, a line each.
+/// Draws the further sentences about jobs, a line each.
 fn put_notes(drawing: Drawing, notes: &[String]) -> Drawing {
     let mut drawing = drawing;
     for note in notes {
@@ -125,15 +125,15 @@ fn put_charts(alloc: Global, drawing: Drawing, frame: Frame, charts: &[Chart]) -
 const FONT: &str =
     "\" font-family=\"Liberation Sans, Arial, Helvetica, sans-serif\" font-size=\"12\">\n";
 
-/// The hatching of waits, and a white ground.
+/// The pattern for waits, and the white ground.
 const GROUND: &str =
     "<defs><pattern id=\"wait\" width=\"6\" height=\"6\" patternUnits=\"userSpaceOnUse\" patternTransform=\"rotate(45)\"><rect width=\"6\" height=\"6\" fill=\"#f4f4f4\"/><path d=\"M0 0V6\" stroke=\"#777\" stroke-width=\"3\"/></pattern></defs>\n<rect width=\"100%\" height=\"100%\" fill=\"#fff\"/>\n";
 
-/// The strips of jobs that were canceled, and of those that haven't ended.
+/// The strips of canceled jobs and of jobs that have not ended.
 const STRIPS: &str =
     "<defs><pattern id=\"canceled\" width=\"8\" height=\"4\" patternUnits=\"userSpaceOnUse\"><rect width=\"8\" height=\"4\" fill=\"#fff\"/><rect width=\"5\" height=\"4\" fill=\"#d00000\"/></pattern><pattern id=\"open\" width=\"4\" height=\"4\" patternUnits=\"userSpaceOnUse\"><rect width=\"4\" height=\"4\" fill=\"#fff\"/><rect width=\"2\" height=\"4\" fill=\"#444\"/></pattern></defs>\n";
 
-/// Whether a strip shows what became of a job of a chart.
+/// Returns whether a chart has a job that a strip marks.
 fn has_strips(chart: &Chart) -> bool {
     for ending in SHOWN {
         if chart.has_ending(ending) {
@@ -143,7 +143,7 @@ fn has_strips(chart: &Chart) -> bool {
     false
 }
 
-/// Whether a strip shows somewhere what became of a job.
+/// Returns whether one of the charts has a job that a strip marks.
 fn have_strips(charts: &[Chart]) -> bool {
     for chart in charts {
         if has_strips(chart) {
@@ -153,7 +153,7 @@ fn have_strips(charts: &[Chart]) -> bool {
     false
 }
 
-/// Appends the begin of a picture of this size: a white ground, and the hatching of waits.
+/// Appends the begin of a picture of this size: the white ground, and the pattern for waits.
 fn put_head(page: Page, width: f64, height: f64) -> Page {
     page.put_whole_length("<svg xmlns=\"http://www.w3.org/2000/svg\" width=\"", width)
         .put_whole_length("\" height=\"", height)
@@ -161,7 +161,7 @@ fn put_head(page: Page, width: f64, height: f64) -> Page {
         .put(GROUND)
 }
 
-/// Appends the strips that the bars of charts need.
+/// Appends the patterns of the strips where a chart needs one.
 fn put_strips(page: Page, charts: &[Chart]) -> Page {
     if have_strips(charts) {
         return page.put(STRIPS);
@@ -169,9 +169,9 @@ fn put_strips(page: Page, charts: &[Chart]) -> Page {
     page
 }
 
-/// A picture of charts, below one another and over one scale: whole lines, as they are to be written.
+/// Returns a picture of charts, below one another and over one scale, as whole lines.
 ///
-/// A bar tells its exact start and end where it is pointed at. The only error is out of memory.
+/// A pointer on a bar shows the exact start and end of the bar. The only error is out of memory.
 pub(crate) fn write_svg(alloc: Global, charts: &[Chart]) -> Result<String, AllocError> {
     let frame = Frame::of(charts);
     let begun = Drawing {

@@ -6,13 +6,13 @@ use crate::length::digits_of;
 use crate::scale::{MOST_MARKS, Scale};
 use crate::terminal::WIDTH;
 
-/// The fillings of classes, from the highest on, and then again.
+/// The fillings of the classes, from the highest class on; they repeat behind the last filling.
 const FILLINGS: [u8; 6] = [b'#', b'=', b'+', b'-', b':', b'.'];
 
 /// The filling of waits.
 pub(crate) const WAIT: u8 = b'/';
 
-/// What stands where a bar begins, and where it ends that was printed.
+/// The character at the start of a bar, and at the end of a bar that was printed.
 const EDGE: u8 = b'|';
 
 /// The filling of a class at a place.
@@ -23,7 +23,7 @@ pub(crate) fn filling_of(class: usize) -> u8 {
 /// A row of a terminal's picture.
 pub(crate) type Row = [u8; WIDTH];
 
-/// A row without anything.
+/// A row of spaces.
 const EMPTY: Row = [b' '; WIDTH];
 
 fn put_cell(cells: &mut [u8], place: usize, byte: u8) {
@@ -43,7 +43,7 @@ fn digit_of(number: u64) -> u8 {
     b'0'.saturating_add((number % 10) as u8)
 }
 
-/// Puts the digits of a number from a column on.
+/// Puts the digits of a number into a row, from a column on.
 fn put_number(cells: &mut [u8], from: usize, number: u64) {
     let mut rest = number;
     for place in (from..from.saturating_add(digits_of(number))).rev() {
@@ -52,7 +52,7 @@ fn put_number(cells: &mut [u8], from: usize, number: u64) {
     }
 }
 
-/// Whether a cell shows that a job ended there that wasn't printed.
+/// Returns whether a cell marks the end of a job that was not printed.
 fn is_ending(byte: u8) -> bool {
     for ending in SHOWN {
         if edge_of(ending) == byte {
@@ -62,7 +62,7 @@ fn is_ending(byte: u8) -> bool {
     false
 }
 
-/// Puts the edge at which a bar begins, unless the one before shows there how it ended.
+/// Puts the edge at the start of a bar, unless the cell marks the ending of the bar before.
 fn put_begin(cells: &mut [u8], from: usize) {
     if let Some(cell) = cells.get_mut(from)
         && !is_ending(*cell)
@@ -110,7 +110,7 @@ fn put_lane_bar(cells: &mut [u8], scale: Scale, columns: u16, bar: &Bar) {
     }
 }
 
-/// The row of a lane, of so many columns and one.
+/// The row of a lane, of `columns` columns and one more.
 pub(crate) fn lane_row(scale: Scale, columns: u16, lane: &Lane) -> Row {
     let mut cells = EMPTY;
     for bar in &lane.bars {
@@ -119,13 +119,13 @@ pub(crate) fn lane_row(scale: Scale, columns: u16, lane: &Lane) -> Row {
     cells
 }
 
-/// Puts the number of a mark, which ends in a column; where it has no room there, it begins with the row.
+/// Puts the number of a mark, which ends in a column; a number without room there starts with the row.
 fn put_mark(cells: &mut [u8], column: u16, number: u64) {
     let behind = usize::from(column).saturating_add(1);
     put_number(cells, behind.saturating_sub(digits_of(number)), number);
 }
 
-/// The row of the scale's numbers, each of which ends below its moment; the first begins there.
+/// The row of the scale's numbers, each of which ends below its moment; the first number starts there.
 pub(crate) fn scale_row(scale: Scale, columns: u16) -> Row {
     let mut cells = EMPTY;
     for place in 0..=MOST_MARKS {

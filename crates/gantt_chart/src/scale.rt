@@ -1,8 +1,8 @@
-//! The scale of a chart: where a moment stands, and which moments are written below the lanes.
+//! The scale of a chart: the places of moments, and the moments that stand below the lanes.
 
 use std::num::nearest_u64_to_f64;
 
-/// Times between two marks, in ms: the first is taken of which few enough fit into the span.
+/// Times between two marks, in ms: a scale takes the first time of which few enough fit into the span.
 const STEPS: [u64; 32] = [
     1,
     2,
@@ -38,10 +38,10 @@ const STEPS: [u64; 32] = [
     31_536_000_000,
 ];
 
-/// How many marks there may be behind the first.
+/// The most marks behind the first mark.
 pub(crate) const MOST_MARKS: u64 = 12;
 
-/// What the marks count.
+/// The unit of the marks.
 #[derive(Clone, Copy)]
 pub(crate) enum Unit {
     Milliseconds,
@@ -56,7 +56,7 @@ pub(crate) struct Scale {
     step: u64,
 }
 
-/// A moment that is written, in ms, and by its number of units.
+/// A marked moment, in ms and in units.
 #[derive(Clone, Copy)]
 pub(crate) struct ScaleMark {
     pub(crate) moment: u64,
@@ -64,7 +64,7 @@ pub(crate) struct ScaleMark {
 }
 
 impl Unit {
-    /// The largest that isn't longer than a step.
+    /// The largest unit that is not longer than a step.
     fn of(step: u64) -> Unit {
         if step >= 60_000 {
             Unit::Minutes
@@ -92,7 +92,7 @@ impl Unit {
     }
 }
 
-/// The time between two marks.
+/// The time between two marks for a span, in ms.
 fn step_of(span: u64) -> u64 {
     for step in &STEPS {
         if span <= step.saturating_mul(MOST_MARKS) {
@@ -103,7 +103,7 @@ fn step_of(span: u64) -> u64 {
 }
 
 impl Scale {
-    /// The scale of so many ms.
+    /// Creates the scale of a span in ms.
     pub(crate) fn new(span: u64) -> Scale {
         Scale {
             span,
@@ -115,7 +115,7 @@ impl Scale {
         Unit::of(self.step)
     }
 
-    /// The mark at a place, if it is within the span; the first is that of the moment 0.
+    /// The mark at a place; `None` behind the end of the span. The first mark is the moment 0.
     pub(crate) fn mark(self, place: u64) -> Option<ScaleMark> {
         let moment = self.step.checked_mul(place)?;
         if moment > self.span {
@@ -130,7 +130,8 @@ impl Scale {
         nearest_u64_to_f64(moment.min(self.span)) / nearest_u64_to_f64(self.span.max(1))
     }
 
-    /// The column in which a moment stands, of so many from left to right, or behind the last one.
+    /// The column of a moment, among this number of columns from left to right; the end of the span is behind
+    /// the last column.
     pub(crate) fn column(self, moment: u64, columns: u16) -> u16 {
         let passed = u128::from(moment.min(self.span)) * u128::from(columns);
         let column = passed / u128::from(self.span.max(1));

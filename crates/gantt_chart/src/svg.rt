@@ -2,7 +2,7 @@
 
 use crate::page::Page;
 
-/// A drawing under way: its elements, and where the lowest of them ends.
+/// A drawing under way: its elements, and the lower end of the lowest element.
 #[derive(Drop)]
 pub(crate) struct Drawing {
     pub(crate) page: Page,
@@ -10,7 +10,7 @@ pub(crate) struct Drawing {
 }
 
 impl Page {
-    /// Appends a byte of a text as SVG reads it: letters of ASCII as they are, what else there may be as `?`.
+    /// Appends a byte of a text as SVG reads it: letters of ASCII as they are, each other byte as `?`.
     fn put_escaped_byte(self, byte: u8) -> Page {
         match byte {
             b'&' => self.put("&amp;"),
@@ -30,19 +30,19 @@ impl Page {
         page
     }
 
-    /// Appends the begin of a path that starts there.
+    /// Appends the begin of a path that starts at this place.
     pub(crate) fn begin_path(self, x: f64, y: f64) -> Page {
         self.put_length("<path d=\"M", x).put_length(" ", y)
     }
 
-    /// Appends the begin of a text whose line begins there, up to its other attributes.
+    /// Appends the begin of a text at this place, up to its other attributes.
     pub(crate) fn place_text(self, x: f64, y: f64) -> Page {
         self.put_length("<text x=\"", x)
             .put_length("\" y=\"", y)
             .put("\"")
     }
 
-    /// Appends the begin of a text whose line begins there, with attributes of its own.
+    /// Appends the begin of a text at this place, with further attributes.
     pub(crate) fn begin_text(self, x: f64, y: f64, attributes: &str) -> Page {
         self.place_text(x, y).put(attributes).put(">")
     }
@@ -52,7 +52,7 @@ impl Page {
         self.put("</text>\n")
     }
 
-    /// Appends a text whose line begins there, with attributes of its own.
+    /// Appends a text at this place, with further attributes.
     pub(crate) fn put_text(self, x: f64, y: f64, attributes: &str, text: &[u8]) -> Page {
         self.begin_text(x, y, attributes)
             .put_escaped(text)

@@ -13,12 +13,12 @@ use std::alloc::{AllocError, Global};
 /// The columns of a line.
 pub(crate) const WIDTH: usize = 80;
 
-/// The columns that names take at most, and the least, in which a unit fits too.
+/// The most columns of a name, and the fewest, in which a unit fits too.
 const LONGEST_NAME: usize = 16;
 
 const SHORTEST_NAME: usize = 8;
 
-/// The columns of the longest name of a chart.
+/// The number of columns of the longest name of a chart.
 fn longest_name(chart: &Chart) -> usize {
     let mut longest = SHORTEST_NAME;
     for lane in &chart.lanes {
@@ -27,7 +27,7 @@ fn longest_name(chart: &Chart) -> usize {
     longest
 }
 
-/// How many columns names take.
+/// The number of columns of the names of all charts.
 fn name_columns(charts: &[Chart]) -> usize {
     let mut longest = SHORTEST_NAME;
     for chart in charts {
@@ -36,7 +36,7 @@ fn name_columns(charts: &[Chart]) -> usize {
     longest.min(LONGEST_NAME)
 }
 
-/// Appends a name, cut off or filled up with spaces to so many columns.
+/// Appends a name, cut off or filled up with spaces to this number of columns.
 pub(crate) fn put_name(page: Page, name: &[u8], columns: usize) -> Page {
     let mut page = page;
     for place in 0..columns {
@@ -46,7 +46,7 @@ pub(crate) fn put_name(page: Page, name: &[u8], columns: usize) -> Page {
     page
 }
 
-/// Appends a row behind its name, without the spaces at its end.
+/// Appends a name and its row, without the spaces at the end of the row.
 fn put_row(page: Page, name: &[u8], columns: usize, cells: &[u8]) -> Page {
     let mut page = put_name(page, name, columns);
     for byte in cells.trim_ascii_end() {
@@ -55,7 +55,7 @@ fn put_row(page: Page, name: &[u8], columns: usize, cells: &[u8]) -> Page {
     page.put_letter('\n')
 }
 
-/// Appends the rows of lanes, and that of the scale.
+/// Appends the rows of the lanes, and the row of the scale.
 fn put_rows(page: Page, chart: &Chart, scale: Scale, names: usize) -> Page {
     let columns = u16::try_from(WIDTH.saturating_sub(names.saturating_add(1))).unwrap_or(0);
     let mut page = page;
@@ -85,7 +85,7 @@ fn put_stranded(page: Page, stranded: &[Stranded]) -> Page {
     page
 }
 
-/// Appends what else is said of jobs, a line each.
+/// Appends the further sentences about jobs, a line each.
 fn put_notes(page: Page, notes: &[String]) -> Page {
     let mut page = page;
     for note in notes {
@@ -94,7 +94,7 @@ fn put_notes(page: Page, notes: &[String]) -> Page {
     page
 }
 
-/// Appends a chart, with the numbers and lengths of all its jobs below.
+/// Appends a chart, and below it the numbers and lengths of all its jobs.
 fn put_chart(page: Page, chart: &Chart, scale: Scale, names: usize) -> Page {
     let page = page.put(&chart.title).put_letter('\n');
     let page = put_times(page, chart).put("\n\n");
@@ -105,7 +105,7 @@ fn put_chart(page: Page, chart: &Chart, scale: Scale, names: usize) -> Page {
     put_notes(page, &chart.notes)
 }
 
-/// Appends charts, with an empty line between two.
+/// Appends charts, with an empty line between two charts.
 fn put_charts(page: Page, charts: &[Chart]) -> Page {
     let names = name_columns(charts);
     let scale = Scale::new(longest_span(charts));
@@ -119,8 +119,8 @@ fn put_charts(page: Page, charts: &[Chart]) -> Page {
     page
 }
 
-/// A picture of charts in 80 columns, below one another and over one scale: whole lines, as they are to be
-/// written. The only error is out of memory.
+/// Returns a picture of charts in 80 columns, below one another and over one scale, as whole lines. The only
+/// error is out of memory.
 pub(crate) fn write_text(alloc: Global, charts: &[Chart]) -> Result<String, AllocError> {
     put_charts(Page::new(alloc), charts).finish()
 }

@@ -2,7 +2,7 @@
 use Rattle.std.specs.Prelude.{ℕ, ◌≡◌, ◌+◌, Bool, true, false, if◌then◌else◌, List, [], ◌∷◌}
 use Rattle.http_front.specs.Stream.{Said, HasHead, Invites, HasByte, EndsBody, IsRefused, Exchanges, is_last}
 
--- the place between exchanges; after a head; or after an invitation or so many bytes of the body. The head says whether the exchange closes the connection
+-- the place between exchanges; after a head; or after an invitation or this many bytes of the body. The head says whether the exchange closes the connection
 pub data Place : Type 0 where
   Between : Place
   Headed : (closes : Bool) → Place

@@ -23,7 +23,7 @@ use Rattle.http_front.specs.declared.reader.Step.TheVariants as step
 use Rattle.http_front.specs.Chunk.{IsSizeOf, chunk_end}
 use Rattle.http_front.specs.Head.{Asks}
 
--- one thing that a stream says: a head, an invitation, a byte of a body, or the end of a body
+-- an element that a stream says: a head, an invitation, a byte of a body, the end of a body, or a refusal
 pub data Said : Type 0 where
   HasHead : (closes : Bool) → Said
   Invites : Said
@@ -31,7 +31,7 @@ pub data Said : Type 0 where
   EndsBody : Said
   IsRefused : HttpRejection → Said
 
--- what an item says, with the part that the reader lends
+-- the elements of an item, with the part that the reader lends
 abbrev pub said_by : HttpItem → List ℕ → List Said
 said_by (item.Head closes) part = HasHead closes ∷ []
 said_by item.Continue part = Invites ∷ []
@@ -39,7 +39,7 @@ said_by item.BodyPart part = map HasByte part
 said_by item.BodyEnd part = EndsBody ∷ []
 said_by (item.Refuse refusal) part = IsRefused refusal ∷ []
 
--- a step at the front of the bytes: what it says, the bytes behind it, and what is awaited next; or a wait for more bytes
+-- a step at the front of the bytes: its elements, the bytes behind it, and the part that is awaited next; or a wait for more bytes
 pub data Front : Type 0 where
   Goes : (said : List Said) (rest : List ℕ) (next : Awaited) → Front
   Waits : Front
@@ -64,7 +64,7 @@ body_left (Size room closes) = 0
 body_left (Trailer last) = 0
 body_left Nothing = 0
 
--- what is awaited behind `count` more bytes of a body or of a chunk
+-- the part that is awaited behind `count` more bytes of a body or of a chunk
 abbrev pub past_body : ℕ → Awaited → Awaited
 past_body count (Body left following) = Body (left - count) following
 past_body count Head = Head
@@ -80,7 +80,7 @@ abbrev pub begun : Result Request HttpRejection → List ℕ → Front
 begun (Ok request) rest = Goes (HasHead request.closes ∷ []) rest (after_head request)
 begun (Err refusal) rest = refused refusal rest
 
--- what is awaited behind a body: nothing behind the last, where bytes are dropped
+-- the part that is awaited behind a body; behind the last body nothing is awaited, and bytes are dropped
 abbrev pub after_body : Bool → Awaited
 after_body last = if last then Nothing else Head
 
@@ -140,7 +140,7 @@ trailer_front last bytes (Whole count) = Goes (EndsBody ∷ []) (drop count byte
 trailer_front last bytes TooLong = refused BadRequest bytes
 trailer_front last bytes Unfinished = Waits
 
--- the step at the front of the bytes, by what is awaited
+-- the step at the front of the bytes, by the part that is awaited
 abbrev pub FrontIs : Awaited → List ℕ → Front → Type 0
 FrontIs Head bytes front = AtHead bytes front
 FrontIs (Invitation framing closes) bytes front = front ≡ Goes (Invites ∷ []) bytes (body_by framing closes)
@@ -149,7 +149,7 @@ FrontIs (Size room closes) bytes front = SizeIn bytes room closes (first_line_of
 FrontIs (Trailer last) bytes front = front ≡ trailer_front last bytes (section_in HTTP_TRAILER_BYTES bytes)
 FrontIs Nothing bytes front = front ≡ Waits
 
--- the bytes say this in so many steps, and then more bytes are awaited
+-- the bytes say these elements in `steps` steps, and then more bytes are awaited
 abbrev pub SaysIn : ℕ → Awaited → List ℕ → List Said → Type 0
 SaysIn zero awaited bytes said = (said ≡ []) × FrontIs awaited bytes Waits
 SaysIn (suc steps) awaited bytes said =
@@ -159,23 +159,23 @@ SaysIn (suc steps) awaited bytes said =
 abbrev pub Says : Awaited → List ℕ → List Said → Type 0
 Says awaited bytes said = (steps : ℕ) × SaysIn steps awaited bytes said
 
--- what a whole stream says
+-- the elements of a whole stream
 abbrev pub Exchanges : List ℕ → List Said → Type 0
 Exchanges stream said = Says Head stream said
 
--- two readings of one stream say the same
+-- two readings of one stream give the same elements
 abbrev pub SaysOne : Type 0
 SaysOne = (stream : List ℕ) (given said : List Said) → Exchanges stream given → Exchanges stream said → given ≡ said
 
--- each stream says something
+-- each stream has a reading
 abbrev pub SaysSome : Type 0
 SaysSome = (stream : List ℕ) → (said : List Said) × Exchanges stream said
 
--- what a stream says is a front of what the stream says with more bytes behind it
+-- the elements of a stream are a front of the elements of the stream with more bytes behind it
 abbrev pub StaysInFront : Type 0
 StaysInFront = (stream more : List ℕ) (given said : List Said) → Exchanges stream given → Exchanges (stream ++ more) said → (later : List Said) × (said ≡ given ++ later)
 
--- the bytes say this in so many steps, and lead to this state with these bytes left
+-- the bytes say these elements in `steps` steps, and lead to this awaited part with these bytes left
 abbrev pub LeadsIn : ℕ → Awaited → List ℕ → List Said → Awaited → List ℕ → Type 0
 LeadsIn zero awaited bytes said next left = (said ≡ []) × (next ≡ awaited) × (left ≡ bytes)
 LeadsIn (suc steps) awaited bytes said next left =
@@ -185,21 +185,21 @@ LeadsIn (suc steps) awaited bytes said next left =
 abbrev pub Leads : Awaited → List ℕ → List Said → Awaited → List ℕ → Type 0
 Leads awaited bytes said next left = (steps : ℕ) × LeadsIn steps awaited bytes said next left
 
--- a stream says this first, whatever bytes follow
+-- the stream says these elements first, for all bytes that may follow
 pub record SaysFirst (stream : List ℕ) (said : List Said) : Type 0 where
   pub next : Awaited
   pub left : List ℕ
   pub leads : Leads Head stream said next left
 
--- what a stream says first is a front of what it says with more bytes behind it
+-- the elements that a stream says first are a front of the elements of the stream with more bytes behind it
 abbrev pub FirstStays : Type 0
 FirstStays = (stream more : List ℕ) (first said : List Said) → SaysFirst stream first → Exchanges (stream ++ more) said → (later : List Said) × (said ≡ first ++ later)
 
--- two fronts of what a stream says are equal if their lengths are
+-- two fronts of the elements of a stream are equal if their lengths are equal
 abbrev pub FirstIsOne : Type 0
 FirstIsOne = (stream : List ℕ) (one other : List Said) → SaysFirst stream one → SaysFirst stream other → length one ≡ length other → one ≡ other
 
--- the state of a reader: the part of a body that it lends, the bytes that aren't read, and what it awaits
+-- the state of a reader: the part of a body that it lends, the bytes that aren't read, and the part that it awaits
 pub record HttpState : Type 0 where
   pub part : List ℕ
   pub rest : List ℕ
@@ -222,23 +222,23 @@ AwaitsBody count reader = (reader.rest ≡ []) × HasLeft count reader.awaited
 abbrev pub IsOver : HttpState → Type 0
 IsOver reader = reader.awaited ≡ Nothing
 
--- The reader was fed this stream and has given this. The stream says that first, and leads to what the reader awaits with the bytes that the reader has left. A reader that awaits nothing may have dropped those bytes.
+-- The reader was fed this stream and has given these elements. The stream says them first, and leads to the part that the reader awaits, with the bytes that the reader has left. A reader that awaits nothing may have dropped those bytes.
 pub record Stands (stream : List ℕ) (given : List Said) (reader : HttpState) : Type 0 where
   pub left : List ℕ
   pub leads : Leads Head stream given reader.awaited left
   pub kept : IsOver reader ⊎ (left ≡ reader.rest)
 
--- what a reader has given is a front of what its stream says
+-- the elements that a reader has given are a front of the elements of its stream
 abbrev pub GivesTheFront : Type 0
 GivesTheFront = (stream : List ℕ) (given : List Said) (reader : HttpState) → Stands stream given reader → (later : List Said) × Exchanges stream (given ++ later)
 
--- a whole stream says what a reader has given, and then what the reader's state says of its bytes and those that come
+-- a whole stream says the elements that a reader has given, and then the elements that the reader's state says of its bytes and of the bytes that follow
 abbrev pub HearsTheRest : Type 0
 HearsTheRest =
     (stream coming : List ℕ) (given said : List Said) (reader : HttpState)
     → Stands stream given reader → Says reader.awaited (reader.rest ++ coming) said → Exchanges (stream ++ coming) (given ++ said)
 
--- the reader went from one state to another and gave this from its stream
+-- the reader went from one state to another and gave these elements of its stream
 abbrev pub Advances : HttpState → List Said → HttpState → Type 0
 Advances old said new = (stream : List ℕ) (given : List Said) → Stands stream given old → Stands stream (given ++ said) new
 
@@ -260,13 +260,13 @@ rank (Invitation framing closes) = 3
 abbrev pub work : HttpState → ℕ
 work reader = 4 * length reader.rest + rank reader.awaited
 
--- the result of one step of the reader: a step without an item passes bytes that say nothing, or waits and changes nothing
+-- the result of one step of the reader: a step without an item passes over bytes without an element, or waits and changes nothing
 abbrev pub Steps : HttpState → Step → HttpState → Type 0
 Steps old (step.Gives said) new = Advances old (said_by said new.part) new × Stops said new × (work new < work old)
 Steps old step.Passes new = Advances old [] new × (length new.rest < length old.rest)
 Steps old step.Waits new = (new ≡ old) × FrontIs old.awaited old.rest Waits
 
--- the answer of a reader, and its state then: an item, which the stream says next; or none, and then the stream says no more
+-- the answer of a reader, and its state then: an item, which the stream says next; or no item, and then the stream says no more
 abbrev pub Answers : HttpState → Option HttpItem → HttpState → Type 0
 Answers old (Some said) new = Advances old (said_by said new.part) new × Stops said new
 Answers old None new = Advances old [] new × ((stream : List ℕ) (given : List Said) → Stands stream given old → Exchanges stream given)

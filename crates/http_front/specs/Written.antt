@@ -1,4 +1,4 @@
--- A request as its client writes it: a head, and a body of a length or in chunks (RFC 9112, sections 6.2 and 7.1). The laws here connect the written request to what its stream says.
+-- A request as its client writes it: a head, and a body of a length or in chunks (RFC 9112, sections 6.2 and 7.1). The laws here connect the written request to the elements of its stream.
 use Rattle.std.specs.Prelude.{ℕ, ◌≡◌, ◌+◌, ◌-◌, ◌<◌, ◌≤◌, true, if◌then◌else◌, List, [], ◌∷◌, ◌++◌, length, map, Some, Ok}
 use Rattle.std.specs.List.{flat_map}
 use Rattle.base_types.specs.declared.limits.TheConstants.Limits.{HTTP_HEAD_BYTES, HTTP_BODY_BYTES, HTTP_CHUNK_LINE_BYTES, HTTP_TRAILER_BYTES}

@@ -1,11 +1,11 @@
-//! What the reader awaits after a head or a body.
+//! The part of the stream that the reader awaits after a head or a body.
 ghost use Rattle.std.specs.Prelude.{◌≡◌};
 ghost use Rattle.http_front.specs.Stream.{after_head, body_by, after_body, begins_head, is_last, past_body};
 
 use crate::awaited::{Awaited, Following, Framing, Request};
 use base_types::Limits;
 
-/// What the reader awaits after a head.
+/// The part that the reader awaits after a head.
 pub(crate) fn after_head(request: Request) -> Awaited
     ensures { result ≡ after_head request }
 {
@@ -23,7 +23,7 @@ pub(crate) fn is_last(closes: bool, length: u32) -> bool
     closes || length < Limits::IPP_HEADER_BYTES as u32
 }
 
-/// What the reader awaits for a body of a framing.
+/// The part that the reader awaits for a body with this framing.
 pub(crate) fn body_by(framing: Framing, closes: bool) -> Awaited
     ensures { result ≡ body_by framing closes }
 {
@@ -33,7 +33,7 @@ pub(crate) fn body_by(framing: Framing, closes: bool) -> Awaited
     }
 }
 
-/// What the reader awaits after a body. `last` says whether the exchange is the last.
+/// The part that the reader awaits after a body. `last` says whether the exchange is the last.
 pub(crate) fn after_body(last: bool) -> Awaited
     ensures { result ≡ after_body last }
 {

@@ -1,7 +1,7 @@
 /// The length of a body, by the fields of the head (RFC 9112, section 6.3).
 #[derive(Clone, Copy, Debug, PartialEq, Eq)]
 pub(crate) enum Framing {
-    /// A body of so many bytes.
+    /// A body of this many bytes.
     Length(u32),
     /// A body in chunks.
     Chunked,
@@ -34,7 +34,7 @@ pub(crate) enum Awaited {
     Head,
     /// The client awaits `100 Continue`.
     Invitation(Framing, bool),
-    /// So many bytes of the body.
+    /// This many bytes of the body.
     Body(u32, Following),
     /// The line with the size of a chunk. The most bytes that this chunk and those behind it may have
     /// together.

@@ -3,21 +3,21 @@ ghost use Rattle.http_front.specs.Stream.{SaysOne, SaysSome, StaysInFront, First
 ghost use Rattle.http_front.specs.Order.{SaysInOrder};
 ghost use Rattle.http_front.specs.Written.{LengthSays, ChunksSay};
 
-/// Two readings of one stream say the same, and that is a front of what the stream says with more bytes
-/// behind it.
+/// Two readings of one stream give the same elements, and these are a front of the elements of the stream
+/// with more bytes behind it.
 pub fn one_saying()
     ensures one { SaysOne }
     ensures front { StaysInFront }
 {}
 
-/// Each stream says something. What a reader has given is a front of it, for every cutting of the stream into
-/// pieces.
+/// Each stream has a reading. The elements that a reader has given are a front of that reading, for every
+/// cutting of the stream into pieces.
 pub fn some_saying()
     ensures some { SaysSome }
     ensures front { GivesTheFront }
 {}
 
-/// Two fronts of what a stream says are equal if their lengths are.
+/// Two fronts of the elements of a stream are equal if their lengths are equal.
 pub fn one_front()
     ensures { FirstIsOne }
 {}
@@ -27,8 +27,9 @@ pub fn exchanges_in_order()
     ensures { SaysInOrder }
 {}
 
-/// What a reader has given is a front of what the whole stream says, whatever bytes follow. The rest is what
-/// the reader's state says of its unread bytes and those that follow.
+/// The elements that a reader has given are a front of the elements of the whole stream, for all bytes that
+/// may follow. The other elements are those that the reader's state says of its unread bytes and of the bytes
+/// that follow.
 pub fn given_first()
     ensures first { FirstStays }
     ensures rest { HearsTheRest }

@@ -19,7 +19,7 @@ use std::mem;
 use text::{FirstLine, Unread, first_line};
 
 /// A reader of an HTTP client's stream, which is fed in pieces of any length. In clauses it is a record of
-/// the part of a body that it lends, the bytes that aren't read, and what it awaits.
+/// the part of a body that it lends, the bytes that aren't read, and the part that it awaits.
 ///
 /// After a request that is refused, one whose connection closes, and one whose body is too short for an IPP
 /// message, the reader gives no more items, and drops the bytes that it is fed.
@@ -389,7 +389,7 @@ impl HttpReader {
         Ok(())
     }
 
-    /// Takes bytes where all earlier ones are read, without moving the part that was lent. The only error is
+    /// Takes bytes where all earlier bytes are read, without moving the part that was lent. The only error is
     /// out of memory, and leaves the reader as it was.
     fn begin(&mut self, piece: &[u8]) -> Result<(), AllocError>
         requires { self.old.rest ≡ [] }

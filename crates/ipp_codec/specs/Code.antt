@@ -1,10 +1,10 @@
--- The parts of messages as trees of numbers: the codes by which proofs tell them apart, where a type's model is made of them.
+-- The parts of messages as trees of numbers. Proofs use the trees as codes where a type's model is made of such parts.
 use Rattle.std.specs.Prelude.{◌≡◌, ℕ, List, [], ◌∷◌, refl}
 use Rattle.std.specs.Coded.{Coded, code_by, coded×, coded_list, coded_ℕ}
 use base.Stored.{Gv, gnil, gnum, gcons}
 use Rattle.ipp_codec.specs.Message.{IppValue, plain, collection, IppValues, no_value, value_and, IppMembers, no_member, member_and, IppAttribute, IppGroup, IppMessage}
 
--- a tree stands for itself
+-- a tree is its own code
 abbrev tree_code : Coded Gv
 tree_code = record { code = λ tree. tree; inj = λ x y same. same }
 

@@ -1,4 +1,4 @@
--- What a decoder knows of the bytes that it was fed, in pieces of any length.
+-- The state of a decoder that was fed bytes, in pieces of any length.
 use Rattle.std.specs.Prelude.{◌≡◌, ◌≢◌, ◌<◌, ◌≤◌, ℕ, ◌+◌, max, nat_le, ◌==◌, List, ◌++◌, length, take, drop, get_or, if◌then◌else◌, Option, Some, None, Result, Ok, Err}
 use Rattle.base_types.specs.declared.limits.TheConstants.Limits.{IPP_HEAD_BYTES}
 use Rattle.ipp_codec.specs.declared.fault.CodecFault.{CodecFault}
@@ -20,7 +20,7 @@ use Rattle.ipp_codec.specs.Place.{place_from, Follows}
 use Rattle.ipp_codec.specs.FirstFault.{First, HeadFault}
 use Rattle.ipp_codec.specs.Decoding.{fault_within}
 
--- a decoder: the bytes that it keeps, how many of them are read, the place behind those, and how far it is
+-- the state of a decoder: the bytes that it keeps, the number of those that are read, the place behind them, and the stage
 pub record DecoderState : Type 0 where
   pub head : List ℕ
   pub walked : ℕ
@@ -31,21 +31,21 @@ pub record DecoderState : Type 0 where
 abbrev pub IsBytes : List ℕ → Type 0
 IsBytes bytes = (i : ℕ) → get_or bytes i 0 < 256
 
--- the bytes begin with elements that lead to the place, and then these are left
+-- the bytes begin with elements that lead to the place, and these bytes are left
 abbrev pub Leads : List ℕ → Place → List ℕ → Type 0
 Leads bytes place rest = (es : List Element) × Follows Outside es × (bytes ≡ bytes_of es ++ rest) × (place ≡ place_from Outside es)
 
--- nothing is read before the header is whole, and behind it whole elements, behind which bytes are missing
+-- no bytes are read before the header is whole; then whole elements are read, and bytes of the next element are missing
 abbrev pub IsRead : DecoderState → Type 0
 IsRead d = (d.walked < 8 → d.place ≡ Outside) × (8 ≤ d.walked → Leads (drop 8 d.head) d.place (drop d.walked d.head) × First d.place (drop d.walked d.head) Short)
 
--- what `decode` would answer, and what is kept for it: all bytes while more are awaited, and else those of the head
+-- the result of `decode` by the stage, and the bytes that are kept for it: all bytes while more are awaited, else those of the head
 abbrev pub StandsAt : Stage → List ℕ → DecoderState → Type 0
 StandsAt Awaiting fed d = (d.head ≡ fed) × HeadFault fed Short × IsRead d
 StandsAt Whole fed d = (length d.head ≤ IPP_HEAD_BYTES) × ((m : IppMessage) × Spells d.head m)
 StandsAt (Faulty fault) fed d = (fault ≢ Short) × HeadFault fed fault × (8 ≤ length d.head)
 
--- The decoder was fed these bytes. What it keeps is the front of them, their header at least.
+-- The decoder was fed these bytes. It keeps a front of them, with at least as much of the header as was fed.
 pub record Stands (fed : List ℕ) (d : DecoderState) : Type 0 where
   pub bytes : IsBytes fed
   pub front : (rest : List ℕ) × (fed ≡ d.head ++ rest)
@@ -56,7 +56,7 @@ pub record Stands (fed : List ℕ) (d : DecoderState) : Type 0 where
 abbrev pub TakesIn : DecoderState → List ℕ → DecoderState → Type 0
 TakesIn old piece new = (fed : List ℕ) → Stands fed old → Stands (fed ++ piece) new
 
--- what feeding a piece comes to
+-- the result of feeding a piece
 abbrev pub Feeds : DecoderState → List ℕ → Result Fed DecodeError → DecoderState → Type 0
 Feeds old piece (Ok More) new = TakesIn old piece new × (new.stage ≡ Awaiting)
 Feeds old piece (Ok (Head count)) new = TakesIn old piece new × (new.stage ≡ Whole) × (length new.head ≡ length old.head + count) × (count ≤ length piece)
@@ -65,25 +65,25 @@ Feeds old piece (Err OutOfMemory) new = new ≡ old
 
 -- ---- steps
 
--- how far a decoder is, as it may be brought back there
+-- the progress of a decoder, to which it may return
 abbrev pub reached_of : DecoderState → Reached
 reached_of d = record { length = length d.head; walked = d.walked; place = d.place; stage = d.stage }
 
--- as a decoder was that had come so far
+-- the decoder at an earlier progress
 abbrev pub returned : DecoderState → Reached → DecoderState
 returned d reached = record { head = take reached.length d.head; walked = reached.walked; place = reached.place; stage = reached.stage }
 
--- A decoder may have come so far.
+-- A decoder may have this progress.
 pub record CanReach (reached : Reached) : Type 0 where
   pub within : reached.walked ≤ reached.length
   pub header : reached.walked < 8 → reached.length < 8
   pub whole : reached.stage ≡ Whole → 9 ≤ reached.length
 
--- more bytes of the head are awaited, and may come
+-- more bytes of the head are awaited, and the limit isn't reached
 abbrev pub MayCome : DecoderState → Type 0
 MayCome d = (d.stage ≡ Awaiting) × (length d.head < IPP_HEAD_BYTES)
 
--- what is answered at a stage to a piece of which so many bytes are kept
+-- the result of feeding a piece of which `count` bytes were kept
 abbrev pub answer_at : Stage → ℕ → Result Fed DecodeError
 answer_at Awaiting count = Ok More
 answer_at Whole count = Ok (Head count)
@@ -93,28 +93,28 @@ answer_at (Faulty fault) count = Err (Fault fault)
 abbrev pub with_header : DecoderState → List ℕ → DecoderState
 with_header d front = record d { head = d.head ++ front; walked = if length (d.head ++ front) == 8 then 8 else d.walked }
 
--- bytes are missing, or there is a fault
+-- the stage of a fault: for `Short`, more bytes are awaited
 abbrev pub stage_of : CodecFault → Stage
 stage_of Short = Awaiting
 stage_of fault = Faulty fault
 
--- the stage behind elements that the end byte or a fault follows, where so many bytes are kept
+-- the stage behind elements, followed by the end byte or a fault, where this many bytes are kept
 abbrev pub stage_at : Option CodecFault → ℕ → Stage
 stage_at None kept = Whole
 stage_at (Some fault) kept = stage_of (fault_within fault (nat_le IPP_HEAD_BYTES kept))
 
--- how many are kept of so many bytes whose elements have this length
+-- the number of bytes that are kept, of `all` bytes whose elements have `length` bytes
 abbrev pub kept_of : Option CodecFault → ℕ → ℕ → ℕ
 kept_of None length all = length + 1
 kept_of (Some Short) length all = all
 kept_of (Some fault) length all = length
 
--- what is kept of bytes of which so many stand before the end byte, and so many were kept before
+-- the bytes that are kept, where `length` bytes are before the end byte and `kept` were kept before
 abbrev pub ended : Option CodecFault → ℕ → ℕ → List ℕ → List ℕ
 ended None kept length head = take (max kept (length + 1)) head
 ended (Some fault) kept length head = head
 
--- what a walk over the bytes behind those that were read makes of a decoder
+-- the decoder after a walk over the bytes behind those that were read
 abbrev pub settled : DecoderState → Walk → ℕ → DecoderState
 settled d walk kept = record {
   head = ended walk.fault kept (d.walked + walk.length) d.head;

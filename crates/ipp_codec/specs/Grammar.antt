@@ -1,4 +1,4 @@
--- Which messages have a spelling, and what spells one (RFC 8010, section 3).
+-- The messages that have a spelling, and the spelling of a message (RFC 8010, section 3).
 use Rattle.std.specs.Prelude.{◌≡◌, ◌≢◌, ◌⊎◌, ◌<◌, ◌≤◌, ◌^◌, ℕ, ◌-◌, List, [], ◌∷◌, ◌++◌, length}
 use Rattle.std.specs.List.{AllByRecursion}
 use Rattle.base_types.specs.declared.limits.TheConstants.Limits.{COLLECTION_DEPTH}
@@ -28,7 +28,7 @@ pub record HasShape (tag : ℕ) (bytes : List ℕ) : Type 0 where
   pub text : tag ≡ 0x35 → IsWithLanguage bytes
   pub name : tag ≡ 0x36 → IsWithLanguage bytes
 
--- a value that is no collection
+-- a value that isn't a collection
 pub record IsPlain (tag : ℕ) (bytes : List ℕ) : Type 0 where
   pub tag_from : 16 ≤ tag
   pub tag_below : tag < 256
@@ -36,11 +36,11 @@ pub record IsPlain (tag : ℕ) (bytes : List ℕ) : Type 0 where
   pub length : length bytes < 0x8000
   pub shape : HasShape tag bytes
 
--- a name that is written
+-- a name that isn't empty, and whose length fits
 abbrev pub IsName : List ℕ → Type 0
 IsName name = (name ≢ []) × (length name < 0x8000)
 
--- values with at most so many collections inside one another
+-- values with at most `limit` nested collections
 abbrev mutual
   pub IsValue : ℕ → IppValue → Type 0
   IsValue limit (plain tag bytes) = IsPlain tag bytes

@@ -1,4 +1,4 @@
--- What an IPP message says (RFC 8010, section 3.1): groups of attributes, and collections among their values.
+-- The content of an IPP message (RFC 8010, section 3.1): groups of attributes, whose values may be collections.
 use Rattle.std.specs.Prelude.{ℕ, List, [], ◌∷◌}
 
 mutual
@@ -12,18 +12,18 @@ mutual
     no_value : IppValues
     value_and : IppValue → IppValues → IppValues
 
-  -- a member's name, its first value, its other values, and the members after it
+  -- a member's name, its first value, its other values, and the members behind it
   pub data IppMembers : Type 0 where
     no_member : IppMembers
     member_and : List ℕ → IppValue → IppValues → IppMembers → IppMembers
 
--- a member of a collection: it has at least one value
+-- a member of a collection, with at least one value
 pub record IppMember : Type 0 where
   pub name : List ℕ
   pub first : IppValue
   pub others : List IppValue
 
--- an attribute: it has at least one value
+-- an attribute, with at least one value
 pub record IppAttribute : Type 0 where
   pub name : List ℕ
   pub first : IppValue
@@ -34,7 +34,7 @@ pub record IppGroup : Type 0 where
   pub tag : ℕ
   pub attributes : List IppAttribute
 
--- the code is an operation's in a request, and a status in a response
+-- a message; its code is that of an operation in a request, and that of a status in a response
 pub record IppMessage : Type 0 where
   pub major : ℕ
   pub minor : ℕ
@@ -64,17 +64,17 @@ abbrev pub members_in : IppMembers → List IppMember
 members_in no_member = []
 members_in (member_and name first others ms) = record { name = name; first = first; others = values_in others } ∷ members_in ms
 
--- the tag of a value: a collection has that of begCollection
+-- the tag of a value; a collection has that of begCollection
 abbrev pub tag_of : IppValue → ℕ
 tag_of (plain tag bytes) = tag
 tag_of (collection members) = 0x34
 
--- the bytes of a value: a collection has none
+-- the bytes of a value; a collection has none
 abbrev pub bytes_in : IppValue → List ℕ
 bytes_in (plain tag bytes) = bytes
 bytes_in (collection members) = []
 
--- the members of a collection: any other value has none
+-- the members of a collection; any other value has none
 abbrev pub members_within : IppValue → List IppMember
 members_within (plain tag bytes) = []
 members_within (collection members) = members_in members

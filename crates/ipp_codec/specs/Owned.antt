@@ -1,4 +1,4 @@
--- What owned values mean.
+-- The content of owned values.
 use Rattle.std.specs.Prelude.{List, map}
 use Rattle.ipp_codec.specs.declared.value.Value.{Value}
 use Rattle.ipp_codec.specs.declared.value.Value.TheOpen.{Value-F, Member-F}
@@ -16,11 +16,11 @@ value_step (layer.Collection members) = collection (members_of members.items)
 abbrev pub member_step : Member-F IppValue IppMember → IppMember
 member_step m = record { name = m.name.items; first = m.first; others = m.others.items }
 
--- a value without where it lies in memory
+-- the content of a value, without its places in memory
 abbrev pub value_owned : Value → IppValue
 value_owned = fold-Value IppValue IppMember value_step member_step
 
--- the same of a member
+-- the content of a member, without its places in memory
 abbrev pub member_owned : Member → IppMember
 member_owned = fold-Member IppValue IppMember value_step member_step
 

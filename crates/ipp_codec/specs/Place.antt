@@ -1,4 +1,4 @@
--- What may stand where in a head (RFC 8010, sections 3.1.2 to 3.1.6).
+-- The places in a head, and the elements that may come at each (RFC 8010, sections 3.1.2 to 3.1.6).
 use Rattle.std.specs.Prelude.{◌≡◌, ◌≢◌, ◌<◌, ℕ, zero, suc, List, [], ◌∷◌, length}
 use Rattle.base_types.specs.declared.limits.TheConstants.Limits.{COLLECTION_DEPTH}
 use Rattle.ipp_codec.specs.declared.place.Place.{Place}
@@ -6,14 +6,14 @@ use Rattle.ipp_codec.specs.declared.place.Place.TheVariants.{Outside, Opened, Va
 use Rattle.ipp_codec.specs.Spelling.{Element, opening, plainly, begin, named, finish}
 use Rattle.ipp_codec.specs.Grammar.{IsGroupTag, IsPlain, IsName}
 
--- how many collections are open
+-- the number of open collections
 abbrev pub depth : Place → ℕ
 depth (Begun outer) = suc outer
 depth (Naming outer) = suc outer
 depth (Within outer) = suc outer
 depth _ = 0
 
--- the place behind a value, where so many collections are open
+-- the place behind a value, where `outer` collections are open
 abbrev pub after_value : ℕ → Place
 after_value zero = Valued
 after_value (suc outer) = Within outer
@@ -43,7 +43,7 @@ abbrev pub place_from : Place → List Element → Place
 place_from place [] = place
 place_from place (e ∷ es) = place_from (after place e) es
 
--- A value with this name may stand here: a group's first has a name, a member's has none.
+-- A value with this name may come at the place: a group's first value has a name, a member's has none.
 abbrev pub TakesValue : Place → List ℕ → Type 0
 TakesValue Outside name = ⊥
 TakesValue Opened name = name ≢ []
@@ -52,13 +52,13 @@ TakesValue (Begun outer) name = ⊥
 TakesValue (Naming outer) name = name ≡ []
 TakesValue (Within outer) name = name ≡ []
 
--- A member's name or the collection's end may stand here.
+-- A member's name or the collection's end may come at the place.
 abbrev pub TakesMember : Place → Type 0
 TakesMember (Begun outer) = Unit {0}
 TakesMember (Within outer) = Unit {0}
 TakesMember _ = ⊥
 
--- Here an element of this kind may stand.
+-- An element of this kind may come at the place.
 abbrev pub Takes : Place → Element → Type 0
 Takes place (opening tag) = depth place ≡ 0
 Takes place (plainly tag name bytes) = TakesValue place name
@@ -66,7 +66,7 @@ Takes place (begin name) = TakesValue place name
 Takes place (named name) = TakesMember place
 Takes place finish = TakesMember place
 
--- The element has a spelling, and begins no collection where so many are open.
+-- The element has a spelling, and if it begins a collection, the depth allows that.
 abbrev pub IsSpellable : ℕ → Element → Type 0
 IsSpellable around (opening tag) = IsGroupTag tag
 IsSpellable around (plainly tag name bytes) = (length name < 0x8000) × IsPlain tag bytes
@@ -78,7 +78,7 @@ IsSpellable around finish = Unit {0}
 abbrev pub IsAllowed : Place → Element → Type 0
 IsAllowed place e = Takes place e × IsSpellable (depth place) e
 
--- Each element may stand after those before it.
+-- Each element may come behind those before it.
 abbrev pub Follows : Place → List Element → Type 0
 Follows place [] = Unit {0}
 Follows place (e ∷ es) = IsAllowed place e × Follows (after place e) es

@@ -1,10 +1,10 @@
--- The one spelling of a message (RFC 8010, section 3.1): a header, elements one after the other, and an end byte.
+-- The one spelling of a message (RFC 8010, section 3.1): a header, elements in order, and an end byte.
 use Rattle.std.specs.Prelude.{ℕ, List, [], ◌∷◌, ◌++◌, length}
 use Rattle.std.specs.List.{flat_map}
 use Rattle.std.specs.Int.{w16, w32, to_be_bytes}
 use Rattle.ipp_codec.specs.Message.{IppValue, plain, collection, IppValues, no_value, value_and, IppMembers, no_member, member_and, IppAttribute, IppGroup, IppMessage, values_of}
 
--- what stands in a head: a group's tag, a value with its tag and name, or a part of a collection
+-- an element of a head: a group's tag, a value with its tag and name, or a part of a collection
 pub data Element : Type 0 where
   opening : ℕ → Element
   plainly : ℕ → List ℕ → List ℕ → Element
@@ -12,7 +12,7 @@ pub data Element : Type 0 where
   named : List ℕ → Element
   finish : Element
 
--- two bytes of length, and that many bytes
+-- two bytes of length, and the bytes
 abbrev pub counted : List ℕ → List ℕ
 counted bytes = to_be_bytes w16 (length bytes) ++ bytes
 
@@ -29,12 +29,12 @@ element_bytes (named name) = value_bytes 0x4A [] name
 element_bytes finish = value_bytes 0x37 [] []
 
 abbrev mutual
-  -- the elements of a value with this name, and then others
+  -- the elements of a value with this name, in front of others
   pub value_then : List ℕ → IppValue → List Element → List Element
   value_then name (plain tag bytes) es = plainly tag name bytes ∷ es
   value_then name (collection ms) es = begin name ∷ members_then ms (finish ∷ es)
 
-  -- a further value has no name
+  -- the elements of further values, which have no names, in front of others
   pub values_then : IppValues → List Element → List Element
   values_then no_value es = es
   values_then (value_and v vs) es = value_then [] v (values_then vs es)
@@ -43,7 +43,7 @@ abbrev mutual
   members_then no_member es = es
   members_then (member_and name v vs ms) es = named name ∷ value_then [] v (values_then vs (members_then ms es))
 
--- the elements of attributes, and then others
+-- the elements of attributes, in front of others
 abbrev pub attributes_then : List IppAttribute → List Element → List Element
 attributes_then [] es = es
 attributes_then (a ∷ xs) es = value_then a.name a.first (values_then (values_of a.others) (attributes_then xs es))

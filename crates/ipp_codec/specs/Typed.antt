@@ -1,4 +1,4 @@
--- What the bytes of a value say by its tag (RFC 8010, section 3.9).
+-- The content of a value by its tag (RFC 8010, section 3.9).
 use Rattle.std.specs.Prelude.{◌≡◌, ◌⊎◌, ◌<◌, ℕ, ℤ, pos, negsuc, List, [], ◌∷◌, ◌++◌, length, Option, Some, None, Bool, true, false, ◌==◌, ◌||◌, if◌then◌else◌}
 use Rattle.std.specs.Int.{w32, to_be_bytes, from_be_bytes, cast_signed, cast_unsigned}
 use Rattle.ipp_codec.specs.Message.{IppValue, tag_of, bytes_in}
@@ -14,7 +14,7 @@ abbrev pub byte_of_boolean : Bool → ℕ
 byte_of_boolean false = 0
 byte_of_boolean true = 1
 
--- the number that four bytes are
+-- the number of four bytes
 abbrev pub integer_of : List ℕ → Option ℤ
 integer_of bytes = if length bytes == 4 then Some (cast_signed w32 (from_be_bytes w32 bytes)) else None
 
@@ -27,7 +27,7 @@ abbrev pub unsigned : ℤ → Option ℕ
 unsigned (pos number) = Some number
 unsigned (negsuc _) = None
 
--- the truth value that one byte is
+-- the truth value of one byte
 abbrev pub boolean_of : List ℕ → Option Bool
 boolean_of (b ∷ []) = if b == 0 then Some false else if b == 1 then Some true else None
 boolean_of _ = None
@@ -36,10 +36,10 @@ boolean_of _ = None
 abbrev pub boolean_in : IppValue → Option Bool
 boolean_in v = if tag_of v == tags.boolean then boolean_of (bytes_in v) else None
 
--- The bytes are some language and this text.
+-- The bytes are a language and this text.
 abbrev pub HasText : List ℕ → List ℕ → Type 0
 HasText bytes text = (language : List ℕ) × (length language < 0x8000) × (length text < 0x8000) × (bytes ≡ counted language ++ counted text)
 
--- The value is this text or name, with a language or without.
+-- The value is this text or name, with or without a language.
 abbrev pub SaysText : IppValue → List ℕ → Type 0
 SaysText v text = (((tag_of v ≡ tags.text) ⊎ (tag_of v ≡ tags.name)) × (bytes_in v ≡ text)) ⊎ (((tag_of v ≡ tags.text_with_language) ⊎ (tag_of v ≡ tags.name_with_language)) × HasText (bytes_in v) text)

@@ -1,4 +1,4 @@
-//! Heads whose bytes come in pieces.
+//! The decoder of heads whose bytes come in pieces.
 ghost use Rattle.std.specs.Prelude.{◌≡◌, ◌<◌, ◌≤◌, ◌+◌, ◌++◌, ◌↔◌, ℕ, [], List, IfOk, IfSome, IsSome, IsTrue, None, OnOk, OnErr, ◌-◌, ◌^◌, length, take, drop};
 ghost use Rattle.ipp_codec.specs.Message.{IppMessage};
 ghost use Rattle.ipp_codec.specs.Grammar.{Spells};
@@ -19,17 +19,17 @@ use std::marker::Model;
 /// The bytes of a header (RFC 8010, section 3.1.1).
 const HEADER_BYTES: usize = Limits::IPP_HEADER_BYTES;
 
-/// A decoder of a head whose bytes come in pieces of any length. In clauses it is a record of the
-/// bytes of the head that it keeps, how far they are read, and its stage.
+/// A decoder of a head whose bytes come in pieces of any length. In clauses it is a record of the bytes of
+/// the head that it keeps, the number of those that are read, the place behind them, and its stage.
 ///
-/// It answers as [`crate::decode`] does on all pieces joined, however they are cut. It keeps the
-/// bytes of the head alone, and reads each of them once.
+/// Its result is that of [`crate::decode`] on all pieces joined, for each cutting into pieces. It keeps only
+/// the bytes of the head, and reads each of them once.
 #[derive(Debug, Drop)]
 pub struct Decoder {
     head: Vec<u8>,
-    /// How many bytes of the head are read: its header, and whole elements.
+    /// The number of bytes of the head that are read: its header, and whole elements.
     walked: usize,
-    /// What stands before the bytes that aren't read.
+    /// The place before the bytes that aren't read.
     place: Place,
     stage: Stage,
 }
@@ -46,7 +46,7 @@ impl Model for Decoder {
 }
 
 impl Decoder {
-    /// A decoder of a new body.
+    /// Creates the decoder of a new body.
     pub fn new(alloc: Global) -> Decoder
         ensures { Stands [] result }
     {
@@ -58,9 +58,9 @@ impl Decoder {
         }
     }
 
-    /// Takes the next bytes of the body. After the head, and after a fault, they are dropped.
+    /// Feeds the next bytes of the body. Behind the head, and after a fault, they are dropped.
     ///
-    /// Where there is no memory for those of the head, none of them is taken.
+    /// If memory for bytes of the head is refused, none of the piece is taken.
     pub fn feed(&mut self, piece: &[u8]) -> Result<Fed, DecodeError>
         ensures fed { Feeds self.old piece.now result self.new }
         ensures grows { take (length self.old.head) self.new.head ≡ self.old.head }
@@ -77,7 +77,7 @@ impl Decoder {
         self.answer(reached.length)
     }
 
-    /// How far it is.
+    /// The progress of the decoder.
     pub fn reached(&self) -> Reached
         ensures reached { result ≡ reached_of self.now }
         ensures sound { CanReach result }
@@ -90,8 +90,8 @@ impl Decoder {
         }
     }
 
-    /// Goes back to where it was, and forgets what it was fed since: it stands again as it stood when
-    /// it was so far.
+    /// Returns to an earlier progress, and drops the bytes that were fed since. The state is the state of
+    /// that time.
     pub fn back_to(&mut self, reached: Reached)
         requires sound { CanReach reached }
         requires grown { reached.length ≤ length self.old.head }
@@ -104,21 +104,21 @@ impl Decoder {
         self.stage = reached.stage;
     }
 
-    /// Whether the head is whole, or what is wrong.
+    /// The stage of the decoder: whether the head is whole, or its fault.
     pub fn stage(&self) -> Stage
         ensures { result ≡ self.now.stage }
     {
         self.stage
     }
 
-    /// The bytes of the head that came so far; after a fault, its first bytes, the header among them.
+    /// The bytes of the head that came so far. After a fault they are its first bytes, with the header.
     pub fn head(&self) -> &[u8]
         ensures { result.now ≡ self.now.head }
     {
         &self.head
     }
 
-    /// The message, once its head is whole.
+    /// The message, if its head is whole.
     pub fn view(&self) -> Option<MessageView<'_>>
         ensures whole { IsSome result ↔ (self.now.stage ≡ Stage.Whole) }
         ensures shown { IfSome result (λ view. (m : IppMessage) → Spells self.now.head m → message_shown view ≡ m) }
@@ -130,8 +130,8 @@ impl Decoder {
         }
     }
 
-    /// What `decode` answers on all that it was fed: the message and how many bytes spell it, or the
-    /// first fault.
+    /// Returns the result of `decode` on all bytes that it was fed: the message and the length of its
+    /// spelling, or the first fault.
     pub fn finish(&self) -> Result<(MessageView<'_>, usize), CodecFault>
         ensures decoded { (fed : List ℕ) → Stands fed self.now → Decodes fed result }
         ensures length { IfOk result (λ x. x.1 ≡ length self.now.head) }
@@ -144,7 +144,7 @@ impl Decoder {
         }
     }
 
-    /// What it answers to a piece before which it kept so many bytes.
+    /// The result of a piece, where `kept` bytes were kept before it.
     fn answer(&self, kept: usize) -> Result<Fed, DecodeError>
         requires { kept ≤ length self.now.head }
         ensures { result ≡ answer_at self.now.stage (length self.now.head - kept) }
@@ -156,7 +156,7 @@ impl Decoder {
         }
     }
 
-    /// Takes in the bytes of a piece, until nothing more is awaited.
+    /// Takes the bytes of a piece, until no more are awaited.
     fn take(&mut self, piece: &[u8]) -> Result<(), AllocError>
         ensures taken { OnOk result (TakesIn self.old piece.now self.new) }
         ensures grows { take (length self.old.head) self.new.head ≡ self.old.head }
@@ -170,15 +170,15 @@ impl Decoder {
         Ok(())
     }
 
-    /// Whether more bytes of the head are awaited, and may come.
+    /// Returns whether more bytes of the head are awaited, and the limit isn't reached.
     fn awaits(&self) -> bool
         ensures { IsTrue result ↔ MayCome self.now }
     {
         self.stage == Stage::Awaiting && self.head.len() < Limits::IPP_HEAD_BYTES
     }
 
-    /// Takes in some bytes of a piece: those of the header, those that an element lacks that has
-    /// begun, or else the elements of the piece, which are read where they lie.
+    /// Takes some bytes of a piece. They are bytes of the header, or bytes that the current element lacks, or
+    /// the elements of the piece, which are read in place. Returns their number.
     fn take_some(&mut self, piece: &[u8]) -> Result<usize, AllocError>
         requires awaits { MayCome self.old }
         requires some { 0 < length piece.now }
@@ -197,7 +197,7 @@ impl Decoder {
         }
     }
 
-    /// Takes in bytes of the header.
+    /// Takes bytes of the header. Returns their number.
     fn take_header(&mut self, piece: &[u8]) -> Result<usize, AllocError>
         requires awaits { MayCome self.old }
         requires some { 0 < length piece.now }
@@ -214,7 +214,7 @@ impl Decoder {
         Ok(count)
     }
 
-    /// Takes in bytes that the element lacks that has begun.
+    /// Takes bytes that the current element lacks. Returns their number.
     fn take_lacking(&mut self, piece: &[u8]) -> Result<usize, AllocError>
         requires awaits { MayCome self.old }
         requires some { 0 < length piece.now }
@@ -234,7 +234,8 @@ impl Decoder {
         Ok(count)
     }
 
-    /// Takes in the elements of a piece, and the beginning of one that goes on in the next piece.
+    /// Takes the elements of a piece, and the front of an element that goes on in the next piece. Returns the
+    /// number of bytes.
     fn take_elements(&mut self, piece: &[u8]) -> Result<usize, AllocError>
         requires awaits { MayCome self.old }
         requires some { 0 < length piece.now }
@@ -254,7 +255,7 @@ impl Decoder {
         Ok(limited.len())
     }
 
-    /// How many bytes are read.
+    /// The number of bytes that are read.
     fn walked(&self) -> usize
         ensures walked { result ≡ self.now.walked }
         ensures within { result ≤ length self.now.head }
@@ -262,7 +263,7 @@ impl Decoder {
         self.walked
     }
 
-    /// What stands before the bytes that aren't read.
+    /// The place before the bytes that aren't read.
     fn place(&self) -> Place
         ensures { result ≡ self.now.place }
     {
@@ -276,21 +277,21 @@ impl Decoder {
         &self.head[self.walked..]
     }
 
-    /// How many bytes the element lacks at least that has begun.
+    /// Returns how many bytes the current element lacks at least.
     fn lacking(&self) -> usize
         ensures { 0 < result }
     {
         lacking_of(self.unread())
     }
 
-    /// How many bytes a head may still have.
+    /// Returns how many bytes a head may still have.
     fn room(&self) -> usize
         ensures { result ≡ Limits.IPP_HEAD_BYTES - length self.now.head }
     {
         Limits::IPP_HEAD_BYTES.saturating_sub(self.head.len())
     }
 
-    /// Keeps bytes of the head behind its header.
+    /// Appends bytes of the head behind its header.
     fn append(&mut self, front: &[u8]) -> Result<(), AllocError>
         requires { HEADER_BYTES ≤ self.old.walked }
         ensures ok { OnOk result (self.new ≡ record self.old { head = self.old.head ++ front.now }) }
@@ -299,8 +300,8 @@ impl Decoder {
         self.head.extend_from_slice(front)
     }
 
-    /// Goes past the elements of a walk over the bytes that weren't read. Nothing is kept behind the
-    /// end byte, which stands behind so many bytes as were kept before.
+    /// Passes over the elements of a walk through the bytes that weren't read. The bytes behind the end byte,
+    /// which is behind the `kept` bytes that were kept before, aren't kept.
     fn settle(&mut self, walk: Walk, kept: usize)
         requires read { HEADER_BYTES ≤ self.old.walked }
         requires within { self.old.walked + walk.length ≤ length self.old.head }
@@ -316,7 +317,7 @@ impl Decoder {
     }
 }
 
-/// The stage behind elements that have this fault, where so many bytes are kept.
+/// The stage behind elements with a fault, where this many bytes are kept.
 fn stage_at(fault: Option<CodecFault>, kept: usize) -> Stage
     ensures { result ≡ stage_at fault kept }
 {
@@ -329,8 +330,8 @@ fn stage_at(fault: Option<CodecFault>, kept: usize) -> Stage
     }
 }
 
-/// How many bytes are kept of so many that a walk went over: up to the end byte, all of them where
-/// the last element goes on behind them, or else the elements without fault.
+/// The number of bytes that are kept of those that a walk went through: up to the end byte; or all, if the
+/// last element goes on; or else the elements before the fault.
 fn kept_of(walk: Walk, len: usize) -> usize
     requires within { walk.length ≤ len }
     requires end { walk.fault ≡ None → walk.length < len }
@@ -343,8 +344,8 @@ fn kept_of(walk: Walk, len: usize) -> usize
     }
 }
 
-/// How many bytes a value lacks at least that begins so, and goes on: its tag, two bytes of each
-/// length, its name and its bytes, as far as their lengths are there.
+/// How many bytes a value that begins in this way lacks at least. A value is its tag, two bytes of each
+/// length, its name and its bytes; a length that isn't there counts as 0.
 fn lacking_of(begun: &[u8]) -> usize
     ensures { 0 < result }
 {
@@ -353,7 +354,7 @@ fn lacking_of(begun: &[u8]) -> usize
     (5 + name + value).saturating_sub(begun.len()).max(1)
 }
 
-/// The length of two bytes at a place, 0 where they aren't there.
+/// The length of two bytes at a place, 0 if they aren't there.
 fn length_at(bytes: &[u8], place: usize) -> usize
     requires { place ≤ 70000 }
     ensures { result < 2 ^ 16 }

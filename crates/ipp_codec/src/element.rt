@@ -7,7 +7,7 @@ use crate::fault::CodecFault;
 
 /// The byte that ends a head.
 pub(crate) const END: u8 = 0x03;
-/// Group tags and the end byte are below this, value tags from here on.
+/// The least tag of a value. Group tags and the end byte are below it.
 pub(crate) const FIRST_VALUE_TAG: u8 = 0x10;
 
 pub(crate) const BEGIN_COLLECTION: u8 = 0x34;
@@ -16,7 +16,7 @@ pub(crate) const END_COLLECTION: u8 = 0x37;
 
 pub(crate) const MEMBER_NAME: u8 = 0x4A;
 
-/// What stands in a head: a group's tag, a value with its tag and name, or a part of a collection.
+/// An element of a head: a group's tag, a value with its tag and name, or a part of a collection.
 #[derive(Clone, Copy)]
 pub enum ElementView<'a> {
     Opening(u8),
@@ -26,7 +26,7 @@ pub enum ElementView<'a> {
     Finish,
 }
 
-/// The counted bytes at the front, and what follows them.
+/// The counted bytes at the front, and the bytes behind them.
 #[tactic(auto, unfolding(crate::specs::Reading::counted_at))]
 pub(crate) fn counted_of(bytes: &[u8]) -> Result<(&[u8], &[u8]), CodecFault>
     ensures { Gives (λ x. (x.0.now, x.1.now)) result (counted_at bytes.now) }
@@ -46,7 +46,7 @@ pub(crate) fn counted_of(bytes: &[u8]) -> Result<(&[u8], &[u8]), CodecFault>
     }
 }
 
-/// The name and the bytes of a value whose tag stands before these bytes, and what follows it.
+/// The name and the bytes of a value, where its tag is before `bytes`, and the bytes behind it.
 #[tactic(auto, unfolding(crate::specs::Reading::fields_at))]
 pub(crate) fn fields_of(bytes: &[u8]) -> Result<(&[u8], &[u8], &[u8]), CodecFault>
     ensures { Gives (λ x. (x.0.now, x.1.now, x.2.now)) result (fields_at bytes.now) }
@@ -56,7 +56,7 @@ pub(crate) fn fields_of(bytes: &[u8]) -> Result<(&[u8], &[u8], &[u8]), CodecFaul
     Ok((name, value, rest))
 }
 
-/// The element of this tag, name and bytes, if the tag is no collection's or they fit it.
+/// The element of a tag, a name and bytes. A tag of a collection needs a name and bytes of its form.
 #[tactic(auto, unfolding(crate::specs::Kind::kind_of))]
 pub(crate) fn kind_of<'a>(tag: u8, name: &'a [u8], bytes: &'a [u8]) -> Option<ElementView<'a>>
     ensures { kind_of tag name.now bytes.now ≡ option_map seen result }
@@ -78,7 +78,7 @@ pub(crate) fn kind_of<'a>(tag: u8, name: &'a [u8], bytes: &'a [u8]) -> Option<El
     }
 }
 
-/// The value element of this tag at the front, and what follows it.
+/// The element of a value with this tag at the front, and the bytes behind it.
 fn value_of(tag: u8, bytes: &[u8]) -> Option<(ElementView<'_>, &[u8])>
     ensures { element_from tag (fields_at bytes.now) ≡ option_map (λ x. (seen x.0, x.1.now)) result }
 {
@@ -87,7 +87,7 @@ fn value_of(tag: u8, bytes: &[u8]) -> Option<(ElementView<'_>, &[u8])>
     Some((element, rest))
 }
 
-/// The element at the front and what follows it, if there is one.
+/// The element at the front, if there is one, and the bytes behind it.
 #[tactic(auto, unfolding(crate::specs::Reading::element_at))]
 pub(crate) fn element_of(bytes: &[u8]) -> Option<(ElementView<'_>, &[u8])>
     ensures { element_at bytes.now ≡ option_map (λ x. (seen x.0, x.1.now)) result }

@@ -1,13 +1,13 @@
 use std::alloc::AllocError;
 use thiserror::Error;
 
-/// Why bytes begin with no head of a message: the first fault from left to right.
+/// The first fault, from left to right, of bytes that don't begin with the head of a message.
 #[derive(Clone, Copy, Debug, PartialEq, Eq, Error)]
 pub enum CodecFault {
     /// The bytes end before the head does.
     #[error("the bytes end before the head does")]
     Short,
-    /// A tag is 0, or a value stands before the first group.
+    /// A tag is 0, or a value comes before the first group.
     #[error("a tag is 0, or a value stands before the first group")]
     BadTag,
     /// The length of a name or a value is 32,768 or more.
@@ -16,13 +16,13 @@ pub enum CodecFault {
     /// The bytes of a value don't fit its tag.
     #[error("the bytes of a value don't fit its tag")]
     BadValue,
-    /// A further value stands before a group's first attribute.
+    /// A further value comes before a group's first attribute.
     #[error("a further value stands before a group's first attribute")]
     LooseValue,
-    /// A part of a collection stands where none may, or a collection isn't closed.
+    /// A part of a collection comes where none may, or a collection isn't closed.
     #[error("a part of a collection stands where none may, or a collection isn't closed")]
     BadCollection,
-    /// Collections lie in one another more than [`Limits::COLLECTION_DEPTH`] deep.
+    /// Collections are nested deeper than [`Limits::COLLECTION_DEPTH`].
     #[error("collections lie too deep in one another")]
     TooDeep,
     /// The head has more than [`Limits::IPP_HEAD_BYTES`] bytes.
@@ -30,13 +30,13 @@ pub enum CodecFault {
     TooLarge,
 }
 
-/// Why a piece of a body doesn't lead to a head.
+/// Why a decoder rejects a piece of a body.
 #[derive(Clone, Copy, Debug, PartialEq, Eq, Error)]
 pub enum DecodeError {
-    /// The first fault of the whole body. From now on there is no other answer.
+    /// The first fault of the whole body. The decoder gives no other answer from then on.
     #[error("{0}")]
     Fault(CodecFault),
-    /// Memory was refused. No byte of the piece was taken.
+    /// Memory was refused. None of the bytes of the piece was taken.
     #[error("memory was refused")]
     OutOfMemory,
 }
@@ -55,7 +55,7 @@ impl From<AllocError> for DecodeError {
 /// Why a message was not encoded.
 #[derive(Clone, Copy, Debug, PartialEq, Eq, Error)]
 pub enum EncodeFault {
-    /// No bytes spell the message.
+    /// The message has no spelling.
     #[error("no bytes spell the message")]
     Unspellable,
     /// Memory was refused.

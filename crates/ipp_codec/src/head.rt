@@ -12,7 +12,8 @@ use crate::place::body_len;
 use crate::view::{MessageView, Version};
 use base_types::Limits;
 
-/// The message at the front of the bytes, and how many bytes spell it. Document data follow them.
+/// Decodes the message at the front of the bytes. Returns it with the length of its spelling. Document data
+/// may follow it.
 pub fn decode(bytes: &[u8]) -> Result<(MessageView<'_>, usize), CodecFault>
     ensures found { IfOk result (λ x. (x.1 ≤ Limits.IPP_HEAD_BYTES) × (x.1 ≤ length bytes.now) × Spells (take x.1 bytes.now) (message_shown x.0)) }
     ensures only { (n : ℕ) (m : IppMessage) → n ≤ Limits.IPP_HEAD_BYTES → Spells (take n bytes.now) m
@@ -25,8 +26,8 @@ pub fn decode(bytes: &[u8]) -> Result<(MessageView<'_>, usize), CodecFault>
     }
 }
 
-/// How many bytes spell the message at the front of the bytes: what `decode` answers, without the
-/// message. Of a body that comes in pieces, `view_of` shows the message once its head is there.
+/// Returns the length of the spelling at the front of the bytes: the result of `decode`, without the message.
+/// For a body that comes in pieces, `view_of` has the message once its head is whole.
 pub fn head_length(bytes: &[u8]) -> Result<usize, CodecFault>
     ensures found { IfOk result (λ n. (n ≤ Limits.IPP_HEAD_BYTES) × (n ≤ length bytes.now) × ((m : IppMessage) × Spells (take n bytes.now) m)) }
     ensures only { (n : ℕ) (m : IppMessage) → n ≤ Limits.IPP_HEAD_BYTES → Spells (take n bytes.now) m → IsOkAnd result (λ x. x ≡ length (spelling m)) }
@@ -39,7 +40,7 @@ pub fn head_length(bytes: &[u8]) -> Result<usize, CodecFault>
     }
 }
 
-/// The message that these bytes spell.
+/// The message that the bytes spell.
 pub fn view_of(head: &[u8]) -> MessageView<'_>
     requires { 9 ≤ length head.now }
     ensures { (m : IppMessage) → Spells head.now m → message_shown result ≡ m }
@@ -55,7 +56,7 @@ pub fn view_of(head: &[u8]) -> MessageView<'_>
     }
 }
 
-/// How many bytes spell the message at the front of the bytes, which may be as long as it likes.
+/// The length of the spelling at the front of the bytes, without a limit.
 fn any_length(bytes: &[u8]) -> Result<usize, CodecFault>
     ensures { Lengths bytes.now result }
 {
@@ -66,7 +67,7 @@ fn any_length(bytes: &[u8]) -> Result<usize, CodecFault>
     Ok(8 + groups.len() + 1)
 }
 
-/// The fault of bytes that may go on behind the limit.
+/// The fault of bytes that go on behind the limit or don't.
 pub(crate) fn limited_fault(fault: CodecFault, is_long: bool) -> CodecFault
     ensures { result ≡ fault_within fault is_long }
 {

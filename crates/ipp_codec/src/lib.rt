@@ -1,9 +1,9 @@
 //! IPP messages and their bytes (RFC 8010, section 3).
 //!
-//! `decode` reads the head of a message in place, without memory, and says exactly when bytes begin
-//! with one, which message it is, and else what is first wrong with them. `encode` appends the one
-//! spelling of a message. Nothing here knows what an attribute or an operation means: a value is a
-//! tag and bytes, or a collection of members.
+//! `decode` reads the head of a message in place, without memory. Its contract says exactly when bytes begin
+//! with a head, the message of the head, and else the first fault of the bytes. `encode` appends the one
+//! spelling of a message. The crate doesn't know the meaning of attributes and operations: a value is a tag
+//! and bytes, or a collection of members.
 //!
 //! Tests stand in `unit_tests`.
 #![tactic(auto)]

@@ -20,21 +20,21 @@ pub struct Members<'a> {
 }
 
 impl<'a> MemberView<'a> {
-    /// Its name.
+    /// The name of the member.
     pub fn name(&self) -> &'a [u8]
         ensures { result.now ≡ (member_shown self.now).name }
     {
         self.name
     }
 
-    /// Its first value.
+    /// The first value of the member.
     pub fn first(&self) -> ValueView<'a>
         ensures { value_shown result ≡ (member_shown self.now).first }
     {
         self.first
     }
 
-    /// Its values, the first among them.
+    /// The values of the member, from the first on.
     pub fn values(&self) -> Values<'a>
         ensures { values_left result ≡ (member_shown self.now).first ∷ (member_shown self.now).others }
     {

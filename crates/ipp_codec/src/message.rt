@@ -1,4 +1,4 @@
-//! Messages that own their names and values. In clauses each is what it says, without where it lies in
+//! Messages that own their names and values. In clauses each of them is its content, without its places in
 //! memory.
 ghost use Rattle.std.specs.Prelude.{◌≡◌, [], ◌∷◌, ◌++◌, IfOk, OnOk, OnErr};
 ghost use Rattle.ipp_codec.specs.Owned.{value_owned};
@@ -24,7 +24,7 @@ pub struct Group {
     pub attributes: Vec<Attribute>,
 }
 
-/// A message. Its code is an operation's in a request, and a status in a response.
+/// A message. Its code is that of an operation in a request, and that of a status in a response.
 #[derive(Drop)]
 pub struct Message {
     pub version: Version,
@@ -79,7 +79,7 @@ impl Model for Message {
 }
 
 impl Attribute {
-    /// An attribute of this name with one value.
+    /// An attribute of a name with one value. The only error is out of memory.
     pub fn new(alloc: Global, name: &[u8], first: Value) -> Result<Attribute, AllocError>
         ensures { IfOk result (λ attribute. attribute ≡ record { name = name.now; first = value_owned first; others = [] }) }
     {
@@ -91,14 +91,14 @@ impl Attribute {
         })
     }
 
-    /// Its name.
+    /// The name of the attribute.
     pub fn name(&self) -> &[u8]
         ensures { result.now ≡ self.now.name }
     {
         &self.name
     }
 
-    /// Adds a further value.
+    /// Appends a value. The only error is out of memory, and nothing is appended then.
     pub fn push(&mut self, value: Value) -> Result<(), AllocError>
         ensures ok { OnOk result (self.new ≡ record self.old { others = self.old.others ++ value_owned value ∷ [] }) }
         ensures err { OnErr result (self.new ≡ self.old) }
@@ -109,7 +109,7 @@ impl Attribute {
 }
 
 impl Group {
-    /// A group of this tag without attributes.
+    /// A group of a tag without attributes.
     pub fn new(alloc: Global, tag: GroupTag) -> Group
         ensures { result ≡ record { tag = tag; attributes = [] } }
     {
@@ -119,7 +119,7 @@ impl Group {
         }
     }
 
-    /// Adds an attribute.
+    /// Appends an attribute. The only error is out of memory.
     pub fn push(&mut self, attribute: Attribute) -> Result<(), AllocError>
         ensures ok { OnOk result (self.new ≡ record self.old { attributes = self.old.attributes ++ attribute ∷ [] }) }
         ensures err { OnErr result (self.new ≡ self.old) }
@@ -142,7 +142,7 @@ impl Message {
         }
     }
 
-    /// Adds a group.
+    /// Appends a group. The only error is out of memory.
     pub fn push(&mut self, group: Group) -> Result<(), AllocError>
         ensures ok { OnOk result (self.new ≡ record self.old { groups = self.old.groups ++ group ∷ [] }) }
         ensures err { OnErr result (self.new ≡ self.old) }

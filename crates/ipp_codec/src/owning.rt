@@ -1,4 +1,4 @@
-//! Views made owned.
+//! Owned copies of views.
 ghost use Rattle.std.specs.Prelude.{◌≡◌, ◌<◌, length, IfOk};
 ghost use Rattle.ipp_codec.specs.Message.{members_in};
 ghost use Rattle.ipp_codec.specs.Owned.{value_owned, values_owned, members_owned};
@@ -85,7 +85,7 @@ fn own_groups(alloc: Global, bytes: &[u8]) -> Result<Vec<Group>, AllocError>
 }
 
 impl<'a> AttributeView<'a> {
-    /// An attribute of its own that says the same. The error is out of memory.
+    /// An owned attribute with the same content. The only error is out of memory.
     pub fn to_owned(&self, alloc: Global) -> Result<Attribute, AllocError>
         ensures { IfOk result (λ attribute. attribute ≡ attribute_shown self.now) }
     {
@@ -98,7 +98,7 @@ impl<'a> AttributeView<'a> {
 }
 
 impl<'a> GroupView<'a> {
-    /// A group of its own that says the same. The error is out of memory.
+    /// An owned group with the same content. The only error is out of memory.
     pub fn to_owned(&self, alloc: Global) -> Result<Group, AllocError>
         ensures { IfOk result (λ group. group ≡ group_shown self.now) }
     {
@@ -111,7 +111,7 @@ impl<'a> GroupView<'a> {
 }
 
 impl<'a> MessageView<'a> {
-    /// A message of its own that says the same.
+    /// An owned message with the same content. The only error is out of memory.
     pub fn to_owned(&self, alloc: Global) -> Result<Message, AllocError>
         ensures { IfOk result (λ message. message ≡ message_shown self.now) }
     {

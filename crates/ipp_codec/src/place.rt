@@ -1,4 +1,4 @@
-//! What stands before a part of a head, and what may follow.
+//! The places in a head, and the elements that may come at each.
 ghost use Rattle.std.specs.Prelude.{◌≡◌, MatchResult, ◌↔◌, IsTrue};
 ghost use Rattle.ipp_codec.specs.Place.{depth, after, Takes, TakesValue, TakesMember};
 ghost use Rattle.ipp_codec.specs.FirstFault.{Breaks, Exceeds};
@@ -9,24 +9,24 @@ use crate::fault::CodecFault;
 use crate::shape::has_shape;
 use base_types::Limits;
 
-/// What stands before a part of a head. A number counts the collections around the innermost one.
+/// A place in a head, by the element before it. A number counts the collections around the innermost one.
 #[derive(Clone, Copy, Debug, PartialEq, Eq)]
 pub enum Place {
-    /// no group
+    /// No group.
     Outside,
-    /// a group's tag
+    /// A group's tag.
     Opened,
-    /// a value of an attribute
+    /// A value of an attribute.
     Valued,
-    /// the beginning of a collection
+    /// The beginning of a collection.
     Begun(u8),
-    /// the name of a member
+    /// The name of a member.
     Naming(u8),
-    /// a value of a member
+    /// A value of a member.
     Within(u8),
 }
 
-/// How many collections are open.
+/// Returns the number of open collections.
 fn depth(place: Place) -> usize
     ensures { result ≡ depth place }
 {
@@ -38,14 +38,14 @@ fn depth(place: Place) -> usize
     }
 }
 
-/// Whether no group has begun.
+/// Returns whether no group has begun.
 fn is_outside(place: Place) -> bool
     ensures { IsTrue result ↔ (place ≡ Place.Outside) }
 {
     matches!(place, Place::Outside)
 }
 
-/// Whether a value with this name may stand here.
+/// Returns whether a value with this name may come at the place.
 fn takes_value(place: Place, name: &[u8]) -> bool
     ensures { IsTrue result ↔ TakesValue place name.now }
 {
@@ -57,14 +57,14 @@ fn takes_value(place: Place, name: &[u8]) -> bool
     }
 }
 
-/// Whether a member's name or a collection's end may stand here.
+/// Returns whether a member's name or a collection's end may come at the place.
 fn takes_member(place: Place) -> bool
     ensures { IsTrue result ↔ TakesMember place }
 {
     matches!(place, Place::Begun(_) | Place::Within(_))
 }
 
-/// Whether an element of this kind may stand here.
+/// Returns whether an element of this kind may come at the place.
 fn takes(place: Place, element: ElementView<'_>) -> bool
     ensures { IsTrue result ↔ Takes place (seen element.entry) }
 {
@@ -75,7 +75,7 @@ fn takes(place: Place, element: ElementView<'_>) -> bool
     }
 }
 
-/// Judges the limit and the shape of an element.
+/// Checks the limit of depth and the shape of an element.
 fn judge_limits(place: Place, element: ElementView<'_>) -> Result<(), CodecFault>
     ensures { MatchResult result (λ _. Keeps place (seen element.entry)) (Exceeds place (seen element.entry)) }
 {
@@ -88,7 +88,7 @@ fn judge_limits(place: Place, element: ElementView<'_>) -> Result<(), CodecFault
     }
 }
 
-/// The place behind an element that may stand here.
+/// The place behind an element that may come at this place.
 fn after(place: Place, element: ElementView<'_>) -> Place
     requires takes { Takes place (seen element) }
     requires keeps { Keeps place (seen element) }
@@ -120,7 +120,7 @@ fn after(place: Place, element: ElementView<'_>) -> Place
     }
 }
 
-/// The place behind a whole value, or the first rule that it breaks.
+/// The place behind a whole value, or the first rule that the value violates.
 fn judge(place: Place, tag: u8, name: &[u8], bytes: &[u8]) -> Result<Place, CodecFault>
     ensures { MatchResult result (Stands place tag name.now bytes.now) (Breaks place tag name.now bytes.now) }
 {
@@ -137,7 +137,7 @@ fn judge(place: Place, tag: u8, name: &[u8], bytes: &[u8]) -> Result<Place, Code
     Ok(after(place, element))
 }
 
-/// The next element's place and what follows it, or `None` at the end byte.
+/// The place behind the next element and the bytes behind it, or `None` at the end byte.
 fn next_of(place: Place, bytes: &[u8]) -> Result<Option<(Place, &[u8])>, CodecFault>
     ensures { Steps (λ x. (x.0, x.1.now)) place bytes.now result }
 {
@@ -165,18 +165,18 @@ fn next_of(place: Place, bytes: &[u8]) -> Result<Option<(Place, &[u8])>, CodecFa
     Ok(Some((next_place, rest)))
 }
 
-/// How far elements go that stand one after the other.
+/// A walk through consecutive elements.
 #[derive(Clone, Copy, Debug, PartialEq, Eq)]
 pub struct Walk {
-    /// What stands before what follows them.
+    /// The place behind the elements.
     pub place: Place,
-    /// How many bytes they are.
+    /// The length of the elements in bytes.
     pub length: usize,
-    /// What is first wrong with what follows them: nothing where that is the end byte.
+    /// The first fault behind the elements; `None` if the end byte comes there.
     pub fault: Option<CodecFault>,
 }
 
-/// The elements from a place on, as far as they go.
+/// Walks through the elements from a place on, up to the end byte or the first fault.
 pub(crate) fn walk_from(place: Place, bytes: &[u8]) -> Walk
     ensures { WalksFrom place bytes.now result }
 {
@@ -206,7 +206,7 @@ pub(crate) fn walk_from(place: Place, bytes: &[u8]) -> Walk
     }
 }
 
-/// How many bytes of groups stand before the end byte.
+/// The length of the groups before the end byte.
 pub(crate) fn body_len(bytes: &[u8]) -> Result<usize, CodecFault>
     ensures { Walks bytes.now result }
 {

@@ -4,7 +4,7 @@ ghost use Rattle.ipp_codec.specs.Grammar.{IsWithLanguage, HasShape};
 
 use crate::element::counted_of;
 
-/// Whether the bytes are a language and a text.
+/// Returns whether the bytes are a language and a text.
 fn is_with_language(bytes: &[u8]) -> bool
     ensures { IsTrue result ↔ IsWithLanguage bytes.now }
 {
@@ -17,7 +17,7 @@ fn is_with_language(bytes: &[u8]) -> bool
     rest.is_empty()
 }
 
-/// Whether the bytes fit the tag.
+/// Returns whether the bytes have the shape of the tag.
 pub(crate) fn has_shape(tag: u8, bytes: &[u8]) -> bool
     ensures { IsTrue result ↔ HasShape tag bytes.now }
 {

@@ -17,7 +17,7 @@ use crate::view::Version;
 use base_types::Limits;
 use std::alloc::AllocError;
 
-/// Appends the one spelling of the message. After an error the vector is as before.
+/// Appends the one spelling of the message. An error leaves the vector unchanged.
 pub fn encode(message: &Message, out: &mut Vec<u8>) -> Result<(), EncodeFault>
     ensures ok { OnOk result (out.new.items ≡ out.old.items ++ spelling message.now) }
     ensures unspellable { IsErrOf result EncodeFault.Unspellable ↔ ¬ (IsMessage message.now) }

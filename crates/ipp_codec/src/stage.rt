@@ -1,33 +1,33 @@
-//! How far a decoder is.
+//! The stages of a decoder.
 use crate::fault::CodecFault;
 use crate::place::Place;
 
-/// How far a decoder is.
+/// The stage of a decoder.
 #[derive(Clone, Copy, Debug, PartialEq, Eq)]
 pub enum Stage {
-    /// The head isn't whole yet.
+    /// More bytes of the head are awaited.
     Awaiting,
     /// The head is whole.
     Whole,
-    /// The bytes begin with no head, whatever comes.
+    /// The bytes begin with no head, and no further bytes change that.
     Faulty(CodecFault),
 }
 
-/// What a piece comes to that has no fault.
+/// The result of a piece without a fault.
 #[derive(Clone, Copy, Debug, PartialEq, Eq)]
 pub enum Fed {
     /// More bytes of the head are awaited.
     More,
-    /// The head is whole. So many bytes of the piece belong to it: none where it was whole before.
+    /// The head is whole. The number of bytes of the piece that belong to it: 0 if it was whole before.
     Head(usize),
 }
 
-/// How far a decoder was before a piece, to be brought back there.
+/// The progress of a decoder, to which it may return.
 #[derive(Clone, Copy, Debug, PartialEq, Eq)]
 pub struct Reached {
-    /// How many bytes it kept.
+    /// The number of bytes that it kept.
     pub(crate) length: usize,
-    /// How many of them were read.
+    /// The number of those that were read.
     pub(crate) walked: usize,
     pub(crate) place: Place,
     pub(crate) stage: Stage,

@@ -28,14 +28,14 @@ impl GroupTag {
 
     pub const UNSUPPORTED: GroupTag = GroupTag { number: 0x05 };
 
-    /// The tag of this number.
+    /// The tag of a number.
     pub fn new(number: u8) -> GroupTag
         ensures { result ≡ number }
     {
         GroupTag { number }
     }
 
-    /// Its number.
+    /// The number of the tag.
     pub fn number(self) -> u8
         ensures { result ≡ self }
     {
@@ -103,14 +103,14 @@ impl ValueTag {
 
     pub const MIME_MEDIA_TYPE: ValueTag = ValueTag { number: 0x49 };
 
-    /// The tag of this number.
+    /// The tag of a number.
     pub fn new(number: u8) -> ValueTag
         ensures { result ≡ number }
     {
         ValueTag { number }
     }
 
-    /// Its number.
+    /// The number of the tag.
     pub fn number(self) -> u8
         ensures { result ≡ self }
     {

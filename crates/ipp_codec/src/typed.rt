@@ -6,7 +6,7 @@ ghost use Rattle.ipp_codec.specs.Views.{value_shown};
 use crate::element::counted_of;
 use crate::view::ValueView;
 
-/// The number that four bytes are, in two's complement.
+/// The number of four bytes, in two's complement.
 pub(crate) fn integer_of(bytes: &[u8]) -> Option<i32>
     ensures { result ≡ integer_of bytes.now }
 {
@@ -16,7 +16,7 @@ pub(crate) fn integer_of(bytes: &[u8]) -> Option<i32>
     Some(u32::from_be_bytes([*first, *second, *third, *fourth]).cast_signed())
 }
 
-/// The truth value that a byte is.
+/// The truth value of one byte.
 fn boolean_of(bytes: &[u8]) -> Option<bool>
     ensures { result ≡ boolean_of bytes.now }
 {
@@ -42,7 +42,7 @@ fn text_of(bytes: &[u8]) -> Option<&[u8]>
 }
 
 impl<'a> ValueView<'a> {
-    /// The number of an integer or an enum, if it is one of four bytes.
+    /// The number of an integer or an enum, if its bytes are four.
     pub fn as_integer(&self) -> Option<i32>
         ensures { result ≡ integer_in (value_shown self.now) }
     {
@@ -52,7 +52,7 @@ impl<'a> ValueView<'a> {
         }
     }
 
-    /// The truth value of a boolean, if it is one of a byte 0 or 1.
+    /// The truth value of a boolean, if its byte is 0 or 1.
     pub fn as_boolean(&self) -> Option<bool>
         ensures { result ≡ boolean_in (value_shown self.now) }
     {
@@ -62,7 +62,7 @@ impl<'a> ValueView<'a> {
         }
     }
 
-    /// The text of a text or a name, with a language or without.
+    /// The text of a text or a name, with or without a language.
     pub fn as_text(&self) -> Option<&'a [u8]>
         ensures some { IfSome result (λ text. SaysText (value_shown self.now) text.now) }
         ensures none { IsNone result → (text : List ℕ) → ¬ (SaysText (value_shown self.now) text) }

@@ -27,7 +27,7 @@ pub struct Member {
 }
 
 impl Value {
-    /// A value of this tag with a copy of the bytes.
+    /// A value of a tag with a copy of the bytes. The only error is out of memory.
     pub fn copy_of(alloc: Global, tag: ValueTag, bytes: &[u8]) -> Result<Value, AllocError>
         ensures { IfOk result (λ value. value_owned value ≡ plain tag bytes.now) }
     {
@@ -35,7 +35,7 @@ impl Value {
         Ok(Value::Plain { tag, bytes })
     }
 
-    /// A value of this tag without bytes; it takes no memory.
+    /// A value of a tag without bytes. It takes no memory.
     pub fn empty(alloc: Global, tag: ValueTag) -> Value
         ensures { value_owned result ≡ plain tag [] }
     {
@@ -45,7 +45,7 @@ impl Value {
         }
     }
 
-    /// An integer (RFC 8010, section 3.9).
+    /// An integer (RFC 8010, section 3.9). The only error is out of memory.
     pub fn integer(alloc: Global, number: i32) -> Result<Value, AllocError>
         ensures { IfOk result (λ value. value_owned value ≡ plain tags.integer (bytes_of_integer number)) }
     {
@@ -56,28 +56,28 @@ impl Value {
         )
     }
 
-    /// A number of an enumeration (RFC 8010, section 3.9).
+    /// A number of an enumeration (RFC 8010, section 3.9). The only error is out of memory.
     pub fn enumeration(alloc: Global, number: i32) -> Result<Value, AllocError>
         ensures { IfOk result (λ value. value_owned value ≡ plain tags.enumeration (bytes_of_integer number)) }
     {
         Value::copy_of(alloc, ValueTag::ENUM, &number.cast_unsigned().to_be_bytes())
     }
 
-    /// A truth value (RFC 8010, section 3.9).
+    /// A truth value (RFC 8010, section 3.9). The only error is out of memory.
     pub fn boolean(alloc: Global, truth: bool) -> Result<Value, AllocError>
         ensures { IfOk result (λ value. value_owned value ≡ plain tags.boolean (byte_of_boolean truth ∷ [])) }
     {
         Value::copy_of(alloc, ValueTag::BOOLEAN, &[u8::from(truth)])
     }
 
-    /// A collection of these members.
+    /// A collection of members.
     pub fn collection(members: Vec<Member>) -> Value
         ensures { value_owned result ≡ collection (members_of (map member_owned members.items)) }
     {
         Value::Collection(members)
     }
 
-    /// Its tag, [`ValueTag::COLLECTION`] of a collection.
+    /// The tag of the value, [`ValueTag::COLLECTION`] for a collection.
     pub fn tag(&self) -> ValueTag
         ensures { result ≡ tag_of (value_owned self.now) }
     {
@@ -87,7 +87,7 @@ impl Value {
         }
     }
 
-    /// Its bytes: none of a collection.
+    /// The bytes of the value; a collection has none.
     pub fn bytes(&self) -> &[u8]
         ensures { result.now ≡ bytes_in (value_owned self.now) }
     {
@@ -97,7 +97,7 @@ impl Value {
         }
     }
 
-    /// The number of an integer or an enum, if it is one of four bytes.
+    /// The number of an integer or an enum, if its bytes are four.
     pub fn as_integer(&self) -> Option<i32>
         ensures { result ≡ integer_in (value_owned self.now) }
     {
@@ -111,7 +111,7 @@ impl Value {
 }
 
 impl Member {
-    /// A member of this name with one value.
+    /// A member of a name with one value. The only error is out of memory.
     pub fn new(alloc: Global, name: &[u8], first: Value) -> Result<Member, AllocError>
         ensures { IfOk result (λ member. member_owned member ≡ record { name = name.now; first = value_owned first; others = [] }) }
     {
@@ -123,7 +123,7 @@ impl Member {
         })
     }
 
-    /// Adds a further value.
+    /// Appends a value. The only error is out of memory, and nothing is appended then.
     pub fn push(&mut self, value: Value) -> Result<(), AllocError>
         ensures ok { OnOk result (member_owned self.new ≡ record { name = (member_owned self.old).name; first = (member_owned self.old).first; others = (member_owned self.old).others ++ value_owned value ∷ [] }) }
         ensures err { OnErr result (member_owned self.new ≡ member_owned self.old) }

@@ -1,4 +1,4 @@
-//! Messages in place: names and values lie in the bytes that they were read from.
+//! Views of messages, whose names and values are in the bytes that they were read from.
 ghost use Rattle.std.specs.Prelude.{◌≡◌, ◌∷◌};
 ghost use Rattle.ipp_codec.specs.Message.{tag_of, bytes_in, members_within};
 ghost use Rattle.ipp_codec.specs.Views.{message_shown, group_shown, attribute_shown, value_shown, groups_left, attributes_left, members_left, values_left};
@@ -8,14 +8,14 @@ use crate::member_view::Members;
 use crate::tag::{GroupTag, ValueTag};
 use crate::walk::{next_attribute, next_group, next_value};
 
-/// The version of a message, as 1.1.
+/// The version of a message, such as 1.1.
 #[derive(Clone, Copy, Debug, PartialEq, Eq)]
 pub struct Version {
     pub major: u8,
     pub minor: u8,
 }
 
-/// A message whose names and values lie in the bytes that it was read from.
+/// A message whose names and values are in the bytes that it was read from.
 #[derive(Clone, Copy)]
 pub struct MessageView<'a> {
     pub(crate) version: Version,
@@ -43,7 +43,7 @@ pub struct AttributeView<'a> {
 #[derive(Clone, Copy)]
 pub struct ValueView<'a> {
     pub(crate) tag: u8,
-    /// Its bytes; of a collection, the bytes from its first member on.
+    /// The bytes of the value; for a collection, the bytes from its first member on.
     pub(crate) content: &'a [u8],
 }
 
@@ -67,7 +67,7 @@ pub struct Values<'a> {
 }
 
 impl<'a> MessageView<'a> {
-    /// Its version.
+    /// The version of the message.
     pub fn version(&self) -> Version
         ensures major { result.major ≡ (message_shown self.now).major }
         ensures minor { result.minor ≡ (message_shown self.now).minor }
@@ -75,21 +75,21 @@ impl<'a> MessageView<'a> {
         self.version
     }
 
-    /// Its operation or status.
+    /// The operation or the status of the message.
     pub fn code(&self) -> u16
         ensures { result ≡ (message_shown self.now).code }
     {
         self.code
     }
 
-    /// The number that a response repeats.
+    /// The request-id, which a response repeats.
     pub fn request_id(&self) -> u32
         ensures { result ≡ (message_shown self.now).request_id }
     {
         self.request_id
     }
 
-    /// Its groups.
+    /// The groups of the message.
     pub fn groups(&self) -> Groups<'a>
         ensures { groups_left result ≡ (message_shown self.now).groups }
     {
@@ -98,14 +98,14 @@ impl<'a> MessageView<'a> {
 }
 
 impl<'a> GroupView<'a> {
-    /// Its tag.
+    /// The tag of the group.
     pub fn tag(&self) -> GroupTag
         ensures { result ≡ (group_shown self.now).tag }
     {
         GroupTag::new(self.tag)
     }
 
-    /// Its attributes.
+    /// The attributes of the group.
     pub fn attributes(&self) -> Attributes<'a>
         ensures { attributes_left result ≡ (group_shown self.now).attributes }
     {
@@ -114,21 +114,21 @@ impl<'a> GroupView<'a> {
 }
 
 impl<'a> AttributeView<'a> {
-    /// Its name.
+    /// The name of the attribute.
     pub fn name(&self) -> &'a [u8]
         ensures { result.now ≡ (attribute_shown self.now).name }
     {
         self.name
     }
 
-    /// Its first value.
+    /// The first value of the attribute.
     pub fn first(&self) -> ValueView<'a>
         ensures { value_shown result ≡ (attribute_shown self.now).first }
     {
         self.first
     }
 
-    /// Its values, the first among them.
+    /// The values of the attribute, from the first on.
     pub fn values(&self) -> Values<'a>
         ensures { values_left result ≡ (attribute_shown self.now).first ∷ (attribute_shown self.now).others }
     {
@@ -140,14 +140,14 @@ impl<'a> AttributeView<'a> {
 }
 
 impl<'a> ValueView<'a> {
-    /// Its tag, [`ValueTag::COLLECTION`] of a collection.
+    /// The tag of the value, [`ValueTag::COLLECTION`] for a collection.
     pub fn tag(&self) -> ValueTag
         ensures { result ≡ tag_of (value_shown self.now) }
     {
         ValueTag::new(self.tag)
     }
 
-    /// Its bytes: none of a collection.
+    /// The bytes of the value; a collection has none.
     pub fn bytes(&self) -> &'a [u8]
         ensures { result.now ≡ bytes_in (value_shown self.now) }
     {
@@ -158,7 +158,7 @@ impl<'a> ValueView<'a> {
         }
     }
 
-    /// Its members: none of a value that is no collection.
+    /// The members of the value; a value that isn't a collection has none.
     pub fn members(&self) -> Members<'a>
         ensures { members_left result ≡ members_within (value_shown self.now) }
     {

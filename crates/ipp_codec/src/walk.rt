@@ -7,7 +7,7 @@ use crate::element::{BEGIN_COLLECTION, ElementView, element_of};
 use crate::member_view::MemberView;
 use crate::view::{AttributeView, GroupView, ValueView};
 
-/// What stands in a head where a collection counts as one value.
+/// An entry of a head, where a collection counts as one value.
 #[derive(Clone, Copy)]
 pub enum Entry<'a> {
     Group(u8),
@@ -16,14 +16,14 @@ pub enum Entry<'a> {
     End,
 }
 
-/// The element at the front, and what follows it.
+/// The element at the front, and the bytes behind it.
 fn first_of(bytes: &[u8]) -> Option<(ElementView<'_>, &[u8])>
     ensures { FirstShown bytes.now result }
 {
     element_of(bytes)
 }
 
-/// What follows the end of the collection in which the bytes begin.
+/// The bytes behind the end of the collection in which the bytes begin.
 fn behind(bytes: &[u8]) -> &[u8]
     ensures levels { shown result.now ≡ below (shown bytes.now) }
     ensures shorter { length result.now ≤ length bytes.now }
@@ -42,7 +42,7 @@ fn behind(bytes: &[u8]) -> &[u8]
     &[]
 }
 
-/// The entry at the front, and what follows it.
+/// The entry at the front, and the bytes behind it.
 fn next_entry(bytes: &[u8]) -> Option<(Entry<'_>, &[u8])>
     ensures { NextEntry bytes.now result }
 {
@@ -68,7 +68,7 @@ fn next_entry(bytes: &[u8]) -> Option<(Entry<'_>, &[u8])>
     }
 }
 
-/// The group at the front, behind values and members.
+/// The first group in the bytes; values and members before it are skipped.
 pub(crate) fn next_group(bytes: &[u8]) -> Option<GroupView<'_>>
     ensures { NextGroup bytes.now result }
 {
@@ -84,7 +84,7 @@ pub(crate) fn next_group(bytes: &[u8]) -> Option<GroupView<'_>>
     None
 }
 
-/// The attribute at the front, behind values with no name and members.
+/// The first attribute in the bytes; values without names and members before it are skipped.
 pub(crate) fn next_attribute(bytes: &[u8]) -> Option<AttributeView<'_>>
     ensures { NextAttribute bytes.now result }
 {
@@ -102,7 +102,7 @@ pub(crate) fn next_attribute(bytes: &[u8]) -> Option<AttributeView<'_>>
     None
 }
 
-/// The member at the front, behind values and names without a value.
+/// The first member in the bytes; values and names without a value before it are skipped.
 pub(crate) fn next_member(bytes: &[u8]) -> Option<MemberView<'_>>
     ensures { NextMember bytes.now result }
 {
@@ -126,7 +126,7 @@ pub(crate) fn next_member(bytes: &[u8]) -> Option<MemberView<'_>>
     None
 }
 
-/// The value with no name at the front, and what follows it.
+/// The value without a name at the front, and the bytes behind it.
 pub(crate) fn next_value(bytes: &[u8]) -> Option<(ValueView<'_>, &[u8])>
     ensures { NextValue bytes.now result }
 {

@@ -1,13 +1,13 @@
 //! The columns of a list.
 
-/// What a column says of its jobs.
+/// A column of a list.
 #[derive(Clone, Copy, Debug, PartialEq, Eq)]
 pub enum Column {
-    /// When it comes, in ms from the beginning of the list.
+    /// The moment at which the job comes, in ms from the beginning of the list.
     Moment,
-    /// Impressions of one copy.
+    /// The impressions of one copy.
     Impressions,
-    /// Octets, by which the impressions are estimated.
+    /// The octets, by which the impressions are estimated.
     Octets,
     Copies,
     Sides,
@@ -15,12 +15,12 @@ pub enum Column {
     Format,
     Finishings,
     Priority,
-    /// The name of its printer.
+    /// The name of the job's printer.
     Printer,
 }
 
 impl Column {
-    /// All of them.
+    /// All columns.
     const ALL: [Column; 10] = [
         Column::Moment,
         Column::Impressions,
@@ -34,7 +34,7 @@ impl Column {
         Column::Printer,
     ];
 
-    /// Its name.
+    /// The name of the column.
     fn name(self) -> &'static str {
         match self {
             Column::Moment => "moment",
@@ -50,7 +50,7 @@ impl Column {
         }
     }
 
-    /// The column of a name.
+    /// The column with a name.
     pub(crate) fn named(name: &[u8]) -> Option<Column> {
         for column in Column::ALL {
             if column.name().as_bytes() == name {
@@ -60,7 +60,7 @@ impl Column {
         None
     }
 
-    /// What its fields may say.
+    /// The words for the values of the column.
     pub(crate) fn wanted(self) -> &'static str {
         match self {
             Column::Moment => "moment is a number of ms, 0 to 281,474,976,710,656",

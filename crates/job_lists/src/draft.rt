@@ -1,4 +1,4 @@
-//! A job of a list, field by field.
+//! A job of a list, read field by field.
 
 use crate::column::Column;
 use crate::fault::{LineError, ListFault};
@@ -11,14 +11,14 @@ use std::alloc::{AllocError, Global};
 /// A job of a list.
 #[derive(Drop)]
 pub struct ListedJob {
-    /// When it comes, in ms: at most [`Limits::LAST_MOMENT`].
+    /// The moment at which the job comes, in ms: at most [`Limits::LAST_MOMENT`].
     pub moment: u64,
-    /// 1 to [`Limits::HIGHEST_PRIORITY`].
+    /// The priority: 1 to [`Limits::HIGHEST_PRIORITY`].
     pub priority: u8,
     pub needs: Needs,
 }
 
-/// What the fields of a job have said so far; what none says has its default.
+/// The fields of a job so far. A missing one has its default.
 #[derive(Clone, Copy)]
 pub(crate) struct Draft<'a> {
     moment: Option<u64>,
@@ -33,7 +33,7 @@ pub(crate) struct Draft<'a> {
     printer: usize,
 }
 
-/// The number of a column's field, if the column allows it.
+/// The number in a column's field, if the column allows it.
 fn number_of(column: Column, field: &[u8]) -> Option<u32> {
     match column {
         Column::Impressions => number_in(field, 1, Limits::IMPRESSIONS),
@@ -43,7 +43,7 @@ fn number_of(column: Column, field: &[u8]) -> Option<u32> {
     }
 }
 
-/// A list of one text.
+/// A list of one text. The only error is out of memory.
 fn list_of(alloc: Global, bytes: &[u8]) -> Result<Vec<Text>, AllocError> {
     let mut texts = Vec::new(alloc);
     texts.push(Text::copy_of(alloc, bytes)?)?;
@@ -51,7 +51,7 @@ fn list_of(alloc: Global, bytes: &[u8]) -> Result<Vec<Text>, AllocError> {
 }
 
 impl<'a> Draft<'a> {
-    /// What a job is of which nothing is said.
+    /// Creates a job without fields.
     pub(crate) fn new() -> Draft<'a> {
         Draft {
             moment: None,
@@ -67,7 +67,7 @@ impl<'a> Draft<'a> {
         }
     }
 
-    /// Takes the field of a column. An empty one says nothing.
+    /// Takes the field of a column. An empty field is ignored.
     pub(crate) fn take(
         &mut self,
         column: Column,
@@ -88,7 +88,7 @@ impl<'a> Draft<'a> {
         taken.ok_or(ListFault::Field(column))
     }
 
-    /// Takes a field that is a number, and no moment; nothing is taken that its column doesn't allow.
+    /// Takes a field with a number other than a moment. Returns `None` if the column doesn't allow the field.
     fn take_number(&mut self, column: Column, field: &[u8]) -> Option<()> {
         let number = number_of(column, field)?;
         match column {
@@ -100,7 +100,7 @@ impl<'a> Draft<'a> {
         Some(())
     }
 
-    /// Takes a field of known words; nothing is taken that its column doesn't allow.
+    /// Takes a field with known words. Returns `None` if the column doesn't allow the field.
     fn take_words(&mut self, column: Column, field: &[u8], settings: &Settings) -> Option<()> {
         match column {
             Column::Sides => self.sides = Sides::of_keyword(field)?,
@@ -110,7 +110,7 @@ impl<'a> Draft<'a> {
         Some(())
     }
 
-    /// Takes a moment, or a field of any word; nothing is taken that its column doesn't allow.
+    /// Takes a moment, or a field with any word. Returns `None` if the column doesn't allow the field.
     fn take_other(&mut self, column: Column, field: &'a [u8]) -> Option<()> {
         match column {
             Column::Moment => self.moment = Some(text::number_up_to(field, Limits::LAST_MOMENT)?),
@@ -120,7 +120,7 @@ impl<'a> Draft<'a> {
         Some(())
     }
 
-    /// The impressions of one copy, if its length is told.
+    /// The impressions of one copy, if the length is given.
     fn impressions(&self) -> Option<u32> {
         match (self.impressions, self.octets) {
             (Some(impressions), _) => Some(impressions),
@@ -132,7 +132,7 @@ impl<'a> Draft<'a> {
         }
     }
 
-    /// What the job needs of a device, as long as so many impressions.
+    /// The needs of the job, with this many impressions. The only error is out of memory.
     fn needs(
         &self,
         alloc: Global,
@@ -153,7 +153,7 @@ impl<'a> Draft<'a> {
         })
     }
 
-    /// The job of these fields, if it has a moment and a length, and a printer is there.
+    /// The job of the fields, if it has a moment and a length, and there is a printer.
     pub(crate) fn job(&self, alloc: Global, settings: &Settings) -> Result<ListedJob, LineError> {
         let Some(moment) = self.moment else {
             return Err(LineError::Fault(ListFault::NoMoment));

@@ -1,32 +1,32 @@
-//! What is wrong with a list.
+//! The faults of a list.
 
 use crate::column::Column;
 use std::alloc::{AllocError, AllocFailed};
 use std::fmt;
 use thiserror::Error;
 
-/// Why a text is no list of jobs.
+/// Why a text isn't a list of jobs.
 #[derive(Clone, Copy, Debug)]
 pub enum ListFault {
-    /// The first line names a column that isn't known.
+    /// The first line has an unknown column.
     UnknownColumn,
-    /// The first line names a column twice.
+    /// The first line has a column twice.
     ColumnTwice,
     /// A line has another number of fields than the first.
     FieldCount,
-    /// A field says what its column doesn't allow.
+    /// A field has a value that its column doesn't allow.
     Field(Column),
     /// A job has no moment.
     NoMoment,
     /// A job has neither impressions nor octets.
     NoLength,
-    /// A job comes before the one in the line before.
+    /// A job comes before the job in the line before.
     Order,
     /// There are more jobs than [`crate::MOST_JOBS`].
     TooMany,
 }
 
-/// Why a line gives no job.
+/// Why a line isn't a job.
 #[derive(Clone, Copy)]
 pub(crate) enum LineError {
     Fault(ListFault),
@@ -36,7 +36,7 @@ pub(crate) enum LineError {
 /// Why no list was read.
 #[derive(Clone, Copy, Debug, Error)]
 pub enum ListError {
-    /// The text is none, by this fault of this line, counted from 1.
+    /// The text isn't a list, by this fault of this line, counted from 1.
     #[error("line {line}: {fault}")]
     Fault { line: u64, fault: ListFault },
     #[error("out of memory")]
@@ -73,7 +73,7 @@ impl<T: Drop> From<AllocFailed<T>> for ListError {
 }
 
 impl LineError {
-    /// The error of a list whose line this is.
+    /// The error of a list, where the fault is in this line.
     pub(crate) fn at(self, line: u64) -> ListError {
         match self {
             LineError::Fault(fault) => ListError::Fault { line, fault },

@@ -1,10 +1,10 @@
-//! What a field says.
+//! The values of fields.
 ghost use Rattle.std.specs.Prelude.{◌≤◌, ◌<◌, ◌^◌, ◌-◌, IfSome, length};
 
 use base_types::Finishings;
 use printer_objects::Finishing;
 
-/// The number of a field, from the least to the most.
+/// The number of a field, from `least` to `most`.
 pub(crate) fn number_in(field: &[u8], least: u32, most: u32) -> Option<u32>
     requires { most < 2 ^ 32 }
     ensures { IfSome result (λ n. (least ≤ n) × (n ≤ most)) }
@@ -25,7 +25,7 @@ fn finishing_named(word: &[u8]) -> Option<Finishing> {
     }
 }
 
-/// These finishings, and the one of a word, if it isn't there yet.
+/// The finishings with that of a word, if it isn't among them.
 fn with_word(found: Finishings, word: &[u8]) -> Option<Finishings> {
     let finishing = finishing_named(word)?;
     if finishing.is_in(found) {
@@ -44,7 +44,7 @@ pub(crate) fn finishings_named(field: &[u8]) -> Option<Finishings> {
     Some(found)
 }
 
-/// A field that isn't longer than so many bytes.
+/// A field of at most `most` bytes.
 pub(crate) fn up_to(field: &[u8], most: usize) -> Option<&[u8]> {
     if field.len() <= most {
         Some(field)

@@ -1,9 +1,8 @@
-//! Lists of jobs, as comma-separated values (RFC 4180): which job comes when, and what it needs of a
-//! device.
+//! Lists of jobs, as comma-separated values (RFC 4180), with the moments and the needs of the jobs.
 //!
-//! [`read_list`] gives the jobs of a text for the printers of some settings, or its first fault with its
-//! line. It promises that each job's numbers are in their ranges; which bytes are a record is `csv`'s to
-//! say. It opens no file, and knows no device: a job may need what none has.
+//! [`read_list`] returns the jobs of a text for the printers of some settings, or its first fault with its
+//! line. The numbers of each job are in their ranges. The crate `csv` splits the text into records. The crate
+//! opens no file, and knows no devices: a job may need what no device has.
 //!
 //! Tests stand in `unit_tests`.
 #![tactic(auto)]

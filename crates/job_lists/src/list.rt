@@ -7,10 +7,10 @@ use csv::{ByteRecord, Error, ErrorKind, Reader, ReaderBuilder};
 use settings_file::Settings;
 use std::alloc::Global;
 
-/// How many jobs a list may have.
+/// The most jobs of a list.
 pub const MOST_JOBS: usize = 100_000;
 
-/// The error of a record that can't be read. A text in memory fails nowhere else.
+/// The error of a record that can't be read. A text in memory has no other errors.
 fn unread(error: &Error) -> ListError {
     match error.kind() {
         ErrorKind::UnequalLengths { pos: Some(pos), .. } => ListError::Fault {
@@ -21,7 +21,7 @@ fn unread(error: &Error) -> ListError {
     }
 }
 
-/// Reads the next record: whether there was one.
+/// Reads the next record. Returns whether there was one.
 fn read_row(reader: &mut Reader<&[u8]>, row: &mut ByteRecord) -> Result<bool, ListError> {
     match reader.read_byte_record(row) {
         Ok(found) => Ok(found),
@@ -37,7 +37,7 @@ fn line_of(row: &ByteRecord) -> u64 {
     }
 }
 
-/// The column of a name, which isn't there yet.
+/// The column of a name, which isn't among the columns yet.
 fn next_column(columns: &[Column], name: &[u8]) -> Result<Column, ListFault> {
     let column = Column::named(name).ok_or(ListFault::UnknownColumn)?;
     if columns.contains(&column) {
@@ -46,7 +46,7 @@ fn next_column(columns: &[Column], name: &[u8]) -> Result<Column, ListFault> {
     Ok(column)
 }
 
-/// The columns that the first line names.
+/// The columns of the first line.
 fn columns_of(alloc: Global, header: &ByteRecord) -> Result<Vec<Column>, LineError> {
     let mut columns = Vec::new(alloc);
     for name in header.iter() {
@@ -72,7 +72,7 @@ fn job_of(
     draft.job(alloc, settings)
 }
 
-/// Adds the job of a line, which comes no earlier than the last one, unless there are as many as may be.
+/// Appends the job of a line. It comes no earlier than the last one, and the number of jobs is limited.
 fn add_job(
     alloc: Global,
     jobs: &mut Vec<ListedJob>,
@@ -130,7 +130,8 @@ fn read_lines(
     }
 }
 
-/// The jobs of a text, in their order: its first line names the columns, and each further one is a job.
+/// Reads the jobs of a text, in order. The first line has the names of the columns, and each further line is
+/// a job.
 ///
 /// # Errors
 ///

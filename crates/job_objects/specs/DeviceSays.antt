@@ -1,4 +1,4 @@
--- What a device says of the job that it has, and what that changes.
+-- The event of a device's job, as the device reports it, and the change that it makes of the job.
 use Rattle.std.specs.Prelude.{Bool, true, false}
 use Rattle.job_objects.specs.declared.device_says.DeviceSays.{DeviceSays}
 use Rattle.job_objects.specs.declared.device_says.DeviceSays.TheVariants as Says
@@ -11,7 +11,7 @@ change_of Says.Continue = Change.Continue
 change_of Says.Done = Change.Done
 change_of Says.Fail = Change.Fail
 
--- whether the job ends: the device lets go of it then
+-- whether the event ends the job on the device
 abbrev pub is_end : DeviceSays → Bool
 is_end Says.Stop = false
 is_end Says.Continue = false

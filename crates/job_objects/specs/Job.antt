@@ -11,15 +11,15 @@ pub record JobRecord : Type 0 where
   pub name : List ℕ
   pub priority : ℕ
   pub needs : JobNeeds
-  -- job-impressions, where it was given and isn't negative
+  -- job-impressions, if the request had it and it wasn't negative
   pub impressions : Option ℕ
   pub state : JobState
   -- documents are still to come
   pub incoming : Bool
   pub held : Bool
-  -- the last plan found no device for it
+  -- whether the last plan found no device for the job
   pub stranded : Bool
-  -- the documents taken, and their octets together
+  -- the number of documents taken, and of their octets together
   pub documents : ℕ
   pub octets : ℕ
   pub canceled_by : Option Canceler
@@ -27,6 +27,6 @@ pub record JobRecord : Type 0 where
   pub started : Option ℕ
   pub finished : Option ℕ
 
--- no more documents and octets than a job may have
+-- the documents and the octets are within a job's limits
 abbrev pub KeepsLimits : ℕ → ℕ → Type 0
 KeepsLimits documents octets = (documents ≤ JOB_DOCUMENTS) × (octets ≤ JOB_OCTETS)

@@ -3,7 +3,7 @@ use Rattle.std.specs.Prelude.{ℕ, Bool, true, false, ◌||◌, if◌then◌else
 use Rattle.job_objects.specs.declared.job_state.JobState.{JobState}
 use Rattle.job_objects.specs.declared.job_state.JobState.TheVariants.{Pending, PendingHeld, Processing, Stopped, Canceled, Aborted, Completed}
 
--- a job that no device has yet is held back while it comes in or is held
+-- the state of a job that no device has had: held while its documents are still to come or it is held, else pending
 abbrev pub waiting_state : Bool → Bool → JobState
 waiting_state incoming held = if incoming || held then PendingHeld else Pending
 
@@ -16,7 +16,7 @@ state_code Canceled = 7
 state_code Aborted = 8
 state_code Completed = 9
 
--- whether a job in this state may be planned: all of it is in, and it isn't held
+-- whether a job of this state may be planned: it is complete, and it isn't held
 abbrev pub is_pending : JobState → Bool
 is_pending Pending = true
 is_pending PendingHeld = false

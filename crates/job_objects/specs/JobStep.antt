@@ -1,4 +1,4 @@
--- The table of states: what each change makes of a job (RFC 8011, section 5.3.7).
+-- The table of states: the job after each change (RFC 8011, section 5.3.7).
 use Rattle.std.specs.Prelude.{ℕ, true, false, ◌||◌, if◌then◌else◌, Option, Some, None, unwrap_or}
 use Rattle.job_objects.specs.declared.job_state.JobState.{JobState}
 use Rattle.job_objects.specs.declared.job_state.JobState.TheVariants.{Pending, PendingHeld, Processing, Stopped, Canceled, Aborted, Completed}
@@ -6,11 +6,11 @@ use Rattle.job_objects.specs.declared.job_change.JobChange.{JobChange}
 use Rattle.job_objects.specs.declared.job_change.JobChange.TheVariants.{Close, Hold, Release, Begin, Stop, Continue, Cancel, Done, Fail}
 use Rattle.job_objects.specs.Job.{JobRecord}
 
--- the job takes a state other than pending; it is stranded no more
+-- the job gets a state other than pending, and isn't stranded any more
 abbrev pub moved : JobState → JobRecord → JobRecord
 moved state job = record job { state = state; stranded = false }
 
--- a job that no device has yet: it is held back while it comes in or is held, else pending
+-- a job that no device has had: held while its documents are still to come or it is held, else pending
 abbrev pub waiting : JobRecord → JobRecord
 waiting job = if job.incoming || job.held then moved PendingHeld job else record job { state = Pending }
 
@@ -18,7 +18,7 @@ waiting job = if job.incoming || job.held then moved PendingHeld job else record
 abbrev pub ended : JobState → ℕ → JobRecord → JobRecord
 ended state now job = record (moved state job) { incoming = false; finished = Some now }
 
--- the job after a change from a state, where that is possible
+-- the job after a change from a state, if the state allows the change
 abbrev pub changed_from : JobChange → JobState → ℕ → JobRecord → Option JobRecord
 changed_from Close PendingHeld now job = if job.incoming then Some (waiting (record job { incoming = false })) else None
 changed_from Hold Pending now job = Some (waiting (record job { held = true }))
@@ -44,6 +44,6 @@ changed_from _ _ now job = None
 abbrev pub job_after : JobChange → ℕ → JobRecord → Option JobRecord
 job_after change now job = changed_from change job.state now job
 
--- the job after the change, or as it was where the change isn't possible
+-- the job after the change, unchanged if its state doesn't allow the change
 abbrev pub stepped : JobChange → ℕ → JobRecord → JobRecord
 stepped change now job = unwrap_or (job_after change now job) job

@@ -1,4 +1,4 @@
--- Why a job is in its state, and the keywords of the reasons (RFC 8011, section 5.3.8).
+-- The reasons of a job's state, and their keywords (RFC 8011, section 5.3.8).
 use Rattle.std.specs.Prelude.{ℕ, ◌||◌, Bool, true, false, if◌then◌else◌, List, Option, Some, None, codes}
 use Rattle.job_objects.specs.declared.job_state.JobState.{JobState}
 use Rattle.job_objects.specs.declared.job_state.JobState.TheVariants.{Pending, PendingHeld, Processing, Stopped, Canceled, Aborted, Completed}
@@ -28,13 +28,13 @@ one reason = record { first = reason; second = None }
 abbrev pub pending_reason : Bool → Bool → Reason
 pending_reason stranded paused = if paused then PrinterStopped else if stranded then ResourcesAreNotReady else Nothing
 
--- a job that is held back says that it comes in, that it is held, or both in this order
+-- the reasons of a pending-held job: documents are still to come, the job is held, or both in this order
 abbrev pub held_reasons : Bool → Bool → JobReasons
 held_reasons true true = record { first = JobIncoming; second = Some JobHoldUntilSpecified }
 held_reasons true false = one JobIncoming
 held_reasons false held = one JobHoldUntilSpecified
 
--- why a job that no device has is pending or held back
+-- the reasons of a job that no device has had
 abbrev pub waiting_reasons : Bool → Bool → Bool → Bool → JobReasons
 waiting_reasons incoming held stranded paused =
     if incoming || held then held_reasons incoming held
@@ -53,6 +53,6 @@ reasons_in Canceled job paused = one (canceled_reason job.canceled_by)
 reasons_in Aborted job paused = one AbortedBySystem
 reasons_in Completed job paused = one JobCompletedSuccessfully
 
--- the reasons of a job, told whether its printer is paused
+-- the reasons of a job; `paused` says whether its printer is paused
 abbrev pub reasons_of : JobRecord → Bool → JobReasons
 reasons_of job paused = reasons_in job.state job paused

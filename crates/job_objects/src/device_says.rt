@@ -1,15 +1,15 @@
-//! What a device says of the job that it has.
+//! The event of a device's job, as the device reports it.
 ghost use Rattle.std.specs.Prelude.{◌≡◌};
 ghost use Rattle.job_objects.specs.DeviceSays.{change_of, is_end};
 
 use crate::job_change::JobChange;
 
-/// What a device says of the job that it has.
+/// The event of a device's job, as the device reports it.
 #[derive(Clone, Copy, Debug, PartialEq, Eq)]
 pub enum DeviceSays {
-    /// It stops.
+    /// The device stops.
     Stop,
-    /// It runs again, and continues the job.
+    /// The device runs again, and continues the job.
     Continue,
     /// The job is printed.
     Done,
@@ -18,7 +18,7 @@ pub enum DeviceSays {
 }
 
 impl DeviceSays {
-    /// What this changes of the job.
+    /// The change that the event makes of the job.
     pub fn change(self) -> JobChange
         ensures { result ≡ change_of self }
     {
@@ -30,7 +30,7 @@ impl DeviceSays {
         }
     }
 
-    /// Whether the job ends: the device lets go of it then.
+    /// Returns whether the event ends the job on the device.
     pub fn is_end(self) -> bool
         ensures { result ≡ is_end self }
     {

@@ -2,12 +2,12 @@ use crate::job_state::JobState;
 use base_types::{JobId, Moment, Needs, Priority, Text};
 use std::marker::Model;
 
-/// Who canceled a job.
+/// The role of the user who canceled a job.
 #[derive(Clone, Copy, Debug, PartialEq, Eq)]
 pub enum Canceler {
-    /// Its owner.
+    /// The job's owner.
     Owner,
-    /// An operator who isn't its owner.
+    /// An operator who isn't the job's owner.
     Operator,
 }
 
@@ -19,27 +19,27 @@ pub struct Job {
     pub name: Text,
     pub priority: Priority,
     pub needs: Needs,
-    /// job-impressions as it was given (RFC 8011, section 5.3.17.2), where it was and isn't negative.
+    /// job-impressions (RFC 8011, section 5.3.17.2), if the request had it and it wasn't negative.
     pub impressions: Option<u32>,
     pub state: JobState,
     /// Whether documents are still to come.
     pub incoming: bool,
-    /// Whether it is held, by job-hold-until or Hold-Job.
+    /// Whether the job is held, by job-hold-until or Hold-Job.
     pub held: bool,
-    /// Whether the last plan found no device for it.
+    /// Whether the last plan found no device for the job.
     pub stranded: bool,
-    /// How many documents were taken: at most [`base_types::Limits::JOB_DOCUMENTS`]. The number stays
-    /// when the documents are dropped.
+    /// The number of documents taken, at most [`base_types::Limits::JOB_DOCUMENTS`]. It stays when the
+    /// documents are dropped.
     pub documents: usize,
-    /// Their octets together: at most [`base_types::Limits::JOB_OCTETS`]. The number stays too.
+    /// The number of octets of all documents, at most [`base_types::Limits::JOB_OCTETS`]. It stays too.
     pub octets: usize,
-    /// Who canceled it, where it is canceled.
+    /// The role of the user who canceled the job, if it is canceled.
     pub canceled_by: Option<Canceler>,
-    /// When it was made.
+    /// The moment at which the job was made.
     pub created: Moment,
-    /// When a device began it.
+    /// The moment at which a device began the job.
     pub started: Option<Moment>,
-    /// When it was finished.
+    /// The moment at which the job was finished.
     pub finished: Option<Moment>,
 }
 

@@ -1,5 +1,4 @@
-//! The table of job states: what may happen to a job, and what it is then (RFC 8011, section
-//! 5.3.7).
+//! The table of job states: the changes of a job, and its state after each (RFC 8011, section 5.3.7).
 ghost use Rattle.std.specs.Prelude.{◌≡◌, is_ok, is_some, false};
 ghost use Rattle.job_objects.specs.JobStep.{job_after, stepped, waiting, moved, ended};
 
@@ -7,37 +6,37 @@ use crate::job::{Canceler, Job};
 use crate::job_state::JobState;
 use base_types::Moment;
 
-/// What may happen to a job (RFC 8011, section 5.3.7).
+/// A change of a job (RFC 8011, section 5.3.7).
 #[derive(Clone, Copy, Debug, PartialEq, Eq)]
 pub enum JobChange {
-    /// Its last document is in.
+    /// The last document is taken.
     Close,
-    /// It is held.
+    /// The job is held.
     Hold,
-    /// It is held no more.
+    /// The job isn't held any more.
     Release,
-    /// A device begins it.
+    /// A device begins the job.
     Begin,
-    /// Its device stops.
+    /// The job's device stops.
     Stop,
-    /// Its device runs again.
+    /// The job's device runs again.
     Continue,
-    /// It is canceled.
+    /// The job is canceled.
     Cancel(Canceler),
-    /// It is printed.
+    /// The job is printed.
     Done,
-    /// It can't be printed, or stopped coming in.
+    /// The job can't be printed, or its documents stopped coming.
     Fail,
 }
 
 /// Why a job isn't changed.
 #[derive(Clone, Copy, Debug, PartialEq, Eq)]
 pub enum StateRefusal {
-    /// Its state doesn't allow the change.
+    /// The job's state doesn't allow the change.
     NotPossible,
 }
 
-/// Changes a job as the table of states says; a refused change leaves it as it was.
+/// Changes a job by the table of states. A refused change leaves the job unchanged.
 pub fn job_step(job: &mut Job, change: JobChange, now: Moment) -> Result<(), StateRefusal>
     ensures possible { is_ok result ≡ is_some (job_after change now job.old) }
     ensures after { job.new ≡ stepped change now job.old }
@@ -66,7 +65,7 @@ pub fn job_step(job: &mut Job, change: JobChange, now: Moment) -> Result<(), Sta
 }
 
 impl Job {
-    /// The last document is in.
+    /// Records that the last document is taken.
     fn close(&mut self)
         ensures after { self.new ≡ waiting (record self.old { incoming = false }) }
         ensures same_job { self.new.id ≡ self.old.id }
@@ -75,7 +74,7 @@ impl Job {
         self.wait();
     }
 
-    /// The job is held, or isn't.
+    /// Sets whether the job is held.
     fn hold(&mut self, held: bool)
         ensures after { self.new ≡ waiting (record self.old { held = held }) }
         ensures same_job { self.new.id ≡ self.old.id }
@@ -84,7 +83,7 @@ impl Job {
         self.wait();
     }
 
-    /// The state of a job that no device has yet.
+    /// Sets the state of a job that no device has had.
     fn wait(&mut self)
         ensures after { self.new ≡ waiting self.old }
         ensures same_job { self.new.id ≡ self.old.id }
@@ -96,7 +95,7 @@ impl Job {
         }
     }
 
-    /// The job takes a state other than pending.
+    /// Sets a state other than pending.
     fn take_state(&mut self, state: JobState)
         ensures { self.new ≡ moved state self.old }
     {
@@ -104,7 +103,7 @@ impl Job {
         self.stranded = false;
     }
 
-    /// A device begins the job.
+    /// Records that a device begins the job.
     fn begin(&mut self, now: Moment)
         ensures { self.new ≡ record (moved JobState.Processing self.old) { started = Some now } }
     {
@@ -112,7 +111,7 @@ impl Job {
         self.started = Some(now);
     }
 
-    /// Someone cancels the job.
+    /// Cancels the job.
     fn cancel(&mut self, by: Canceler, now: Moment)
         ensures { self.new ≡ record (ended JobState.Canceled now self.old) { canceled_by = Some by } }
     {
@@ -120,7 +119,7 @@ impl Job {
         self.canceled_by = Some(by);
     }
 
-    /// The job is finished, in one of the final states.
+    /// Finishes the job, in one of the final states.
     fn end(&mut self, state: JobState, now: Moment)
         ensures { self.new ≡ ended state now self.old }
     {

@@ -2,16 +2,16 @@
 ghost use Rattle.std.specs.Prelude.{◌≡◌};
 ghost use Rattle.job_objects.specs.JobState.{state_code, is_finished, is_pending, waiting_state};
 
-/// Where a job stands (RFC 8011, section 5.3.7).
+/// The state of a job (RFC 8011, section 5.3.7).
 #[derive(Clone, Copy, Debug, PartialEq, Eq)]
 pub enum JobState {
-    /// All of it is in, and nothing holds it back.
+    /// The job is complete, and isn't held.
     Pending,
-    /// It is still coming in, or is held.
+    /// Documents are still to come, or the job is held.
     PendingHeld,
-    /// A device prints it.
+    /// A device prints the job.
     Processing,
-    /// The device that prints it is stopped.
+    /// The device that has the job is stopped.
     Stopped,
     Canceled,
     Aborted,
@@ -19,7 +19,8 @@ pub enum JobState {
 }
 
 impl JobState {
-    /// The state of a job that no device has yet: it is held back while it comes in or is held.
+    /// The state of a job that no device has had: pending-held while documents are still to come or the job
+    /// is held, else pending.
     pub fn waiting(incoming: bool, held: bool) -> JobState
         ensures { result ≡ waiting_state incoming held }
     {
@@ -30,7 +31,7 @@ impl JobState {
         }
     }
 
-    /// Its value as a job-state.
+    /// The value of job-state.
     pub fn code(self) -> u32
         ensures { result ≡ state_code self }
     {
@@ -45,7 +46,7 @@ impl JobState {
         }
     }
 
-    /// Whether the job may be planned: all of it is in, and it isn't held.
+    /// Returns whether the job may be planned: it is complete, and it isn't held.
     pub fn is_pending(self) -> bool
         ensures { result ≡ is_pending self }
     {
@@ -56,7 +57,7 @@ impl JobState {
         }
     }
 
-    /// Whether the job is canceled, aborted or completed.
+    /// Returns whether the job is canceled, aborted or completed.
     pub fn is_finished(self) -> bool
         ensures { result ≡ is_finished self }
     {

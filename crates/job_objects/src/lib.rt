@@ -1,9 +1,8 @@
-//! What a job is, the states it goes through, and the reasons it gives for its state, of which one is
-//! that its printer is paused ([`Printer`]).
+//! A job, its states, and the reasons of its state, among them that its printer is paused ([`Printer`]).
 //!
-//! It promises that a job changes just as the table of states says: [`job_step`] makes a change that
-//! the job's state allows, and leaves the job as it was where it doesn't. It takes no memory, holds no
-//! documents and knows nothing of other jobs; those stand in the spool above.
+//! A job changes exactly by the table of states: [`job_step`] makes a change that the job's state allows, and
+//! leaves the job unchanged otherwise. The crate takes no memory, holds no documents and has no list of jobs;
+//! the spool has those.
 //!
 //! Tests stand in `unit_tests`.
 #![tactic(auto)]

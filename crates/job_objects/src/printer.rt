@@ -1,10 +1,10 @@
-//! What changes of a printer.
+//! The part of a printer that changes.
 ghost use Rattle.std.specs.Prelude.{◌≡◌, true, false};
 
 use std::marker::Model;
 
-/// What changes of a printer: whether it is paused (RFC 8011, section 4.2.7). A paused printer takes
-/// jobs and starts none. In clauses it is whether it is paused.
+/// The part of a printer that changes: whether it is paused (RFC 8011, section 4.2.7). A paused printer takes
+/// jobs and starts none. In clauses it is the boolean of that.
 #[derive(Clone, Copy, Debug, PartialEq, Eq)]
 pub struct Printer {
     paused: bool,
@@ -21,28 +21,28 @@ impl Model for Printer {
 }
 
 impl Printer {
-    /// A printer that isn't paused.
+    /// Creates a printer that isn't paused.
     pub fn new() -> Printer
         ensures { result ≡ false }
     {
         Printer { paused: false }
     }
 
-    /// Whether it is paused.
+    /// Returns whether the printer is paused.
     pub fn is_paused(&self) -> bool
         ensures { result ≡ self.now }
     {
         self.paused
     }
 
-    /// Pauses it. One that is paused stays so.
+    /// Pauses the printer. A paused printer stays paused.
     pub fn pause(&mut self)
         ensures { self.new ≡ true }
     {
         self.paused = true;
     }
 
-    /// Ends its pause. One that isn't paused stays so.
+    /// Ends the pause of the printer. A printer that isn't paused stays so.
     pub fn resume(&mut self)
         ensures { self.new ≡ false }
     {

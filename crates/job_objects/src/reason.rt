@@ -1,28 +1,28 @@
-//! Why a job is in its state (RFC 8011, section 5.3.8).
+//! The reasons of a job's state (RFC 8011, section 5.3.8).
 ghost use Rattle.std.specs.Prelude.{◌≡◌, if◌then◌else◌};
 ghost use Rattle.job_objects.specs.Reasons.{keyword_of, reasons_of, held_reasons, pending_reason, waiting_reasons, canceled_reason};
 
 use crate::job::{Canceler, Job};
 use crate::job_state::JobState;
 
-/// Why a job is in its state (RFC 8011, section 5.3.8).
+/// A reason of a job's state (RFC 8011, section 5.3.8).
 #[derive(Clone, Copy, Debug, PartialEq, Eq)]
 pub enum Reason {
-    /// There is nothing to say.
+    /// The keyword `none`.
     Nothing,
-    /// Its printer is paused, or its device is stopped.
+    /// The job's printer is paused, or its device is stopped.
     PrinterStopped,
-    /// No device can print it at present.
+    /// No device can print the job at present.
     ResourcesAreNotReady,
     /// Documents are still to come.
     JobIncoming,
-    /// It is held.
+    /// The job is held.
     JobHoldUntilSpecified,
-    /// A device prints it.
+    /// A device prints the job.
     JobPrinting,
     JobCanceledByUser,
     JobCanceledByOperator,
-    /// It couldn't be printed, or stopped coming in.
+    /// The job couldn't be printed, or its documents stopped coming.
     AbortedBySystem,
     JobCompletedSuccessfully,
 }
@@ -35,7 +35,7 @@ pub struct JobReasons {
 }
 
 impl Reason {
-    /// Its keyword.
+    /// The keyword of the reason.
     pub fn keyword(self) -> &'static str
         ensures { result.now ≡ keyword_of self }
     {
@@ -54,7 +54,7 @@ impl Reason {
     }
 }
 
-/// Why a job is in its state, told whether its printer is paused.
+/// The reasons of a job's state. `printer_paused` says whether its printer is paused.
 pub fn reasons(job: &Job, printer_paused: bool) -> JobReasons
     ensures { result ≡ reasons_of job.now printer_paused }
 {
@@ -69,7 +69,7 @@ pub fn reasons(job: &Job, printer_paused: bool) -> JobReasons
     }
 }
 
-/// A reason alone.
+/// A list of one reason.
 fn one(reason: Reason) -> JobReasons
     ensures { result ≡ record { first = reason; second = None } }
 {
@@ -79,8 +79,8 @@ fn one(reason: Reason) -> JobReasons
     }
 }
 
-/// Why a job that no device has is pending or held back: it comes in, it is held, or else what keeps it
-/// from being printed.
+/// The reasons of a job that no device has had: documents are still to come, or the job is held, or else the
+/// cause that keeps the job from being printed.
 pub fn waiting_reasons(
     incoming: bool,
     held: bool,
@@ -96,7 +96,7 @@ pub fn waiting_reasons(
     }
 }
 
-/// Why a pending job isn't printed yet.
+/// The reason of a pending job that isn't printed yet.
 fn pending_reason(printer_paused: bool, stranded: bool) -> Reason
     ensures { result ≡ pending_reason stranded printer_paused }
 {
@@ -109,7 +109,7 @@ fn pending_reason(printer_paused: bool, stranded: bool) -> Reason
     }
 }
 
-/// Why a job is held back.
+/// The reasons of a pending-held job.
 fn held_reasons(incoming: bool, held: bool) -> JobReasons
     ensures { result ≡ held_reasons incoming held }
 {
@@ -126,7 +126,7 @@ fn held_reasons(incoming: bool, held: bool) -> JobReasons
     }
 }
 
-/// Who canceled the job.
+/// The reason of a canceled job.
 fn canceled_reason(by: Option<Canceler>) -> Reason
     ensures { result ≡ canceled_reason by }
 {

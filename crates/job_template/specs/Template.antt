@@ -1,4 +1,4 @@
--- What of a request's job group a printer supports, and what the job becomes by it (RFC 8011, section 5.2).
+-- The attributes of a request's job group that a printer supports, and the template of the job (RFC 8011, section 5.2).
 use Rattle.std.specs.Prelude.{ℕ, ◌==◌, ◌||◌, nat_lt, Bool, true, false, if◌then◌else◌, List, [], ◌∷◌, find, Option, Some, None, is_some, option_map, unwrap_or}
 use Rattle.std.specs.Option.{option_and_then, option_map_or}
 use Rattle.std.specs.Str.{bytes_eq}
@@ -19,7 +19,7 @@ use Rattle.job_template.specs.declared.template_name.TemplateName.{TemplateName}
 use Rattle.job_template.specs.declared.template_name.TemplateName.TheVariants as Is
 use Rattle.job_template.specs.TemplateName.{name_of, template_name}
 
--- ---- the value of an attribute that has just one
+-- ---- the value of an attribute of exactly one value
 
 abbrev pub alone : IppValue → List IppValue → Option IppValue
 alone value [] = Some value
@@ -36,11 +36,11 @@ number_of value = if tag_of value == tags.integer then option_and_then unsigned 
 abbrev pub enumerated_of : IppValue → Option ℕ
 enumerated_of value = if tag_of value == tags.enumeration then option_and_then unsigned (integer_in value) else None
 
--- a keyword
+-- the bytes of a keyword
 abbrev pub keyword_of : IppValue → Option (List ℕ)
 keyword_of value = if tag_of value == tags.keyword then Some (bytes_in value) else None
 
--- a keyword or a name without a language
+-- the bytes of a keyword, or of a name without a language
 abbrev pub word_of : IppValue → Option (List ℕ)
 word_of value = if (tag_of value == tags.keyword) || (tag_of value == tags.name) then Some (bytes_in value) else None
 
@@ -53,9 +53,9 @@ keyword attribute = option_and_then keyword_of (only_value attribute)
 abbrev pub word : IppAttribute → Option (List ℕ)
 word attribute = option_and_then word_of (only_value attribute)
 
--- ---- what a supported attribute asks for
+-- ---- the values of supported attributes
 
--- 1 up to the most
+-- a number from 1 to `most`
 abbrev pub up_to : ℕ → ℕ → Option ℕ
 up_to most count = if nat_lt count 1 || nat_lt most count then None else Some count
 
@@ -67,7 +67,7 @@ copies_in attribute = option_and_then (up_to COPIES) (number attribute)
 abbrev pub priority_in : IppAttribute → Option ℕ
 priority_in attribute = option_and_then (up_to HIGHEST_PRIORITY) (number attribute)
 
--- whether the job is held, by the word of job-hold-until (section 5.2.2)
+-- whether the job is held, by the keyword of job-hold-until (section 5.2.2)
 abbrev pub hold_named : List ℕ → Option Bool
 hold_named word = option_map is_held (hold_of_keyword word)
 
@@ -82,27 +82,27 @@ sides_in offer attribute = option_and_then (sides_named offer) (keyword attribut
 abbrev pub medium_in : OfferRecord → IppAttribute → Option (List ℕ)
 medium_in offer attribute = option_and_then (medium_named offer) (word attribute)
 
--- ---- finishings (section 5.2.6), the one attribute of several values
+-- ---- finishings (section 5.2.6), the only attribute that may have several values
 
--- the finishing of the printer that a value names
+-- the finishing that a value names, if the printer has it
 abbrev pub finishing_in : OfferRecord → IppValue → Option Finishing
 finishing_in offer value = option_and_then (finishing_named offer) (enumerated_of value)
 
--- a finishing more, which isn't there yet
+-- the finishings with one more, if that isn't among them
 abbrev pub unless_there : Finishings → Finishing → Option Finishings
 unless_there found finishing = if has_finishing found finishing then None else Some (with_finishing found finishing)
 
--- those found, and one for each of the values, which name one of the printer's each and no finishing twice
+-- the finishings with one for each value, if each value names one of the printer's and none is named twice
 abbrev pub finishings_from : OfferRecord → Finishings → List IppValue → Option Finishings
 finishings_from offer found [] = Some found
 finishings_from offer found (value ∷ values) =
     option_and_then (λ more. finishings_from offer more values) (option_and_then (unless_there found) (finishing_in offer value))
 
--- the one value is the number of none
+-- the attribute has one value, the number of no finishing
 abbrev pub wants_none : IppAttribute → Bool
 wants_none attribute = option_map_or (λ number. number == NO_FINISHING) (option_and_then enumerated_of (only_value attribute)) false
 
--- none, or those of the values
+-- no finishings, or those of the values
 abbrev pub finishings_in : OfferRecord → IppAttribute → Option Finishings
 finishings_in offer attribute =
     if wants_none attribute then Some no_finishings
@@ -110,7 +110,7 @@ finishings_in offer attribute =
 
 -- ---- which attributes are supported
 
--- by its name, whether its values are supported
+-- whether the printer supports the attribute of a name with its values
 abbrev pub supports : OfferRecord → IppAttribute → Option TemplateName → Bool
 supports offer attribute (Some Is.Copies) = is_some (copies_in attribute)
 supports offer attribute (Some Is.Media) = is_some (medium_in offer attribute)
@@ -123,17 +123,17 @@ supports offer attribute None = false
 unfoldable pub is_supported : OfferRecord → IppAttribute → Bool
 is_supported offer attribute = supports offer attribute (template_name attribute.name)
 
--- ---- what a job becomes by the group
+-- ---- the template of a job by its job group
 
--- the one of a name
+-- the attribute of a name
 abbrev pub named : TemplateName → List IppAttribute → Option IppAttribute
 named which attributes = find (λ a. bytes_eq (name_of which) a.name) attributes
 
--- what the attribute of a name asks for, if it is supported
+-- the value of the attribute of a name, if it is supported
 abbrev pub asked_by : {X : Type 0} → TemplateName → (IppAttribute → Option X) → List IppAttribute → Option X
 asked_by which value attributes = option_and_then value (named which attributes)
 
--- all but the medium
+-- the template without the medium
 pub record TemplateRecord : Type 0 where
   pub priority : ℕ
   pub sides : Sides
@@ -141,7 +141,7 @@ pub record TemplateRecord : Type 0 where
   pub copies : ℕ
   pub held : Bool
 
--- what isn't there or isn't supported has its default
+-- an attribute that is missing or isn't supported has its default
 unfoldable pub template_of : OfferRecord → List IppAttribute → TemplateRecord
 template_of offer attributes = record {
   priority = unwrap_or (asked_by Is.JobPriority priority_in attributes) DEFAULT_PRIORITY;
@@ -151,6 +151,6 @@ template_of offer attributes = record {
   held = unwrap_or (asked_by Is.JobHoldUntil hold_in attributes) false;
 }
 
--- the medium; without one that is supported the printer's default
+-- the medium; without a supported one the printer's default
 unfoldable pub medium_of : OfferRecord → List IppAttribute → List ℕ
 medium_of offer attributes = unwrap_or (asked_by Is.Media (medium_in offer) attributes) offer.printer.media_default

@@ -10,7 +10,7 @@ use Rattle.job_template.specs.declared.template_name.TemplateName.TheVariants.{C
 abbrev pub template_table : List TemplateName
 template_table = Copies ∷ Media ∷ Sides ∷ Finishings ∷ JobPriority ∷ JobHoldUntil ∷ []
 
--- the attribute by which a job shows it
+-- the attribute of a job that shows the template attribute
 abbrev pub shown_as : TemplateName → JobAttribute
 shown_as Copies = shown.Copies
 shown_as Media = shown.Media
@@ -22,6 +22,6 @@ shown_as JobHoldUntil = shown.HoldUntil
 abbrev pub name_of : TemplateName → List ℕ
 name_of which = job_attribute_name (shown_as which)
 
--- the attribute of a name
+-- the template attribute of a name
 abbrev pub template_name : List ℕ → Option TemplateName
 template_name name = find (λ which. bytes_eq name (name_of which)) template_table

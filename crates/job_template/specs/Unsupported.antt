@@ -1,4 +1,4 @@
--- What of a request's job group is returned (RFC 8011, section 4.1.7).
+-- The attributes of a request's job group that the response returns (RFC 8011, section 4.1.7).
 use Rattle.std.specs.Prelude.{not, if◌then◌else◌, List, [], map, filter, is_some}
 use Rattle.ipp_codec.specs.Message.{plain, IppAttribute}
 use Rattle.ipp_codec.specs.Tag as tags
@@ -6,12 +6,12 @@ use Rattle.printer_objects.specs.Offer.{OfferRecord}
 use Rattle.job_template.specs.TemplateName.{template_name}
 use Rattle.job_template.specs.Template.{is_supported}
 
--- as it came, if it is a template attribute; of any other the name alone
+-- a template attribute unchanged; any other attribute by its name alone
 abbrev pub returned : IppAttribute → IppAttribute
 returned attribute =
     if is_some (template_name attribute.name) then attribute
     else record { name = attribute.name; first = plain tags.unsupported []; others = [] }
 
--- those that aren't supported, in the request's order
+-- the unsupported attributes, in the request's order
 unfoldable pub unsupported_of : OfferRecord → List IppAttribute → List IppAttribute
 unsupported_of offer attributes = map returned (filter (λ a. not (is_supported offer a)) attributes)

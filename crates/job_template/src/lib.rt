@@ -1,10 +1,10 @@
-//! What of a request's job group a printer supports (RFC 8011, section 5.2).
+//! The job template attributes that a printer supports (RFC 8011, section 5.2).
 //!
-//! [`template_of`] and [`medium_of`] give what the group asks of the job, with the defaults in place
-//! of what isn't there or isn't supported; [`RequestAttributes::make_unsupported`] gives what is
-//! returned to the client, and [`RequestAttributes::breaks_fidelity`] whether the request is refused for it.
-//! Each attribute has one value, but `finishings` may have several. That of several attributes of a name
-//! the first acts is seen to where the request is read.
+//! [`template_of`] and [`medium_of`] return the template of a job, with defaults for attributes that are
+//! missing or aren't supported. [`RequestAttributes::make_unsupported`] makes the attributes that the
+//! response returns, and [`RequestAttributes::breaks_fidelity`] says whether the request is refused for them.
+//! Each attribute has one value; only `finishings` may have several. The parser of requests drops all but the
+//! first of several attributes of a name.
 //!
 //! Its rows are traces of `play_examples`.
 #![tactic(auto)]

@@ -1,4 +1,4 @@
-//! What an attribute of a request says.
+//! The values of a request's attribute.
 ghost use Rattle.std.specs.Prelude.{◌≡◌, [], option_map};
 ghost use Rattle.ipp_codec.specs.Message.{plain};
 ghost use Rattle.ipp_codec.specs.Owned.{value_owned};
@@ -11,7 +11,7 @@ use ipp_codec::{Attribute, Value, ValueTag};
 use printer_objects::NO_FINISHING;
 use std::alloc::Global;
 
-/// Its value, if it has just one.
+/// The attribute's value, if it has exactly one.
 fn only_value(attribute: &Attribute) -> Option<&Value>
     ensures { option_map (λ v. value_owned v.now) result ≡ only_value attribute.now }
 {
@@ -22,7 +22,7 @@ fn only_value(attribute: &Attribute) -> Option<&Value>
     }
 }
 
-/// Its one value, if that is an integer and isn't negative.
+/// The attribute's one value, if that is an integer and isn't negative.
 pub(crate) fn number(attribute: &Attribute) -> Option<u32>
     ensures { result ≡ number attribute.now }
 {
@@ -34,7 +34,7 @@ pub(crate) fn number(attribute: &Attribute) -> Option<u32>
     u32::try_from(number).ok()
 }
 
-/// The number of an enumeration that a value is, if it is one and isn't negative.
+/// The number of a value, if that is an enumeration's and isn't negative.
 pub(crate) fn enumerated(value: &Value) -> Option<u32>
     ensures { result ≡ enumerated_of (value_owned value.now) }
 {
@@ -45,7 +45,7 @@ pub(crate) fn enumerated(value: &Value) -> Option<u32>
     u32::try_from(number).ok()
 }
 
-/// Whether its one value is the number of no finishing.
+/// Returns whether the attribute's one value is the number of no finishing.
 pub(crate) fn wants_none(attribute: &Attribute) -> bool
     ensures { result ≡ wants_none attribute.now }
 {
@@ -55,7 +55,7 @@ pub(crate) fn wants_none(attribute: &Attribute) -> bool
     }
 }
 
-/// Its one value, if that is a keyword.
+/// The attribute's one value, if that is a keyword.
 pub(crate) fn keyword(attribute: &Attribute) -> Option<&[u8]>
     ensures { option_map (λ w. w.now) result ≡ keyword attribute.now }
 {
@@ -67,7 +67,7 @@ pub(crate) fn keyword(attribute: &Attribute) -> Option<&[u8]>
     }
 }
 
-/// Its one value, if that is a keyword or a name without a language.
+/// The attribute's one value, if that is a keyword or a name without a language.
 pub(crate) fn word(attribute: &Attribute) -> Option<&[u8]>
     ensures { option_map (λ w. w.now) result ≡ word attribute.now }
 {
@@ -80,7 +80,8 @@ pub(crate) fn word(attribute: &Attribute) -> Option<&[u8]>
     }
 }
 
-/// Makes it what is returned of it: an attribute that this server doesn't know loses its values.
+/// Changes an attribute into the form that the response returns: one that isn't a template attribute loses
+/// its values.
 pub(crate) fn make_returned(attribute: &mut Attribute, alloc: Global)
     ensures { attribute.new ≡ returned attribute.old }
 {
@@ -89,7 +90,7 @@ pub(crate) fn make_returned(attribute: &mut Attribute, alloc: Global)
     }
 }
 
-/// Keeps its name, with the one value that says that it isn't supported.
+/// Replaces the attribute's values by the one value `unsupported`.
 fn lose_values(attribute: &mut Attribute, alloc: Global)
     ensures { attribute.new ≡ record { name = attribute.old.name; first = plain tags.unsupported []; others = [] } }
 {

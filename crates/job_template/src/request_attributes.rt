@@ -1,4 +1,4 @@
-//! The attributes of a request's job group, and what of them is returned (RFC 8011, section 4.1.7).
+//! The attributes of a request's job group, and those that the response returns (RFC 8011, section 4.1.7).
 ghost use Rattle.std.specs.Prelude.{◌≡◌, ◌==◌, ◌&&◌, [], map, filter, not, length};
 ghost use Rattle.std.specs.List.{AllByRecursion};
 ghost use Rattle.std.specs.Option.{option_copied};
@@ -14,8 +14,8 @@ use printer_objects::Offer;
 use std::alloc::Global;
 use std::marker::Model;
 
-/// Attributes of a request, of different names, in their order: each has a spelling. In clauses they
-/// are the list of what they say.
+/// Attributes of a request, of different names, in order, each with a spelling. In clauses they are the list
+/// of their contents.
 #[derive(Drop)]
 pub struct RequestAttributes {
     attributes: Vec<Attribute>,
@@ -39,7 +39,7 @@ impl Model for RequestAttributes {
 }
 
 impl RequestAttributes {
-    /// None; it takes no memory.
+    /// Creates an empty list. It takes no memory.
     pub fn new(alloc: Global) -> RequestAttributes
         ensures { result ≡ [] }
     {
@@ -48,7 +48,7 @@ impl RequestAttributes {
         }
     }
 
-    /// These, which have different names.
+    /// The attributes of a list, which have different names.
     pub fn from_vec(attributes: Vec<Attribute>) -> RequestAttributes
         requires { AllByRecursion IsAttribute attributes.items }
         ensures { result ≡ attributes.items }
@@ -56,7 +56,7 @@ impl RequestAttributes {
         RequestAttributes { attributes }
     }
 
-    /// The attributes themselves.
+    /// The list of the attributes.
     pub fn into_vec(self) -> Vec<Attribute>
         ensures value { result.items ≡ self }
         ensures spelt { AllByRecursion IsAttribute result.items }
@@ -64,22 +64,22 @@ impl RequestAttributes {
         self.attributes
     }
 
-    /// Whether there is none.
+    /// Returns whether there are no attributes.
     pub fn is_empty(&self) -> bool
         ensures { result ≡ (length self.now == 0) }
     {
         self.attributes.is_empty()
     }
 
-    /// Whether a request is refused for these, which of it aren't supported: it is, if it wants its job
-    /// group to the letter (RFC 8011, section 4.2.1.1).
+    /// Returns whether a request is refused for these unsupported attributes: there are some, and the request
+    /// has `fidelity` (RFC 8011, section 4.2.1.1).
     pub fn breaks_fidelity(&self, fidelity: bool) -> bool
         ensures { result ≡ (fidelity && not (length self.now == 0)) }
     {
         fidelity && !self.is_empty()
     }
 
-    /// The one of a name.
+    /// The attribute of a name.
     pub(crate) fn named(&self, which: TemplateName) -> Option<&Attribute>
         ensures { option_copied result ≡ named which self.now }
     {
@@ -89,7 +89,8 @@ impl RequestAttributes {
             .find(|attribute| name == attribute.name())
     }
 
-    /// What is returned of a job group, in its order. It takes no memory.
+    /// Changes the job group into the attributes that the response returns, in the same order. It takes no
+    /// memory.
     #[tactic(auto, unfolding(crate::specs::Unsupported::unsupported_of))]
     pub fn make_unsupported(&mut self, alloc: Global, offer: &Offer<'_>)
         ensures { self.new ≡ unsupported_of offer.now self.old }
@@ -98,7 +99,7 @@ impl RequestAttributes {
         self.make_returned(alloc);
     }
 
-    /// Keeps what the printer doesn't support.
+    /// Keeps the attributes that the printer doesn't support.
     fn keep_unsupported(&mut self, offer: &Offer<'_>)
         ensures { self.new ≡ filter (λ a. not (is_supported offer.now a)) self.old }
     {
@@ -106,7 +107,7 @@ impl RequestAttributes {
             .retain(|attribute| is_unsupported(offer, attribute));
     }
 
-    /// Makes each what is returned of it.
+    /// Changes each attribute into the form that the response returns.
     fn make_returned(&mut self, alloc: Global)
         ensures { self.new ≡ map returned self.old }
     {
@@ -114,7 +115,7 @@ impl RequestAttributes {
     }
 }
 
-/// Makes each what is returned of it.
+/// Changes each attribute into the form that the response returns.
 fn make_each_returned(attributes: &mut [Attribute], alloc: Global)
     ensures { attributes.new ≡ map returned attributes.old }
 {

@@ -1,5 +1,4 @@
-//! What a printer supports of a job's template, and what the job becomes by it (RFC 8011, section
-//! 5.2).
+//! The job template attributes that a printer supports, and the template of the job (RFC 8011, section 5.2).
 ghost use Rattle.std.specs.Prelude.{◌≡◌, not, false, map, unwrap_or};
 ghost use Rattle.std.specs.Option.{option_copied};
 ghost use Rattle.job_template.specs.Template.{up_to, copies_in, priority_in, hold_named, hold_in, sides_in, medium_in, finishing_in, unless_there, finishings_from, finishings_in, supports, is_supported, asked_by, template_of, medium_of};
@@ -15,7 +14,7 @@ use ipp_codec::{Attribute, Value};
 use printer_objects::{Finishing, Offer};
 use std::marker::Model;
 
-/// What the job template asks for, but its medium; what isn't there or isn't supported has its
+/// The template of a job, without its medium. An attribute that is missing or isn't supported has its
 /// default. In clauses it is a record of the same fields.
 #[derive(Debug, Drop)]
 pub struct JobTemplate {
@@ -45,7 +44,7 @@ impl Model for JobTemplate {
     ghost invariant = { λ t. IsCopies t.copies };
 }
 
-/// A number from 1 up to the most.
+/// The number, if it is from 1 to `most`.
 fn up_to(most: u32, count: u32) -> Option<u32>
     ensures { result ≡ up_to most count }
 {
@@ -56,21 +55,21 @@ fn up_to(most: u32, count: u32) -> Option<u32>
     }
 }
 
-/// The copies that an attribute asks for, if they are supported.
+/// The copies of an attribute, if they are supported.
 fn copies_in(attribute: &Attribute) -> Option<u32>
     ensures { result ≡ copies_in attribute.now }
 {
     up_to(Limits::COPIES, number(attribute)?)
 }
 
-/// The priority that an attribute asks for, if it is supported.
+/// The priority of an attribute, if it is supported.
 fn priority_in(attribute: &Attribute) -> Option<Priority>
     ensures { result ≡ priority_in attribute.now }
 {
     priority_at(number(attribute)?)
 }
 
-/// The priority of this number, if it is in range.
+/// The priority of a number, if it is in range.
 fn priority_at(number: u32) -> Option<Priority>
     ensures { result ≡ up_to Limits.HIGHEST_PRIORITY number }
 {
@@ -80,7 +79,7 @@ fn priority_at(number: u32) -> Option<Priority>
     }
 }
 
-/// Whether a job is held by this word, if it is supported.
+/// Whether a keyword of job-hold-until holds the job. `None` if the keyword isn't supported.
 fn hold_named(word: &[u8]) -> Option<bool>
     ensures { result ≡ hold_named word.now }
 {
@@ -88,35 +87,35 @@ fn hold_named(word: &[u8]) -> Option<bool>
     Some(hold.is_held())
 }
 
-/// Whether an attribute asks for the job to be held, if it is supported.
+/// Whether an attribute holds the job. `None` if its value isn't supported.
 fn hold_in(attribute: &Attribute) -> Option<bool>
     ensures { result ≡ hold_in attribute.now }
 {
     hold_named(keyword(attribute)?)
 }
 
-/// The sides that an attribute asks for, if they are supported.
+/// The sides of an attribute, if they are supported.
 fn sides_in(offer: &Offer<'_>, attribute: &Attribute) -> Option<Sides>
     ensures { result ≡ sides_in offer.now attribute.now }
 {
     offer.sides_named(keyword(attribute)?)
 }
 
-/// The medium that an attribute asks for, as the settings write it, if it is supported.
+/// The medium of an attribute, as the settings spell it, if it is supported.
 fn medium_in<'a>(offer: &Offer<'a>, attribute: &Attribute) -> Option<&'a Text>
     ensures { option_copied result ≡ medium_in offer.now attribute.now }
 {
     offer.medium_named(word(attribute)?)
 }
 
-/// The finishing of the printer that a value names.
+/// The finishing that a value names, if the printer has it.
 fn finishing_in(offer: &Offer<'_>, value: &Value) -> Option<Finishing>
     ensures { result ≡ finishing_in offer.now (value_owned value.now) }
 {
     offer.finishing_named(enumerated(value)?)
 }
 
-/// Those found and one more, which isn't there yet.
+/// The finishings with one more, if that isn't among them.
 fn unless_there(found: Finishings, finishing: Finishing) -> Option<Finishings>
     ensures { result ≡ unless_there found finishing }
 {
@@ -127,8 +126,7 @@ fn unless_there(found: Finishings, finishing: Finishing) -> Option<Finishings>
     }
 }
 
-/// Those found, and one for each of the values, if each names one of the printer's and none is named
-/// twice.
+/// The finishings with one for each value, if each value names one of the printer's and none is named twice.
 fn finishings_from(offer: &Offer<'_>, found: Finishings, values: &[Value]) -> Option<Finishings>
     ensures { result ≡ finishings_from offer.now found (map value_owned values.now) }
 {
@@ -140,7 +138,7 @@ fn finishings_from(offer: &Offer<'_>, found: Finishings, values: &[Value]) -> Op
     Some(found)
 }
 
-/// The finishings that an attribute asks for, if they are supported.
+/// The finishings of an attribute, if they are supported.
 fn finishings_in(offer: &Offer<'_>, attribute: &Attribute) -> Option<Finishings>
     ensures { result ≡ finishings_in offer.now attribute.now }
 {
@@ -152,14 +150,14 @@ fn finishings_in(offer: &Offer<'_>, attribute: &Attribute) -> Option<Finishings>
     finishings_from(offer, found, &attribute.others)
 }
 
-/// Whether a printer doesn't support an attribute.
+/// Returns whether a printer doesn't support an attribute.
 pub(crate) fn is_unsupported(offer: &Offer<'_>, attribute: &Attribute) -> bool
     ensures { result ≡ not (is_supported offer.now attribute.now) }
 {
     !is_supported(offer, attribute)
 }
 
-/// Whether a printer supports an attribute.
+/// Returns whether a printer supports an attribute.
 #[tactic(auto, unfolding(crate::specs::Template::is_supported))]
 fn is_supported(offer: &Offer<'_>, attribute: &Attribute) -> bool
     ensures { result ≡ is_supported offer.now attribute.now }
@@ -167,7 +165,7 @@ fn is_supported(offer: &Offer<'_>, attribute: &Attribute) -> bool
     supports(offer, attribute, template_name(attribute.name()))
 }
 
-/// Whether a printer supports the template attribute of this name.
+/// Returns whether a printer supports the template attribute of a name, with its values.
 fn supports(offer: &Offer<'_>, attribute: &Attribute, name: Option<TemplateName>) -> bool
     ensures { result ≡ supports offer.now attribute.now name }
 {
@@ -182,7 +180,7 @@ fn supports(offer: &Offer<'_>, attribute: &Attribute, name: Option<TemplateName>
     }
 }
 
-/// What a job group asks of a printer.
+/// The template of a job by its job group.
 #[tactic(auto, unfolding(crate::specs::Template::template_of))]
 pub fn template_of(offer: &Offer<'_>, attributes: &RequestAttributes) -> JobTemplate
     ensures { result ≡ template_of offer.now attributes.now }
@@ -196,7 +194,7 @@ pub fn template_of(offer: &Offer<'_>, attributes: &RequestAttributes) -> JobTemp
     }
 }
 
-/// The priority of a job.
+/// The priority of a job, or the default.
 fn priority_of(attributes: &RequestAttributes) -> Priority
     ensures { result ≡ unwrap_or (asked_by TemplateName.JobPriority priority_in attributes.now) Limits.DEFAULT_PRIORITY }
 {
@@ -206,7 +204,7 @@ fn priority_of(attributes: &RequestAttributes) -> Priority
     }
 }
 
-/// The sides of a job.
+/// The sides of a job, one without a supported attribute.
 fn sides_of(offer: &Offer<'_>, attributes: &RequestAttributes) -> Sides
     ensures { result ≡ unwrap_or (asked_by TemplateName.Sides (sides_in offer.now) attributes.now) Sides.One }
 {
@@ -216,7 +214,7 @@ fn sides_of(offer: &Offer<'_>, attributes: &RequestAttributes) -> Sides
     }
 }
 
-/// The finishings of a job.
+/// The finishings of a job, none without a supported attribute.
 fn finishings_of(offer: &Offer<'_>, attributes: &RequestAttributes) -> Finishings
     ensures { result ≡ unwrap_or (asked_by TemplateName.Finishings (finishings_in offer.now) attributes.now) no_finishings }
 {
@@ -226,7 +224,7 @@ fn finishings_of(offer: &Offer<'_>, attributes: &RequestAttributes) -> Finishing
     }
 }
 
-/// The copies of a job.
+/// The copies of a job, 1 without a supported attribute.
 fn copies_of(attributes: &RequestAttributes) -> u32
     ensures value { result ≡ unwrap_or (asked_by TemplateName.Copies copies_in attributes.now) 1 }
     ensures in_range { IsCopies result }
@@ -237,7 +235,7 @@ fn copies_of(attributes: &RequestAttributes) -> u32
     }
 }
 
-/// Whether a job is held.
+/// Returns whether a job is held.
 fn is_held(attributes: &RequestAttributes) -> bool
     ensures { result ≡ unwrap_or (asked_by TemplateName.JobHoldUntil hold_in attributes.now) false }
 {
@@ -247,7 +245,7 @@ fn is_held(attributes: &RequestAttributes) -> bool
     }
 }
 
-/// The medium of a job, as the settings write it.
+/// The medium of a job, as the settings spell it; the printer's default without a supported attribute.
 #[tactic(auto, unfolding(crate::specs::Template::medium_of))]
 pub fn medium_of<'a>(offer: &Offer<'a>, attributes: &RequestAttributes) -> &'a Text
     ensures { result.now ≡ medium_of offer.now attributes.now }

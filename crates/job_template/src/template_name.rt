@@ -18,7 +18,7 @@ pub(crate) enum TemplateName {
 }
 
 impl TemplateName {
-    /// All of them.
+    /// All template attributes, in the table's order.
     fn all() -> [TemplateName; 6]
         ensures { result ≡ template_table }
     {
@@ -32,7 +32,7 @@ impl TemplateName {
         ]
     }
 
-    /// Its name, under which the job shows it too.
+    /// The name of the attribute, which is also that of the job's attribute.
     pub(crate) fn name(self) -> &'static [u8]
         ensures { result.now ≡ name_of self }
     {
@@ -48,14 +48,14 @@ impl TemplateName {
     }
 }
 
-/// The template attribute of this name, if it is one.
+/// The template attribute of a name, if there is one.
 pub(crate) fn template_name(name: &[u8]) -> Option<TemplateName>
     ensures { result ≡ template_name name.now }
 {
     first_named(&TemplateName::all(), name).copied()
 }
 
-/// The first of these attributes that has this name.
+/// The first of the attributes that has a name.
 fn first_named<'a>(all: &'a [TemplateName], name: &[u8]) -> Option<&'a TemplateName>
     ensures { option_copied result ≡ find (λ which. bytes_eq name.now (name_of which)) all.now }
 {

@@ -1,4 +1,4 @@
--- What a room shows of a printer, of a job, and of a list of jobs, at a moment (RFC 8011, sections 4.2.5, 4.3.4 and 4.2.6).
+-- The groups of a printer, of a job, and of a list of jobs, by the state of a room at a moment (RFC 8011, sections 4.2.5, 4.3.4 and 4.2.6).
 use Rattle.std.specs.Prelude.{ℕ, ◌==◌, ◌&&◌, Bool, List, [], map, count_by, slice_get}
 use Rattle.std.specs.List.{list_any}
 use Rattle.std.specs.Option.{option_map_or}
@@ -30,7 +30,7 @@ state_of_printer place state = printer_state_of (is_busy place state) (paused_at
 abbrev pub is_queued : ℕ → SpooledRecord → Bool
 is_queued place spooled = (spooled.job.needs.printer == place) && is_unfinished spooled
 
--- the printer at a place of the settings, told what it offers
+-- the data of the printer at a place of the settings, with its offer
 abbrev pub shown_printer : ℕ → OfferRecord → ℕ → State → ShownPrinter
 shown_printer place offer now state = record {
   paused = paused_at state.paused place;
@@ -46,7 +46,7 @@ printer_group place offer now requested state = printer_attributes (shown_printe
 
 -- ---- jobs
 
--- the name of the printer at a place of the settings; empty where none stands there
+-- the name of the printer at a place of the settings; empty if there is none
 abbrev pub printer_name : ServerSettings → ℕ → List ℕ
 printer_name settings place = option_map_or (λ p. p.name) (slice_get settings.printers place) []
 
@@ -62,6 +62,6 @@ shown_job now state job = record {
 abbrev pub job_group : ℕ → List (List ℕ) → State → JobRecord → IppGroup
 job_group now requested state job = job_attributes (shown_job now state job) (wanted_of requested)
 
--- a group for each job that is listed, in this order
+-- a group for each listed job, in order
 abbrev pub job_groups : WantedJobs → ℕ → List (List ℕ) → State → List IppGroup
 job_groups wanted now requested state = map (job_group now requested state) (listing now state wanted)

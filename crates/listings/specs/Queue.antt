@@ -1,4 +1,4 @@
--- Which printer a queue is (RFC 1179, section 5).
+-- The printer of a queue (RFC 1179, section 5).
 use Rattle.std.specs.Prelude.{ℕ, List, Option}
 use Rattle.settings_file.specs.Settings.{printer_named}
 use Rattle.print_room.specs.State.{State}

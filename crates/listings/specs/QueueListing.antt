@@ -1,4 +1,4 @@
--- What an LPD client sees of a queue (RFC 1179, sections 5.3 and 5.4).
+-- The listing of a queue for an LPD client (RFC 1179, sections 5.3 and 5.4).
 use Rattle.std.specs.Prelude.{ℕ, ◌≡◌, false, if◌then◌else◌, List, [], ◌∷◌, map, filter, None}
 use Rattle.job_objects.specs.Job.{JobRecord}
 use Rattle.job_objects.specs.Reasons.{reasons_of}
@@ -11,7 +11,7 @@ use Rattle.events.specs.declared.queue.QueueListing.{QueueListing}
 use Rattle.events.specs.declared.queue.ListQueue.{ListQueue}
 use Rattle.listings.specs.Operand.{is_shown}
 
--- what is shown of a job
+-- the entry of a job
 abbrev pub entry_of : State → JobRecord → QueueEntry
 entry_of state job = record {
   id = job.id;
@@ -28,11 +28,11 @@ entry_of state job = record {
 abbrev pub queued : ℕ → WantedJobs
 queued place = record { printer = place; finished = false; owner = None; limit = None }
 
--- of the unfinished jobs those that are asked for, in the order of Get-Jobs
+-- the entries of the unfinished jobs that the operands name, in the order of Get-Jobs
 abbrev pub entries_of : ℕ → ℕ → List (List ℕ) → State → List QueueEntry
 entries_of now place operands state = map (entry_of state) (filter (is_shown operands) (listing now state (queued place)))
 
--- what one job adds to them
+-- the entries for one job
 abbrev pub shown_of : List (List ℕ) → State → JobRecord → List QueueEntry
 shown_of operands state job = if is_shown operands job then entry_of state job ∷ [] else []
 

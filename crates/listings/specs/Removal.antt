@@ -1,4 +1,4 @@
--- Which jobs an LPD client removes (RFC 1179, section 5.5). The operators of the settings play no part in it.
+-- The jobs that an LPD client removes (RFC 1179, section 5.5). The operators of the settings have no special right here.
 use Rattle.std.specs.Prelude.{ℕ, ◌==◌, ◌&&◌, not, Bool, if◌then◌else◌, List, [], length, map, filter, find, Option, option_map, option_to_list, codes}
 use Rattle.std.specs.List.{list_any}
 use Rattle.std.specs.Option.{option_map_or}
@@ -23,21 +23,21 @@ remover agent = record { name = agent; is_operator = is_root agent }
 abbrev pub may_remove : List ℕ → JobRecord → Bool
 may_remove agent job = may_ask (remover agent) job
 
--- digits alone name the job of that id; anything else names jobs by their owner, where it is root who says it
+-- an operand of digits names the job of that id; any other operand names the jobs of that owner, if the agent is root
 abbrev pub names_for : List ℕ → List ℕ → JobRecord → Bool
 names_for agent operand job = option_map_or (λ id. id == job.id) (decimal_in operand) (is_root agent && bytes_eq operand job.owner)
 
--- whether an unfinished job of the printer at a place is removed by its name
+-- whether a removal from the printer at a place names an unfinished job
 abbrev pub is_named : ℕ → RemoveJobs → JobRecord → Bool
 is_named place request job =
     (job.needs.printer == place) && not (is_finished job.state) && may_remove request.agent job
     && list_any (λ operand. names_for request.agent operand job) request.operands.items
 
--- the jobs that are removed by their names, by rising id
+-- the jobs that a removal names, by rising id
 abbrev pub named_jobs : ℕ → RemoveJobs → State → List ℕ
 named_jobs place request state = map (λ s. s.job.id) (filter (λ s. is_named place request s.job) state.spool.jobs)
 
--- whether a device prints the job for the printer at a place, or is stopped in it, and the agent may remove it
+-- whether a device has the job for the printer at a place, running or stopped, and the agent may remove it
 abbrev pub is_active : ℕ → List ℕ → JobRecord → Bool
 is_active place agent job = is_busy_with place job && may_remove agent job
 
@@ -45,12 +45,12 @@ is_active place agent job = is_busy_with place job && may_remove agent job
 abbrev pub active_job : ℕ → List ℕ → State → Option ℕ
 active_job place agent state = option_map (λ s. s.job.id) (find (λ s. is_active place agent s.job) state.spool.jobs)
 
--- the jobs that are removed from the printer at a place: without names the one that is printed
+-- the jobs that are removed from the printer at a place: the active job if the request has no operands
 abbrev pub removed_from : ℕ → RemoveJobs → State → List ℕ
 removed_from place request state =
     if length request.operands.items == 0 then option_to_list (active_job place request.agent state)
     else named_jobs place request state
 
--- the jobs that are removed, by rising id; none where the queue isn't known
+-- the removed jobs, by rising id; none if the queue isn't known
 abbrev pub removed_jobs : RemoveJobs → State → List ℕ
 removed_jobs request state = option_map_or (λ place. removed_from place request state) (queue_of request.queue state) []

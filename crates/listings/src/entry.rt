@@ -21,14 +21,14 @@ impl<'a> Model for Entry<'a> {
 }
 
 impl<'a> Entry<'a> {
-    /// This job, with its turn.
+    /// An entry of a job and its turn.
     pub(crate) fn new(turn: Turn, job: &'a Job) -> Entry<'a>
         ensures { result ≡ record { turn = turn; job = job.now } }
     {
         Entry { turn, job }
     }
 
-    /// When its turn comes.
+    /// The turn of the job.
     pub(crate) fn turn(&self) -> Turn
         ensures { result ≡ self.now.turn }
     {

@@ -1,4 +1,4 @@
-//! When jobs are expected to be complete.
+//! The moments at which jobs are expected to be complete.
 ghost use Rattle.std.specs.Prelude.{◌≡◌, ◌==◌, ◌^◌, ◌≤◌, ◌++◌, IfOk, OnOk, map, find};
 ghost use Rattle.std.specs.Option.{option_copied};
 ghost use Rattle.plan_problem.specs.Class.{wait_in};
@@ -11,15 +11,16 @@ use plan_prices::{Plan, PlannedClass};
 use plan_problem::ClassProblem;
 use std::alloc::{AllocError, Global};
 
-/// A job, and when it is expected to be complete.
+/// A job, and the moment at which it is expected to be complete.
 #[derive(Clone, Copy)]
 pub(crate) struct Expected {
     pub(crate) job: JobId,
-    /// In ms; wide enough for a sum of any times.
+    /// In ms. The type holds a sum of any times.
     pub(crate) moment: u128,
 }
 
-/// The job that a device has, as it is expected at a moment. A stopped device is taken to go on then.
+/// The job of a device, with its expected end at a moment. A stopped device is expected to go on at that
+/// moment.
 fn expected_of(activity: Activity, now: Moment) -> Option<Expected>
     ensures { result ≡ expected_of now activity }
 {
@@ -36,7 +37,7 @@ fn expected_of(activity: Activity, now: Moment) -> Option<Expected>
     }
 }
 
-/// The jobs that devices have, as they are expected at a moment.
+/// The jobs of the devices, with their expected ends at a moment. The only error is out of memory.
 pub(crate) fn on_devices(
     alloc: Global,
     devices: &[DeviceNow],
@@ -53,7 +54,8 @@ pub(crate) fn on_devices(
     Ok(had)
 }
 
-/// The jobs of the last plan, if one was made, by their completions in ms from its moment on.
+/// The jobs of the last plan, if one was made, with their completions in ms from the plan's moment on. The
+/// only error is out of memory.
 pub(crate) fn planned(alloc: Global, plan: Option<&Plan>) -> Result<Vec<Expected>, AllocError>
     ensures { IfOk result (λ expected. expected.items ≡ planned (option_copied plan.entry)) }
 {
@@ -66,7 +68,7 @@ pub(crate) fn planned(alloc: Global, plan: Option<&Plan>) -> Result<Vec<Expected
     Ok(expected)
 }
 
-/// Adds the jobs of a class.
+/// Appends the jobs of a class. The only error is out of memory.
 fn add_class(expected: &mut Vec<Expected>, class: &PlannedClass) -> Result<(), AllocError>
     ensures { OnOk result (expected.new.items ≡ expected.old.items ++ completions_in class.now) }
 {
@@ -76,7 +78,7 @@ fn add_class(expected: &mut Vec<Expected>, class: &PlannedClass) -> Result<(), A
     Ok(())
 }
 
-/// Adds the jobs that a device prints one after the other, once it is free.
+/// Appends the jobs that a device prints one after the other, once it is free.
 fn add_queue(
     expected: &mut Vec<Expected>,
     class: &ClassProblem,
@@ -96,7 +98,7 @@ fn add_queue(
     Ok(())
 }
 
-/// The wait of a device, in ms; 0 where the class has none for it.
+/// The wait of a device, in ms; 0 if the class has none for the device.
 fn wait(class: &ClassProblem, device: DeviceId) -> u128
     ensures wait { result ≡ wait_in class.now device }
     ensures short { result ≤ 2 ^ 64 }
@@ -107,14 +109,14 @@ fn wait(class: &ClassProblem, device: DeviceId) -> u128
     }
 }
 
-/// The time of a job on a device that is able, in ms; on any other 0.
+/// The time of a job on a capable device, in ms; 0 on any other.
 fn time_or_zero(class: &ClassProblem, job: JobId, device: DeviceId) -> u64
     ensures { result ≡ time_on class.now job device }
 {
     class.time(job, device).unwrap_or(0)
 }
 
-/// When a job is expected to be complete, if it is one of these.
+/// The moment at which a job is expected to be complete, if it is one of these.
 pub(crate) fn moment_of(expected: &[Expected], job: JobId) -> Option<u128>
     ensures { result ≡ moment_of expected.now job }
 {
@@ -122,7 +124,7 @@ pub(crate) fn moment_of(expected: &[Expected], job: JobId) -> Option<u128>
     Some(found.moment)
 }
 
-/// The first of these of a job.
+/// The first entry of a job.
 fn find(expected: &[Expected], job: JobId) -> Option<&Expected>
     ensures { option_copied result ≡ find (λ e. e.job == job) expected.now }
 {

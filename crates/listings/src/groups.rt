@@ -21,8 +21,8 @@ use settings_file::{PrinterSettings, Settings};
 use spool::Spool;
 use std::alloc::{AllocError, Global};
 
-/// The printer group of a Get-Printer-Attributes (RFC 8011, section 4.2.5): the attributes that are
-/// asked for of the printer at a place of the settings, which offers this.
+/// The printer group of a Get-Printer-Attributes (RFC 8011, section 4.2.5): the requested attributes of the
+/// printer at a place of the settings, with its offer.
 ///
 /// The only error is out of memory.
 pub fn printer_group<'a>(
@@ -47,14 +47,14 @@ pub fn printer_group<'a>(
     printer_attributes(alloc, &shown, requested)
 }
 
-/// What the URIs of printers and jobs begin with.
+/// The front of the URIs of printers and jobs.
 fn uri_base(settings: &Settings) -> &Text
     ensures { result.now ≡ settings.now.uri_base }
 {
     &settings.uri_base
 }
 
-/// The printer at a place, or this one where there is none.
+/// The printer at a place, or `otherwise` if there is none.
 fn printer_at<'a>(printers: &'a [Printer], place: usize, otherwise: &'a Printer) -> &'a Printer
     ensures { result.now ≡ option_map_or (λ p. p) (slice_get printers.now place) otherwise.now }
 {
@@ -73,7 +73,7 @@ pub fn state_of_printer(room: &PrintRoom, place: usize) -> PrinterState
     printer_state(printer, is_busy(room.spool(), place))
 }
 
-/// Whether some job of the printer at a place is on a device.
+/// Returns whether some job of the printer at a place is on a device.
 fn is_busy(spool: &Spool, place: usize) -> bool
     ensures { result ≡ list_any (λ s. is_busy_with place s.job) spool.now.jobs }
 {
@@ -83,14 +83,14 @@ fn is_busy(spool: &Spool, place: usize) -> bool
         .any(|spooled| keeps_printer_busy(spooled.job(), place))
 }
 
-/// Whether a job keeps the printer at a place busy.
+/// Returns whether a job keeps the printer at a place busy.
 fn keeps_printer_busy(job: &Job, place: usize) -> bool
     ensures { result ≡ is_busy_with place job.now }
 {
     keeps_busy(job, PrinterId::new(place))
 }
 
-/// How many jobs of the printer at a place are unfinished.
+/// Returns the number of unfinished jobs of the printer at a place.
 fn queued(spool: &Spool, place: usize) -> usize
     ensures { result ≡ count_by (is_queued place) spool.now.jobs }
 {
@@ -101,15 +101,14 @@ fn queued(spool: &Spool, place: usize) -> usize
         .count()
 }
 
-/// Whether a job was sent to the printer at a place and is unfinished.
+/// Returns whether a job was sent to the printer at a place and is unfinished.
 fn is_queued(job: &Job, place: usize) -> bool
     ensures { result ≡ (job.now.needs.printer == place) && not (is_finished job.now.state) }
 {
     job.needs.printer.place() == place && !job.state.is_finished()
 }
 
-/// The job group of a Get-Job-Attributes (RFC 8011, section 4.3.4): the attributes of a job that are
-/// asked for.
+/// The job group of a Get-Job-Attributes (RFC 8011, section 4.3.4): the requested attributes of a job.
 ///
 /// The only error is out of memory.
 pub fn job_group(
@@ -125,7 +124,7 @@ pub fn job_group(
     group_of(alloc, room, job, now, &wanted)
 }
 
-/// The group of these attributes of a job.
+/// The group of a job with these attributes.
 fn group_of(
     alloc: Global,
     room: &PrintRoom,
@@ -148,7 +147,7 @@ fn group_of(
     job_attributes(alloc, &shown, attributes)
 }
 
-/// The name of a printer of the settings, or this one where there is no such printer.
+/// The name of a printer of the settings, or `otherwise` if there is no such printer.
 fn name_of<'a>(printers: &'a [PrinterSettings], printer: PrinterId, otherwise: &'a Text) -> &'a Text
     ensures { result.now ≡ option_map_or (λ p. p.name) (slice_get printers.now printer) otherwise.now }
 {
@@ -158,8 +157,8 @@ fn name_of<'a>(printers: &'a [PrinterSettings], printer: PrinterId, otherwise: &
     }
 }
 
-/// The job groups of a Get-Jobs (RFC 8011, section 4.2.6): one for each job that is asked for, in the
-/// order of [`listed`], each with the attributes that are asked for.
+/// The job groups of a Get-Jobs (RFC 8011, section 4.2.6): one for each requested job, in the order of
+/// [`listed`], each with the requested attributes.
 ///
 /// The only error is out of memory.
 pub fn job_groups(

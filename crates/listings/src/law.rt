@@ -1,4 +1,4 @@
-//! What the order of a listing means.
+//! A law of the order of a listing.
 ghost use Rattle.std.specs.Prelude.{List};
 ghost use Rattle.std.specs.List.Sorted.{IsPermutation};
 ghost use Rattle.job_objects.specs.Job.{JobRecord};
@@ -6,8 +6,7 @@ ghost use Rattle.listings.specs.declared.turn.Turn.{Turn};
 ghost use Rattle.listings.specs.Listing.{by_turn};
 ghost use Rattle.listings.specs.Order.{InOrder};
 
-/// The order of turns only moves jobs: each stands there as often as before. None comes before one that
-/// stands in front of it.
+/// Sorting by turns permutes the jobs, and no job's turn comes before that of a job in front of it.
 pub fn listing_is_ordered()
     ensures same { (turn : JobRecord → Turn) (jobs : List JobRecord) → IsPermutation jobs (by_turn turn jobs) }
     ensures ordered { (turn : JobRecord → Turn) (jobs : List JobRecord) → InOrder turn (by_turn turn jobs) }

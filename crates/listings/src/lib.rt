@@ -1,18 +1,18 @@
-//! What a print room shows at a moment to those who ask for a printer, for a job or for a list of jobs:
-//! the groups of IPP's Get-Printer-Attributes, Get-Job-Attributes and Get-Jobs (RFC 8011, sections
-//! 4.2.5, 4.3.4 and 4.2.6), and the queues of LPD (RFC 1179).
+//! The responses to queries about a print room at a moment: the groups of IPP's Get-Printer-Attributes,
+//! Get-Job-Attributes and Get-Jobs (RFC 8011, sections 4.2.5, 4.3.4 and 4.2.6), and the queues of LPD (RFC
+//! 1179).
 //!
-//! It promises which jobs are listed, and in which order: jobs that aren't finished by when their turn
-//! comes ([`listed`]), first those that devices have, by their estimated ends, then those that the last
-//! plan has, by their completions, then all the rest by their ids; finished jobs from the latest back.
-//! That this is an order, and neither drops a job nor repeats one, is a law ([`listing_is_ordered`]).
-//! What an attribute says is promised below, in `printer_objects`.
+//! The contracts determine the listed jobs and their order ([`listed`]). Unfinished jobs are listed by their
+//! turns: first the jobs of devices, by their estimated ends, then the jobs of the last plan, by their
+//! completions, then all others by their ids. Finished jobs are listed from the latest back. A law says that
+//! this is an order, and that it drops no job and repeats none ([`listing_is_ordered`]). The values of
+//! attributes are determined by `printer_objects`.
 //!
-//! Of LPD it promises which jobs an operand names, that they are listed in the same order
-//! ([`queue_listing`]), and that a removal cancels just the jobs that its agent may remove, by rising id
-//! ([`remove`]). Operators of the settings play no part there: `root` may remove any job, others their own.
-//! Nothing else here changes a room, and each call's only error is want of memory. Its rows are traces of
-//! `play_examples`.
+//! For LPD the contracts determine the jobs that an operand names, and that they are listed in the same order
+//! ([`queue_listing`]). A removal cancels exactly the jobs that its agent may remove, by rising id
+//! ([`remove`]). The operators of the settings have no special right there: `root` may remove any job, others
+//! their own. No other call changes a room, and each call's only error is out of memory. Its rows are traces
+//! of `play_examples`.
 #![tactic(auto)]
 
 mod entry;

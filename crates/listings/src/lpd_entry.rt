@@ -1,4 +1,4 @@
-//! A job as a queue's listing shows it.
+//! The entry of a job in a queue's listing.
 ghost use Rattle.std.specs.Prelude.{◌≡◌, IfOk};
 ghost use Rattle.listings.specs.QueueListing.{entry_of};
 
@@ -7,7 +7,7 @@ use job_objects::{Job, reasons};
 use print_room::PrintRoom;
 use std::alloc::{AllocError, Global};
 
-/// What is shown of a job.
+/// The entry of a job in a queue's listing. The only error is out of memory.
 pub(crate) fn entry_of(alloc: Global, room: &PrintRoom, job: &Job) -> Result<QueueEntry, AllocError>
     ensures { IfOk result (λ entry. entry ≡ entry_of room.now job.now) }
 {

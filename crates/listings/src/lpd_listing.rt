@@ -13,9 +13,8 @@ use job_objects::Job;
 use print_room::PrintRoom;
 use std::alloc::{AllocError, Global};
 
-/// The queue of the printer at a place of the settings, as it is at a moment: of its jobs that aren't
-/// finished those that an operand names, or all where there are no operands, in the order of
-/// [`listed`].
+/// The listing of the queue of the printer at a place of the settings, at a moment: its unfinished jobs that
+/// an operand names, or all of them if there are no operands, in the order of [`listed`].
 ///
 /// The only error is out of memory.
 pub fn queue_listing(
@@ -35,7 +34,7 @@ pub fn queue_listing(
     })
 }
 
-/// What is shown of the jobs that are listed.
+/// The entries of the listed jobs. The only error is out of memory.
 fn shown_jobs(
     alloc: Global,
     room: &PrintRoom,
@@ -59,7 +58,7 @@ fn shown_jobs(
     Ok(jobs)
 }
 
-/// Adds what is shown of a job, if it is listed.
+/// Appends the entry of a job, if the job is listed. The only error is out of memory.
 fn add_shown(
     alloc: Global,
     jobs: &mut Vec<QueueEntry>,

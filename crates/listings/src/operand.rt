@@ -1,4 +1,4 @@
-//! Which jobs an operand names.
+//! The jobs that an operand names.
 ghost use Rattle.std.specs.Prelude.{◌≡◌, ◌==◌, ◌||◌, length};
 ghost use Rattle.std.specs.List.{list_any};
 ghost use Rattle.listings.specs.Operand.{is_shown, names};
@@ -7,7 +7,7 @@ use base_types::Text;
 use job_objects::Job;
 use text::decimal;
 
-/// Whether an operand names a job: by its id, where it is digits alone, else by its owner.
+/// Returns whether an operand names a job: by the job's id if the operand is digits alone, else by its owner.
 fn names(operand: &Text, job: &Job) -> bool
     ensures { result ≡ names operand.now job.now }
 {
@@ -17,14 +17,14 @@ fn names(operand: &Text, job: &Job) -> bool
     }
 }
 
-/// Whether one of these names a job.
+/// Returns whether one of the operands names a job.
 fn is_one_of(operands: &[Text], job: &Job) -> bool
     ensures { result ≡ list_any (λ operand. names operand job.now) operands.now }
 {
     operands.iter().any(|operand| names(operand, job))
 }
 
-/// Whether a job is listed: one of these names it, or there are none.
+/// Returns whether a job is listed: one of the operands names it, or there are none.
 pub(crate) fn is_shown(operands: &[Text], job: &Job) -> bool
     ensures { result ≡ is_shown operands.now job.now }
 {

@@ -1,4 +1,4 @@
-//! Which jobs a client removes, and their removal.
+//! The jobs that a client removes, and their removal.
 ghost use Rattle.std.specs.Prelude.{◌≡◌, ◌≤◌, ◌&&◌, None, find, option_map, option_to_list};
 ghost use Rattle.std.specs.List.{list_any};
 ghost use Rattle.std.specs.Option.{option_copied};
@@ -17,22 +17,22 @@ use printer_objects::keeps_busy;
 use spool::{Asker, SpooledJob};
 use text::decimal;
 
-/// Whether an agent is root.
+/// Returns whether an agent is root.
 fn is_root(agent: &Text) -> bool
     ensures { result ≡ is_root agent.now }
 {
     agent.as_bytes() == b"root".as_slice()
 }
 
-/// Whether an agent may remove a job: root any, others their own.
+/// Returns whether an agent may remove a job: root any job, others their own.
 fn may_remove(agent: &Text, job: &Job) -> bool
     ensures { result ≡ may_remove agent.now job.now }
 {
     is_root(agent) || agent.as_bytes() == job.owner.as_bytes()
 }
 
-/// Whether an operand of an agent names a job: by its id, where it is digits alone, else by its owner,
-/// which root alone may do.
+/// Returns whether an operand of an agent names a job: by the job's id if the operand is digits alone, else
+/// by its owner, which only root may use.
 fn names_for(agent: &Text, operand: &Text, job: &Job) -> bool
     ensures { result ≡ names_for agent.now operand.now job.now }
 {
@@ -42,7 +42,7 @@ fn names_for(agent: &Text, operand: &Text, job: &Job) -> bool
     }
 }
 
-/// Whether one of these names a job for an agent.
+/// Returns whether one of the operands names a job for an agent.
 fn is_one_of(agent: &Text, operands: &[Text], job: &Job) -> bool
     ensures { result ≡ list_any (λ operand. names_for agent.now operand job.now) operands.now }
 {
@@ -51,7 +51,7 @@ fn is_one_of(agent: &Text, operands: &[Text], job: &Job) -> bool
         .any(|operand| names_for(agent, operand, job))
 }
 
-/// Whether a removal from the printer at a place takes an unfinished job by its id, or by its owner.
+/// Returns whether a removal from the printer at a place names an unfinished job, by its id or by its owner.
 pub fn is_named(place: usize, request: &RemoveJobs, job: &Job) -> bool
     ensures { result ≡ is_named place request.now job.now }
 {
@@ -61,14 +61,15 @@ pub fn is_named(place: usize, request: &RemoveJobs, job: &Job) -> bool
         && is_one_of(&request.agent, &request.operands, job)
 }
 
-/// Whether the printer at a place prints a job that the agent may remove, or its device is stopped.
+/// Returns whether a device has the job for the printer at a place, running or stopped, and the agent may
+/// remove it.
 fn is_active(place: usize, agent: &Text, job: &Job) -> bool
     ensures { result ≡ is_active place agent.now job.now }
 {
     keeps_busy(job, PrinterId::new(place)) && may_remove(agent, job)
 }
 
-/// The first job that is active.
+/// The first active job.
 fn find_active<'a>(jobs: &'a [SpooledJob], place: usize, agent: &Text) -> Option<&'a SpooledJob>
     ensures { option_copied result ≡ find (λ s. is_active place agent.now s.job) jobs.now }
 {
@@ -76,8 +77,8 @@ fn find_active<'a>(jobs: &'a [SpooledJob], place: usize, agent: &Text) -> Option
         .find(|spooled| is_active(place, agent, spooled.job()))
 }
 
-/// The job that is removed from the printer at a place where none is named: the one of the least id
-/// that a device prints, or is stopped in, and that the agent may remove.
+/// The job that a removal without operands removes from the printer at a place: the job of the least id that
+/// a running or stopped device has and that the agent may remove.
 pub fn active_job(room: &PrintRoom, place: usize, agent: &Text) -> Option<JobId>
     ensures value { result ≡ active_job place agent.now room.now }
     ensures kept { IsSpool room.now.spool }
@@ -86,7 +87,7 @@ pub fn active_job(room: &PrintRoom, place: usize, agent: &Text) -> Option<JobId>
     Some(spooled.job().id)
 }
 
-/// The first job that is named.
+/// The first job that a removal names.
 fn find_named<'a>(
     jobs: &'a [SpooledJob],
     place: usize,
@@ -98,7 +99,7 @@ fn find_named<'a>(
         .find(|spooled| is_named(place, request, spooled.job()))
 }
 
-/// The id of the first job that is named.
+/// The id of the first job that a removal names.
 fn first_named(room: &PrintRoom, place: usize, request: &RemoveJobs) -> Option<JobId>
     ensures value { result ≡ option_map (λ s. s.job.id) (find (λ s. is_named place request.now s.job) room.now.spool.jobs) }
     ensures kept { IsSpool room.now.spool }
@@ -107,11 +108,10 @@ fn first_named(room: &PrintRoom, place: usize, request: &RemoveJobs) -> Option<J
     Some(spooled.job().id)
 }
 
-/// Removes jobs, at a moment that is not before the last one: those that are named, by rising id, or
-/// where none is named the active one. Nothing is removed from a queue that isn't known. It takes no
-/// memory.
+/// Removes jobs, at a moment that isn't before the last one: those that the operands name, by rising id, or
+/// the active job if there are no operands. Nothing is removed from an unknown queue. It takes no memory.
 ///
-/// A device that has such a job keeps it until it says that it is done.
+/// A device that has such a job keeps it until it reports that it is done.
 pub fn remove(room: &mut PrintRoom, request: &RemoveJobs, now: Moment)
     requires { room.old.last ≤ now }
     ensures { room.new ≡ canceling_each now request.now.agent (removed_jobs request.now room.old) room.old }
@@ -145,7 +145,7 @@ fn remove_active(room: &mut PrintRoom, place: usize, agent: &Text, now: Moment)
     }
 }
 
-/// Removes each job that is named.
+/// Removes each job that the operands name.
 fn remove_named(room: &mut PrintRoom, place: usize, request: &RemoveJobs, now: Moment)
     requires { room.old.last ≤ now }
     ensures { room.new ≡ canceling_each now request.now.agent (named_jobs place request.now room.old) room.old }

@@ -1,4 +1,4 @@
-//! When the turns of jobs come.
+//! The turns of jobs.
 ghost use Rattle.std.specs.Prelude.{◌≡◌, IfOk, None, if◌then◌else◌, unwrap_or};
 ghost use Rattle.listings.specs.declared.turn.Rank.TheVariants.{Finished};
 ghost use Rattle.spool.specs.Calls.{is_ready};
@@ -12,19 +12,19 @@ use print_room::PrintRoom;
 use spool::SpooledJob;
 use std::alloc::{AllocError, Global};
 
-/// What counts first in the order of jobs.
+/// The rank of a job, which counts first in the order of jobs.
 #[derive(Clone, Copy)]
 pub(crate) enum Rank {
     Finished,
-    /// A device has it.
+    /// A device has the job.
     OnDevice,
-    /// It is ready, and the last plan has it.
+    /// The job is ready, and the last plan has it.
     Planned,
     Waiting,
 }
 
 impl Rank {
-    /// Its number; the lowest comes first.
+    /// The number of the rank. The lowest comes first.
     fn number(self) -> u8
         ensures { result ≡ rank_number self }
     {
@@ -37,7 +37,7 @@ impl Rank {
     }
 }
 
-/// When the turn of a job comes: the rank counts first, then the moment, then the id.
+/// The turn of a job, compared by the rank, then the moment, then the id.
 #[derive(Clone, Copy)]
 pub(crate) struct Turn {
     pub(crate) rank: Rank,
@@ -47,7 +47,7 @@ pub(crate) struct Turn {
 }
 
 impl Turn {
-    /// Whether it comes before another.
+    /// Returns whether this turn comes before another.
     pub(crate) fn is_before(self, other: Turn) -> bool
         ensures { result ≡ is_before self other }
     {
@@ -56,7 +56,7 @@ impl Turn {
         rank < other_rank || (rank == other_rank && self.is_sooner(other))
     }
 
-    /// Whether it has the earlier moment, or at one moment the lower id.
+    /// Returns whether this turn has the earlier moment, or at the same moment the lower id.
     fn is_sooner(self, other: Turn) -> bool
         ensures { result ≡ is_sooner self other }
     {
@@ -65,17 +65,17 @@ impl Turn {
     }
 }
 
-/// When jobs are expected to be complete, at a moment.
+/// The moments at which jobs are expected to be complete, as of a moment.
 #[derive(Drop)]
 pub(crate) struct Forecast {
-    /// The jobs that devices have.
+    /// The jobs of the devices.
     had: Vec<Expected>,
     /// The jobs of the last plan.
     planned: Vec<Expected>,
 }
 
 impl Forecast {
-    /// What is expected of a room's jobs at a moment.
+    /// The forecast for a room's jobs at a moment. The only error is out of memory.
     pub(crate) fn new(alloc: Global, room: &PrintRoom, now: Moment) -> Result<Forecast, AllocError>
         ensures had { IfOk result (λ forecast. forecast.had.items ≡ on_devices now room.now.devices) }
         ensures planned { IfOk result (λ forecast. forecast.planned.items ≡ planned room.now.plan) }
@@ -85,7 +85,7 @@ impl Forecast {
         Ok(Forecast { had, planned })
     }
 
-    /// When the turn of a job comes.
+    /// The turn of a job.
     pub(crate) fn turn(&self, spooled: &SpooledJob, printers: &[Printer]) -> Turn
         ensures { result ≡ turn_by self.now.had.items self.now.planned.items printers.now spooled.now.job }
     {
@@ -99,7 +99,7 @@ impl Forecast {
         }
     }
 
-    /// When the plan completes a job, if it is ready and the plan has it.
+    /// The completion of a job in the plan, if the job is ready and the plan has it.
     fn completed(&self, spooled: &SpooledJob, printers: &[Printer]) -> Option<u128>
         ensures { result ≡ (if is_ready printers.now spooled.now.job then moment_of self.now.planned.items spooled.now.job.id else None) }
     {
@@ -111,7 +111,7 @@ impl Forecast {
     }
 }
 
-/// The turn of a finished job: when it was finished.
+/// The turn of a finished job, by the moment at which it was finished.
 fn finished_turn(job: &Job) -> Turn
     ensures { result ≡ record { rank = Finished; moment = unwrap_or job.now.finished 0; id = job.now.id } }
 {
@@ -126,8 +126,8 @@ fn finished_turn(job: &Job) -> Turn
     }
 }
 
-/// The turn of an unfinished job, told when its device is expected to end it, and when the plan
-/// completes it.
+/// The turn of an unfinished job: by the moment at which its device is expected to end it, or else by its
+/// completion in the plan, if there is one.
 fn unfinished_turn(had: Option<u128>, completed: Option<u128>, id: JobId) -> Turn
     ensures { result ≡ unfinished_turn had completed id }
 {

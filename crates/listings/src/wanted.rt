@@ -1,4 +1,4 @@
-//! Which jobs are asked for.
+//! The jobs that a request asks for.
 ghost use Rattle.std.specs.Prelude.{◌≡◌};
 ghost use Rattle.std.specs.Option.{option_copied};
 ghost use Rattle.listings.specs.Listing.{is_finished_as, is_listed, is_owned};
@@ -7,16 +7,16 @@ use base_types::{PrinterId, Text};
 use job_objects::Job;
 use std::marker::Model;
 
-/// Which jobs are asked for. In clauses it is a record of the same fields.
+/// The jobs that a request asks for. In clauses it is a record of the same fields.
 #[derive(Drop)]
 pub struct Wanted<'a> {
-    /// The printer that they were sent to.
+    /// The printer that the jobs were sent to.
     pub printer: PrinterId,
-    /// Whether the finished ones are wanted, or the others.
+    /// True for the finished jobs, false for the others.
     pub finished: bool,
-    /// Only those of this owner.
+    /// The owner, if only jobs of an owner are requested.
     pub owner: Option<&'a Text>,
-    /// How many are wanted at most, of those of the owner.
+    /// The most jobs of the listing, if that is limited.
     pub limit: Option<u32>,
 }
 
@@ -35,7 +35,7 @@ impl<'a> Model for Wanted<'a> {
 }
 
 impl<'a> Wanted<'a> {
-    /// Whether a job is one of those.
+    /// Returns whether the request asks for a job.
     pub(crate) fn lists(&self, job: &Job) -> bool
         ensures { result ≡ is_listed self.now job.now }
     {
@@ -45,7 +45,7 @@ impl<'a> Wanted<'a> {
     }
 }
 
-/// Whether a job is finished, or isn't, as it is asked for.
+/// Returns whether a job is finished, or unfinished, as requested.
 fn is_finished_as(finished: bool, job: &Job) -> bool
     ensures { result ≡ is_finished_as finished job.now }
 {
@@ -56,7 +56,7 @@ fn is_finished_as(finished: bool, job: &Job) -> bool
     }
 }
 
-/// Whether a job has this owner, where one is asked for.
+/// Returns whether a job has the requested owner, if one is requested.
 fn is_owned(owner: Option<&Text>, job: &Job) -> bool
     ensures { result ≡ is_owned (option_copied owner.entry) job.now }
 {

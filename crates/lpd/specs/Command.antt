@@ -79,7 +79,7 @@ abbrev pub subcommand_line : List ℕ → Result ItemRecord LpdFault
 subcommand_line [] = Err UnknownCode
 subcommand_line (code ∷ text) = subcommand_of code (words_of text)
 
--- the content of a line, by what is awaited: a command, or else a subcommand
+-- the content of a line, by the part that is awaited: a command, or else a subcommand
 abbrev pub meaning_of : Awaited → List ℕ → Result ItemRecord LpdFault
 meaning_of await.Command line = command_line line
 meaning_of await.Subcommand line = subcommand_line line

@@ -41,7 +41,7 @@ abbrev pub told : Result LpdItem LpdFault → Result ItemRecord LpdFault
 told (Ok said) = Ok (item_record said [])
 told (Err fault) = Err fault
 
--- what is awaited after an item: after the command to receive a job a subcommand, after the announcement of a file that file; after any other command nothing, since a connection has one command
+-- the part that is awaited after an item: a subcommand after the command to receive a job, and the file after its announcement. Nothing is awaited after any other command, since a connection has one command
 abbrev pub awaited_after_command : CommandRecord → Awaited
 awaited_after_command (PrintsWaiting queue) = await.Nothing
 awaited_after_command (ReceivesJob queue) = await.Subcommand

@@ -43,7 +43,7 @@ front_of Subcommand bytes = by_line subcommand_line bytes (first_line_of LPD_LIN
 front_of (File count) bytes = by_file count bytes
 front_of Nothing bytes = Waits
 
--- how a stream ends
+-- the end of a stream
 pub data Ending : Type 0 where
   Open : Ending
   Faulty : LpdFault → Ending
@@ -57,7 +57,7 @@ abbrev pub Hears : Awaited → List ℕ → List ItemRecord → Ending → Type 
 Hears awaited bytes [] ending = EndsAs (front_of awaited bytes) ending
 Hears awaited bytes (said ∷ items) ending = (rest : List ℕ) × (front_of awaited bytes ≡ Gives said rest) × Hears (awaited_after said) rest items ending
 
--- what a whole stream of bytes says
+-- the items of a whole stream of bytes, and its end
 abbrev pub LpdItems : List ℕ → List ItemRecord → Ending → Type 0
 LpdItems stream items ending = Hears Command stream items ending
 
@@ -66,13 +66,13 @@ abbrev pub Leads : Awaited → List ℕ → List ItemRecord → Awaited → List
 Leads awaited bytes [] next left = (next ≡ awaited) × (left ≡ bytes)
 Leads awaited bytes (said ∷ items) next left = (rest : List ℕ) × (front_of awaited bytes ≡ Gives said rest) × Leads (awaited_after said) rest items next left
 
--- the stream says these items first, whatever bytes follow
+-- the stream says these items first, for all bytes that may follow
 pub record SaysFirst (stream : List ℕ) (items : List ItemRecord) : Type 0 where
   pub next : Awaited
   pub left : List ℕ
   pub leads : Leads Command stream items next left
 
--- the state of a reader: the file that it lends, the bytes that aren't read, what is awaited, and the fault, if there was one
+-- the state of a reader: the file that it lends, the bytes that aren't read, the part that is awaited, and the fault, if there was a fault
 pub record LpdState : Type 0 where
   pub file : List ℕ
   pub rest : List ℕ
@@ -94,7 +94,7 @@ abbrev pub IsLeft : Option LpdFault → Awaited → List ℕ → List ℕ → Ty
 IsLeft (Some fault) awaited rest left = front_of awaited left ≡ Fails fault
 IsLeft None awaited rest left = (awaited ≡ Nothing) ⊎ (left ≡ rest)
 
--- The reader was fed this stream and has given these items. The stream says them first, and leads to what the reader awaits with the bytes that are left.
+-- The reader was fed this stream and has given these items. The stream says them first, and leads to the part that the reader awaits, with the bytes that are left.
 pub record Stands (stream : List ℕ) (given : List ItemRecord) (reader : LpdState) : Type 0 where
   pub left : List ℕ
   pub leads : Leads Command stream given reader.awaited left
@@ -109,7 +109,7 @@ HearsOn None awaited bytes items ending = Hears awaited bytes items ending
 abbrev pub work : LpdState → ℕ
 work reader = length reader.rest
 
--- the answer of a reader, and its state then: an item, which the stream says next; or none, and then the stream says no more; or a fault, or refused memory, which a file needs none of
+-- the answer of a reader, and its state then: an item, which the stream says next; or no item, and then the stream says no more; or a fault; or refused memory, which comes only where a line is awaited
 abbrev pub Answers : LpdState → Result (Option LpdItem) LpdError → LpdState → Type 0
 Answers old (Ok (Some said)) new =
     (stream : List ℕ) (given : List ItemRecord) → Stands stream given old → Stands stream (given ++ item_record said new.file ∷ []) new
@@ -122,26 +122,26 @@ Answers old (Err OutOfMemory) new = (new ≡ old) × (awaits_line old.awaited �
 
 -- ---- laws
 
--- two readings of one stream say the same
+-- two readings of one stream give the same items and the same end
 abbrev pub SaysOne : Type 0
 SaysOne = (stream : List ℕ) (given items : List ItemRecord) (end ending : Ending) → LpdItems stream given end → LpdItems stream items ending → (given ≡ items) × (end ≡ ending)
 
--- each stream says something
+-- each stream has a reading
 abbrev pub SaysSome : Type 0
 SaysSome = (stream : List ℕ) → (items : List ItemRecord) × (ending : Ending) × LpdItems stream items ending
 
--- what a stream says is a front of what the stream says with more bytes behind it; a fault stays the last
+-- the items of a stream are a front of the items of the stream with more bytes behind it; a fault stays the last
 abbrev pub StaysInFront : Type 0
 StaysInFront = (stream more : List ℕ) (given items : List ItemRecord) (end ending : Ending) → LpdItems stream given end → LpdItems (stream ++ more) items ending → (later : List ItemRecord) × (items ≡ given ++ later)
 
 abbrev pub FaultStays : Type 0
 FaultStays = (stream more : List ℕ) (given : List ItemRecord) (fault : LpdFault) → LpdItems stream given (Faulty fault) → LpdItems (stream ++ more) given (Faulty fault)
 
--- the items that a stream says first are a front of what it says with more bytes behind it
+-- the items that a stream says first are a front of the items of the stream with more bytes behind it
 abbrev pub FirstStays : Type 0
 FirstStays = (stream more : List ℕ) (first items : List ItemRecord) (ending : Ending) → SaysFirst stream first → LpdItems (stream ++ more) items ending → (later : List ItemRecord) × (items ≡ first ++ later)
 
--- two fronts of what a stream says are equal if their lengths are
+-- two fronts of the items of a stream are equal if their lengths are equal
 abbrev pub FirstIsOne : Type 0
 FirstIsOne = (stream : List ℕ) (one other : List ItemRecord) → SaysFirst stream one → SaysFirst stream other → length one ≡ length other → one ≡ other
 
@@ -149,7 +149,7 @@ FirstIsOne = (stream : List ℕ) (one other : List ItemRecord) → SaysFirst str
 abbrev pub NoneFollows : Type 0
 NoneFollows = (stream : List ℕ) (items : List ItemRecord) (said : ItemRecord) (ending : Ending) → SaysFirst stream (items ++ said ∷ []) → LpdItems stream items ending → ⊥
 
--- a whole stream says what a reader has given, and then what the reader's state says of its bytes and those that come
+-- a whole stream says the items that a reader has given, and then the items that the reader's state says of its bytes and of the bytes that follow
 abbrev pub HearsTheRest : Type 0
 HearsTheRest =
     (stream coming : List ℕ) (given items : List ItemRecord) (ending : Ending) (reader : LpdState)

@@ -44,7 +44,7 @@ pub enum LpdCommand {
 #[derive(Debug, Drop)]
 pub struct FileHead {
     pub kind: FileKind,
-    /// Its length in bytes: at least 1, and at most the limit of its kind.
+    /// The length of the file in bytes: at least 1, and at most the limit of its kind.
     pub length: u32,
     /// `cf` or `df`, a letter, three digits, and the client's host.
     pub name: Text,

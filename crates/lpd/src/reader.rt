@@ -19,14 +19,14 @@ use text::{FirstLine, Unread, first_line};
 enum Awaited {
     Command,
     Subcommand,
-    /// A file of so many bytes, and the zero byte behind it.
+    /// A file of this many bytes, and the zero byte behind it.
     File(u32),
     /// No more input: the bytes that are fed are dropped.
     Nothing,
 }
 
 /// A reader of an LPD client's stream, which is fed in pieces of any length. In clauses it is a record of the
-/// file that it lends, the bytes that aren't read, what it awaits, and its fault.
+/// file that it lends, the bytes that aren't read, the part that it awaits, and its fault.
 ///
 /// After a fault, and after a command other than that to receive a job, the reader gives no more items, and
 /// drops the bytes that it is fed.

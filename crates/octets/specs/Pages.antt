@@ -1,4 +1,4 @@
--- Octets in pages: all but the last are full.
+-- Octets in pages, of which all but the last are full.
 use Rattle.std.specs.Prelude.{ℕ, ◌≡◌, ◌<◌, List, [], ◌∷◌, ◌++◌, length}
 use Rattle.std.specs.List.{AllByRecursion}
 use Rattle.octets.specs.declared.page.TheConstants.{PAGE_BYTES}
@@ -13,7 +13,7 @@ joined (page ∷ pages) = page ++ joined pages
 abbrev pub octets_in : Paged → List ℕ
 octets_in paged = joined paged.pages.items ++ paged.last
 
--- a page that has no room
+-- a full page
 abbrev pub IsFull : List ℕ → Type 0
 IsFull page = length page ≡ PAGE_BYTES
 

@@ -5,7 +5,7 @@ use std::marker::Model;
 /// A document of a job. In clauses it is a record of the same fields.
 #[derive(Debug, Drop)]
 pub struct Document {
-    /// The format, as the settings write it.
+    /// The format, as the settings spell it.
     pub format: Text,
     pub contents: Octets,
 }

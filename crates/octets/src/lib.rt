@@ -1,9 +1,8 @@
 //! The octets of documents, in pages, and the document of a job.
 //!
-//! [`Pages`] takes octets as they come and copies none of them again, [`Octets`] are what several may own,
-//! and a [`Document`] is the octets with what is said of them. A page that isn't full is the last one.
-//! Each call that takes memory may be refused, and then nothing is changed. What a job is, and where
-//! octets come from, stands above.
+//! [`Pages`] collects octets that come in pieces and never moves them again. [`Octets`] may have several
+//! owners. A [`Document`] is octets with their format. All pages but the last are full. Each call that takes
+//! memory may be refused, and changes nothing then. The crate has no jobs, and reads octets from no source.
 #![tactic(auto)]
 
 mod document;

@@ -8,10 +8,10 @@ use std::marker::Model;
 use std::mem;
 use std::rc::Rc;
 
-/// The octets of a document, which several may own. In clauses it is their list.
+/// The octets of a document, which may have several owners. In clauses they are their list.
 ///
-/// Their pages are private: a sender takes one piece after the other, and may keep the octets for as long
-/// as that takes.
+/// The pages are private: a sender reads one piece after the other, and may keep the octets for as long as it
+/// needs them.
 #[derive(Debug, Drop)]
 pub struct Octets {
     shared: Rc<Pages>,
@@ -26,8 +26,8 @@ impl Model for Octets {
 }
 
 impl Octets {
-    /// The octets of these pages, which are taken from them. Where there is no memory for an owner, they
-    /// stay.
+    /// Takes the octets of `pages`, which are empty then. The only error is out of memory, and leaves `pages`
+    /// as they were.
     pub fn take(alloc: Global, pages: &mut Pages) -> Result<Octets, AllocError>
         ensures ok { IfOk result (λ octets. octets ≡ pages.old) }
         ensures err { OnErr result (pages.new ≡ pages.old) }
@@ -42,7 +42,7 @@ impl Octets {
         }
     }
 
-    /// A copy of these bytes.
+    /// A copy of the bytes. The only error is out of memory.
     pub fn copy_of(alloc: Global, bytes: &[u8]) -> Result<Octets, AllocError>
         ensures { IfOk result (λ octets. octets ≡ bytes.now) }
     {
@@ -51,7 +51,7 @@ impl Octets {
         Octets::take(alloc, &mut pages)
     }
 
-    /// The same octets for another owner, without a copy. The error is out of memory.
+    /// The same octets for another owner, without a copy. The only error is out of memory.
     pub fn share(&self) -> Result<Octets, AllocError>
         ensures { IfOk result (λ octets. octets ≡ self.now) }
     {
@@ -59,21 +59,21 @@ impl Octets {
         Ok(Octets { shared })
     }
 
-    /// How many they are.
+    /// Returns the number of octets.
     pub fn len(&self) -> usize
         ensures { result ≡ length self.now }
     {
         self.shared.len()
     }
 
-    /// Whether there are none.
+    /// Returns whether there are no octets.
     pub fn is_empty(&self) -> bool
         ensures { IsTrue result ↔ (self.now ≡ []) }
     {
         self.shared.is_empty()
     }
 
-    /// Octets from a place on, as many as lie together: none only at the end.
+    /// Returns the octets from `start` on that lie together in memory. They are empty only at the end.
     pub fn piece(&self, start: usize) -> &[u8]
         requires { start ≤ length self.now }
         ensures { IsFrontOf result.now (drop start self.now) }

@@ -4,18 +4,18 @@ ghost use Rattle.std.specs.Prelude.{◌≡◌, ◌+◌, ◌≤◌, ◌++◌, [],
 use std::alloc::{AllocError, Global};
 use std::marker::Model;
 
-/// How many octets a page has room for. The wire takes four pages at once, so that a large document goes out in
+/// The number of octets of a full page. A wire takes four pages in one call, so a large document goes out in
 /// few calls of the system.
 pub(crate) const PAGE_BYTES: usize = 16_384;
 
-/// For how many octets a page of a short document takes memory first.
+/// The number of octets for which a page of a short document takes memory at first.
 const FIRST_BYTES: usize = 4096;
 
-/// How many full pages a document has that isn't short.
+/// The number of full pages from which on a document isn't short.
 const LONG_PAGES: usize = 16;
 
-/// For how many octets the page takes memory first that comes behind so many full ones: for some, so that a
-/// short document takes no more, or for all of them.
+/// The number of octets for which the page behind `full_pages` full pages takes memory at first: few for a
+/// short document, all of a page for a long one.
 pub(crate) fn first_room(full_pages: usize) -> usize
     ensures { result ≤ PAGE_BYTES }
 {
@@ -26,7 +26,7 @@ pub(crate) fn first_room(full_pages: usize) -> usize
     }
 }
 
-/// Octets that lie together. In clauses it is their list.
+/// Octets that lie together in memory. In clauses they are their list.
 #[derive(Debug, Drop)]
 pub(crate) struct Page {
     bytes: Vec<u8>,
@@ -41,7 +41,7 @@ impl Model for Page {
 }
 
 impl Page {
-    /// No octets yet. It takes no memory.
+    /// Creates a page without octets. It takes no memory.
     pub fn new(alloc: Global) -> Page
         ensures { result ≡ [] }
     {
@@ -57,8 +57,8 @@ impl Page {
         &self.bytes
     }
 
-    /// Adds octets that fit the page. The first take memory for so many, the next for the whole page. Where
-    /// there is none, nothing is added.
+    /// Appends octets that fit in the page. The first call takes memory for `first` octets, a later one for
+    /// the whole page. The only error is out of memory, and nothing is appended then.
     pub fn append(&mut self, piece: &[u8], first: usize) -> Result<(), AllocError>
         requires fits { length self.old + length piece.now ≤ PAGE_BYTES }
         requires first { first ≤ PAGE_BYTES }

@@ -14,7 +14,7 @@ pub(crate) struct Paged {
     pub last: Page,
 }
 
-/// A page of these octets, which takes memory for so many first.
+/// A page of the octets, which takes memory for `first` octets at first. The only error is out of memory.
 fn page_of(alloc: Global, octets: &[u8], first: usize) -> Result<Page, AllocError>
     requires fits { length octets.now ≤ PAGE_BYTES }
     requires first { first ≤ PAGE_BYTES }
@@ -25,7 +25,8 @@ fn page_of(alloc: Global, octets: &[u8], first: usize) -> Result<Page, AllocErro
     Ok(page)
 }
 
-/// These octets in pages, each of which takes memory for so many first.
+/// The octets in pages, each of which takes memory for `first` octets at first. The only error is out of
+/// memory.
 pub(crate) fn in_pages(alloc: Global, octets: &[u8], first: usize) -> Result<Paged, AllocError>
     requires { first ≤ PAGE_BYTES }
     ensures { IfOk result (λ paged. (octets_in paged ≡ octets.now) × IsPaged paged) }
@@ -44,7 +45,8 @@ pub(crate) fn in_pages(alloc: Global, octets: &[u8], first: usize) -> Result<Pag
 }
 
 impl Paged {
-    /// Fills the last page, and puts pages behind it. Where there is no memory, nothing changes.
+    /// Fills the last page with `front`, and appends the pages of `later`. The only error is out of memory,
+    /// and nothing is changed then.
     pub fn go_on(&mut self, front: &[u8], later: Paged) -> Result<(), AllocError>
         requires { length self.old.last + length front.now ≡ PAGE_BYTES }
         ensures pages { OnOk result (self.new.pages.items ≡ self.old.pages.items ++ (self.old.last ++ front.now) ∷ later.pages.items) }
@@ -59,7 +61,7 @@ impl Paged {
         self.pages.push_reserved(full);
         self.pages.append(&mut pages)
     }
-    /// The page of the octet at a place, and the last one where there is no such octet.
+    /// The page of the octet at a place, or the last page if there is no such octet.
     pub fn page_at(&self, start: usize) -> &Page
         requires paged { IsPaged self.now }
         requires start { start ≤ length (octets_in self.now) }

@@ -7,9 +7,9 @@ use crate::paged::{Paged, in_pages};
 use std::alloc::{AllocError, Global};
 use std::marker::Model;
 
-/// The octets of a document that comes in pieces. In clauses it is their list.
+/// The octets of a document that comes in pieces. In clauses they are their list.
 ///
-/// They lie in pages, so that none is moved when more come.
+/// Octets aren't moved when more of them come, since they lie in pages.
 #[derive(Debug, Drop)]
 pub struct Pages {
     alloc: Global,
@@ -29,7 +29,7 @@ impl Model for Pages {
 }
 
 impl Pages {
-    /// No octets yet. It takes no memory.
+    /// Creates pages without octets. It takes no memory.
     pub fn new(alloc: Global) -> Pages
         ensures { result ≡ [] }
     {
@@ -43,7 +43,7 @@ impl Pages {
         }
     }
 
-    /// Adds octets behind those that are there. Where there is no memory, nothing is added.
+    /// Appends octets. The only error is out of memory, and nothing is appended then.
     pub fn push(&mut self, piece: &[u8]) -> Result<(), AllocError>
         ensures ok { OnOk result (self.new ≡ self.old ++ piece.now) }
         ensures err { OnErr result (self.new ≡ self.old) }
@@ -66,21 +66,21 @@ impl Pages {
         Ok(())
     }
 
-    /// How many they are.
+    /// Returns the number of octets.
     pub fn len(&self) -> usize
         ensures { result ≡ length self.now }
     {
         self.len
     }
 
-    /// Whether there are none.
+    /// Returns whether there are no octets.
     pub fn is_empty(&self) -> bool
         ensures { IsTrue result ↔ (self.now ≡ []) }
     {
         self.len == 0
     }
 
-    /// Octets from a place on, as many as lie together: none only at the end.
+    /// Returns the octets from `start` on that lie together in memory. They are empty only at the end.
     pub fn piece(&self, start: usize) -> &[u8]
         requires { start ≤ length self.now }
         ensures { IsFrontOf result.now (drop start self.now) }

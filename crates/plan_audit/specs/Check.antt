@@ -1,4 +1,4 @@
--- What `printd check` writes, and its exit status, for each text of a plan.
+-- The output and the exit status of `printd check`, for each text of a plan.
 use Rattle.std.specs.Prelude.{◌≡◌, ◌==◌, ◌⊎◌, ℕ, Bool, List, [], ◌∷◌, ◌++◌, Option, Some, None, MatchResult, codes, find, if◌then◌else◌, map, slice_index, slice_index_or, take}
 use Rattle.std.specs.Fmt.{decimal}
 use Rattle.std.specs.Io.KnownBytes.{Appends}
@@ -40,12 +40,12 @@ fault_name faults.PositivePlacePrice = codes "PositivePlacePrice"
 fault_name faults.PriceTooHigh = codes "PriceTooHigh"
 fault_name faults.TotalsDiffer = codes "TotalsDiffer"
 
--- the line of a start: the job's id, the name of its device, when it starts there and when it ends
+-- the line of a start: the id of the job, the name of its device, and its start and end there
 unfoldable pub start_line : List (List ℕ) → Class → Slot → List ℕ
 start_line devices c slot =
     codes "start " ++ (decimal slot.job ++ (codes " " ++ (slice_index_or devices slot.device [] ++ (codes " " ++ (decimal slot.start ++ (codes " " ++ (decimal (end_of c slot) ++ codes "\n")))))))
 
--- when a job starts in the way's own timetable, as a line
+-- the line of the start of a job in the way's own timetable
 unfoldable pub job_start : List (List ℕ) → PlannedClass → ℕ → List ℕ
 job_start devices class job = option_map_or (start_line devices class.problem) (find (λ slot. slot.job == job) (own_slots class.problem class.priced.way)) []
 
@@ -53,22 +53,22 @@ abbrev pub job_starts : List (List ℕ) → PlannedClass → List ℕ → List �
 job_starts devices class [] = []
 job_starts devices class (job ∷ jobs) = job_start devices class job ++ job_starts devices class jobs
 
--- the starts of all jobs: the classes in order, and in each by rising id
+-- the starts of all jobs: the classes in order, and the jobs of each class by rising id
 abbrev pub plan_starts : List (List ℕ) → List PlannedClass → List ℕ
 plan_starts devices [] = []
 plan_starts devices (class ∷ classes) = job_starts devices class class.problem.ids ++ plan_starts devices classes
 
--- the priority of the class at a place, the highest counted as 0
+-- the priority of the class at a place; the highest class has the place 0
 abbrev pub priority_at : List PlannedClass → ℕ → ℕ
 priority_at classes place = slice_index (map (λ class. class.priority) classes) place
 
--- what is written of an input, the exit status, and what is objected to
+-- the text written for an input, the exit status, and the objection
 pub record Judged : Type 0 where
   pub text : List ℕ
   pub status : ExitStatus
   pub objection : Option Objection
 
--- what is said of a plan with this verdict, where the starts are asked for or not
+-- the answer to a plan with this verdict, with the starts if they are asked for
 abbrev pub judged_of : Bool → NamedPlan → PlanVerdict → Judged
 judged_of starts named Yes = record { text = codes "yes\n" ++ (if starts then plan_starts named.devices named.plan.classes else []); status = Ends.Done; objection = None }
 judged_of starts named (No place fault) = record {
@@ -77,23 +77,23 @@ judged_of starts named (No place fault) = record {
   objection = Some (Plan (priority_at named.plan.classes place) fault);
 }
 
--- what is said of an input that is refused
+-- the answer to a refused input
 abbrev pub refused_for : List ℕ → Objection → Judged
 refused_for name objection = record { text = (refused_as name).text; status = (refused_as name).status; objection = Some objection }
 
--- what is said of a text: the verdict on the plan that it is, or its first fault, and where it is found
+-- the answer to a text: the verdict on the plan it is, or its first fault and the line of the fault
 abbrev pub IsJudged : Bool → List ℕ → Judged → Type 0
 IsJudged starts text judged = MatchResult (plan_at text)
     (λ named. (verdict : PlanVerdict) × IsPlanVerdict named.plan verdict × (judged ≡ judged_of starts named verdict))
     (λ fault. (line : ℕ) × IsFaultLine text fault line × (judged ≡ refused_for (text_fault_name fault) (Text line fault)))
 
--- what is said of an input: of the text that it is as a whole, or that it has too many bytes
+-- the answer to an input: to its whole text, or that it has too many bytes
 abbrev pub IsAnswer : Bool → Option (List ℕ) → Option (List ℕ) → Judged → Type 0
 IsAnswer starts before after judged =
     ((text : List ℕ) × IsWhole INPUT_BYTES before after text × IsJudged starts text judged)
     ⊎ (GaveMore INPUT_BYTES before after × (judged ≡ refused_for (codes "size") Size))
 
--- the audit ended so
+-- the audit has the status and the objection of the answer
 abbrev pub EndsAs : Judged → Audit → Type 0
 EndsAs judged audit = (audit.status ≡ judged.status) × (audit.objection ≡ judged.objection)
 

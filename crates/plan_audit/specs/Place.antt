@@ -1,11 +1,11 @@
--- The line at which a text is found to be no plan.
+-- The line of the fault of a text that is no plan.
 use Rattle.std.specs.Prelude.{ℕ, suc, ◌≡◌, ◌<◌, ◌==◌, ◌+◌, Bool, true, false, List, count_by, length, take, Result, Ok, Err}
 use Rattle.plan_text.specs.declared.fault.TextFault.{TextFault}
 use Rattle.plan_text.specs.declared.fault.TextFault.TheVariants.{BadLine, OutOfRange, NoEnd}
 use Rattle.plan_text.specs.NamedPlan.{NamedPlan}
 use Rattle.plan_text.specs.Whole.{plan_at}
 
--- the fault is one of a line
+-- the fault is a fault of a line
 abbrev pub is_of_line : TextFault → Bool
 is_of_line BadLine = true
 is_of_line OutOfRange = true
@@ -19,21 +19,21 @@ is_refused_for_line (Err fault) = is_of_line fault
 unfoldable pub has_faulty_line : List ℕ → Bool
 has_faulty_line text = is_refused_for_line (plan_at text)
 
--- the line in which the byte behind these stands, counted from 1
+-- the line of the byte behind these bytes, counted from 1
 abbrev pub line_behind : List ℕ → ℕ
 line_behind front = 1 + count_by (λ byte. byte == 10) front
 
--- the text up to this byte has no faulty line, and with this byte it has one
+-- the text before this byte has no faulty line, and the text up to this byte has a faulty line
 pub record Decides (text : List ℕ) (count : ℕ) : Type 0 where
   pub within : count < length text
   pub sound : has_faulty_line (take count text) ≡ false
   pub faulty : has_faulty_line (take (suc count) text) ≡ true
 
--- the line with the byte that decides
+-- the line of the byte that decides
 abbrev pub IsFaultyLine : List ℕ → ℕ → Type 0
 IsFaultyLine text line = (count : ℕ) × Decides text count × (line ≡ line_behind (take count text))
 
--- the line at which the fault of a text is found: that of the byte which decides; or the one that isn't there as a whole
+-- the line of the fault of a text: the line of the byte that decides; else the line that is missing or has no end
 abbrev pub IsFaultLine : List ℕ → TextFault → ℕ → Type 0
 IsFaultLine text BadLine line = IsFaultyLine text line
 IsFaultLine text OutOfRange line = IsFaultyLine text line

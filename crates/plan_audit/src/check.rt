@@ -1,4 +1,4 @@
-//! The text of a plan, judged.
+//! The verdict on the text of a plan.
 ghost use Rattle.std.specs.Prelude.{ℕ, ◌≡◌, ◌++◌, ◌<◌, Err, None, All, IfOk, IfSome, [], codes, if◌then◌else◌, length};
 ghost use Rattle.std.specs.Fmt.{decimal};
 ghost use Rattle.plan_prices.specs.Plan.{HasOneListEach};
@@ -21,15 +21,15 @@ use std::alloc::{AllocError, Global};
 use std::io::{Read, Write};
 use std::marker::Model;
 
-/// How an audit ends.
+/// The end of an audit.
 #[derive(Clone, Copy, Debug, PartialEq, Eq)]
 pub struct Audit {
     pub status: ExitStatus,
-    /// What is objected to, where the status is that of a refusal or a no; none with each other status.
+    /// The objection: present exactly where the status is that of a refusal or of a no.
     pub objection: Option<Objection>,
 }
 
-/// What is written, how the program ends, and what is objected to.
+/// The text to be written, the exit status, and the objection.
 #[derive(Drop)]
 struct Answer {
     text: Vec<u8>,
@@ -45,14 +45,14 @@ impl Model for Answer {
     ghost view = { λ a. record { text = a.text.items; status = a.status; objection = a.objection } };
 }
 
-/// Reads the text of a plan to its end, writes the verdict on it, and gives the exit status with what is
-/// objected to.
+/// Reads the text of a plan to its end, writes the verdict on it, and returns the exit status with the
+/// objection.
 ///
-/// It writes `yes`, and where the starts are asked for a line `start ID NAME S E` for each job, with
-/// the ms from now at which it starts and ends; or `no NAME class P`, the first fault and the
-/// priority of its class; or `refused NAME`, where the text is no plan or has too many bytes. The
-/// status says which of these it was, or that memory or a stream failed. What is written is then a
-/// front of the answer.
+/// The answer is one of three. `yes` says that the plan is proved best; where `starts` is set, a line `start
+/// ID NAME S E` for each job follows, with its start and end in ms from now. `no NAME class P` has the first
+/// fault and the priority of its class. `refused NAME` says that the text is no plan, or has too many bytes.
+/// The status says which answer it was, or that memory or a stream failed: a front of the answer is written
+/// then.
 pub fn run_check<R: Read, W: Write>(
     alloc: Global,
     reader: &mut R,
@@ -74,7 +74,7 @@ pub fn run_check<R: Read, W: Write>(
     }
 }
 
-/// Memory or a stream failed.
+/// The audit where memory or a stream failed.
 fn failed() -> Audit
     ensures { result ≡ record { status = ExitStatus.Failed; objection = None } }
 {
@@ -84,7 +84,7 @@ fn failed() -> Audit
     }
 }
 
-/// The answer to an input, unless memory or the stream fails.
+/// The answer to an input; `None` where memory or the stream fails.
 fn answer_input<R: Read>(alloc: Global, reader: &mut R, starts: bool) -> Option<Answer>
     ensures { IfSome result (λ answer. IsAnswer starts (R.remaining reader.old) (R.remaining reader.new) answer) }
 {
@@ -95,7 +95,7 @@ fn answer_input<R: Read>(alloc: Global, reader: &mut R, starts: bool) -> Option<
     }
 }
 
-/// The answer to a text.
+/// The answer to a text. The only error is out of memory.
 fn answer_text(alloc: Global, text: &[u8], starts: bool) -> Result<Answer, AllocError>
     ensures { IfOk result (λ answer. IsJudged starts text.now answer) }
 {
@@ -106,7 +106,7 @@ fn answer_text(alloc: Global, text: &[u8], starts: bool) -> Result<Answer, Alloc
     }
 }
 
-/// The answer to a text that has this fault.
+/// The answer to a text with this fault. The only error is out of memory.
 fn refused_at(alloc: Global, text: &[u8], fault: TextFault) -> Result<Answer, AllocError>
     requires { plan_at text.now ≡ Err fault }
     ensures { IfOk result (λ answer. (line : ℕ) × IsFaultLine text.now fault line × (answer ≡ refused_for (text_fault_name fault) (Objection.Text line fault))) }
@@ -119,7 +119,7 @@ fn refused_at(alloc: Global, text: &[u8], fault: TextFault) -> Result<Answer, Al
     )
 }
 
-/// The answer to an input that is refused.
+/// The answer to a refused input. The only error is out of memory.
 fn refused(alloc: Global, name: &str, objection: Objection) -> Result<Answer, AllocError>
     ensures { IfOk result (λ answer. answer ≡ refused_for name.now objection) }
 {
@@ -130,7 +130,7 @@ fn refused(alloc: Global, name: &str, objection: Objection) -> Result<Answer, Al
     })
 }
 
-/// The answer to a plan.
+/// The answer to a plan. The only error is out of memory.
 fn judge(alloc: Global, named: &PlanText, starts: bool) -> Result<Answer, AllocError>
     requires { All HasOneListEach named.now.plan.classes }
     ensures { IfOk result (λ answer. (verdict : PlanVerdict) × IsPlanVerdict named.now.plan verdict × (answer ≡ judged_of starts named.now verdict)) }

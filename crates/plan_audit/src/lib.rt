@@ -1,9 +1,10 @@
-//! The text of a plan, read and judged, and the verdict written: what `printd check` does.
+//! The command `printd check`, which reads the text of a plan and writes the verdict on it.
 //!
-//! The one call is [`run_check`]: for every input it writes exactly the verdict on the plan of that
-//! text, or why the text is refused, and gives the exit status, with what is objected to and where. How a
-//! text is read is `plan_text`'s, what a verdict says `plan_checker`'s; no word of a command line is read
-//! here. [`fault_line`] finds the line at which a text is refused. Its rows are plans of `play_examples`.
+//! [`run_check`] is its one call. For every input it writes exactly the verdict on the plan of that text, or
+//! the reason why the text is refused, and returns the exit status, with the objection and its line.
+//! `plan_text` reads the text, and `plan_checker` gives the verdict; the crate reads no command line.
+//! [`fault_line`] finds the line at which a text is refused. The rows of the crate are plans of
+//! `play_examples`.
 #![tactic(auto)]
 
 mod check;

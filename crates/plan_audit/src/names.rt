@@ -1,11 +1,11 @@
-//! How the answer names what is wrong.
+//! The names of faults in answers.
 ghost use Rattle.std.specs.Prelude.{◌≡◌};
 ghost use Rattle.plan_audit.specs.Check.{text_fault_name, fault_name};
 
 use plan_checker::Fault;
 use plan_text::TextFault;
 
-/// How the answer names a fault of a text.
+/// The name of a fault of a text in the answer.
 pub fn text_fault_name(fault: TextFault) -> &'static str
     ensures { result.now ≡ text_fault_name fault }
 {
@@ -16,7 +16,7 @@ pub fn text_fault_name(fault: TextFault) -> &'static str
     }
 }
 
-/// How the answer names a fault of a plan.
+/// The name of a fault of a plan in the answer.
 pub fn fault_name(fault: Fault) -> &'static str
     ensures { result.now ≡ fault_name fault }
 {

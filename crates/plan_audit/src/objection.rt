@@ -1,21 +1,21 @@
-//! What is wrong with an input, in a sentence for its writer.
+//! The objections to an input, as sentences for its writer.
 
 use plan_checker::Fault;
 use plan_text::TextFault;
 use std::fmt;
 
-/// What the sentences name as the file of the text.
+/// The name of the input in the sentences.
 const INPUT: &str = "<standard input>";
 
-/// Why an input is no plan that is proved best. Shown, it is a sentence without a line feed, which begins
-/// with the name of standard input.
+/// The reason why an input is no plan that is proved best. `Display` writes it as a sentence without a line
+/// feed, which begins with the name of standard input.
 #[derive(Clone, Copy, Debug, PartialEq, Eq)]
 pub enum Objection {
-    /// It has more bytes than [`base_types::Limits::INPUT_BYTES`].
+    /// The input has more bytes than [`base_types::Limits::INPUT_BYTES`].
     Size,
-    /// It is no plan: this fault is found at this line, counted from 1.
+    /// The input is no plan: it has this fault at this line, counted from 1.
     Text { line: usize, fault: TextFault },
-    /// The plan isn't proved best: this is the first fault, of the class of this priority.
+    /// The plan is not proved best: the first fault is this fault, of the class of this priority.
     Plan { priority: u8, fault: Fault },
 }
 
@@ -35,7 +35,7 @@ impl fmt::Display for Objection {
     }
 }
 
-/// What a fault of a text means.
+/// The meaning of a fault of a text.
 fn text_meaning(fault: TextFault) -> &'static str {
     match fault {
         TextFault::BadLine => "this is no line of a plan, or none that may come here",
@@ -46,7 +46,7 @@ fn text_meaning(fault: TextFault) -> &'static str {
     }
 }
 
-/// What a fault of a plan means.
+/// The meaning of a fault of a plan.
 fn plan_meaning(fault: Fault) -> &'static str {
     match fault {
         Fault::UnknownName => "a way names a job that is not of the class",

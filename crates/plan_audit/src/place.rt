@@ -1,4 +1,4 @@
-//! The line at which a text is found to be no plan.
+//! The line of the fault of a text that is no plan.
 ghost use Rattle.std.specs.Prelude.{◌≡◌, Err, IfOk, true};
 ghost use Rattle.plan_text.specs.Whole.{plan_at};
 ghost use Rattle.plan_audit.specs.Place.{is_of_line, has_faulty_line, line_behind, Decides, IsFaultyLine, IsFaultLine};
@@ -6,8 +6,8 @@ ghost use Rattle.plan_audit.specs.Place.{is_of_line, has_faulty_line, line_behin
 use plan_text::{ReadError, TextFault, read_plan_text};
 use std::alloc::{AllocError, Global};
 
-/// The line, counted from 1, at which a text is found to have this fault: the faulty line, or where the
-/// text ends before its end the line that isn't there, or not as a whole.
+/// The line of this fault of a text, counted from 1: the faulty line; or, for a text that ends too early, the
+/// line that is missing or has no end. The only error is out of memory.
 #[tactic(auto, unfolding(crate::specs::Place::has_faulty_line))]
 pub fn fault_line(alloc: Global, text: &[u8], fault: TextFault) -> Result<usize, AllocError>
     requires { plan_at text.now ≡ Err fault }
@@ -20,7 +20,7 @@ pub fn fault_line(alloc: Global, text: &[u8], fault: TextFault) -> Result<usize,
     }
 }
 
-/// The faulty line.
+/// The faulty line of a text, counted from 1. The only error is out of memory.
 fn deciding_line(alloc: Global, text: &[u8]) -> Result<usize, AllocError>
     requires faulty { has_faulty_line text.now ≡ true }
     ensures { IfOk result (IsFaultyLine text.now) }
@@ -29,14 +29,14 @@ fn deciding_line(alloc: Global, text: &[u8]) -> Result<usize, AllocError>
     Ok(line_behind(&text[..count]))
 }
 
-/// The line in which the byte behind these stands.
+/// The line of the byte behind `front`, counted from 1.
 fn line_behind(front: &[u8]) -> usize
     ensures { result ≡ line_behind front.now }
 {
     1 + front.iter().filter(|byte| **byte == b'\n').count()
 }
 
-/// Whether a fault is one of a line.
+/// Returns whether a fault is a fault of a line.
 fn is_of_line(fault: TextFault) -> bool
     ensures { result ≡ is_of_line fault }
 {
@@ -46,7 +46,7 @@ fn is_of_line(fault: TextFault) -> bool
     }
 }
 
-/// Whether a text has a faulty line.
+/// Returns whether a text has a faulty line. The only error is out of memory.
 #[tactic(auto, unfolding(crate::specs::Place::has_faulty_line))]
 fn has_faulty_line(alloc: Global, text: &[u8]) -> Result<bool, AllocError>
     ensures { IfOk result (λ is. is ≡ has_faulty_line text.now) }
@@ -58,8 +58,9 @@ fn has_faulty_line(alloc: Global, text: &[u8]) -> Result<bool, AllocError>
     }
 }
 
-/// The byte with which a text gets its faulty line: its line feed, or the first one behind the end of the
-/// plan. It is found by halves, so that the text is read as often as its length has binary digits.
+/// The place of the byte that decides: the line feed of the faulty line, or the first byte behind the end of
+/// the plan. The search halves its range each time, and reads the text as often as the length of the text has
+/// binary digits. The only error is out of memory.
 #[tactic(auto, using(crate::proofs::Fronts::begins))]
 fn deciding_byte(alloc: Global, text: &[u8]) -> Result<usize, AllocError>
     requires faulty { has_faulty_line text.now ≡ true }

@@ -1,4 +1,4 @@
-//! When the jobs of a plan start, as lines.
+//! The starts of the jobs of a plan, as lines.
 ghost use Rattle.std.specs.Prelude.{◌≡◌, ◌++◌, All, Contains, OnOk, codes};
 ghost use Rattle.std.specs.Fmt.{decimal};
 ghost use Rattle.plan_prices.specs.Prices.{IsProved};
@@ -11,7 +11,7 @@ use plan_problem::ClassProblem;
 use plan_text::name_of;
 use std::alloc::{AllocError, Global};
 
-/// Appends when each job starts.
+/// Appends the lines of the starts of all jobs. The only error is out of memory.
 pub fn put_starts(
     alloc: Global,
     output: &mut Vec<u8>,
@@ -27,7 +27,7 @@ pub fn put_starts(
     Ok(())
 }
 
-/// Appends when each job of a class starts.
+/// Appends the lines of the starts of the jobs of a class. The only error is out of memory.
 fn put_class_starts(
     alloc: Global,
     output: &mut Vec<u8>,
@@ -43,7 +43,7 @@ fn put_class_starts(
     Ok(())
 }
 
-/// Appends when a job of a class starts.
+/// Appends the line of the start of a job of a class. The only error is out of memory.
 fn put_job_start(
     alloc: Global,
     output: &mut Vec<u8>,
@@ -61,7 +61,7 @@ fn put_job_start(
     }
 }
 
-/// Appends when a job starts that has this device and this start.
+/// Appends the line of a job with this device and this start. The only error is out of memory.
 #[tactic(auto, using(crate::proofs::Slots::start_line_is))]
 fn put_slot(
     alloc: Global,
@@ -79,7 +79,7 @@ fn put_slot(
     put_start(alloc, output, job, name_of(devices, device), start, end)
 }
 
-/// Appends a line of a start.
+/// Appends the line of a start. The only error is out of memory.
 fn put_start(
     alloc: Global,
     output: &mut Vec<u8>,

@@ -1,4 +1,4 @@
-//! A day of a print room, event by event: what waits, what prints, and for how long.
+//! A day of a print room, event by event: the waiting jobs, the printing devices, and the lengths of prints.
 
 use crate::made_class::{Speed, made_speed};
 use crate::random::Random;
@@ -8,18 +8,18 @@ use plan_prices::Way;
 use plan_problem::{ClassProblem, Row, is_class};
 use std::alloc::{AllocError, Global};
 
-/// How a day goes.
+/// The course of a day.
 #[derive(Clone, Copy, PartialEq, Eq)]
 pub(crate) enum Course {
-    /// Printing takes as long as estimated.
+    /// Each print takes the estimated time.
     Estimated,
-    /// It takes up to a fifth less or more, and jobs are canceled.
+    /// A print takes up to a fifth less or more than estimated, and jobs are canceled.
     Otherwise,
-    /// Devices come and go.
+    /// Devices leave and come back.
     Moving,
 }
 
-/// A job that waits: its impressions, and which devices are able, as the digits of a number.
+/// A waiting job: its impressions, and the able devices as the binary digits of a number.
 #[derive(Clone, Copy)]
 struct Waiting {
     id: JobId,
@@ -27,8 +27,8 @@ struct Waiting {
     able: u64,
 }
 
-/// The state of a day: a moment, the jobs that wait, and of each device its speed, until when it
-/// prints, and whether it is there.
+/// The state of a day: a moment, the waiting jobs, and for each device its speed, the end of its print, and
+/// whether it is away.
 #[derive(Drop)]
 pub(crate) struct Day {
     course: Course,
@@ -43,7 +43,7 @@ pub(crate) struct Day {
 }
 
 impl Day {
-    /// A day that begins with so many jobs for so many idle devices.
+    /// Creates a day that begins with this number of jobs and of idle devices.
     pub(crate) fn new(
         alloc: Global,
         course: Course,
@@ -71,7 +71,7 @@ impl Day {
         Ok(day)
     }
 
-    /// The class of the jobs that wait.
+    /// The class of the waiting jobs.
     pub(crate) fn class(&self, alloc: Global) -> Result<ClassProblem, Error> {
         let mut ids = Vec::new(alloc);
         let mut rows = Vec::new(alloc);
@@ -89,7 +89,7 @@ impl Day {
         Ok(ClassProblem::from_rows(ids, rows, waits))
     }
 
-    /// The times of a job. Its own device, in turn, is always able.
+    /// The times of a job. The job's own device is always able.
     fn row(&self, alloc: Global, job: &Waiting) -> Result<Row, AllocError> {
         let own = self.own_device(job.id);
         let mut times = Vec::new(alloc);
@@ -102,14 +102,14 @@ impl Day {
         Ok(Row::new(times))
     }
 
-    /// The device that can always print a job.
+    /// A job's own device: jobs have devices in turn.
     fn own_device(&self, id: JobId) -> usize {
         (id.number() as usize)
             .checked_rem(self.speeds.len())
             .unwrap_or(0)
     }
 
-    /// A job comes.
+    /// Adds a new waiting job.
     fn take_job(&mut self) -> Result<(), Error> {
         let id = JobId::new(self.next).context("too many jobs")?;
         self.next = self.next.saturating_add(1);
@@ -123,8 +123,8 @@ impl Day {
         Ok(())
     }
 
-    /// The next event: a job comes or is canceled, or a device goes or comes back; else each idle
-    /// device begins the first job of its list, and the next device is done.
+    /// Plays the next event: a job comes or is canceled, or a device leaves or comes back. Else each idle
+    /// device begins the first job of its list, and time passes to the end of the next print.
     pub(crate) fn step(&mut self, way: &Way) -> Result<(), Error> {
         match self.random.below(5) {
             0 | 1 if self.jobs.len() < self.most => self.take_job(),
@@ -139,7 +139,7 @@ impl Day {
         }
     }
 
-    /// Disturbs the day by its course.
+    /// Applies the disturbance of the day's course.
     fn disturb(&mut self) {
         match self.course {
             Course::Estimated => {}
@@ -158,7 +158,7 @@ impl Day {
         }
     }
 
-    /// Each idle device begins the first job of its list.
+    /// Makes each idle device begin the first job of its list.
     fn begin_all(&mut self, way: &Way) {
         for (device, queue) in way.queues().iter().enumerate() {
             if let Some(first) = queue.jobs().first() {
@@ -167,7 +167,7 @@ impl Day {
         }
     }
 
-    /// A device begins a job, if it is idle.
+    /// Makes a device begin a job, if the device is idle.
     fn begin(&mut self, device: usize, id: JobId) {
         if self.ends.get(device).copied().unwrap_or(u64::MAX) > self.now {
             return;
@@ -180,7 +180,7 @@ impl Day {
         self.jobs.retain(|job| job.id != id);
     }
 
-    /// The time of a job on a device.
+    /// The time of a job on a device, in ms.
     fn time_on(&self, device: usize, id: JobId) -> u64 {
         match self.speeds.get(device) {
             Some(speed) => speed.time(impressions_of(&self.jobs, id)),
@@ -188,7 +188,7 @@ impl Day {
         }
     }
 
-    /// How long printing takes that is estimated at this time.
+    /// The length of a print whose estimate is `time`, in ms.
     fn lasts(&mut self, time: u64) -> u64 {
         if self.course != Course::Otherwise {
             return time;
@@ -197,7 +197,7 @@ impl Day {
         (time / 1000).saturating_mul(part).max(1)
     }
 
-    /// Goes on to when the next device is done, or to the next minute.
+    /// Moves on to the next end of a print, or by one minute where no print ends earlier.
     fn go_on(&mut self) -> Result<(), Error> {
         let mut next = self.now.saturating_add(60_000);
         for end in &self.ends {
@@ -213,7 +213,7 @@ impl Day {
     }
 }
 
-/// The impressions of a job, of a list of them.
+/// The impressions of a job in a list.
 fn impressions_of(jobs: &[Waiting], id: JobId) -> u64 {
     match jobs.iter().find(|job| job.id == id) {
         Some(job) => job.impressions,
@@ -221,7 +221,7 @@ fn impressions_of(jobs: &[Waiting], id: JobId) -> u64 {
     }
 }
 
-/// Whether a device is one of those that a number's digits name.
+/// Returns whether a device is among the able devices, the binary digits of a number.
 fn is_able(able: u64, device: usize) -> bool {
     able.wrapping_shr(u32::try_from(device).unwrap_or(0)) & 1 == 1
 }

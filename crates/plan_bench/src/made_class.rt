@@ -4,19 +4,19 @@ use base_types::JobId;
 use plan_problem::{ClassProblem, Row, is_class};
 use std::alloc::{AllocError, Global};
 
-/// The longest of the times that are uniform at random, in ms.
+/// The longest time that is uniform at random, in ms.
 const LONGEST: u64 = 1_000_000;
 
-/// How the times of a class are made.
+/// The origin of the times of a class.
 #[derive(Clone, Copy, PartialEq, Eq)]
 pub(crate) enum Kind {
-    /// From the impressions of a job and the speed of a device, as the server makes them.
+    /// A time comes from the impressions of a job and the speed of a device, as in the server.
     Speeds,
-    /// Each uniform at random.
+    /// Each time is uniform at random.
     Uniform,
 }
 
-/// How fast a device prints, in ms.
+/// The speed of a device, in ms.
 #[derive(Drop)]
 pub(crate) struct Speed {
     setup: u64,
@@ -24,7 +24,7 @@ pub(crate) struct Speed {
 }
 
 impl Speed {
-    /// How long a job of so many impressions takes.
+    /// The time of a job with this number of impressions, in ms.
     pub(crate) fn time(&self, impressions: u64) -> u64 {
         impressions
             .saturating_mul(self.impression)
@@ -32,7 +32,7 @@ impl Speed {
     }
 }
 
-/// A class of jobs 1, 2, .. on devices: about one pair in eight isn't able, but each job has a
+/// Makes a class of jobs 1, 2, .. on devices: about one pair of eight is not able, but each job has an able
 /// device.
 pub(crate) fn made_class(
     alloc: Global,
@@ -66,7 +66,7 @@ pub(crate) fn made_speed(random: &mut Random) -> Speed {
     Speed { setup, impression }
 }
 
-/// The times of a job of some impressions. The job's own device, in turn, is able.
+/// Makes the times of a job with random impressions. The job's own device, in turn, is able.
 fn made_row(
     alloc: Global,
     random: &mut Random,

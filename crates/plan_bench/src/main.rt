@@ -1,17 +1,18 @@
-//! Plans classes made of a seed, so that planners can be timed from outside and compared.
+//! Plans classes made of a seed: planners can be timed from outside and compared.
 //!
-//! `plan_bench paths JOBS DEVICES SEED COUNT` makes so many class problems, plans each by `AugmentingPaths` and
-//! writes its total in ms; `dense` does so by `DenseAugmentingPaths`. `plan_bench compare ..` makes problems of up to
-//! so many jobs and devices, plans each by both, and where there are few jobs tries all ways too; it
-//! stops where two totals differ. Times are made of impressions and speeds, as the server makes them,
-//! or with the word `uniform` after the others each uniform at random. The same arguments give the
-//! same totals.
+//! `plan_bench paths JOBS DEVICES SEED COUNT` makes COUNT class problems, plans each with `AugmentingPaths`,
+//! and writes its total in ms; `dense` uses `DenseAugmentingPaths`. `plan_bench compare ..` makes problems of
+//! at most that many jobs and devices, plans each with both planners, and tries all ways too where there are
+//! few jobs; it stops where two totals differ. Times are made of impressions and speeds, as in the server;
+//! with the word `uniform` behind the other words, each time is uniform at random. Equal arguments give equal
+//! totals.
 //!
-//! `plan_bench estimated JOBS DEVICES SEED COUNT` plays so many events of a day on which printing takes
-//! as long as estimated, and plans at each; `otherwise` one on which it doesn't and jobs are canceled, and
-//! `moving` one on which devices come and go. Each plan is made by a planner that keeps its last one and
-//! by a new one; it stops where the totals differ or the checker doesn't say yes. The sum of the totals
-//! is written. With the word `kept` or `new` one of the two plans alone, so that it can be timed.
+//! `plan_bench estimated JOBS DEVICES SEED COUNT` plays COUNT events of a day on which each print takes the
+//! estimated time, and plans at each event. `otherwise` plays a day on which prints take other times and jobs
+//! are canceled, and `moving` a day on which devices leave and come back. Each plan is made by a planner that
+//! keeps its last plan and by a new planner; the program stops where their totals differ or where the checker
+//! does not say yes. It writes the sum of the totals. With the word `kept` or `new`, one of the two planners
+//! plans alone, and can be timed.
 #![tactic(auto)]
 
 mod day;
@@ -32,10 +33,10 @@ use plan_solver::{AugmentingPaths, DenseAugmentingPaths};
 use std::alloc::Global;
 use std::env;
 
-/// The most jobs of a class all of whose ways are tried.
+/// The most jobs of a class for which all ways are tried.
 const FEW_JOBS: usize = 4;
 
-/// How classes are planned.
+/// The mode of a run.
 #[derive(Clone, Copy, PartialEq, Eq)]
 enum Mode {
     Paths,
@@ -45,7 +46,7 @@ enum Mode {
     Day(Course),
 }
 
-/// What the program is asked for.
+/// The arguments of a run.
 #[derive(Drop)]
 struct Asked {
     mode: Mode,
@@ -57,7 +58,7 @@ struct Asked {
     count: u32,
 }
 
-/// How a word says that classes are planned.
+/// The mode that a word names.
 fn read_mode(word: &str) -> Result<Mode, Error> {
     match word {
         "paths" => Ok(Mode::Paths),
@@ -70,7 +71,7 @@ fn read_mode(word: &str) -> Result<Mode, Error> {
     }
 }
 
-/// How a word, if there is one, says that times are made, and by which planners a day is planned.
+/// The origin of times and the planners of a day that the last word names, if there is a last word.
 fn read_last(word: Option<&str>) -> Result<(Kind, By), Error> {
     match word {
         None => Ok((Kind::Speeds, By::Both)),
@@ -81,7 +82,7 @@ fn read_last(word: Option<&str>) -> Result<(Kind, By), Error> {
     }
 }
 
-/// The arguments, read.
+/// Reads the arguments.
 fn read_asked(rt: &HostRuntime) -> Result<Asked, Error> {
     let mut words = env::args(rt)?.skip(1);
     let mut next = || {
@@ -106,7 +107,8 @@ fn read_asked(rt: &HostRuntime) -> Result<Asked, Error> {
     })
 }
 
-/// The next class: of so many jobs and devices, or in a comparison of at most as many.
+/// Makes the next class: of the numbers of jobs and devices asked for, or in a comparison of at most these
+/// numbers.
 fn next_class(alloc: Global, random: &mut Random, asked: &Asked) -> Result<ClassProblem, Error> {
     let (jobs, devices) = match asked.mode {
         Mode::Paths | Mode::Dense | Mode::Day(_) => (asked.jobs, asked.devices),
@@ -118,7 +120,7 @@ fn next_class(alloc: Global, random: &mut Random, asked: &Asked) -> Result<Class
     made_class(alloc, random, asked.kind, jobs, devices)
 }
 
-/// The total of the way that a planner finds.
+/// The total of a planner's way, in ms.
 fn planned<P: Planner>(planner: &mut P, class: &ClassProblem) -> Result<u64, Error> {
     if !each_able(class) {
         bail!("a job has no device");
@@ -126,7 +128,8 @@ fn planned<P: Planner>(planner: &mut P, class: &ClassProblem) -> Result<u64, Err
     Ok(planner.plan_class(class)?.total)
 }
 
-/// The total of both planners, which must be the same, and where there are few jobs the least.
+/// The total of both planners, in ms. The totals have to be equal; with few jobs, they have to be the least
+/// total.
 fn compared(alloc: Global, class: &ClassProblem) -> Result<u64, Error> {
     let total = planned(&mut AugmentingPaths::new(alloc), class)?;
     if planned(&mut DenseAugmentingPaths::new(alloc), class)? != total {
@@ -138,7 +141,7 @@ fn compared(alloc: Global, class: &ClassProblem) -> Result<u64, Error> {
     Ok(total)
 }
 
-/// The total of a best way.
+/// The total of a best way, in ms.
 fn total_of(alloc: Global, class: &ClassProblem, mode: Mode) -> Result<u64, Error> {
     match mode {
         Mode::Paths => planned(&mut AugmentingPaths::new(alloc), class),
@@ -147,7 +150,7 @@ fn total_of(alloc: Global, class: &ClassProblem, mode: Mode) -> Result<u64, Erro
     }
 }
 
-/// Makes the classes one after the other, and writes the total of each.
+/// Makes the classes one after the other, and writes the total of each class.
 fn plan_all(rt: &HostRuntime, asked: &Asked) -> Result<(), Error> {
     let mut random = Random::new(asked.seed);
     for _ in 0..asked.count {

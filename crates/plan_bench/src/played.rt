@@ -8,18 +8,18 @@ use plan_problem::ClassProblem;
 use plan_solver::AugmentingPaths;
 use std::alloc::Global;
 
-/// Which planners plan a day.
+/// The planners of a day.
 #[derive(Clone, Copy, PartialEq, Eq)]
 pub(crate) enum By {
-    /// One that keeps its last plan.
+    /// A planner that keeps its last plan.
     Kept,
-    /// A new one at each event.
+    /// A new planner at each event.
     New,
-    /// Both, which must find the same total, and each plan is checked.
+    /// Both planners, which have to find equal totals; each plan is checked.
     Both,
 }
 
-/// Plays so many events of a day, each planned, and gives the sum of the totals.
+/// Plays this number of events of a day with a plan at each event, and returns the sum of the totals in ms.
 pub(crate) fn play(alloc: Global, mut day: Day, by: By, events: u32) -> Result<u64, Error> {
     let mut planner = AugmentingPaths::new(alloc);
     let mut sum: u64 = 0;
@@ -38,7 +38,7 @@ pub(crate) fn play(alloc: Global, mut day: Day, by: By, events: u32) -> Result<u
     Ok(sum)
 }
 
-/// What a planner finds.
+/// The way of a planner, with its price.
 fn planned<P: Planner>(planner: &mut P, class: &ClassProblem) -> Result<PricedWay, Error> {
     if !each_able(class) {
         bail!("a job has no device");
@@ -46,7 +46,7 @@ fn planned<P: Planner>(planner: &mut P, class: &ClassProblem) -> Result<PricedWa
     Ok(planner.plan_class(class)?)
 }
 
-/// Compares a plan with one from nothing, and has it checked.
+/// Compares a plan with the plan of a new planner, and checks it.
 fn compare(alloc: Global, class: &ClassProblem, priced: &PricedWay) -> Result<(), Error> {
     if planned(&mut AugmentingPaths::new(alloc), class)?.total != priced.total {
         bail!("the totals differ");

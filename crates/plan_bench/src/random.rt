@@ -1,12 +1,12 @@
-/// Numbers that look random, the same ones for the same seed: G. Marsaglia's xorshift with the
-/// shifts 13, 7 and 17 (Xorshift RNGs, 2003).
+/// A sequence of numbers that look random; equal seeds give equal sequences. It is G. Marsaglia's xorshift
+/// with the shifts 13, 7 and 17 (Xorshift RNGs, 2003).
 #[derive(Drop)]
 pub(crate) struct Random {
     state: u64,
 }
 
 impl Random {
-    /// The numbers of a seed; those of 0 are those of 1.
+    /// Creates the sequence of a seed; the seed 0 has the sequence of the seed 1.
     pub(crate) fn new(seed: u64) -> Random {
         Random { state: seed.max(1) }
     }

@@ -2,7 +2,7 @@ use base_types::{DeviceId, JobId};
 use plan_problem::ClassProblem;
 use std::alloc::{AllocError, Global};
 
-/// A part of a way: how many jobs are placed, and when each device is free after them.
+/// A part of a way: the placed jobs, and the moment at which each device is free after them.
 #[derive(Drop)]
 struct Partial {
     ids: Vec<JobId>,
@@ -10,7 +10,7 @@ struct Partial {
     free: Vec<u64>,
 }
 
-/// A job that was placed at the end of a device's list.
+/// A job placed at the end of a device's list.
 #[derive(Clone, Copy)]
 struct Step {
     job: usize,
@@ -18,7 +18,8 @@ struct Step {
     time: u64,
 }
 
-/// The least total of all ways of a class, found by trying each of them; none where there is no way.
+/// The least total of all ways of a class, in ms, by trying each way; `None` where there is no way. The only
+/// error is out of memory.
 pub fn least_total(alloc: Global, class: &ClassProblem) -> Result<Option<u64>, AllocError> {
     let ids = Vec::from_slice(alloc, class.ids())?;
     let free = Vec::from_slice(alloc, class.waits())?;
@@ -31,7 +32,7 @@ pub fn least_total(alloc: Global, class: &ClassProblem) -> Result<Option<u64>, A
     Ok(least_from(class, &mut partial, jobs))
 }
 
-/// The least sum of completions of so many jobs that are left.
+/// The least sum of completions of the remaining jobs; `left` is their number.
 fn least_from(class: &ClassProblem, partial: &mut Partial, left: usize) -> Option<u64> {
     if left == 0 {
         return Some(0);
@@ -48,7 +49,7 @@ fn least_from(class: &ClassProblem, partial: &mut Partial, left: usize) -> Optio
     least
 }
 
-/// The smaller of two numbers, where there are two.
+/// The smaller of two numbers; if one is missing, the other.
 pub fn smaller(one: Option<u64>, other: Option<u64>) -> Option<u64> {
     match (one, other) {
         (Some(one), Some(other)) => Some(one.min(other)),
@@ -58,18 +59,18 @@ pub fn smaller(one: Option<u64>, other: Option<u64>) -> Option<u64> {
 }
 
 impl Partial {
-    /// How many pairs of a job and a device there are.
+    /// The number of pairs of a job and a device.
     fn pairs(&self) -> usize {
         self.ids.len().saturating_mul(self.free.len())
     }
 
-    /// When a device is free.
+    /// The moment at which a device is free.
     fn free_at(&self, device: usize) -> u64 {
         self.free.get(device).copied().unwrap_or(0)
     }
 
-    /// Places the job of a pair at the end of its device's list, if it isn't placed yet and the
-    /// device is able.
+    /// Places the job of a pair at the end of its device's list, if the job is not placed yet and the device
+    /// is able.
     fn place(&mut self, class: &ClassProblem, pair: usize) -> Option<Step> {
         let job = pair.checked_div(self.free.len())?;
         let device = pair.checked_rem(self.free.len())?;
@@ -82,7 +83,7 @@ impl Partial {
         Some(Step { job, device, time })
     }
 
-    /// Takes the last placed job back.
+    /// Takes back the last placed job.
     fn take_back(&mut self, step: Step) {
         let before = self.free_at(step.device).saturating_sub(step.time);
         self.set(step.job, step.device, false, before);

@@ -1,4 +1,4 @@
--- What stands beside a class in its plan: the classes above it, and the stranded jobs.
+-- The context of a class in its plan: the classes above it, and the stranded jobs.
 use Rattle.std.specs.Prelude.{◌≡◌, ℕ, suc, List, [], Some, length, All, Contains, slice_get}
 use Rattle.base_types.specs.declared.needs.Stranded.{Stranded}
 use Rattle.plan_problem.specs.Class.{Class}
@@ -6,16 +6,16 @@ use Rattle.plan_prices.specs.declared.plan.PlannedClass.{PlannedClass}
 use Rattle.plan_prices.specs.Way.{IsWay}
 use Rattle.plan_prices.specs.Waits.{waits_after}
 
--- the classes above, the highest first
+-- the classes above, from the highest down
 pub record Beside : Type 0 where
   pub above : List PlannedClass
   pub stranded : List Stranded
 
--- of a class by itself there is nothing
+-- the empty context of a class by itself
 abbrev pub alone : Beside
 alone = record { above = []; stranded = [] }
 
--- a job isn't one of a class above
+-- a job isn't of a class above
 abbrev pub NotAbove : List PlannedClass → ℕ → Type 0
 NotAbove above job = All (λ class. ¬ Contains class.problem.ids job) above
 
@@ -23,12 +23,12 @@ NotAbove above job = All (λ class. ¬ Contains class.problem.ids job) above
 abbrev pub NotStranded : List Stranded → ℕ → Type 0
 NotStranded stranded job = All (λ other. ¬ (other.job ≡ job)) stranded
 
--- no job of the class is one of a class above, or stranded
+-- no job of the class is of a class above, or stranded
 pub record NoneElsewhere (beside : Beside) (c : Class) : Type 0 where
   pub above : All (NotAbove beside.above) c.ids
   pub stranded : All (NotStranded beside.stranded) c.ids
 
--- the waits of the class are those that the class just above leaves; those of the first are given
+-- the waits of the class are the waits after the class just above it; the waits of the first class are given
 abbrev pub WaitsFollow : List PlannedClass → Class → Type 0
 WaitsFollow above c = (place : ℕ) (last : PlannedClass) → suc place ≡ length above → slice_get above place ≡ Some last → c.waits ≡ waits_after last.problem last.priced.way
 

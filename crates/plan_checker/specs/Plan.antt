@@ -1,4 +1,4 @@
--- The verdict on a plan, and what a proved plan is.
+-- The verdict on a plan, and the definition of a proved plan.
 use Rattle.std.specs.Prelude.{◌≡◌, ℕ, ◌<◌, Some, length, take, All, slice_get}
 use Rattle.plan_prices.specs.declared.plan.PlannedClass.{PlannedClass}
 use Rattle.plan_prices.specs.Plan.{PlanRecord}
@@ -10,7 +10,7 @@ use Rattle.plan_checker.specs.declared.verdict.PlanVerdict.{PlanVerdict}
 use Rattle.plan_checker.specs.declared.verdict.Verdict.TheVariants.{Yes as Proved, No as Faulty}
 use Rattle.plan_checker.specs.declared.verdict.PlanVerdict.TheVariants.{Yes, No}
 
--- what stands beside the class at a place, the highest counted as 0
+-- the context of the class at a place, where the highest class is at place 0
 abbrev pub beside_at : PlanRecord → ℕ → Beside
 beside_at plan place = record { above = take place plan.classes; stranded = plan.stranded }
 
@@ -22,14 +22,12 @@ IsVerdictAt plan place verdict = (class : PlannedClass) → slice_get plan.class
 abbrev pub YesAbove : PlanRecord → ℕ → Type 0
 YesAbove plan place = (above : ℕ) → above < place → IsVerdictAt plan above Proved
 
--- all classes have the verdict yes, or the one at the place is the first that hasn't, for this fault
+-- all classes have the verdict yes; or the class at `place` is the first without it, and has this fault
 abbrev pub IsPlanVerdict : PlanRecord → PlanVerdict → Type 0
 IsPlanVerdict plan Yes = YesAbove plan (length plan.classes)
 IsPlanVerdict plan (No place fault) = (place < length plan.classes) × YesAbove plan place × IsVerdictAt plan place (Faulty fault)
 
--- Each class is proved best, the waits of each are those left by the one above, and no job stands
--- in two classes, or in a class and among the stranded. Nothing is said of the priorities, nor of a
--- job that is named twice among the stranded.
+-- Each class is proved best, the waits of each class are those after the class above it, and no job is in two classes, or in a class and among the stranded. The definition says nothing of the priorities, and allows a job to be named twice among the stranded.
 pub record IsProvedPlan (plan : PlanRecord) : Type 0 where
   pub proved : All (λ class. IsProved class.problem class.priced.way class.priced.prices class.priced.total) plan.classes
   pub waits : (place : ℕ) (class : PlannedClass) → slice_get plan.classes place ≡ Some class → WaitsFollow (take place plan.classes) class.problem

@@ -1,4 +1,4 @@
--- What each verdict on a priced way says: that all checks hold, or the first that doesn't.
+-- The meaning of each verdict on a priced way: that all conditions hold, or the first that doesn't.
 use Rattle.std.specs.Prelude.{◌≡◌, ◌⊎◌, ℕ, List, [], ◌∷◌}
 use Rattle.plan_problem.specs.Class.{Class}
 use Rattle.plan_prices.specs.Way.{NamesKnown, NoneTwice, AllAble}
@@ -10,12 +10,12 @@ use Rattle.plan_checker.specs.declared.verdict.Fault.TheVariants.{UnknownName, T
 use Rattle.plan_checker.specs.declared.verdict.Verdict.{Verdict}
 use Rattle.plan_checker.specs.declared.verdict.Verdict.TheVariants.{Yes, No}
 
--- no job stands twice, in the way or elsewhere in the plan
+-- no job is twice in the way, and none of its jobs is elsewhere in the plan
 pub record EachOnce (beside : Beside) (c : Class) (way : List (List ℕ)) : Type 0 where
   pub in_way : NoneTwice c way
   pub elsewhere : NoneElsewhere beside c
 
--- what must hold, by the fault where it doesn't
+-- the condition of each fault
 abbrev pub MustHold : Beside → Class → List (List ℕ) → PriceLists → ℕ → Fault → Type 0
 MustHold beside c way prices total UnknownName = NamesKnown c way
 MustHold beside c way prices total Twice = EachOnce beside c way
@@ -26,11 +26,11 @@ MustHold beside c way prices total PositivePlacePrice = NonePositive prices.plac
 MustHold beside c way prices total PriceTooHigh = NoneTooHigh c prices
 MustHold beside c way prices total TotalsDiffer = TotalsAgree c way prices total
 
--- the faults, in the order in which they are looked for
+-- the faults, in the order of their checks
 abbrev pub faults : List Fault
 faults = UnknownName ∷ Twice ∷ Missing ∷ NotAble ∷ WrongWait ∷ PositivePlacePrice ∷ PriceTooHigh ∷ TotalsDiffer ∷ []
 
--- yes where all hold, else no for the first that doesn't
+-- yes if all conditions hold, else no with the first fault whose condition doesn't hold
 abbrev pub IsFirst : (Fault → Type 0) → List Fault → Verdict → Type 0
 IsFirst Holds [] Yes = Unit {0}
 IsFirst Holds [] (No fault) = ⊥

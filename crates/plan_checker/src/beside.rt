@@ -1,4 +1,4 @@
-//! Whether a job stands elsewhere in the plan, and whether waits follow from the class above.
+//! The checks of a class against the other classes of its plan.
 ghost use Rattle.std.specs.Prelude.{◌≡◌, ◌↔◌, All, IsTrue};
 ghost use Rattle.plan_prices.specs.Way.{IsWay};
 ghost use Rattle.plan_prices.specs.Waits.{waits_after};
@@ -8,7 +8,7 @@ use base_types::JobId;
 use plan_prices::{PlannedClass, Stranded, leaves_waits};
 use plan_problem::ClassProblem;
 
-/// Whether no job of the class is one of a class above, or stranded.
+/// Returns whether no job of the class is of a class above, or stranded.
 pub(crate) fn none_elsewhere(
     class: &ClassProblem,
     above: &[PlannedClass],
@@ -27,7 +27,7 @@ pub(crate) fn none_elsewhere(
     true
 }
 
-/// Whether a job is in none of these classes.
+/// Returns whether a job is in none of the classes.
 fn not_above(job: JobId, above: &[PlannedClass]) -> bool
     ensures { IsTrue result ↔ NotAbove above.now job }
 {
@@ -39,14 +39,15 @@ fn not_above(job: JobId, above: &[PlannedClass]) -> bool
     true
 }
 
-/// Whether a job is none of the stranded ones.
+/// Returns whether a job isn't among the stranded jobs.
 fn not_stranded(job: JobId, stranded: &[Stranded]) -> bool
     ensures { IsTrue result ↔ NotStranded stranded.now job }
 {
     stranded.iter().all(|other| other.job != job)
 }
 
-/// Whether the waits of the class are those that the class just above leaves, if there is one.
+/// Returns whether the waits of the class are the waits after the class just above, if there is a class
+/// above.
 pub(crate) fn waits_follow(class: &ClassProblem, above: &[PlannedClass]) -> bool
     requires { AboveHaveWays above.now }
     ensures { IsTrue result ↔ WaitsFollow above.now class.now }
@@ -57,7 +58,7 @@ pub(crate) fn waits_follow(class: &ClassProblem, above: &[PlannedClass]) -> bool
     leaves(&above[above.len() - 1], class)
 }
 
-/// Whether a class leaves just the waits of the next one.
+/// Returns whether the waits after a class are those of the next one.
 #[tactic(auto, using(crate::proofs::Above::left_length))]
 fn leaves(class: &PlannedClass, next: &ClassProblem) -> bool
     requires { IsWay class.now.problem class.now.priced.way }

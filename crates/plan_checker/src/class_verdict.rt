@@ -14,11 +14,10 @@ use crate::verdict::{Fault, Verdict};
 use plan_prices::{PlannedClass, PricedWay, Stranded, all_able, names_known, none_twice};
 use plan_problem::ClassProblem;
 
-/// Judges a priced way of a class by itself. It takes no memory.
+/// Checks a priced way of a class by itself. It takes no memory.
 ///
-/// The answer is yes exactly where the way is one of the class, its prices are fair and its total
-/// is stated; the way is then best, and no timetable of the class does better. The waits are taken
-/// as given.
+/// The verdict is yes exactly if the way is one of the class, its prices are fair and its total is stated.
+/// The way is then best, and no timetable of the class is better. The waits are taken as given.
 pub fn check_class(class: &ClassProblem, priced: &PricedWay) -> Verdict
     requires queues { length priced.now.way ≡ length class.now.waits }
     requires places { length priced.now.prices.places ≡ length class.now.waits }
@@ -27,12 +26,12 @@ pub fn check_class(class: &ClassProblem, priced: &PricedWay) -> Verdict
     ensures best { result ≡ Verdict.Yes → IsBest class.now priced.now.way }
     ensures timetables { result ≡ Verdict.Yes → (slots : List Slot) → IsTimetable class.now slots → total_of class.now priced.now.way ≤ slots_total class.now slots }
 {
-    // Reading the class makes its invariant known.
+    // Reading the class gives its invariant.
     let _class = class.ids();
     judge(class, priced, &[], &[])
 }
 
-/// Judges a priced way, beside the classes above it in its plan and the stranded jobs.
+/// Checks a priced way, in the context of the classes above it in its plan and the stranded jobs.
 pub(crate) fn judge(
     class: &ClassProblem,
     priced: &PricedWay,

@@ -1,4 +1,4 @@
-//! Whether each job and place has a price, and no price is too high.
+//! The checks that each job and place has a price, and that no price is too high.
 ghost use Rattle.std.specs.Prelude.{◌≡◌, ◌↔◌, ◌<◌, ◌≤◌, All, IsTrue, length, pos, ◌≤ℤ◌};
 ghost use Rattle.plan_checker.specs.Fair.{AllFairOn, AllPlacesPriced, IsFairOn, NoneMissing, NonePositive, NoneTooHigh};
 
@@ -6,7 +6,7 @@ use base_types::{DeviceId, Limits};
 use plan_prices::{PlacePrices, Prices, Way, all_named};
 use plan_problem::ClassProblem;
 
-/// Whether each job stands in the way, and each job and each used place has a price.
+/// Returns whether each job is in a list of the way, and each job and each used place has a price.
 pub(crate) fn none_missing(class: &ClassProblem, way: &Way, prices: &Prices) -> bool
     requires { length prices.now.places ≡ length way.now }
     ensures { IsTrue result ↔ NoneMissing class.now way.now prices.now }
@@ -20,7 +20,7 @@ pub(crate) fn none_missing(class: &ClassProblem, way: &Way, prices: &Prices) -> 
     places_priced(way, prices.places())
 }
 
-/// Whether each used place has a price.
+/// Returns whether each used place has exactly one price.
 fn places_priced(way: &Way, places: &[PlacePrices]) -> bool
     requires { length places.now ≡ length way.now }
     ensures { IsTrue result ↔ AllPlacesPriced way.now places.now }
@@ -33,7 +33,7 @@ fn places_priced(way: &Way, places: &[PlacePrices]) -> bool
     true
 }
 
-/// Whether no place has a positive price.
+/// Returns whether no place has a positive price.
 pub(crate) fn no_place_positive(places: &[PlacePrices]) -> bool
     ensures { IsTrue result ↔ NonePositive places.now }
 {
@@ -46,7 +46,7 @@ fn none_positive(prices: &[i64]) -> bool
     prices.iter().all(|price| *price <= 0)
 }
 
-/// Whether no job's price is too high on a device that is able to print it.
+/// Returns whether no job's price is too high on a device that is able to print it.
 pub(crate) fn all_fair(class: &ClassProblem, prices: &Prices) -> bool
     requires jobs { length prices.now.jobs ≡ length class.now.ids }
     requires places { length prices.now.places ≡ length class.now.waits }
@@ -60,7 +60,7 @@ pub(crate) fn all_fair(class: &ClassProblem, prices: &Prices) -> bool
     true
 }
 
-/// Whether the price of each job that the device is able to print is fair there.
+/// Returns whether the price of each job is fair on the device, if the device is able to print the job.
 fn all_fair_on(class: &ClassProblem, device: DeviceId, prices: &[i64], places: &[i64]) -> bool
     requires prices { length prices.now ≡ length class.now.ids }
     requires device { device < length class.now.waits }
@@ -77,8 +77,8 @@ fn all_fair_on(class: &ClassProblem, device: DeviceId, prices: &[i64], places: &
     true
 }
 
-/// Whether a job's price, with that of each used place of a device, is at most what the job costs
-/// there, and alone at the next place.
+/// Returns whether a job's price, together with that of each used place of a device, is at most what the job
+/// costs there, and by itself at most what the job costs at the next place.
 fn is_fair_on(wait: u64, time: u64, price: i64, places: &[i64]) -> bool
     requires wait { wait ≤ Limits.WAIT }
     requires time { time ≤ Limits.JOB_TIME }

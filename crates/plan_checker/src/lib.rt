@@ -1,10 +1,10 @@
-//! The judge of plans: whether prices prove a way best, and whether a plan is proved as a whole.
+//! The checker of plans: whether prices prove a way best, and whether a plan as a whole is proved.
 //!
-//! It stands alone: its yes rests on the definitions of a class, a way and fair prices, and on no
-//! solver, so anyone's plan may be put before it. A yes means that no way, and no timetable with
-//! gaps, does better; any other verdict names the first fault. The times, the first waits and the
-//! lists of jobs are taken as given; the order of the classes, and a job that is named twice among
-//! the stranded, aren't looked at. It finds no plan, and knows no text of one.
+//! The checker is independent of any solver: its yes rests on the definitions of a class, a way and fair
+//! prices alone, and it takes plans from any source. A yes means that no way, and no timetable with gaps, is
+//! better. Any other verdict has the first fault. The times, the first waits and the lists of jobs are taken
+//! as given. The order of the classes isn't checked, nor whether a job is named twice among the stranded. The
+//! crate finds no plans, and reads no text.
 //!
 //! Its rows are plans of `play_examples`.
 #![tactic(auto)]

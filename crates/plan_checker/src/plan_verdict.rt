@@ -9,16 +9,16 @@ use crate::class_verdict::judge;
 use crate::verdict::{PlanVerdict, Verdict};
 use plan_prices::{Plan, PlannedClass};
 
-/// Judges a plan, class by class from the top. It takes no memory.
+/// Checks a plan, class by class from the top. It takes no memory.
 ///
-/// The answer is yes exactly where each class is proved, its waits are those that the class above
-/// leaves, and no job stands in two classes, or in a class and among the stranded. Each class is
-/// then best under its waits, and no timetable does better. The first waits are taken as given.
+/// The verdict is yes exactly if each class is proved, its waits are those after the class above it, and no
+/// job is in two classes, or in a class and among the stranded. Each class is then best under its waits, and
+/// no timetable is better. The first waits are taken as given.
 ///
-/// It doesn't look at the priorities of the classes or their order, nor at a job that is named twice
-/// among the stranded: these have no part in what is best. A plan's text can have neither.
+/// The priorities of the classes and their order aren't checked, nor whether a job is named twice among the
+/// stranded: they make no difference to what is best, and the text of a plan can have neither.
 ///
-/// The names of the devices don't matter, so a plan that has none yet can be judged too.
+/// The names of the devices aren't read, so a plan without names can be checked too.
 pub fn check_plan(plan: &Plan) -> PlanVerdict
     requires { All HasOneListEach plan.now.classes }
     ensures verdict { IsPlanVerdict plan.now result }
@@ -29,7 +29,7 @@ pub fn check_plan(plan: &Plan) -> PlanVerdict
     let classes = plan.classes();
     for (place, class) in classes.iter().enumerate() {
         let above = &classes[..place];
-        // Reading the class makes its invariant known.
+        // Reading the class gives its invariant.
         let _class = class.problem.ids();
         match judge(&class.problem, &class.priced, above, plan.stranded()) {
             Verdict::Yes => {}
@@ -39,7 +39,7 @@ pub fn check_plan(plan: &Plan) -> PlanVerdict
     PlanVerdict::Yes
 }
 
-/// Whether each class has a queue and a list of place prices for each device.
+/// Returns whether each class has a list of jobs and a list of place prices for each device.
 pub fn has_one_list_each(classes: &[PlannedClass]) -> bool
     ensures { IsTrue result ↔ All HasOneListEach classes.now }
 {

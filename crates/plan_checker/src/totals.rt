@@ -1,4 +1,4 @@
-//! Whether a stated total is the way's and the prices'.
+//! The check of a stated total against the way and the prices.
 ghost use Rattle.std.specs.Prelude.{◌≡◌, ◌↔◌, ◌^◌, ◌≤◌, All, IsTrue, length, pos, neg_ℤ, ◌≤ℤ◌};
 ghost use Rattle.plan_problem.specs.Class.{IsClass};
 ghost use Rattle.plan_prices.specs.Way.{IsWay};
@@ -9,7 +9,7 @@ use base_types::Limits;
 use plan_prices::{PlacePrices, PricedWay, total};
 use plan_problem::ClassProblem;
 
-/// Whether the stated total is the way's, and the sum of all prices.
+/// Returns whether the stated total is that of the way, and the sum of all prices.
 pub(crate) fn totals_agree(class: &ClassProblem, priced: &PricedWay) -> bool
     requires class { IsClass class.now }
     requires way { IsWay class.now priced.now.way }
@@ -24,7 +24,7 @@ pub(crate) fn totals_agree(class: &ClassProblem, priced: &PricedWay) -> bool
     sum == i128::from(priced.total)
 }
 
-/// The sum of some prices.
+/// The sum of prices.
 fn sum_of(prices: &[i64]) -> i128
     requires { length prices.now ≤ Limits.UNFINISHED_JOBS }
     ensures sum { result ≡ sum_signed prices.now }

@@ -10,7 +10,7 @@ use plan_prices::{PlannedClass, start_of, total};
 use plan_text::PlanText;
 use std::alloc::{AllocError, Global};
 
-/// A job on a device, from its start to its end, in ms from the moment that the waits are counted from.
+/// A job on a device, from its start to its end, in ms since the moment from which the plan counts its waits.
 #[derive(Clone, Copy)]
 struct Printing {
     device: usize,
@@ -18,7 +18,7 @@ struct Printing {
     end: u64,
 }
 
-/// Where a job is printed, and when, by the way of its class.
+/// The device, the start and the end of a job, by the way of its class; `None` where no list has the job.
 fn printing_of(class: &PlannedClass, job: JobId) -> Option<Printing>
     requires { IsWay class.now.problem class.now.priced.way }
     ensures slot { IfSome result (λ p. Contains (own_slots class.now.problem class.now.priced.way) (record { job = job; device = p.device; start = p.start })) }
@@ -34,14 +34,14 @@ fn printing_of(class: &PlannedClass, job: JobId) -> Option<Printing>
     })
 }
 
-/// When a device is free for the first class, where it isn't from the beginning on.
+/// The moment at which a device is free for the first class; `None` where it is free from the beginning.
 fn first_wait(classes: &[PlannedClass], device: usize) -> Option<u64> {
     let first = classes.first()?;
     let wait = first.problem.waits().get(device).copied()?;
     if wait > 0 { Some(wait) } else { None }
 }
 
-/// The lane of a device before its first job.
+/// The lane of a device before its first job: at most one wait. The only error is out of memory.
 fn empty_lane(alloc: Global, name: &Text, wait: Option<u64>) -> Result<Lane, AllocError> {
     let mut bars = Vec::new(alloc);
     if let Some(end) = wait {
@@ -55,7 +55,7 @@ fn empty_lane(alloc: Global, name: &Text, wait: Option<u64>) -> Result<Lane, All
     Ok(Lane { name, bars })
 }
 
-/// The lanes of the devices before their first jobs.
+/// The lanes of the devices before their first jobs. The only error is out of memory.
 fn empty_lanes(
     alloc: Global,
     names: &[Text],
@@ -68,7 +68,7 @@ fn empty_lanes(
     Ok(lanes)
 }
 
-/// Adds the bar of a job of the class at a place.
+/// Adds the bar of a job to the lane of its device; the class is given by its place.
 fn add_job(
     lanes: &mut [Lane],
     place: usize,
@@ -110,7 +110,7 @@ fn add_jobs(
     Ok(())
 }
 
-/// Adds the bars of the class at a place, on each device from the first to be printed on.
+/// Adds the bars of the class at a place: on each device, its jobs from the first to the last.
 fn add_class(lanes: &mut [Lane], place: usize, class: &PlannedClass) -> Result<(), AllocError>
     requires { IsWay class.now.problem class.now.priced.way }
 {
@@ -130,7 +130,7 @@ fn add_classes(lanes: &mut [Lane], classes: &[PlannedClass]) -> Result<(), Alloc
     Ok(())
 }
 
-/// The priorities of classes.
+/// The priorities of the classes, in their order. The only error is out of memory.
 fn priorities_of(alloc: Global, classes: &[PlannedClass]) -> Result<Vec<u8>, AllocError> {
     let mut priorities = Vec::new(alloc);
     for class in classes {
@@ -150,7 +150,7 @@ fn total_of(classes: &[PlannedClass]) -> u128
     sum
 }
 
-/// How many jobs there are in the classes.
+/// The number of jobs in the classes.
 fn jobs_in(classes: &[PlannedClass]) -> usize {
     let mut jobs = 0usize;
     for class in classes {
@@ -159,13 +159,13 @@ fn jobs_in(classes: &[PlannedClass]) -> usize {
     jobs
 }
 
-/// Appends a number of things, in words.
+/// Appends a number and the name of the things it counts.
 fn put_counted(page: Page, count: usize, one: &str) -> Page {
     let plural = if count == 1 { "" } else { "s" };
     page.put_shown(count).put(" ").put(one).put(plural)
 }
 
-/// What a chart is of, in a line.
+/// The title of the chart, in one line. The only error is out of memory.
 fn title_of(alloc: Global, named: &PlanText, is_proved: bool) -> Result<String, AllocError> {
     let jobs = jobs_in(named.plan().classes());
     let title = put_counted(Page::new(alloc), jobs, "job").put(" on ");
@@ -176,7 +176,7 @@ fn title_of(alloc: Global, named: &PlanText, is_proved: bool) -> Result<String, 
         .finish()
 }
 
-/// The chart of a plan, of these lanes.
+/// The chart of a plan with these lanes. The only error is out of memory.
 fn chart_with(
     alloc: Global,
     named: &PlanText,
@@ -196,7 +196,8 @@ fn chart_with(
     })
 }
 
-/// The chart of a plan, from the moment on that its waits are counted from.
+/// The chart of a plan, from the moment from which the plan counts its waits. The only error is out of
+/// memory.
 pub(crate) fn chart_of(
     alloc: Global,
     named: &PlanText,

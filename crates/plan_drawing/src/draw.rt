@@ -14,20 +14,19 @@ use std::alloc::{AllocError, Global};
 use std::io::{Read, Write};
 use std::slice;
 
-/// A picture, how the program ends, and what is objected to.
+/// A picture, with the exit status and the objections of the program.
 #[derive(Drop)]
 struct Drawing {
     picture: String,
     audit: Audit,
 }
 
-/// Reads the text of a plan to its end, writes its picture, and gives the exit status with what is objected
-/// to.
+/// Reads the text of a plan to its end, writes its picture, and returns the exit status with the objections.
 ///
-/// The statuses and objections are those of [`plan_audit::run_check`]. Nothing is written where the text is
-/// no plan, where the lists of a class are no way of it, or where a class has other waits than the class
-/// above leaves; any other plan is drawn, and its title says whether it is proved the best. Where memory
-/// or a stream fails, what is written is a front of the picture.
+/// The statuses and objections are those of [`plan_audit::run_check`]. Nothing is written in three cases: the
+/// text is no plan, the lists of a class are no way of the class, or a class has other waits than the class
+/// above leaves. Any other plan is drawn, and its title says whether the plan is proved the best. Where
+/// memory or a stream fails, a front of the picture is written.
 pub fn run_draw<R: Read, W: Write>(
     alloc: Global,
     reader: &mut R,
@@ -45,7 +44,7 @@ pub fn run_draw<R: Read, W: Write>(
     }
 }
 
-/// Memory or a stream failed.
+/// The audit where memory or a stream failed.
 fn failed() -> Audit {
     Audit {
         status: ExitStatus::Failed,
@@ -53,7 +52,7 @@ fn failed() -> Audit {
     }
 }
 
-/// What is drawn of an input, unless memory or the stream fails.
+/// The drawing of an input; `None` where memory or the stream fails.
 fn draw_input<R: Read>(alloc: Global, reader: &mut R, form: Form) -> Option<Drawing> {
     match read_whole(alloc, reader, Limits::INPUT_BYTES, Limits::INPUT_READS) {
         Ok(text) => draw_text(alloc, &text, form).ok(),
@@ -62,7 +61,7 @@ fn draw_input<R: Read>(alloc: Global, reader: &mut R, form: Form) -> Option<Draw
     }
 }
 
-/// What is drawn of a text.
+/// The drawing of a text. The only error is out of memory.
 fn draw_text(alloc: Global, text: &[u8], form: Form) -> Result<Drawing, AllocError> {
     match read_plan_text(alloc, text) {
         Ok(named) => draw_plan(alloc, &named, form),
@@ -74,7 +73,7 @@ fn draw_text(alloc: Global, text: &[u8], form: Form) -> Result<Drawing, AllocErr
     }
 }
 
-/// Nothing is drawn of an input that is refused.
+/// The drawing of a refused input: an empty picture, with the objection.
 fn refused(alloc: Global, objection: Objection) -> Drawing {
     Drawing {
         picture: String::new(alloc),
@@ -85,7 +84,7 @@ fn refused(alloc: Global, objection: Objection) -> Drawing {
     }
 }
 
-/// What is drawn of a plan.
+/// The drawing of a plan. The only error is out of memory.
 fn draw_plan(alloc: Global, named: &PlanText, form: Form) -> Result<Drawing, AllocError>
     requires { All HasOneListEach named.now.plan.classes }
 {
@@ -97,7 +96,7 @@ fn draw_plan(alloc: Global, named: &PlanText, form: Form) -> Result<Drawing, All
     })
 }
 
-/// The verdict on a plan, as a status with what is objected to.
+/// The verdict on a plan, as an exit status with the objections.
 fn judge(named: &PlanText) -> Audit
     requires { All HasOneListEach named.now.plan.classes }
 {
@@ -116,7 +115,7 @@ fn judge(named: &PlanText) -> Audit
     }
 }
 
-/// The picture of a plan; an empty one where its lists are no timetable.
+/// The picture of a plan; an empty picture where its lists are no timetable. The only error is out of memory.
 fn picture_of(
     alloc: Global,
     named: &PlanText,

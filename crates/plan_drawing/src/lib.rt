@@ -1,10 +1,10 @@
-//! The text of a plan, drawn: what `printd draw` does.
+//! The command `printd draw`, which draws the text of a plan.
 //!
-//! [`run_draw`] reads the text of a plan and writes its chart, or tells why there is none. A chart is
-//! drawn of every plan whose lists are ways of their classes, and says whether the plan is proved the best.
-//! How a text is read is `plan_text`'s, what a verdict says `plan_checker`'s, and when a job starts and
-//! ends `plan_prices`'. How a chart looks is `gantt_chart`'s. No word of a command line is read here. Its
-//! rows are plans of `play_examples`.
+//! [`run_draw`] reads the text of a plan and writes its chart, or reports why there is no chart. Every plan
+//! whose lists are ways of their classes has a chart, which says whether the plan is proved the best.
+//! `plan_text` reads the text, `plan_checker` gives the verdict, and `plan_prices` gives the starts and ends
+//! of jobs. `gantt_chart` draws the chart. The crate reads no command line. Its rows are plans of
+//! `play_examples`.
 #![tactic(auto)]
 
 mod chart_of;

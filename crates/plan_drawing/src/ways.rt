@@ -1,10 +1,10 @@
-//! Whether the lists of a plan are a timetable.
+//! The conditions under which the lists of a plan are a timetable.
 ghost use Rattle.std.specs.Prelude.{All, IsTrue, ◌↔◌};
 ghost use Rattle.plan_prices.specs.Way.{IsWay};
 
 use plan_prices::{PlannedClass, is_way, leaves_waits};
 
-/// Whether the lists of each class are a way of it.
+/// Returns whether the lists of each class are a way of the class.
 pub(crate) fn have_ways(classes: &[PlannedClass]) -> bool
     ensures { IsTrue result ↔ All (λ class. IsWay class.problem class.priced.way) classes.now }
 {
@@ -13,7 +13,7 @@ pub(crate) fn have_ways(classes: &[PlannedClass]) -> bool
         .all(|class| is_way(&class.problem, &class.priced.way))
 }
 
-/// Whether a class has just the waits that the class above it leaves.
+/// Returns whether a class has exactly the waits that the class above it leaves.
 fn follows(above: &PlannedClass, class: &PlannedClass) -> bool
     requires { IsWay above.now.problem above.now.priced.way }
 {
@@ -22,8 +22,8 @@ fn follows(above: &PlannedClass, class: &PlannedClass) -> bool
         && leaves_waits(&above.problem, &above.priced.way, waits)
 }
 
-/// Whether each class but the first has just the waits that the class above it leaves, so that no two jobs
-/// are on a device at a time.
+/// Returns whether each class but the first has exactly the waits that the class above it leaves: no two jobs
+/// are on a device at the same time then.
 pub(crate) fn follow_one_another(classes: &[PlannedClass]) -> bool
     requires { All (λ class. IsWay class.problem class.priced.way) classes.now }
 {

@@ -2,6 +2,6 @@
 use Rattle.std.specs.Prelude.{ℕ, IsSome, All}
 use Rattle.plan_problem.specs.Class.{Class, time_in}
 
--- each job of the class has a device that is able
+-- some device is able to print each job of the class
 abbrev pub EachAble : Class → Type 0
 EachAble c = All (λ job. (device : ℕ) × IsSome (time_in c job device)) c.ids

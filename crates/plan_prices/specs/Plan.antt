@@ -1,5 +1,4 @@
--- A plan: its classes from the highest priority down, and by rising id the jobs that no device can
--- print.
+-- A plan: its classes from the highest priority down, and the jobs that no device can print, by rising id.
 use Rattle.std.specs.Prelude.{◌≡◌, List, length}
 use Rattle.base_types.specs.declared.needs.Stranded.{Stranded}
 use Rattle.plan_prices.specs.declared.plan.PlannedClass.{PlannedClass}

@@ -1,10 +1,10 @@
-//! Whether each job of a class has a device that is able.
+//! The test whether each job of a class has a device that is able.
 ghost use Rattle.std.specs.Prelude.{ℕ, ◌↔◌, IsSome, IsTrue, None, slice_index_or};
 ghost use Rattle.plan_prices.specs.Able.{EachAble};
 
 use plan_problem::ClassProblem;
 
-/// Whether each job of the class has a device that is able.
+/// Returns whether each job of the class has a device that is able.
 pub fn each_able(class: &ClassProblem) -> bool
     ensures { IsTrue result ↔ EachAble class.now }
 {
@@ -16,7 +16,7 @@ pub fn each_able(class: &ClassProblem) -> bool
     true
 }
 
-/// Whether there is a time among these.
+/// Returns whether one of the entries is a time.
 fn has_time(times: &[Option<u64>]) -> bool
     ensures { IsTrue result ↔ ((device : ℕ) × IsSome (slice_index_or times.now device None)) }
 {

@@ -1,4 +1,4 @@
-//! Laws of ways and prices. Their functions do nothing: their contracts are what they are for.
+//! Laws of ways and prices, as contracts of functions that do nothing.
 ghost use Rattle.std.specs.Prelude.{◌≡◌, ◌*◌, ◌≤◌, ℕ, List, All, pos, neg_ℤ, ◌≤ℤ◌};
 ghost use Rattle.plan_prices.specs.Way.{IsWay};
 ghost use Rattle.plan_prices.specs.Total.{IsBest, completion_of, total_of};
@@ -16,38 +16,38 @@ pub fn fair_is_best(class: &ClassProblem, priced: &PricedWay)
     requires fair { AreFair class.now priced.now.way priced.now.prices }
     ensures { IsBest class.now priced.now.way }
 {
-    // Reading the class makes its invariant known.
+    // Reading the class gives its invariant.
     let _class = class.ids();
 }
 
-/// Fair prices are small: each job's lies between 1 and twice the longest wait, each place's between
-/// its negative and 0.
+/// Fair prices are small: the price of a job is between 1 and twice the longest wait, that of a place between
+/// the negative of that and 0.
 pub fn fair_prices_bounded(class: &ClassProblem, priced: &PricedWay)
     requires way { IsWay class.now priced.now.way }
     requires fair { AreFair class.now priced.now.way priced.now.prices }
     ensures jobs { All (λ price. (pos 1 ≤ℤ price) × (price ≤ℤ pos (2 * Limits.WAIT))) priced.now.prices.jobs }
     ensures places { All (λ prices. All (λ price. (neg_ℤ (pos (2 * Limits.WAIT)) ≤ℤ price) × (price ≤ℤ pos 0)) prices) priced.now.prices.places }
 {
-    // Reading the class makes its invariant known.
+    // Reading the class gives its invariant.
     let _class = class.ids();
 }
 
-/// Idle time never helps: each timetable has a way whose total isn't greater.
+/// Gaps never help: each timetable has a way whose total isn't greater.
 pub fn timetable_no_better(class: &ClassProblem)
     ensures { (slots : List Slot) → IsTimetable class.now slots → (way : List (List ℕ)) × IsWay class.now way × (total_of class.now way ≤ slots_total class.now slots) }
 {
-    // Reading the class makes its invariant known.
+    // Reading the class gives its invariant.
     let _class = class.ids();
 }
 
-/// The starts of a way are a timetable of the way's total, in which each job ends when it is complete.
+/// The starts of a way are a timetable with the way's total, in which each job ends at its completion time.
 pub fn way_is_timetable(class: &ClassProblem, way: &Way)
     requires { IsWay class.now way.now }
     ensures timetable { IsTimetable class.now (own_slots class.now way.now) }
     ensures total { slots_total class.now (own_slots class.now way.now) ≡ total_of class.now way.now }
     ensures ends { All (λ slot. end_of class.now slot ≡ completion_of class.now way.now slot.job) (own_slots class.now way.now) }
 {
-    // Reading the class makes its invariant known.
+    // Reading the class gives its invariant.
     let _class = class.ids();
 }
 
@@ -56,6 +56,6 @@ pub fn best_at_most_timetables(class: &ClassProblem, way: &Way)
     requires { IsBest class.now way.now }
     ensures { (slots : List Slot) → IsTimetable class.now slots → total_of class.now way.now ≤ slots_total class.now slots }
 {
-    // Reading the class makes its invariant known.
+    // Reading the class gives its invariant.
     let _class = class.ids();
 }

@@ -1,10 +1,9 @@
-//! Ways to print the jobs of a class, their totals, and prices that make a way's rank plain.
+//! Ways to print the jobs of a class, their totals, and prices that prove a way best.
 //!
-//! It promises exact totals, waits and starts, and the laws that make prices a proof: a way with
-//! fair prices is best, and no timetable, whatever its gaps, does better than a best way. What every
-//! [`Planner`] promises of a class is said here too: a print room is generic in one, so that its plans
-//! are best by this law and not by an algorithm. No way is found and none judged here: `plan_solver` finds
-//! one, `plan_checker` judges it.
+//! Totals, waits and starts are exact. The laws make prices a proof: a way with fair prices is best, and no
+//! timetable, with any gaps, is better than a best way. [`Planner`] is the contract of each planner: a print
+//! room is generic in its planner, so its plans are best by the contract and not by one algorithm. The crate
+//! neither finds a way nor checks one: `plan_solver` finds ways, and `plan_checker` checks them.
 //!
 //! Its rows are plans of `play_examples`; tests stand in `unit_tests`.
 #![tactic(auto)]

@@ -1,4 +1,4 @@
-//! Plans: classes with their priced ways, and the jobs that no device can print.
+//! Plans: classes with priced ways, and the jobs that no device can print.
 ghost use Rattle.std.specs.Prelude.{◌≡◌};
 
 use crate::price_lists::PricedWay;
@@ -6,7 +6,7 @@ use base_types::{Priority, Stranded};
 use plan_problem::ClassProblem;
 use std::marker::Model;
 
-/// The jobs of one priority: their problem, and a way with its prices and total.
+/// The class of one priority: its problem, and a way with prices and total.
 #[derive(Debug, Drop)]
 pub struct PlannedClass {
     pub priority: Priority,
@@ -17,9 +17,9 @@ pub struct PlannedClass {
 /// A plan. In clauses it is a record of the same lists.
 #[derive(Debug, Drop)]
 pub struct Plan {
-    /// From the highest priority down.
+    /// The classes, from the highest priority down.
     pub classes: Vec<PlannedClass>,
-    /// By rising id.
+    /// The stranded jobs, by rising id.
     pub stranded: Vec<Stranded>,
 }
 
@@ -32,7 +32,7 @@ impl Model for Plan {
 }
 
 impl Plan {
-    /// Its classes, from the highest priority down.
+    /// The classes, from the highest priority down.
     pub fn classes(&self) -> &[PlannedClass]
         ensures { result.now ≡ self.now.classes }
     {

@@ -1,4 +1,4 @@
-//! What each planner promises.
+//! The contract of each planner.
 ghost use Rattle.std.specs.Prelude.{IfOk};
 ghost use Rattle.plan_prices.specs.Total.{IsBest};
 ghost use Rattle.plan_prices.specs.Prices.{IsProved};
@@ -8,10 +8,10 @@ use crate::price_lists::PricedWay;
 use plan_problem::ClassProblem;
 use std::alloc::AllocError;
 
-/// What finds a best way to print the jobs of a class.
+/// A planner, which finds a best way to print the jobs of a class.
 pub trait Planner {
-    /// A best way, with fair prices that prove it best, and its total. Each job of the class has a
-    /// device that is able. The only error is out of memory.
+    /// Returns a best way of the class, with fair prices that prove it best, and its total. Each job of the
+    /// class has a device that is able. The only error is out of memory.
     fn plan_class(&mut self, class: &ClassProblem) -> Result<PricedWay, AllocError>
         requires { EachAble class.now }
         ensures proved { IfOk result (λ p. IsProved class.now p.way p.prices p.total) }

@@ -35,8 +35,8 @@ impl PlacePrices {
     }
 }
 
-/// A price for each job of a class, by rising id, and one for each used place of each device. In
-/// clauses it is a record of these lists.
+/// A price for each job of a class, by rising id, and a price for each used place of each device. In clauses
+/// it is a record of these lists.
 #[derive(Debug, Drop)]
 pub struct Prices {
     jobs: Vec<i64>,
@@ -52,7 +52,7 @@ impl Model for Prices {
 }
 
 impl Prices {
-    /// These prices of jobs, by rising id, and of places, by device.
+    /// The prices of jobs, by rising id, and of places, by device.
     pub fn new(jobs: Vec<i64>, places: Vec<PlacePrices>) -> Prices
         ensures { result ≡ record { jobs = jobs.items; places = places.items } }
     {
@@ -74,7 +74,7 @@ impl Prices {
     }
 }
 
-/// A way, prices that may prove it best, and the total that is stated for it, in ms.
+/// A way with prices and a total in ms. The prices may or may not prove it best.
 #[derive(Debug, Drop)]
 pub struct PricedWay {
     pub way: Way,

@@ -1,4 +1,4 @@
-//! What makes a way, one by one.
+//! The tests of the parts of a way's definition.
 ghost use Rattle.std.specs.Prelude.{◌≡◌, ◌↔◌, ◌==◌, ◌<◌, ◌≤◌, All, IsSome, IsTrue, count_by, length};
 ghost use Rattle.plan_problem.specs.Class.{place_of, time_in};
 ghost use Rattle.plan_prices.specs.Way.{IsWay, NamesKnown, NoneTwice, AllNamed, AllAble, times_named as times_in};
@@ -7,8 +7,8 @@ use crate::way::Way;
 use base_types::{DeviceId, JobId};
 use plan_problem::ClassProblem;
 
-/// Whether these queues are a way of the class: each of its jobs stands once in all, and only on a
-/// device that is able, and each device has a queue.
+/// Returns whether the lists are a way of the class: each of its jobs is in the lists once, and on a device
+/// that is able, and each device has a list.
 pub fn is_way(class: &ClassProblem, way: &Way) -> bool
     ensures { IsTrue result ↔ IsWay class.now way.now }
 {
@@ -19,7 +19,7 @@ pub fn is_way(class: &ClassProblem, way: &Way) -> bool
         && all_able(class, way)
 }
 
-/// Whether all jobs that the queues name are of the class.
+/// Returns whether all jobs in the lists are of the class.
 pub fn names_known(class: &ClassProblem, way: &Way) -> bool
     ensures { IsTrue result ↔ NamesKnown class.now way.now }
 {
@@ -31,7 +31,7 @@ pub fn names_known(class: &ClassProblem, way: &Way) -> bool
     true
 }
 
-/// Whether these jobs are of the class.
+/// Returns whether the jobs are of the class.
 fn knows(class: &ClassProblem, jobs: &[JobId]) -> bool
     ensures { IsTrue result ↔ All (λ job. place_of class.now.ids job < length class.now.ids) jobs.now }
 {
@@ -43,7 +43,7 @@ fn knows(class: &ClassProblem, jobs: &[JobId]) -> bool
     true
 }
 
-/// Whether no job of the class stands twice in the queues.
+/// Returns whether no job of the class is in the lists twice.
 pub fn none_twice(class: &ClassProblem, way: &Way) -> bool
     ensures { IsTrue result ↔ NoneTwice class.now way.now }
 {
@@ -55,7 +55,7 @@ pub fn none_twice(class: &ClassProblem, way: &Way) -> bool
     true
 }
 
-/// Whether each job of the class stands in the queues.
+/// Returns whether each job of the class is in a list.
 pub fn all_named(class: &ClassProblem, way: &Way) -> bool
     ensures { IsTrue result ↔ AllNamed class.now way.now }
 {
@@ -67,7 +67,7 @@ pub fn all_named(class: &ClassProblem, way: &Way) -> bool
     true
 }
 
-/// How often the queues name a job. The sum of so many lengths may pass 64 bits.
+/// How often a job is in the lists. The sum of so many lengths may exceed 64 bits.
 fn times_named(way: &Way, job: JobId) -> u128
     ensures { result ≡ times_in way.now job }
 {
@@ -78,7 +78,7 @@ fn times_named(way: &Way, job: JobId) -> u128
     named
 }
 
-/// Whether each job stands in the queue of a device that is able to print it.
+/// Returns whether each job is in the list of a device that is able to print it.
 pub fn all_able(class: &ClassProblem, way: &Way) -> bool
     ensures { IsTrue result ↔ AllAble class.now way.now }
 {
@@ -90,7 +90,7 @@ pub fn all_able(class: &ClassProblem, way: &Way) -> bool
     true
 }
 
-/// Whether a device is able to print all these jobs.
+/// Returns whether a device is able to print all of the jobs.
 fn is_able(class: &ClassProblem, device: DeviceId, jobs: &[JobId]) -> bool
     ensures { IsTrue result ↔ All (λ job. IsSome (time_in class.now job device)) jobs.now }
 {

@@ -1,4 +1,4 @@
-//! When a job starts by a way.
+//! The start of a job by a way.
 ghost use Rattle.std.specs.Prelude.{◌≡◌, ◌+◌, Contains, IfSome, MatchOption};
 ghost use Rattle.std.specs.List.{concat};
 ghost use Rattle.plan_prices.specs.Way.{IsWay};
@@ -10,11 +10,11 @@ use crate::way_waits::free_after;
 use base_types::{DeviceId, JobId};
 use plan_problem::{ClassProblem, place_in};
 
-/// The device of a job and when it starts there, in ms from the moment that the waits are counted
-/// from: once the device is free and the jobs before it are done. None where the way hasn't the job.
+/// The device of a job and its start there, in ms from the moment from which the waits are counted: once the
+/// device is free and the jobs before it are done. `None` if the job isn't in the way.
 ///
-/// The job is complete once its time there has passed since; these starts are a timetable whose total
-/// is the way's.
+/// The job is complete when its time there has passed since its start. These starts are a timetable with the
+/// way's total.
 pub fn start_of(class: &ClassProblem, way: &Way, job: JobId) -> Option<(DeviceId, u64)>
     requires { IsWay class.now way.now }
     ensures start { MatchOption result (¬ Contains (concat way.now) job)
@@ -23,7 +23,7 @@ pub fn start_of(class: &ClassProblem, way: &Way, job: JobId) -> Option<(DeviceId
     ensures timetable { IsTimetable class.now (own_slots class.now way.now) }
     ensures total { slots_total class.now (own_slots class.now way.now) ≡ total_of class.now way.now }
 {
-    // Reading the class makes its invariant known.
+    // Reading the class gives its invariant.
     let _class = class.ids();
     for (place, queue) in way.queues().iter().enumerate() {
         let jobs = queue.jobs();

@@ -8,17 +8,17 @@ use crate::way::Way;
 use base_types::{DeviceId, JobId};
 use plan_problem::ClassProblem;
 
-/// The sum of the completions of all jobs of a way, in ms: each job is complete once its device is
-/// free and those before it, and the job itself, have had their times.
+/// The sum of the completion times of all jobs of a way, in ms. The completion time of a job is its device's
+/// wait, the times of the jobs before it, and its own time.
 ///
-/// The same sum by places: each job adds the wait of its device, and its time as often as its place
-/// counts from the end.
+/// By places, the sum is the same: each job adds the wait of its device, and its time as often as its place
+/// from the end of the list.
 pub fn total(class: &ClassProblem, way: &Way) -> u64
     requires { IsWay class.now way.now }
     ensures completions { result ≡ total_of class.now way.now }
     ensures places { result ≡ total_by_places class.now way.now }
 {
-    // Reading the class makes its invariant known.
+    // Reading the class gives its invariant.
     let _class = class.ids();
     let mut sum = 0;
     for (place, queue) in way.queues().iter().enumerate() {
@@ -27,7 +27,7 @@ pub fn total(class: &ClassProblem, way: &Way) -> u64
     sum
 }
 
-/// The sum of the completions of the jobs of one device, which is what they cost by places.
+/// The sum of the completion times of the jobs of one device, computed by places.
 #[tactic(auto, using(crate::proofs::Steps::list_total_step))]
 fn queue_total(class: &ClassProblem, device: DeviceId, jobs: &[JobId]) -> u64
     requires device { device < length class.now.waits }
@@ -43,7 +43,7 @@ fn queue_total(class: &ClassProblem, device: DeviceId, jobs: &[JobId]) -> u64
     sum
 }
 
-/// The time of a job on a device that is able, in ms; on any other 0.
+/// The time of a job on a device that is able, in ms; 0 on any other.
 pub(crate) fn time_or_zero(class: &ClassProblem, job: JobId, device: DeviceId) -> u64
     ensures { result ≡ time_on class.now job device }
 {

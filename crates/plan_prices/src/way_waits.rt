@@ -1,4 +1,4 @@
-//! When a way leaves each device free.
+//! The waits of the devices after a way.
 ghost use Rattle.std.specs.Prelude.{◌≡◌, ◌↔◌, ◌+◌, ◌^◌, ◌<◌, length, IfOk, IsTrue};
 ghost use Rattle.plan_problem.specs.Class.{wait_in};
 ghost use Rattle.plan_prices.specs.Way.{IsWay};
@@ -11,16 +11,16 @@ use base_types::{DeviceId, JobId};
 use plan_problem::ClassProblem;
 use std::alloc::{AllocError, Global};
 
-/// When each device is free again, in ms: its wait, and the times of all its jobs. No wait passes the
-/// longest one before by more than the most that so many jobs can take. The only error is want of
-/// memory.
+/// The wait of each device after the way, in ms: its wait before, and the times of all its jobs. No wait
+/// exceeds the longest wait before by more than the jobs of the class can take at most. The only error is out
+/// of memory.
 pub fn waits_after(alloc: Global, class: &ClassProblem, way: &Way) -> Result<Vec<u64>, AllocError>
     requires { IsWay class.now way.now }
     ensures left { IfOk result (λ waits. waits.items ≡ waits_left class.now way.now) }
     ensures one_each { IfOk result (λ waits. length waits.items ≡ length class.now.waits) }
     ensures bounded { IfOk result (λ waits. GrowsByTimes class.now waits.items) }
 {
-    // Reading the class makes its invariant known.
+    // Reading the class gives its invariant.
     let _class = class.ids();
     let mut after = Vec::new(alloc);
     for (place, queue) in way.queues().iter().enumerate() {
@@ -29,13 +29,13 @@ pub fn waits_after(alloc: Global, class: &ClassProblem, way: &Way) -> Result<Vec
     Ok(after)
 }
 
-/// Whether these are the waits that a way leaves, as [`waits_after`] gives them. It takes no memory.
+/// Returns whether `next` are the waits after the way, as [`waits_after`] returns them. It takes no memory.
 pub fn leaves_waits(class: &ClassProblem, way: &Way, next: &[u64]) -> bool
     requires way { IsWay class.now way.now }
     requires next { length next.now ≡ length class.now.waits }
     ensures { IsTrue result ↔ (next.now ≡ waits_left class.now way.now) }
 {
-    // Reading the class makes its invariant known.
+    // Reading the class gives its invariant.
     let _class = class.ids();
     for (place, queue) in way.queues().iter().enumerate() {
         if free_after(class, DeviceId::new(place), queue.jobs()) != next[place] {
@@ -45,7 +45,7 @@ pub fn leaves_waits(class: &ClassProblem, way: &Way, next: &[u64]) -> bool
     true
 }
 
-/// When a device is free after some jobs: its wait, and their times.
+/// The wait of a device after a list of jobs: its wait before, and their times.
 #[tactic(auto, using(crate::proofs::Steps::busy_time_step))]
 pub(crate) fn free_after(class: &ClassProblem, device: DeviceId, jobs: &[JobId]) -> u64
     requires device { device < length class.now.waits }

@@ -1,4 +1,4 @@
--- Why no device can print a job.
+-- The cause that no device can print a job.
 use Rattle.std.specs.Prelude.{ℕ, List, [], ◌∷◌, Bool, true, not, ◌||◌, Option, Some, None, filter, is_some, IsSomeAnd, slice_get, if◌then◌else◌}
 use Rattle.std.specs.List.{filter_map, list_all, list_any}
 use Rattle.std.specs.Str.{bytes_eq}
@@ -13,24 +13,24 @@ use Rattle.plan_problem.specs.Able.{is_two_sided, is_running, IsAble}
 abbrev pub prints_formats : JobNeeds → Device → Bool
 prints_formats needs device = list_all (λ format. list_any (bytes_eq format) device.formats) needs.formats
 
--- whether it prints two-sided, where the job is
+-- whether a device prints two-sided, if the job is two-sided
 abbrev pub prints_sides : JobNeeds → Device → Bool
 prints_sides needs device = not (is_two_sided needs.sides) || is_some device.rate_two
 
--- whether it has every finishing of the job
+-- whether a device has every finishing of the job
 abbrev pub finishes : JobNeeds → Device → Bool
 finishes needs device = has_finishings device.finishings needs.finishings
 
--- whether it has the job's media loaded
+-- whether a device has the job's media loaded
 abbrev pub has_media : JobNeeds → Device → Bool
 has_media needs device = list_any (bytes_eq needs.media) (loaded_media device)
 
--- a test of devices, and the cause where it leaves none
+-- a test of devices, with the cause for the case that none passes
 pub record Filter : Type 0 where
   pub test : Device → Bool
   pub cause : Cause
 
--- the filters in their order; the first leaves all
+-- the filters in order; the first passes all devices
 abbrev pub filters_of : JobNeeds → List Filter
 filters_of needs =
     record { test = λ device. true; cause = NoDevice }
@@ -41,36 +41,36 @@ filters_of needs =
     ∷ record { test = λ device. is_running device.activity; cause = Running }
     ∷ []
 
--- this cause where a filter left no device, else what follows
+-- the cause if there is no device, else the next
 abbrev pub cause_unless_some : List Device → Cause → Option Cause → Option Cause
 cause_unless_some [] cause next = Some cause
 cause_unless_some (device ∷ devices) cause next = next
 
--- the first filter that, after those before it, leaves none of the devices
+-- the cause of the first filter that none of the devices left by the filters before it passes
 abbrev pub first_cause : List Filter → List Device → Option Cause
 first_cause [] devices = None
 first_cause (f ∷ filters) devices =
     cause_unless_some (filter f.test devices) f.cause (first_cause filters (filter f.test devices))
 
--- the devices of a printer, without the places at which there is none
+-- the devices of a printer; a place without a device is skipped
 abbrev pub devices_of : List ℕ → List Device → List Device
 devices_of printer devices = filter_map (slice_get devices) printer
 
--- why no device of its printer can print a job
+-- the cause that no device of its printer can print a job
 abbrev pub cause_of : JobNeeds → List ℕ → List Device → Option Cause
 cause_of needs printer devices = first_cause (filters_of needs) (devices_of printer devices)
 
--- some device of the settings can print the job on this printer
+-- some device of the settings can print the job for this printer
 abbrev pub HasAbleDevice : JobNeeds → List ℕ → List Device → Type 0
 HasAbleDevice needs printer devices =
     (place : ℕ) × IsSomeAnd (slice_get devices place) (λ device. IsAble needs place device printer)
 
--- the first filter that one device doesn't pass
+-- the cause of the first filter that a device doesn't pass
 abbrev pub first_failed : List Filter → Device → Option Cause
 first_failed [] device = None
 first_failed (f ∷ filters) device = if f.test device then first_failed filters device else Some f.cause
 
--- the place of a filter among them, by its cause
+-- the place of a filter in the order, by its cause
 abbrev pub order_of : Cause → ℕ
 order_of NoDevice = 0
 order_of Format = 1

@@ -1,15 +1,15 @@
--- How long a job takes on a device.
+-- The time of a job on a device.
 use Rattle.std.specs.Prelude.{ℕ, ◌+◌, ◌*◌, ◌≤◌, unwrap_or, if◌then◌else◌}
 use Rattle.base_types.specs.Needs.{JobNeeds}
 use Rattle.base_types.specs.Device.{Device}
 use Rattle.base_types.specs.declared.limits.TheConstants.Limits.{JOB_TIME}
 use Rattle.plan_problem.specs.Able.{is_two_sided}
 
--- ms for one impression
+-- the ms for one impression
 abbrev pub rate_of : JobNeeds → Device → ℕ
 rate_of needs device = if is_two_sided needs.sides then unwrap_or device.rate_two 0 else device.rate_one
 
--- ms for the whole job, the setup once and each impression of each copy
+-- the ms for the whole job: the setup once, and each impression of each copy
 abbrev pub time_of : JobNeeds → Device → ℕ
 time_of needs device = device.setup + needs.impressions * needs.copies * rate_of needs device
 

@@ -1,4 +1,4 @@
-//! Whether a device is able to print a job.
+//! The test whether a device is able to print a job.
 ghost use Rattle.std.specs.Prelude.{◌≡◌, ◌↔◌, ◌&&◌, IsTrue};
 ghost use Rattle.std.specs.List.{list_any};
 ghost use Rattle.std.specs.Str.{bytes_eq};
@@ -7,9 +7,9 @@ ghost use Rattle.plan_problem.specs.Cause.{prints_formats, prints_sides, finishe
 
 use base_types::{Activity, Cause, DeviceId, DeviceNow, Medium, Needs, PrinterSet, Sides, Text};
 
-/// Whether the device at this place of the settings, which now is `now`, can print the job on this
-/// printer: it is one of the printer's, prints each document format of the job, prints two-sided
-/// where the job is, has every finishing of the job and its media loaded, and runs.
+/// Returns whether the device at a place of the settings, with the state `now`, can print the job for a
+/// printer: it is one of the printer's, prints each document format of the job, prints two-sided if the job
+/// is two-sided, has every finishing of the job and its media loaded, and runs.
 pub fn able(needs: &Needs, device: DeviceId, now: &DeviceNow, printer: &PrinterSet) -> bool
     ensures { IsTrue result ↔ IsAble needs.now device now.now printer.now }
 {
@@ -35,7 +35,7 @@ pub(crate) fn first_failed(needs: &Needs, now: &DeviceNow) -> Option<Cause>
     }
 }
 
-/// Whether the device prints each document format of the job.
+/// Returns whether the device prints each document format of the job.
 fn prints_formats(needs: &Needs, now: &DeviceNow) -> bool
     ensures { result ≡ prints_formats needs.now now.now }
 {
@@ -43,7 +43,7 @@ fn prints_formats(needs: &Needs, now: &DeviceNow) -> bool
     needs.formats.iter().all(|format| has_text(known, format))
 }
 
-/// Whether the device prints two-sided, where the job is.
+/// Returns whether the device prints two-sided, if the job is two-sided.
 fn prints_sides(needs: &Needs, now: &DeviceNow) -> bool
     ensures { result ≡ prints_sides needs.now now.now }
 {
@@ -53,14 +53,14 @@ fn prints_sides(needs: &Needs, now: &DeviceNow) -> bool
     }
 }
 
-/// Whether the device has every finishing of the job.
+/// Returns whether the device has every finishing of the job.
 fn finishes(needs: &Needs, now: &DeviceNow) -> bool
     ensures { result ≡ finishes needs.now now.now }
 {
     now.finishings.has(needs.finishings)
 }
 
-/// Whether the device has the job's media loaded.
+/// Returns whether the device has the job's media loaded.
 fn has_media(needs: &Needs, now: &DeviceNow) -> bool
     ensures { result ≡ has_media needs.now now.now }
 {
@@ -68,7 +68,7 @@ fn has_media(needs: &Needs, now: &DeviceNow) -> bool
     has_loaded(&now.media, wanted)
 }
 
-/// Whether the device runs.
+/// Returns whether the device runs.
 fn is_running(now: &DeviceNow) -> bool
     ensures { result ≡ is_running now.now.activity }
 {
@@ -78,7 +78,7 @@ fn is_running(now: &DeviceNow) -> bool
     }
 }
 
-/// Whether a text is one of these.
+/// Returns whether a text is one of the texts.
 fn has_text(texts: &[Text], text: &Text) -> bool
     ensures { result ≡ list_any (bytes_eq text.now) texts.now }
 {
@@ -86,14 +86,14 @@ fn has_text(texts: &[Text], text: &Text) -> bool
     texts.iter().any(|known| wanted == known.as_bytes())
 }
 
-/// Whether the wanted medium is one of these, and loaded.
+/// Returns whether the wanted medium is one of the media, and loaded.
 fn has_loaded(media: &[Medium], wanted: &[u8]) -> bool
     ensures { result ≡ list_any (λ m. m.loaded && bytes_eq wanted.now m.name) media.now }
 {
     media.iter().any(|medium| is_loaded(medium, wanted))
 }
 
-/// Whether this is the wanted medium, and loaded.
+/// Returns whether a medium is the wanted one, and loaded.
 fn is_loaded(medium: &Medium, wanted: &[u8]) -> bool
     ensures { result ≡ (medium.now.loaded && bytes_eq wanted.now medium.now.name) }
 {

@@ -1,4 +1,4 @@
-//! Jobs that need the same of a device.
+//! Jobs with the same needs.
 ghost use Rattle.std.specs.Prelude.{◌≡◌, ◌≤◌, IsTrue, length};
 ghost use Rattle.plan_problem.specs.Alike.{NeedSame, FromAlike};
 
@@ -6,11 +6,11 @@ use crate::class_job::ClassJob;
 use crate::row::Row;
 use base_types::{Finishings, Needs, Sides, Text};
 
-/// How many jobs before a job are looked at.
+/// The number of earlier jobs that are compared with a job.
 const NEAR: usize = 8;
 
-/// The times of one of the last jobs before that needs the same, or no times where none of those does.
-/// The rows are those of the jobs before.
+/// The times of one of the last jobs before, if it has the same needs; else no times. `rows` are those of the
+/// jobs before.
 pub(crate) fn times_of_alike<'a>(
     jobs: &[ClassJob],
     rows: &'a [Row],
@@ -28,7 +28,7 @@ pub(crate) fn times_of_alike<'a>(
     &[]
 }
 
-/// Whether two jobs are known to need the same, but for how long they are.
+/// Returns true only if two jobs have the same needs, except for their lengths.
 fn need_same(one: &Needs, other: &Needs) -> bool
     ensures { IsTrue result → NeedSame one.now other.now }
 {
@@ -39,7 +39,7 @@ fn need_same(one: &Needs, other: &Needs) -> bool
         && same_texts(&one.formats, &other.formats)
 }
 
-/// Whether these are the same sides.
+/// Returns true only if the sides are the same.
 fn same_sides(one: Sides, other: Sides) -> bool
     ensures { IsTrue result → one ≡ other }
 {
@@ -51,14 +51,14 @@ fn same_sides(one: Sides, other: Sides) -> bool
     }
 }
 
-/// Whether these are the same finishings.
+/// Returns true only if the finishings are the same.
 fn same_finishings(one: Finishings, other: Finishings) -> bool
     ensures { IsTrue result → one ≡ other }
 {
     one.staple == other.staple && one.punch == other.punch && one.bind == other.bind
 }
 
-/// Whether these are the same texts.
+/// Returns true only if the texts are the same.
 fn same_texts(one: &[Text], other: &[Text]) -> bool
     ensures { IsTrue result → one.now ≡ other.now }
 {

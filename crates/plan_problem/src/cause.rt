@@ -1,4 +1,4 @@
-//! Why no device is able to print a job: the first filter that leaves none.
+//! The cause that no device is able to print a job: the first filter that leaves none.
 ghost use Rattle.std.specs.Prelude.{◌≡◌, ◌↔◌, IsNone, max, slice_get};
 ghost use Rattle.std.specs.Option.{option_copied};
 ghost use Rattle.plan_problem.specs.Cause.{cause_of, HasAbleDevice, order_of};
@@ -6,11 +6,10 @@ ghost use Rattle.plan_problem.specs.Cause.{cause_of, HasAbleDevice, order_of};
 use crate::able_device::first_failed;
 use base_types::{Cause, DeviceNow, Needs, PrinterSet};
 
-/// Why no device of its printer can print a job: the first filter that, after those before it,
-/// leaves no device; none where a device is able.
+/// The cause that no device of its printer can print a job: the first filter that leaves no device, after
+/// those before it; `None` if a device is able.
 ///
-/// `devices` are those of the settings, in their order. A place of the printer at which there is
-/// none is ignored.
+/// `devices` are those of the settings, in order. A place of the printer without a device is ignored.
 pub fn stranded_cause(needs: &Needs, printer: &PrinterSet, devices: &[DeviceNow]) -> Option<Cause>
     ensures cause { result ≡ cause_of needs.now printer.now devices.now }
     ensures none { IsNone result ↔ HasAbleDevice needs.now printer.now devices.now }

@@ -1,4 +1,4 @@
-//! The jobs of a class, and the problem that they are with their devices.
+//! The jobs of a class, and their class problem.
 ghost use Rattle.std.specs.Prelude.{◌≡◌, ◌↔◌, ◌<◌, ℕ, Some, IfOk, IfSome, IsTrue, length, slice_get};
 ghost use Rattle.base_types.specs.Device.{Device};
 ghost use Rattle.plan_problem.specs.Able.{IsAble};
@@ -15,7 +15,7 @@ use base_types::{DeviceId, DeviceNow, JobId, Needs, PrinterSet};
 use std::alloc::{AllocError, Global};
 use std::marker::Model;
 
-/// A job of a class, and what it needs. In clauses it is a record of the same fields.
+/// A job of a class, with its needs. In clauses it is a record of the same fields.
 #[derive(Debug, Drop)]
 pub struct ClassJob<'a> {
     pub id: JobId,
@@ -30,11 +30,11 @@ impl<'a> Model for ClassJob<'a> {
     ghost view = { λ j. record { id = j.id; needs = j.needs.now } };
 }
 
-/// The class problem of these jobs on these devices, with these waits in ms: each able pair has the
-/// time of the job on the device, and no other pair has one.
+/// The class problem of the jobs on the devices, with the waits in ms: each able pair has the time of the job
+/// on the device, and no other pair has one.
 ///
-/// The jobs stand by rising id, the devices and the printers in the order of the settings, with a
-/// wait for each device. The only error is out of memory.
+/// The jobs are by rising id, the devices and the printers in the order of the settings, with a wait for each
+/// device. The only error is out of memory.
 pub fn build(
     alloc: Global,
     jobs: &[ClassJob],
@@ -56,8 +56,8 @@ pub fn build(
     Ok(ClassProblem::from_rows(ids, rows, waits))
 }
 
-/// The row of a job: its time on each device, none where the device is not able. The times of a job
-/// that needs the same of devices are given where they are known.
+/// The row of a job: its time on each device, `None` if the device isn't able. `alike` are the times of a job
+/// with the same needs, or none.
 fn job_row(
     alloc: Global,
     job: &ClassJob,
@@ -79,7 +79,7 @@ fn job_row(
     Ok(Row::new(times))
 }
 
-/// The time of a job on a device, none where the device is not able.
+/// The time of a job on a device, `None` if the device isn't able.
 fn pair_time(
     needs: &Needs,
     device: DeviceId,
@@ -98,7 +98,7 @@ fn pair_time(
     }
 }
 
-/// Whether a device is able, which the times of a job that needs the same tell where they are known.
+/// Returns whether a device is able, which the times of a job with the same needs say if they are known.
 fn is_able(
     needs: &Needs,
     device: DeviceId,

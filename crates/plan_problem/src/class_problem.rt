@@ -1,4 +1,4 @@
-//! The problem of a class: its jobs, their times, and when each device is free.
+//! The problem of a class: its jobs, their times, and the wait of each device.
 ghost use Rattle.std.specs.Prelude.{◌≡◌, ◌↔◌, ◌==◌, ◌<◌, IsTrue, MatchOption, length, position};
 ghost use Rattle.std.specs.List.Sorted.{IsStrictlyIncreasing};
 ghost use Rattle.plan_problem.specs.Class.{IsClass, place_of, time_in, wait_in};
@@ -27,8 +27,8 @@ impl Model for ClassProblem {
 }
 
 impl ClassProblem {
-    /// The class problem of these jobs, with a row for each, and these waits in ms. [`is_class`]
-    /// tells whether they make one.
+    /// The class problem of these jobs, with a row for each, and these waits in ms. [`is_class`] tests
+    /// whether they are a class problem.
     pub fn from_rows(ids: Vec<JobId>, rows: Vec<Row>, waits: Vec<u64>) -> ClassProblem
         requires { IsClass (record { ids = ids.items; rows = rows.items; waits = waits.items }) }
         ensures { result ≡ record { ids = ids.items; rows = rows.items; waits = waits.items } }
@@ -36,7 +36,7 @@ impl ClassProblem {
         ClassProblem { ids, rows, waits }
     }
 
-    /// Its jobs, by rising id.
+    /// The jobs of the class, by rising id.
     pub fn ids(&self) -> &[JobId]
         ensures ids { result.now ≡ self.now.ids }
         ensures class { IsClass self.now }
@@ -44,7 +44,7 @@ impl ClassProblem {
         &self.ids
     }
 
-    /// Its rows of times, one for each job.
+    /// The rows of times, one for each job.
     pub fn rows(&self) -> &[Row]
         ensures rows { result.now ≡ self.now.rows }
         ensures class { IsClass self.now }
@@ -60,7 +60,7 @@ impl ClassProblem {
         &self.waits
     }
 
-    /// Where a job stands among its jobs, if it is one of them.
+    /// The place of a job among the jobs of the class; `None` if it isn't among them.
     pub fn place(&self, job: JobId) -> Option<usize>
         ensures { MatchOption result (place_of self.now.ids job ≡ length self.now.ids)
             (λ place. (place_of self.now.ids job ≡ place) × (place < length self.now.ids)) }
@@ -68,8 +68,8 @@ impl ClassProblem {
         self.ids().binary_search(&job).ok()
     }
 
-    /// The time of a job on a device, in ms; none where the device is not able, or one of the two
-    /// isn't of the class.
+    /// The time of a job on a device, in ms; `None` if the device isn't able, or the job or the device isn't
+    /// of the class.
     pub fn time(&self, job: JobId, device: DeviceId) -> Option<u64>
         ensures time { result ≡ time_in self.now job device }
         ensures class { IsClass self.now }
@@ -89,15 +89,15 @@ impl ClassProblem {
     }
 }
 
-/// The first place of a list at which a job stands.
+/// The first place of a job in a list.
 pub fn place_in(ids: &[JobId], job: JobId) -> Option<usize>
     ensures { result ≡ position (λ id. id == job) ids.now }
 {
     ids.iter().position(|id| *id == job)
 }
 
-/// Whether these ids, rows and waits make a class problem: the ids rise, each job has a row and
-/// each row a time for each device, and all is in range.
+/// Returns whether the ids, rows and waits are a class problem: the ids rise, each job has a row and each row
+/// a time for each device, and all numbers are in range.
 pub fn is_class(ids: &[JobId], rows: &[Row], waits: &[u64]) -> bool
     ensures { IsTrue result ↔ IsClass (record { ids = ids.now; rows = rows.now; waits = waits.now }) }
 {
@@ -109,7 +109,7 @@ pub fn is_class(ids: &[JobId], rows: &[Row], waits: &[u64]) -> bool
         && waits.iter().all(|wait| *wait <= Limits::WAIT)
 }
 
-/// Whether each id is above the one before.
+/// Returns whether each id is above the id before it.
 fn rises(ids: &[JobId]) -> bool
     ensures { IsTrue result ↔ IsStrictlyIncreasing ids.now }
 {

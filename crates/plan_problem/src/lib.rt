@@ -1,10 +1,10 @@
-//! The problem of one class: which devices can print each of its jobs, how long that takes there, and
-//! when each device is free.
+//! The problem of one class: the devices that can print each of its jobs, the times of the jobs there, and
+//! the wait of each device.
 //!
-//! It promises exact answers: a device is able just where [`able`]'s definition says so, and a job has a
-//! cause ([`stranded_cause`]) just where no device of the settings is able; times are exact within their
-//! ranges; and a [`ClassProblem`] made of jobs and devices has a time exactly where the device is able. It
-//! plans nothing.
+//! The answers are exact: a device is able exactly by the definition of [`able`], and a job has a cause
+//! ([`stranded_cause`]) exactly if no device of the settings is able. Times are exact within their ranges. A
+//! [`ClassProblem`] made of jobs and devices has a time exactly if the device is able. The crate makes no
+//! plans.
 //!
 //! Its rows are traces of `play_examples`, and tests of `unit_tests`.
 #![tactic(auto)]

@@ -1,12 +1,12 @@
-//! The times of a job on each device.
+//! The times of a job on the devices.
 ghost use Rattle.std.specs.Prelude.{◌≡◌, ◌↔◌, All, IfSome, IsTrue, length};
 ghost use Rattle.plan_problem.specs.Time.{IsTime};
 
 use base_types::Limits;
 use std::marker::Model;
 
-/// The times of one job in ms, one for each device, none where the device is not able. In clauses
-/// it is the list of them.
+/// The times of one job in ms, one for each device, `None` if the device isn't able. In clauses it is the
+/// list of them.
 #[derive(Debug, Drop)]
 pub struct Row {
     times: Vec<Option<u64>>,
@@ -21,14 +21,14 @@ impl Model for Row {
 }
 
 impl Row {
-    /// The row of these times.
+    /// A row of times.
     pub fn new(times: Vec<Option<u64>>) -> Row
         ensures { result ≡ times.items }
     {
         Row { times }
     }
 
-    /// Its times.
+    /// The times of the row.
     pub fn times(&self) -> &[Option<u64>]
         ensures { result.now ≡ self.now }
     {
@@ -36,7 +36,7 @@ impl Row {
     }
 }
 
-/// Whether these are one time in range, or none, for each of so many devices.
+/// Returns whether there is one entry for each of `devices` devices, each a time in range or none.
 pub(crate) fn is_row(times: &[Option<u64>], devices: usize) -> bool
     ensures { IsTrue result ↔ (length times.now ≡ devices) × All (λ entry. IfSome entry IsTime) times.now }
 {
@@ -51,7 +51,7 @@ pub(crate) fn is_row(times: &[Option<u64>], devices: usize) -> bool
     true
 }
 
-/// Whether a time is in range, where there is one.
+/// Returns whether an entry is a time in range or none.
 fn is_entry(entry: Option<u64>) -> bool
     ensures { IsTrue result ↔ IfSome entry IsTime }
 {

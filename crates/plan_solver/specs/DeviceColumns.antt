@@ -5,14 +5,14 @@ use Rattle.plan_solver.specs.Costs.{nowhere}
 use Rattle.plan_solver.specs.Layout.{taken}
 use Rattle.plan_solver.specs.AllPlaces.{place_on}
 
--- the numbers of the columns on the device, the last place's first
+-- the numbers of the columns on the device, that of the last place first
 pub record AreColumnsOf (device : ℕ) (columns : List Place) (device_columns : List ℕ) : Type 0 where
   pub known : (after : ℕ) → after < length device_columns → slice_index device_columns after < length columns
   pub places : (after : ℕ) → after < length device_columns → slice_index_or columns (slice_index device_columns after) nowhere ≡ place_on device after
   pub within : (c : ℕ) → c < length columns → (slice_index_or columns c nowhere).device ≡ device → (slice_index_or columns c nowhere).after < length device_columns
   pub there : (c : ℕ) → c < length columns → (slice_index_or columns c nowhere).device ≡ device → slice_index device_columns (slice_index_or columns c nowhere).after ≡ c
 
--- the columns of so many devices
+-- the columns of each of `devices` devices
 pub record AreByDevice (devices : ℕ) (columns : List Place) (by_device : List (List ℕ)) : Type 0 where
   pub one_each : length by_device ≡ devices
   pub known : (c : ℕ) → c < length columns → (slice_index_or columns c nowhere).device < devices

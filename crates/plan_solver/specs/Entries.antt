@@ -1,16 +1,16 @@
--- The entries of a class problem, as they are read.
+-- The entries of a class problem that a planner has read.
 use Rattle.std.specs.Prelude.{◌≡◌, ℕ, ◌<◌, List, length, slice_index, slice_index_or, unwrap_or, vec_len}
 use Rattle.plan_problem.specs.Class.{Class, time_in}
 use Rattle.plan_solver.specs.declared.costs.TheConstants.{UNABLE}
 use Rattle.plan_solver.specs.declared.times.Entries.{Entries}
 use Rattle.plan_solver.specs.Costs.{row_of}
 
--- the times of a job on so many devices, UNABLE where one is not able
+-- the times of a job on this many devices, UNABLE where a device isn't able
 pub record IsReadRow (c : Class) (job devices : ℕ) (row : List ℕ) : Type 0 where
   pub one_each : length row ≡ devices
   pub times : (device : ℕ) → device < devices → slice_index_or row device UNABLE ≡ unwrap_or (time_in c job device) UNABLE
 
--- these are the jobs, waits and times of the class
+-- the entries are the jobs, waits and times of the class
 pub record IsRead (c : Class) (e : Entries) : Type 0 where
   pub ids : e.ids.items ≡ c.ids
   pub waits : e.costs.waits.items ≡ c.waits

@@ -1,9 +1,9 @@
-//! The last plan's columns under the next waits. None of it needs a proof, since it only makes a hint
+//! The columns of the last plan under the next waits. The functions have no contracts: they only make a hint
 //! better.
 //!
-//! Prices fall by the time gone, or by as much more or less as makes them fair. A device that is late
-//! gives up its first jobs, whose duals would be below nothing. The next place of one that is early may
-//! be better for a job than its own: then jobs move, as if a job there had left.
+//! The prices fall by the time that has passed, or by as much more or less as makes them fair. A device that
+//! is late gives up its first jobs, whose duals would be negative. The next place of a device that is early
+//! may be better for a job than its own place: then jobs move, as if a job at the next place had left.
 
 use crate::costs::{Costs, Place, cost, on_device};
 use crate::matching::Matching;
@@ -11,11 +11,12 @@ use crate::recall::drop_column;
 use crate::vacancy::vacate;
 use std::alloc::{AllocError, Global};
 
-/// The most devices whose next place is filled. Where more are early, it isn't worth the time.
+/// The most devices whose next place is filled. If more devices are early, filling takes more time than it
+/// saves.
 const MOST_FILLED: usize = 2;
 
-/// Lowers the prices by about the time gone, so that they are fair under these costs, and moves or
-/// gives up jobs where that alone doesn't make them so. The waits before are those of the last plan.
+/// Lowers the prices by about the time that has passed, to make them fair under the costs, and moves or gives
+/// up jobs where that isn't enough. `before` are the waits of the last plan.
 pub(crate) fn adapt(
     alloc: Global,
     costs: &Costs,
@@ -35,7 +36,7 @@ pub(crate) fn adapt(
     fill_early(alloc, costs, matching, &early)
 }
 
-/// Whether a device is free sooner than the last plan had it, with the time gone taken off.
+/// Returns whether a device is free sooner than in the last plan, with the time that has passed taken off.
 fn is_early(costs: &Costs, before: &[u64], device: usize, gone: u64) -> bool {
     on_device(&costs.waits, device).saturating_add(gone) < on_device(before, device)
 }
@@ -58,8 +59,8 @@ fn next_places(
     Ok(places)
 }
 
-/// By how much prices fall: by the time gone, unless more is needed for the places that are free early,
-/// or less for the duals.
+/// The amount by which the prices fall: the time that has passed, unless the places that are free early need
+/// more, or the duals allow less.
 fn fall(costs: &Costs, matching: &Matching, early: &[Place], gone: u64) -> u64 {
     let mut least = 0;
     let mut most = u64::MAX;
@@ -77,7 +78,7 @@ fn fall(costs: &Costs, matching: &Matching, early: &[Place], gone: u64) -> u64 {
     }
 }
 
-/// By how much a price is above what the cheapest of these places costs.
+/// The amount by which a price exceeds the cost of the cheapest of the places.
 fn excess(costs: &Costs, row: &[u64], price: u64, places: &[Place]) -> u64 {
     let mut most = 0;
     for place in places {
@@ -86,14 +87,14 @@ fn excess(costs: &Costs, row: &[u64], price: u64, places: &[Place]) -> u64 {
     most
 }
 
-/// The cost of the job of a column there.
+/// The cost of a column's job at a place.
 fn cost_at_column(costs: &Costs, matching: &Matching, column: usize, place: Place) -> u64 {
     let job = matching.jobs.get(column).copied().unwrap_or(0);
     cost(&costs.waits, costs.row(job), place)
 }
 
-/// How many places each device keeps, where each job whose place costs more than it is charged is given
-/// up, and those before it are too.
+/// The number of places that each device keeps, if each job whose place costs more than its charge is given
+/// up, and the jobs before it too.
 fn kept_places(alloc: Global, costs: &Costs, matching: &Matching) -> Result<Vec<u64>, AllocError> {
     let mut most = vec![in alloc; u64::MAX; costs.waits.len()]?;
     for (column, place) in matching.columns.iter().enumerate() {
@@ -105,14 +106,14 @@ fn kept_places(alloc: Global, costs: &Costs, matching: &Matching) -> Result<Vec<
     Ok(most)
 }
 
-/// Keeps of a place's device only the places after it.
+/// Lowers the number of kept places of a place's device to those behind the place.
 fn lower_to(most: &mut [u64], place: Place) {
     if let Some(most) = most.get_mut(place.device) {
         *most = (*most).min(place.after);
     }
 }
 
-/// Takes out the columns that have so many places after them.
+/// Removes the columns with at least as many places behind them as their device keeps.
 fn drop_before(matching: &mut Matching, most: &[u64]) {
     for column in (0..matching.columns.len()).rev() {
         let Some(place) = matching.columns.get(column).copied() else {
@@ -124,7 +125,7 @@ fn drop_before(matching: &mut Matching, most: &[u64]) {
     }
 }
 
-/// Sets each dual to what is charged above the cost.
+/// Sets each dual to the amount by which the charge exceeds the cost.
 fn set_duals(costs: &Costs, matching: &mut Matching) {
     for column in 0..matching.columns.len() {
         let Some(place) = matching.columns.get(column).copied() else {
@@ -138,8 +139,7 @@ fn set_duals(costs: &Costs, matching: &mut Matching) {
     }
 }
 
-/// Fills the next places that are better for a job than its own, up to some: those of devices that are
-/// early.
+/// Fills next places of early devices that are better for a job than its own, at most [`MOST_FILLED`].
 fn fill_early(
     alloc: Global,
     costs: &Costs,
@@ -157,7 +157,7 @@ fn fill_early(
     Ok(())
 }
 
-/// The least dual of a free place with which no job is better off there.
+/// The least dual of a free place at which no job would be better off there.
 fn dual_wanted(costs: &Costs, matching: &Matching, place: Place) -> u64 {
     let mut dual: u64 = 0;
     for (column, price) in matching.prices.iter().enumerate() {
@@ -166,7 +166,7 @@ fn dual_wanted(costs: &Costs, matching: &Matching, place: Place) -> u64 {
     dual
 }
 
-/// Fills a free place as if a job had been matched to it at this dual and left.
+/// Fills a free place as if a job had been matched to it at a dual, and had left.
 fn fill(
     alloc: Global,
     costs: &Costs,

@@ -1,4 +1,4 @@
-//! The planner that looks at all places of each device: slow, to be compared with.
+//! The planner that searches all places of each device. It is slow, and is for comparison.
 ghost use Rattle.std.specs.Prelude.{◌≡◌, ◌≢◌, ℕ, ◌+◌, ◌<◌, ◌≤◌, ◌⊎◌, ◌∷◌, [], ◌++◌, ◌^◌, All, Contains, IfOk, OnOk, length, vec_len, slice_index_or};
 ghost use Rattle.std.specs.List.{range_with_len};
 ghost use Rattle.std.specs.List.Sorted.{IsPermutation};
@@ -17,15 +17,14 @@ use crate::order::longest_first;
 use crate::solver::solve;
 use std::alloc::{AllocError, Global};
 
-/// Which free places each device shows.
+/// The free places that each device shows.
 #[derive(Clone, Copy, Debug)]
 pub(crate) enum Shown {
     Next,
     All,
 }
 
-/// Matches all jobs, one by one, where each device shows these free places. The hint is of use where it
-/// is the next one alone.
+/// Matches all jobs, one by one, with these free places of each device. The hint is used only with `Next`.
 pub(crate) fn match_all(
     alloc: Global,
     costs: &Costs,
@@ -42,7 +41,7 @@ pub(crate) fn match_all(
     }
 }
 
-/// Matches all jobs, one by one, where each device shows all its free places.
+/// Matches all jobs, one by one, with all free places of each device.
 fn solve_densely(alloc: Global, costs: &Costs) -> Result<Matching, AllocError>
     requires { CanFill costs.now }
     ensures filled { IfOk result (λ s. IsFilled costs.now s) }
@@ -70,7 +69,7 @@ fn solve_densely(alloc: Global, costs: &Costs) -> Result<Matching, AllocError>
     Ok(matching)
 }
 
-/// Matches one job more at one of the free places, and gives those that are left.
+/// Matches one more job at one of the free places. Returns the places that are left.
 fn match_among(
     alloc: Global,
     costs: &Costs,
@@ -103,7 +102,7 @@ fn match_among(
     Ok(left)
 }
 
-/// The places but one.
+/// The places except one.
 fn without(alloc: Global, places: &[Place], taken: Place) -> Result<Vec<Place>, AllocError>
     ensures kept { IfOk result (λ left. (p : Place) → Contains places.now p → p ≢ taken → Contains left.items p) }
     ensures only { IfOk result (λ left. (p : Place) → Contains left.items p → Contains places.now p × (p ≢ taken)) }
@@ -115,7 +114,7 @@ fn without(alloc: Global, places: &[Place], taken: Place) -> Result<Vec<Place>, 
     Ok(left)
 }
 
-/// Appends a place, unless it is the one that is taken.
+/// Appends a place, unless it is `taken`.
 fn push_unless(left: &mut Vec<Place>, place: Place, taken: Place) -> Result<(), AllocError>
     ensures { OnOk result (((place ≢ taken) × (left.new.items ≡ left.old.items ++ place ∷ [])) ⊎ ((place ≡ taken) × (left.new.items ≡ left.old.items))) }
 {
@@ -125,7 +124,7 @@ fn push_unless(left: &mut Vec<Place>, place: Place, taken: Place) -> Result<(), 
     Ok(())
 }
 
-/// So many places of each device, and one more.
+/// The first `jobs` places of each device, and one more.
 fn all_places(alloc: Global, devices: usize, jobs: usize) -> Result<Vec<Place>, AllocError>
     requires { jobs < 2 ^ 63 }
     ensures there { IfOk result (λ places. (device after : ℕ) → device < devices → after ≤ jobs → Contains places.items (place_on device after)) }
@@ -138,7 +137,7 @@ fn all_places(alloc: Global, devices: usize, jobs: usize) -> Result<Vec<Place>, 
     Ok(places)
 }
 
-/// Appends the places of a device, up to the one that has so many after it.
+/// Appends the places of a device, up to the place with `most` places behind it.
 fn push_places(places: &mut Vec<Place>, device: usize, most: u64) -> Result<(), AllocError>
     requires { most + 1 < u64.MAX }
     ensures there { OnOk result ((after : ℕ) → after ≤ most → Contains places.new.items (place_on device after)) }

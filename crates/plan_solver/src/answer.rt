@@ -1,4 +1,4 @@
-//! The answer of a planner: a priced way, made of a matching.
+//! The priced way of a matching.
 ghost use Rattle.std.specs.Prelude.{◌≡◌, ℕ, ◌^◌, ◌<◌, ◌≤◌, IfOk, List, length, map, pos, slice_index, sum, vec_len};
 ghost use Rattle.std.specs.List.{range_with_len};
 ghost use Rattle.std.specs.List.Sorted.{IsPermutation};
@@ -24,7 +24,7 @@ pub(crate) fn way(alloc: Global, entries: &Entries, matching: &Matching) -> Resu
     Ok(Way::new(queues))
 }
 
-/// The jobs of a device, front first.
+/// The list of jobs of a device, the first to be printed first.
 fn queue(
     alloc: Global,
     ids: &[JobId],
@@ -85,7 +85,7 @@ fn by_job(alloc: Global, jobs: &[usize], prices: &[u64]) -> Result<Vec<u64>, All
     Ok(charged)
 }
 
-/// These values as signed ones.
+/// The values as signed numbers.
 fn signed(alloc: Global, values: &[u64]) -> Result<Vec<i64>, AllocError>
     requires { (j : ℕ) → j < length values.now → slice_index values.now j ≤ UNABLE }
     ensures { IfOk result (λ signed. signed.items ≡ map pos values.now) }
@@ -97,7 +97,7 @@ fn signed(alloc: Global, values: &[u64]) -> Result<Vec<i64>, AllocError>
     Ok(signed)
 }
 
-/// The prices of a device's used places, the last place first: the duals of its columns, below 0.
+/// The prices of a device's used places, the last place first: the negatives of its columns' duals.
 fn place_prices(
     alloc: Global,
     matching: &Matching,
@@ -116,7 +116,7 @@ fn place_prices(
     Ok(PlacePrices::new(prices))
 }
 
-/// What the matched jobs cost at their places.
+/// The cost of the matched jobs at their places.
 pub(crate) fn total(costs: &Costs, matching: &Matching) -> u64
     requires len { vec_len matching.now.jobs ≡ vec_len matching.now.columns }
     requires fits { cost_of_columns costs.now matching.now.columns.items matching.now.jobs.items (vec_len matching.now.columns) < 2 ^ 64 }

@@ -1,5 +1,4 @@
-//! Where the search begins: the jobs that stay where they are thought to sit, and those that are
-//! left.
+//! The matching with which the search begins: jobs that stay at their hinted places, and jobs that are left.
 ghost use Rattle.std.specs.Prelude.{◌≡◌, ◌<◌, ◌≤◌, [], ◌∷◌, ◌++◌, IfOk, IfSome, OnOk, length, vec_len};
 ghost use Rattle.std.specs.List.{range_with_len};
 ghost use Rattle.std.specs.List.Sorted.{IsPermutation};
@@ -14,10 +13,10 @@ use crate::matching::Matching;
 use crate::order::{hinted_first, longest_first};
 use std::alloc::{AllocError, Global};
 
-/// How often jobs are given up and the others looked at again, before all are given up.
+/// The number of rounds in which unfit jobs are given up before all are.
 const ROUNDS: u64 = 4;
 
-/// What stands between two jobs that are matched, and the jobs that have no column yet.
+/// The matching between two jobs, and the jobs that have no column yet.
 #[derive(Debug, Drop)]
 pub(crate) struct Begun {
     pub(crate) matching: Matching,
@@ -27,15 +26,15 @@ pub(crate) struct Begun {
     pub(crate) left: Vec<usize>,
 }
 
-/// What a job can keep: the next place of a device, at this dual.
+/// The place that a job can keep: the next place of a device, with a dual.
 #[derive(Clone, Copy, Debug)]
 struct Stay {
     device: usize,
     dual: u64,
 }
 
-/// The jobs that stay where the hint says, and all others left. Prices are fair whatever the hint
-/// says: a job that doesn't fit is given up, and if need be all are.
+/// The matching of the jobs that stay at their hinted places, with all others left. The prices are fair for
+/// each hint: a job that doesn't fit is given up, and in the worst case all are.
 pub(crate) fn begin_by(alloc: Global, costs: &Costs, hint: &Hint) -> Result<Begun, AllocError>
     ensures { IfOk result (λ b. IsBegun costs.now b) }
 {
@@ -53,15 +52,15 @@ pub(crate) fn begin_by(alloc: Global, costs: &Costs, hint: &Hint) -> Result<Begu
     nothing_matched(alloc, costs, longest_first(alloc, costs)?)
 }
 
-/// Whether so few jobs are left that to match them among the others takes less time than to match all
-/// anew.
+/// Returns whether the jobs that are left are few enough that matching them among the others takes less time
+/// than matching all jobs anew.
 fn is_worth(begun: &Begun) -> bool {
     let columns = begun.matching.columns.len();
     let left = begun.left.len();
     left <= columns / 4 && left <= columns / 48 + 3
 }
 
-/// No job is matched, and these are left.
+/// The empty matching, with these jobs left.
 fn nothing_matched(alloc: Global, costs: &Costs, left: Vec<usize>) -> Result<Begun, AllocError>
     ensures laid_out { IfOk result (λ b. IsLaidOut costs.now b) }
     ensures begun { IfOk result (λ b. IsPermutation (range_with_len 0 (vec_len costs.now.rows)) left.items → IsBegun costs.now b) }
@@ -86,8 +85,8 @@ fn nothing_matched(alloc: Global, costs: &Costs, left: Vec<usize>) -> Result<Beg
     })
 }
 
-/// The jobs, in this order, each where the hint says if it can stay there, or left. Of each device
-/// at most so many places are kept.
+/// The jobs in this order, each at its hinted place if it can stay there, else left. Each device keeps at
+/// most as many places as `most` says.
 fn laid_out(
     alloc: Global,
     costs: &Costs,
@@ -105,7 +104,7 @@ fn laid_out(
     Ok(begun)
 }
 
-/// Matches a job where the hint says, if it can stay there, or leaves it.
+/// Matches a job at its hinted place, if it can stay there, else leaves it.
 fn match_or_leave(
     costs: &Costs,
     hint: &Hint,
@@ -123,8 +122,8 @@ fn match_or_leave(
     }
 }
 
-/// What the job can keep: the place that the hint says, where it is the next one of its device, and
-/// costs no more than the hint's price.
+/// The place that a job can keep: its hinted place, if that is the next one of its device and costs no more
+/// than the hinted price.
 fn stay_of(costs: &Costs, hint: &Hint, most: &[u64], free: &[Place], job: usize) -> Option<Stay>
     ensures { IfSome result (λ s. (s.device < length free.now) × (s.dual ≤ UNABLE)) }
 {
@@ -154,7 +153,8 @@ fn leave(begun: &mut Begun, job: usize) -> Result<(), AllocError>
     Ok(())
 }
 
-/// Matches a job to the next place of a device, at a dual: it is charged both.
+/// Matches a job to the next place of a device with a dual. The job's charge is the cost and the dual
+/// together.
 fn match_at(costs: &Costs, begun: &mut Begun, job: usize, stay: Stay) -> Result<(), AllocError>
     requires laid_out { IsLaidOut costs.now begun.old }
     requires device { stay.device < vec_len begun.old.free }

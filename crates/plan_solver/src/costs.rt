@@ -1,25 +1,24 @@
-//! What a job costs at a place from the end of a device's list.
+//! The cost of a job at a place from the end of a device's list.
 ghost use Rattle.std.specs.Prelude.{◌≡◌, ◌+◌, ◌*◌, ◌≤◌, min, slice_index_or, suc};
 ghost use Rattle.plan_solver.specs.Costs.{cost_at, cost_of, row_of};
 
 use base_types::Limits;
 use std::marker::Model;
 
-/// What a place costs a job that its device can't print: more than any other place. So each place
-/// has a cost, and a search has no pairs to leave out. It is also the job's time there.
-/// No cost on a device that is able reaches it, and as many such times as there may be jobs fit 64
-/// bits.
+/// The cost of a place for a job that its device can't print. It is more than the cost of any other place, so
+/// each pair of a job and a place has a cost. It is also the job's time on such a device. No cost on an able
+/// device is as high. The sum of as many such times as there may be jobs fits in 64 bits.
 pub(crate) const UNABLE: u64 = Limits::WAIT / 2 * 3;
 
-/// A place of a device: how many places come after it. The last place of a list has none.
+/// A place of a device, by the number of places behind it. The last place of a list has none.
 #[derive(Clone, Copy, Debug, PartialEq, Eq)]
 pub(crate) struct Place {
     pub(crate) device: usize,
     pub(crate) after: u64,
 }
 
-/// The times of a job on each device, in ms, [`UNABLE`] where the device is not able. In clauses it
-/// is the list of them.
+/// The times of a job on each device, in ms, [`UNABLE`] where the device isn't able. In clauses it is the
+/// list of them.
 #[derive(Debug, Drop)]
 pub(crate) struct TimeRow {
     times: Vec<u64>,
@@ -34,14 +33,14 @@ impl Model for TimeRow {
 }
 
 impl TimeRow {
-    /// The row of these times.
+    /// A row of times.
     pub(crate) fn new(times: Vec<u64>) -> TimeRow
         ensures { result ≡ times.items }
     {
         TimeRow { times }
     }
 
-    /// Its times.
+    /// The times of the row.
     fn times(&self) -> &[u64]
         ensures { result.now ≡ self.now }
     {
@@ -49,7 +48,7 @@ impl TimeRow {
     }
 }
 
-/// The wait of each device, and for each job its time on each device, in ms.
+/// The wait of each device, and the time of each job on each device, in ms.
 #[derive(Debug, Drop)]
 pub(crate) struct Costs {
     pub(crate) waits: Vec<u64>,
@@ -57,7 +56,7 @@ pub(crate) struct Costs {
 }
 
 impl Costs {
-    /// The times of a job; none where there is no such job.
+    /// The times of a job; empty if there is no such job.
     pub(crate) fn row(&self, job: usize) -> &[u64]
         ensures { result.now ≡ row_of self.now job }
     {
@@ -68,15 +67,15 @@ impl Costs {
     }
 }
 
-/// The time or the wait on a device, of a list of them; [`UNABLE`] where there is none.
+/// The entry of a device in a list of times or waits; [`UNABLE`] if there is none.
 pub(crate) fn on_device(values: &[u64], device: usize) -> u64
     ensures { result ≡ slice_index_or values.now device UNABLE }
 {
     values.get(device).copied().unwrap_or(UNABLE)
 }
 
-/// What a job with these times adds to the total at a place: the device's wait once, and the job's
-/// time for itself and for each place after it.
+/// The cost of a job with these times at a place: the device's wait once, and the job's time for itself and
+/// for each place behind it.
 pub(crate) fn cost(waits: &[u64], row: &[u64], place: Place) -> u64
     ensures value { result ≡ cost_at waits.now row.now place }
     ensures low { result ≤ UNABLE }
@@ -87,8 +86,8 @@ pub(crate) fn cost(waits: &[u64], row: &[u64], place: Place) -> u64
     }
 }
 
-/// The cost with a time and a wait. Where they are in the range of a class, and so is the number of
-/// places after it, 64 bits are enough, and faster.
+/// The cost for a time and a wait. If they and the number of places behind are in the range of a class, the
+/// cost is computed in 64 bits, which is faster.
 fn cost_with(time: u64, wait: u64, after: u64) -> u64
     ensures { result ≡ min (wait + suc after * time) UNABLE }
 {
@@ -98,7 +97,7 @@ fn cost_with(time: u64, wait: u64, after: u64) -> u64
     wide_cost(time, wait, after)
 }
 
-/// The cost with a time and a wait, of any size.
+/// The cost for a time and a wait of any size.
 #[cold]
 #[inline(never)]
 fn wide_cost(time: u64, wait: u64, after: u64) -> u64

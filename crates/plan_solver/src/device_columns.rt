@@ -4,8 +4,7 @@ ghost use Rattle.std.specs.Prelude.{◌≡◌, ℕ, ◌<◌, [], ◌∷◌, ◌+
 use std::alloc::{AllocError, Global};
 use std::marker::Model;
 
-/// The numbers of the columns of one device, the last place's first. In clauses it is the list of
-/// them.
+/// The numbers of the columns of one device, that of the last place first. In clauses it is the list of them.
 #[derive(Debug, Drop)]
 pub(crate) struct DeviceColumns {
     columns: Vec<usize>,
@@ -20,7 +19,7 @@ impl Model for DeviceColumns {
 }
 
 impl DeviceColumns {
-    /// A device without columns.
+    /// Creates the list of a device without columns.
     fn new(alloc: Global) -> DeviceColumns
         ensures { result ≡ [] }
     {
@@ -29,14 +28,14 @@ impl DeviceColumns {
         }
     }
 
-    /// Its columns.
+    /// The numbers of the columns.
     pub(crate) fn columns(&self) -> &[usize]
         ensures { result.now ≡ self.now }
     {
         &self.columns
     }
 
-    /// Appends the column at the place before all others.
+    /// Appends the column of the place before all others.
     fn push(&mut self, column: usize) -> Result<(), AllocError>
         ensures { OnOk result (self.new ≡ self.old ++ column ∷ []) }
     {
@@ -45,7 +44,7 @@ impl DeviceColumns {
     }
 }
 
-/// So many devices without columns.
+/// The lists of this many devices without columns.
 pub(crate) fn no_columns(alloc: Global, devices: usize) -> Result<Vec<DeviceColumns>, AllocError>
     ensures len { IfOk result (λ by_device. vec_len by_device ≡ devices) }
     ensures empty { IfOk result (λ by_device. (d : ℕ) → d < devices → slice_index_or by_device.items d [] ≡ []) }
@@ -57,7 +56,7 @@ pub(crate) fn no_columns(alloc: Global, devices: usize) -> Result<Vec<DeviceColu
     Ok(by_device)
 }
 
-/// Appends a column to those of its device.
+/// Appends a column to the list of its device.
 pub(crate) fn add_to_device(
     by_device: &mut [DeviceColumns],
     device: usize,

@@ -1,4 +1,4 @@
-//! Whether jobs in columns are charged fair prices.
+//! The test whether jobs in columns have fair prices.
 ghost use Rattle.std.specs.Prelude.{◌≡◌, ℕ, ◌+◌, ◌<◌, ◌≤◌, [], IsTrue, length, slice_index, slice_index_or, vec_len};
 ghost use Rattle.plan_solver.specs.Costs.{cost_at, cost_of, nowhere};
 ghost use Rattle.plan_solver.specs.DeviceColumns.{AreColumnsOf, AreByDevice};
@@ -11,8 +11,8 @@ use crate::costs::{Costs, Place, UNABLE, on_device};
 use crate::device_columns::DeviceColumns;
 use crate::matching::{Matching, slack};
 
-/// Whether the prices are fair, also towards the free places; if so, the slacks are set. If not,
-/// `most` is lowered for each job that has a better place, to how many places come after its own.
+/// Returns whether the prices are fair, for the free places too; if they are, sets the slacks. If not, lowers
+/// `most` for each job that has a better place, to the number of places behind its own.
 pub(crate) fn fits(costs: &Costs, begun: &mut Begun, most: &mut [u64]) -> bool
     requires { IsLaidOut costs.now begun.old }
     ensures same { begun.new ≡ record begun.old { slacks = begun.new.slacks } }
@@ -28,8 +28,8 @@ pub(crate) fn fits(costs: &Costs, begun: &mut Begun, most: &mut [u64]) -> bool
     true
 }
 
-/// Sets the slacks to how much all prices may rise before one is above what a free place costs; to 0
-/// where no job is left, since they are of no use then.
+/// Sets the slacks to the amount by which all prices may rise before one exceeds the cost of a free place. If
+/// no job is left, the slacks aren't needed, and are set to 0.
 fn renew_slacks(costs: &Costs, begun: &mut Begun)
     requires laid_out { IsLaidOut costs.now begun.old }
     requires fair { IsFair (cost_of costs.now) begun.old.matching.jobs.items begun.old.matching.prices.items begun.old.free.items [] }
@@ -68,7 +68,7 @@ fn set_slacks(costs: &Costs, matching: &Matching, free: &[Place], slacks: &mut [
     }
 }
 
-/// Whether no job has a better place, among the columns or the next places.
+/// Returns whether no job has a better place among the columns or the next places.
 fn all_fair(costs: &Costs, by_device: &[DeviceColumns], matching: &Matching) -> bool
     requires jobs { vec_len matching.now.jobs ≡ vec_len matching.now.columns }
     requires prices { vec_len matching.now.prices ≡ vec_len matching.now.columns }
@@ -85,7 +85,7 @@ fn all_fair(costs: &Costs, by_device: &[DeviceColumns], matching: &Matching) -> 
     true
 }
 
-/// Of each job that has a better place, its device keeps only the places after it.
+/// Lowers `most` for each job that has a better place: its device keeps only the places behind it.
 fn cut_unfair(costs: &Costs, by_device: &[DeviceColumns], matching: &Matching, most: &mut [u64])
     requires jobs { vec_len matching.now.jobs ≡ vec_len matching.now.columns }
     requires prices { vec_len matching.now.prices ≡ vec_len matching.now.columns }
@@ -99,14 +99,14 @@ fn cut_unfair(costs: &Costs, by_device: &[DeviceColumns], matching: &Matching, m
     }
 }
 
-/// Keeps of a place's device only the places after it.
+/// Lowers the number of kept places of a place's device to those behind the place.
 fn cut(most: &mut [u64], place: Place) {
     if let Some(most) = most.get_mut(place.device) {
         *most = (*most).min(place.after);
     }
 }
 
-/// Whether the job at `q` has no better place, among the columns or the next places.
+/// Returns whether the job at `q` has no better place among the columns or the next places.
 fn is_fair(costs: &Costs, by_device: &[DeviceColumns], matching: &Matching, q: usize) -> bool
     requires here { q < vec_len matching.now.columns }
     requires jobs { vec_len matching.now.jobs ≡ vec_len matching.now.columns }
@@ -130,8 +130,8 @@ fn is_fair(costs: &Costs, by_device: &[DeviceColumns], matching: &Matching, q: u
     true
 }
 
-/// Whether no column of the device, nor its next place, is better for a job with these times that is
-/// charged so much. Once a place alone costs it as much, so does each place before it.
+/// Returns whether no column of the device, nor its next place, is better for a job with these times and this
+/// charge. Once the cost of a place by itself is at least the charge, so is the cost of each place before it.
 fn is_fair_on(
     waits: &[u64],
     row: &[u64],

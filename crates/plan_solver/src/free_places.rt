@@ -1,4 +1,4 @@
-//! The free places that the devices show: the next one of each.
+//! The free places that the devices show: the next place of each device.
 ghost use Rattle.std.specs.Prelude.{◌≡◌, ℕ, ◌<◌, IfOk, length, vec_len, slice_index_or, slice_set};
 ghost use Rattle.plan_solver.specs.Costs.{nowhere};
 ghost use Rattle.plan_solver.specs.Layout.{place_before};
@@ -19,7 +19,7 @@ pub(crate) fn last_places(alloc: Global, devices: usize) -> Result<Vec<Place>, A
     Ok(places)
 }
 
-/// Shows the place before the one that was shown.
+/// Replaces a place by the place before it.
 pub(crate) fn advance(free: &mut [Place], at: usize)
     requires here { at < length free.old }
     requires room { (slice_index_or free.old at nowhere).after < u64.MAX }

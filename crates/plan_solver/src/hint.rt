@@ -1,36 +1,36 @@
-//! Where the jobs of a class are thought to sit. A hint promises nothing: whatever it says, it is
-//! tested before it is used.
+//! The hint: guesses of the places of a class's jobs. It has no contract: each guess is tested before it is
+//! used.
 
 use crate::costs::Place;
 use std::alloc::Global;
 
-/// Where a job is thought to sit, and what it is thought to be charged.
+/// A guess of a job's place and charge.
 #[derive(Clone, Copy, Debug)]
 pub(crate) struct Guess {
     pub(crate) place: Place,
     pub(crate) price: u64,
 }
 
-/// What is thought of the jobs of a class: of the job with the number `n` the entry `n`.
+/// The guesses for the jobs of a class: entry `n` is that of the job with the number `n`.
 #[derive(Debug, Drop)]
 pub(crate) struct Hint {
     guesses: Vec<Option<Guess>>,
 }
 
 impl Hint {
-    /// The hint with these guesses.
+    /// A hint of guesses.
     pub(crate) fn new(guesses: Vec<Option<Guess>>) -> Hint {
         Hint { guesses }
     }
 
-    /// The hint that says nothing.
+    /// The empty hint.
     pub(crate) fn none(alloc: Global) -> Hint {
         Hint {
             guesses: Vec::new(alloc),
         }
     }
 
-    /// What is thought of a job, if anything is.
+    /// The guess for a job, if there is one.
     pub(crate) fn guess(&self, job: usize) -> Option<Guess> {
         self.guesses.get(job).copied().flatten()
     }

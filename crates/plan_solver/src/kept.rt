@@ -1,14 +1,14 @@
-//! What a planner keeps of the classes that it planned last.
+//! The classes that a planner keeps from its last plans.
 
 use crate::costs::Costs;
 use crate::matching::Matching;
 use base_types::JobId;
 use std::alloc::Global;
 
-/// How many classes are kept.
+/// The most classes that are kept.
 const MOST: usize = 8;
 
-/// A class that was planned: its jobs by rising id, what they cost and where they sit.
+/// A planned class: its jobs by rising id, their costs, and their matching.
 #[derive(Debug, Drop)]
 pub(crate) struct Kept {
     pub(crate) ids: Vec<JobId>,
@@ -23,14 +23,14 @@ pub(crate) struct Memory {
 }
 
 impl Memory {
-    /// Nothing is kept yet.
+    /// Creates an empty memory.
     pub(crate) fn new(alloc: Global) -> Memory {
         Memory {
             classes: Vec::new(alloc),
         }
     }
 
-    /// Takes out the class that has the most of these jobs, if one has any.
+    /// Removes and returns the class that has the most of these jobs, if one has any.
     pub(crate) fn take(&mut self, ids: &[JobId]) -> Option<Kept> {
         let mut best = None;
         let mut most = 0;
@@ -49,8 +49,8 @@ impl Memory {
         }
     }
 
-    /// Keeps a class, in place of the oldest one where there are enough. Where memory is refused it is
-    /// forgotten.
+    /// Keeps a class, in place of the oldest one if [`MOST`] are kept. If memory is refused, the class is
+    /// dropped.
     pub(crate) fn keep(&mut self, kept: Kept) {
         if self.classes.len() >= MOST {
             self.classes.remove(0);
@@ -59,7 +59,7 @@ impl Memory {
     }
 }
 
-/// How many ids two lists share, both rising.
+/// The number of ids in both lists. The ids of each list rise.
 fn shared(these: &[JobId], those: &[JobId]) -> usize {
     these
         .iter()

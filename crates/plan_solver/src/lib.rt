@@ -1,11 +1,11 @@
-//! Finds a best way to print the jobs of a class, with fair prices that prove it best.
+//! The planner: finds a best way to print the jobs of a class, with fair prices that prove it best.
 //!
-//! It promises a way of the class, fair prices and the stated total, whenever each job has a device
-//! that is able; out of memory is the only refusal. It doesn't promise speed, nor which of several
-//! best ways it finds.
+//! The contract: if each job has a device that is able, the planner returns a way of the class, fair prices
+//! and the total; the only error is out of memory. The contract says nothing of time, nor which of several
+//! best ways is found.
 //!
-//! `AugmentingPaths` keeps its last classes, and begins with what is left of one. That is a hint: it is tested
-//! before it is used, and no promise rests on it.
+//! `AugmentingPaths` keeps its last classes, and begins with the part of one that is left. That part is a
+//! hint: it is tested before it is used, and no contract depends on it.
 //!
 //! Tests stand in `unit_tests`.
 #![tactic(auto)]

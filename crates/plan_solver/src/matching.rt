@@ -1,9 +1,9 @@
-//! A fair matching of jobs to places: what the planner keeps between two jobs.
+//! A fair matching of jobs to places, which is the planner's state between two jobs.
 //!
-//! In the words of the assignment problem a job is a row, and a place that is used is a column. What a job
-//! is charged is the dual of its row. The dual of a column is at most 0, and stands here without its
-//! sign. A matching is fair where no cost is below the sum of both duals, and each matched pair's is the
-//! sum (Kuhn 1955; Jonker and Volgenant 1987).
+//! In the words of the assignment problem a job is a row, and a used place is a column. The charge of a job
+//! is the dual of its row. The dual of a column is at most 0, and is stored here without its sign. A matching
+//! is fair if no cost is below the sum of both duals, and the cost of each matched pair is that sum (Kuhn
+//! 1955; Jonker and Volgenant 1987).
 ghost use Rattle.std.specs.Prelude.{◌≡◌, ◌≢◌, ℕ, ◌+◌, ◌-◌, ◌<◌, ◌≤◌, length, slice_index, slice_index_or, slice_set, vec_len, [], ◌∷◌, ◌++◌, IfOk, OnOk};
 ghost use Rattle.std.specs.List.Sorted.{IsPermutation};
 ghost use Rattle.plan_solver.specs.Costs.{cost_of, nowhere};
@@ -16,8 +16,8 @@ use crate::device_columns::DeviceColumns;
 use crate::search::{Search, search_exit};
 use std::alloc::{AllocError, Global};
 
-/// The matched jobs: column c is the place `columns[c]`, has the dual `duals[c]` without its sign, and is
-/// matched with the job `jobs[c]`, which is charged `prices[c]`.
+/// The matched jobs. Column c is the place `columns[c]`, has the dual `duals[c]` without its sign, and is
+/// matched to the job `jobs[c]`, whose charge is `prices[c]`.
 #[derive(Debug, Drop)]
 pub(crate) struct Matching {
     pub(crate) columns: Vec<Place>,
@@ -26,10 +26,9 @@ pub(crate) struct Matching {
     pub(crate) prices: Vec<u64>,
 }
 
-/// Matches one job more, over a shortest augmenting path to one of the free places, and keeps prices and
-/// duals fair. A slack is by how
-/// much all prices may rise before one is above what a free place costs; those of the first places
-/// are kept, as many as are given.
+/// Matches one more job, over a shortest augmenting path to one of the free places, and keeps prices and
+/// duals fair. A slack is the amount by which all prices may rise before one exceeds the cost of a free
+/// place. The slacks of the first free places are kept up to date, as many as are given.
 pub(crate) fn augment(
     alloc: Global,
     costs: &Costs,
@@ -63,7 +62,7 @@ pub(crate) fn augment(
     Ok(search.exit.place)
 }
 
-/// Raises duals and prices by how much nearer than the exit they are.
+/// Raises each dual and each price by the amount by which it is nearer than the exit.
 fn raise_all(matching: &mut Matching, search: &Search)
     requires sizes { IsSized matching.old search.now }
     requires prices_low { (q : ℕ) → q < vec_len matching.old.prices → slice_index matching.old.prices.items q ≤ UNABLE }
@@ -80,7 +79,7 @@ fn raise_all(matching: &mut Matching, search: &Search)
     raise(&mut matching.duals, &search.lengths, search.exit.length);
 }
 
-/// Adds to each value by how much its length falls short of `reach`.
+/// Raises each value by the amount by which its length is below `reach`.
 fn raise(values: &mut [u64], lengths: &[u64], reach: u64)
     requires covered { length values.old ≤ length lengths.now }
     requires low { (c : ℕ) → c < length values.old → slice_index values.old c ≤ UNABLE }
@@ -94,7 +93,7 @@ fn raise(values: &mut [u64], lengths: &[u64], reach: u64)
     }
 }
 
-/// Lowers the slacks to how much farther than the exit the free places are.
+/// Lowers each slack to the amount by which its free place is farther than the exit.
 fn tighten(search: &Search, slacks: &mut [u64])
     requires few { length slacks.old ≤ vec_len search.now.nears }
     ensures len { length slacks.new ≡ length slacks.old }
@@ -106,7 +105,7 @@ fn tighten(search: &Search, slacks: &mut [u64])
     }
 }
 
-/// Makes the exit the last column.
+/// Appends the exit as the last column.
 fn add_column(matching: &mut Matching, search: &mut Search, place: Place) -> Result<(), AllocError>
     requires sizes { IsSized matching.old search.old }
     ensures same { OnOk result ((matching.new.jobs ≡ matching.old.jobs) × (matching.new.prices ≡ matching.old.prices)) }
@@ -128,7 +127,7 @@ fn add_column(matching: &mut Matching, search: &mut Search, place: Place) -> Res
     Ok(())
 }
 
-/// Moves the jobs along the path from the last column.
+/// Moves the jobs along the path that ends at the last column.
 fn move_jobs(matching: &mut Matching, search: &Search, last: usize)
     requires jobs_len { vec_len matching.old.jobs ≡ last + 1 }
     requires prices_len { vec_len matching.old.prices ≡ last + 1 }
@@ -153,8 +152,9 @@ fn move_jobs(matching: &mut Matching, search: &Search, last: usize)
     );
 }
 
-/// Moves jobs along the path that ends at the last column: each column of it takes the job of the column from which it was
-/// reached, and the first one takes the last column's job. `froms` is the last column itself where a path begins.
+/// Moves the jobs along the path that ends at the last column. Each column of the path takes the job of the
+/// column from which it was reached, and the first one takes the last column's job. In `froms`, the first
+/// column of a path has the last column.
 fn shift(jobs: &mut [usize], prices: &mut [u64], froms: &[usize], ranks: &[usize], last: usize)
     requires last_is { length jobs.old ≡ last + 1 }
     requires prices_len { length prices.old ≡ last + 1 }
@@ -179,8 +179,8 @@ fn shift(jobs: &mut [usize], prices: &mut [u64], froms: &[usize], ranks: &[usize
     }
 }
 
-/// Raises all prices and duals alike, as far as the slacks of the free places allow: the next job
-/// then finds its place after fewer steps.
+/// Raises all prices and duals by the same amount, as far as the slacks of the free places allow. The next
+/// job then finds its place after fewer steps.
 pub(crate) fn lift(costs: &Costs, matching: &mut Matching, free: &[Place], slacks: &mut [u64])
     requires matched { IsFairlyMatched (cost_of costs.now) matching.old free.now }
     requires some { 0 < length free.now }
@@ -196,7 +196,7 @@ pub(crate) fn lift(costs: &Costs, matching: &mut Matching, free: &[Place], slack
     take_from_each(slacks, more);
 }
 
-/// The least of the slacks, and no more than any cost.
+/// The least of the slacks, at most [`UNABLE`].
 fn least(slacks: &[u64]) -> u64
     ensures low { result ≤ UNABLE }
     ensures least { (f : ℕ) → f < length slacks.now → result ≤ slice_index slacks.now f }
@@ -208,7 +208,7 @@ fn least(slacks: &[u64]) -> u64
     least
 }
 
-/// Takes the same from each value.
+/// Subtracts the same amount from each value.
 fn take_from_each(values: &mut [u64], less: u64)
     requires high { (f : ℕ) → f < length values.old → less ≤ slice_index values.old f }
     ensures len { length values.new ≡ length values.old }
@@ -219,7 +219,7 @@ fn take_from_each(values: &mut [u64], less: u64)
     }
 }
 
-/// Adds the same to all prices and duals.
+/// Adds the same amount to all prices and duals.
 fn lift_by(matching: &mut Matching, more: u64)
     requires prices_low { (q : ℕ) → q < vec_len matching.old.prices → slice_index matching.old.prices.items q ≤ UNABLE }
     requires duals_low { (c : ℕ) → c < vec_len matching.old.duals → slice_index matching.old.duals.items c ≤ UNABLE }
@@ -236,7 +236,7 @@ fn lift_by(matching: &mut Matching, more: u64)
     add_to_each(&mut matching.duals, more);
 }
 
-/// Adds the same to each value.
+/// Adds the same amount to each value.
 fn add_to_each(values: &mut [u64], more: u64)
     requires low { (c : ℕ) → c < length values.old → slice_index values.old c ≤ UNABLE }
     requires more_low { more ≤ UNABLE }
@@ -248,7 +248,7 @@ fn add_to_each(values: &mut [u64], more: u64)
     }
 }
 
-/// By how much all prices may rise before one is above what a place costs.
+/// The amount by which all prices may rise before one exceeds the cost of a place.
 pub(crate) fn slack(costs: &Costs, matching: &Matching, place: Place) -> u64
     requires jobs { vec_len matching.now.jobs ≡ vec_len matching.now.columns }
     requires prices { vec_len matching.now.prices ≡ vec_len matching.now.columns }

@@ -14,8 +14,8 @@ use plan_prices::{Planner, PricedWay, fair_is_best};
 use plan_problem::ClassProblem;
 use std::alloc::{AllocError, Global};
 
-/// Shows for each device the used places and the next free one. It keeps the last plan of each of some
-/// classes, and begins the next one with what is left of it.
+/// The planner that shows the used places and the next free place of each device. It keeps the last plans of
+/// some classes, and begins the next plan with the part of one that is left.
 #[derive(Debug, Drop)]
 pub struct AugmentingPaths {
     alloc: Global,
@@ -23,7 +23,7 @@ pub struct AugmentingPaths {
 }
 
 impl AugmentingPaths {
-    /// A planner that takes its memory from here.
+    /// Creates a planner that takes its memory from `alloc`.
     pub fn new(alloc: Global) -> AugmentingPaths {
         AugmentingPaths {
             alloc,
@@ -31,8 +31,8 @@ impl AugmentingPaths {
         }
     }
 
-    /// What [`Planner::plan_class`] answers, where each time is read by a look that is counted. The
-    /// looks rise by at most `J * D` for J jobs on D devices: each time is looked up once.
+    /// Returns the result of [`Planner::plan_class`], with each read of a time counted as a look. For J jobs
+    /// on D devices there are at most `J * D` looks: each time is read once.
     pub fn plan_counted<T: Times>(&mut self, times: &mut T) -> Result<PricedWay, AllocError>
         requires able { EachAble (T.class times.old) }
         requires room { T.looked times.old < 2 ^ 62 }
@@ -53,14 +53,15 @@ impl Planner for AugmentingPaths {
     }
 }
 
-/// Shows for each device all its free places. It finds what [`AugmentingPaths`] finds, in more time.
+/// The planner that shows all free places of each device. It has the same contract as [`AugmentingPaths`],
+/// and takes more time.
 #[derive(Clone, Copy, Debug)]
 pub struct DenseAugmentingPaths {
     alloc: Global,
 }
 
 impl DenseAugmentingPaths {
-    /// A planner that takes its memory from here.
+    /// Creates a planner that takes its memory from `alloc`.
     pub fn new(alloc: Global) -> DenseAugmentingPaths {
         DenseAugmentingPaths { alloc }
     }
@@ -76,8 +77,8 @@ impl Planner for DenseAugmentingPaths {
     }
 }
 
-/// A best way of the class, found where each device shows these free places. It begins with what is
-/// kept of the class, and is kept.
+/// Plans a class, with these free places of each device. It begins with the kept part of the class, and keeps
+/// the class afterwards.
 fn plan<T: Times>(
     alloc: Global,
     times: &mut T,

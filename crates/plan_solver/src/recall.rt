@@ -1,9 +1,9 @@
-//! The hint that the last plan of a class gives for the next one. None of it needs a proof: what it
-//! says is tested before it is used.
+//! The hint that the last plan of a class gives for the next one. The functions have no contracts: each guess
+//! is tested before it is used.
 //!
-//! Where printing goes as estimated, what is left of a best plan is the best plan of what is left. A
-//! job that began was the first of its device, and its time is in the device's wait now; all waits of
-//! busy devices fall by the time gone, and all prices with them.
+//! If printing goes as estimated, the rest of a best plan is the best plan of the rest. A job that began was
+//! the first of its device's list, and its time is part of the device's wait now. The waits of all busy
+//! devices fall by the time that has passed, and all prices with them.
 
 use crate::adapt::adapt;
 use crate::costs::{Place, on_device};
@@ -16,11 +16,11 @@ use crate::vacancy::vacate;
 use base_types::JobId;
 use std::alloc::{AllocError, Global};
 
-/// The most jobs that are taken out one by one. Where more have left, it isn't worth the time.
+/// The most jobs that are taken out one by one. If more have left, taking them out takes more time than it
+/// saves.
 const MOST_TAKEN: usize = 2;
 
-/// What the last plan of a class says of the jobs of the next one. Where memory is refused it says
-/// nothing.
+/// The hint for the next class by its last plan. If memory is refused, the hint is empty.
 pub(crate) fn recall(alloc: Global, kept: Option<Kept>, entries: &Entries) -> Hint {
     match kept {
         Some(kept) => match recalled(alloc, kept, entries) {
@@ -31,7 +31,7 @@ pub(crate) fn recall(alloc: Global, kept: Option<Kept>, entries: &Entries) -> Hi
     }
 }
 
-/// What the last plan says.
+/// The hint by the last plan. The only error is out of memory.
 fn recalled(alloc: Global, mut kept: Kept, entries: &Entries) -> Result<Hint, AllocError> {
     let numbers = numbers_now(alloc, &kept.ids, &entries.ids)?;
     let waits = &entries.costs.waits;
@@ -46,7 +46,7 @@ fn recalled(alloc: Global, mut kept: Kept, entries: &Entries) -> Result<Hint, Al
     Ok(Hint::new(guesses))
 }
 
-/// The number of each job of the last class in the next one, if it is there.
+/// The number in the next class of each job of the last class, if the job is still there.
 fn numbers_now(
     alloc: Global,
     before: &[JobId],
@@ -59,12 +59,12 @@ fn numbers_now(
     Ok(numbers)
 }
 
-/// The number of a job of the last class in the next one.
+/// The number in the next class of a job of the last class.
 fn number_now(numbers: &[Option<usize>], job: usize) -> Option<usize> {
     numbers.get(job).copied().flatten()
 }
 
-/// How much time has gone since, in ms: by how much the waits of most devices fell whose first job
+/// The time that has passed since, in ms: the amount by which the waits of most devices fell whose first job
 /// hasn't begun.
 fn time_gone(
     alloc: Global,
@@ -83,7 +83,7 @@ fn time_gone(
     Ok(falls.get(falls.len() / 2).copied().unwrap_or(0))
 }
 
-/// The wait of a device in the last plan, with the time of its first job if that isn't there any more.
+/// The wait of a device in the last plan, with the time of its first job if that job isn't there any more.
 fn wait_with(kept: &Kept, numbers: &[Option<usize>], device: usize, job: usize) -> u64 {
     let wait = on_device(&kept.costs.waits, device);
     match number_now(numbers, job) {
@@ -92,7 +92,7 @@ fn wait_with(kept: &Kept, numbers: &[Option<usize>], device: usize, job: usize) 
     }
 }
 
-/// The column before all others of a device.
+/// The first column of a device: the column with the most places behind it.
 fn first_column(matching: &Matching, device: usize) -> Option<usize> {
     let mut first = None;
     let mut most = 0;
@@ -105,12 +105,12 @@ fn first_column(matching: &Matching, device: usize) -> Option<usize> {
     first
 }
 
-/// The job there.
+/// The first job of a device.
 fn first_job(matching: &Matching, device: usize) -> Option<usize> {
     matching.jobs.get(first_column(matching, device)?).copied()
 }
 
-/// Takes out each job that began: the first one of a device whose wait has grown.
+/// Takes out each job that began: the first job of a device whose wait has grown.
 fn take_begun(kept: &mut Kept, numbers: &[Option<usize>], waits: &[u64], gone: u64) {
     for device in 0..waits.len() {
         let Some(column) = first_column(&kept.matching, device) else {
@@ -124,7 +124,7 @@ fn take_begun(kept: &mut Kept, numbers: &[Option<usize>], waits: &[u64], gone: u
     }
 }
 
-/// Takes out the first job of a device, whose time is a part of the device's wait from then on.
+/// Takes out the first job of a device, and adds the job's time to the device's wait.
 fn begin(kept: &mut Kept, device: usize, column: usize, job: usize) {
     let time = on_device(kept.costs.row(job), device);
     if let Some(wait) = kept.costs.waits.get_mut(device) {
@@ -139,7 +139,7 @@ fn begin(kept: &mut Kept, device: usize, column: usize, job: usize) {
     drop_column(matching, column);
 }
 
-/// Takes out a column and its job, and puts the last column in its place.
+/// Removes a column and its job, and moves the last column to its place.
 pub(crate) fn drop_column(matching: &mut Matching, column: usize) {
     drop_at(&mut matching.columns, column);
     drop_at(&mut matching.duals, column);
@@ -147,14 +147,14 @@ pub(crate) fn drop_column(matching: &mut Matching, column: usize) {
     drop_at(&mut matching.prices, column);
 }
 
-/// Takes out an element, and puts the last one in its place.
+/// Removes an element, and moves the last one to its place.
 fn drop_at<T: Drop>(items: &mut Vec<T>, at: usize) {
     if at < items.len() {
         items.swap_remove(at);
     }
 }
 
-/// Takes out the jobs that left in another way, up to some.
+/// Takes out jobs that left in another way, at most [`MOST_TAKEN`].
 fn take_left(alloc: Global, kept: &mut Kept, numbers: &[Option<usize>]) -> Result<(), AllocError> {
     for _ in 0..MOST_TAKEN {
         let Some(column) = left_column(&kept.matching, numbers) else {
@@ -173,7 +173,7 @@ fn left_column(matching: &Matching, numbers: &[Option<usize>]) -> Option<usize> 
         .position(|job| number_now(numbers, *job).is_none())
 }
 
-/// The columns whose jobs are still there, with the numbers that those have now.
+/// The columns whose jobs are still there, with the numbers of the jobs in the next class.
 fn renumbered(
     alloc: Global,
     before: &Matching,
@@ -198,7 +198,7 @@ fn renumbered(
     Ok(matching)
 }
 
-/// The guesses for so many jobs.
+/// The guesses for this many jobs.
 fn guesses(
     alloc: Global,
     matching: &Matching,
@@ -213,7 +213,7 @@ fn guesses(
     Ok(guesses)
 }
 
-/// Notes the guess of a job.
+/// Sets the guess of a job.
 fn note(guesses: &mut [Option<Guess>], number: usize, place: Place, price: u64) {
     if let Some(guess) = guesses.get_mut(number) {
         *guess = Some(Guess { place, price });

@@ -1,5 +1,4 @@
-//! The search for the nearest free place: shortest ways from the new job, over the columns that
-//! others would leave.
+//! The search for the nearest free place: shortest ways from the new job, over columns whose jobs would move.
 ghost use Rattle.std.specs.Prelude.{◌≡◌, ◌≢◌, ℕ, ◌+◌, ◌-◌, ◌<◌, ◌≤◌, ◌⊎◌, length, slice_index, slice_index_or, slice_set, vec_len, [], IfOk};
 ghost use Rattle.plan_solver.specs.Costs.{cost_at, cost_of, nowhere};
 ghost use Rattle.plan_solver.specs.DeviceColumns.{AreColumnsOf, AreByDevice};
@@ -13,10 +12,10 @@ use std::alloc::{AllocError, Global};
 
 pub(crate) const UNSETTLED: usize = usize::MAX;
 
-/// Farther than any column.
+/// A length above that of any column.
 const FAR: u64 = 4 * UNABLE;
 
-/// The nearest free place: how far, which one, and the column from which it is reached.
+/// The nearest free place: its length, its number, and the column from which it is reached.
 #[derive(Clone, Copy, Debug)]
 pub(crate) struct Exit {
     pub(crate) length: u64,
@@ -24,7 +23,7 @@ pub(crate) struct Exit {
     pub(crate) from: usize,
 }
 
-/// A settled column: which one, how far it is, and what its job is charged.
+/// A settled column: its number, its length, and its job's charge.
 #[derive(Clone, Copy, Debug)]
 struct Origin {
     column: usize,
@@ -32,8 +31,8 @@ struct Origin {
     price: u64,
 }
 
-/// The ways from a settled column: how far the column is, what its job is charged, and the charge from
-/// which on a place is no nearer than the exit.
+/// The ways from a settled column: its length, its job's charge, and the charge from which on a place isn't
+/// nearer than the exit.
 #[derive(Clone, Copy, Debug)]
 struct Ways {
     origin: usize,
@@ -42,8 +41,8 @@ struct Ways {
     most: u64,
 }
 
-/// The search so far: of each column how far it is, from which one it was reached and as which one it
-/// was settled, and of each free place how far it is. The first `count` entries of `reached` are the
+/// The state of the search: for each column its length, the column from which it was reached and the rank in
+/// which it was settled; for each free place its length. The first `count` entries of `reached` are the
 /// columns that were reached.
 #[derive(Debug, Drop)]
 pub(crate) struct Search {
@@ -57,7 +56,7 @@ pub(crate) struct Search {
     pub(crate) settled: usize,
 }
 
-/// A search from the new job for one of so many places, before any way is taken.
+/// Creates a search from the new job for one of `places` places, before any way is taken.
 fn blank(alloc: Global, new: usize, len: usize, places: usize) -> Result<Search, AllocError>
     requires { len ≡ new + 1 }
     ensures { IfOk result (λ x. IsBlank new places x) }
@@ -86,7 +85,7 @@ fn blank(alloc: Global, new: usize, len: usize, places: usize) -> Result<Search,
     })
 }
 
-/// The search with the new job's own ways taken.
+/// Creates a search, and takes the ways of the new job.
 fn begin(
     alloc: Global,
     costs: &Costs,
@@ -111,7 +110,7 @@ fn begin(
     Ok(search)
 }
 
-/// The shortest ways from the new job, as far as the nearest free place.
+/// Finds the shortest ways from the new job, as far as the nearest free place.
 pub(crate) fn search_exit(
     alloc: Global,
     costs: &Costs,
@@ -139,8 +138,8 @@ pub(crate) fn search_exit(
     }
 }
 
-/// The nearest of the unsettled columns that are nearer than the exit, if there is one. It is one of
-/// those that were reached.
+/// The nearest unsettled column that is nearer than the exit, if there is one. It is among the columns that
+/// were reached.
 fn nearest(search: &Search, columns: usize) -> Option<usize>
     requires listed { IsListed search.now }
     requires lengths_in { vec_len search.now.lengths ≡ columns + 1 }
@@ -197,8 +196,7 @@ fn settle(
     relax(costs, by_device, matching, search, c);
 }
 
-/// Shortens the lengths of the unsettled columns that are nearer than the exit, and nearest so far, by
-/// way of the job at `q`.
+/// Shortens the lengths of the unsettled columns that are nearer than the exit, by ways over the job at `q`.
 fn relax(
     costs: &Costs,
     by_device: &[DeviceColumns],
@@ -249,8 +247,8 @@ fn relax(
     }
 }
 
-/// Shortens the lengths of one device's columns as [`relax`] does, for a job with these times. Once
-/// nothing is left of the most that a place may be charged, nothing is for each place before it.
+/// Shortens the lengths of one device's columns, as [`relax`] does, for a job with these times. Once the cost
+/// of a place reaches the most that a place may be charged, so does the cost of each place before it.
 fn relax_device(
     waits: &[u64],
     row: &[u64],
@@ -292,8 +290,8 @@ fn relax_device(
     }
 }
 
-/// Reaches the column `c` with this dual by one of the ways, where that is nearer than the exit: its
-/// place is charged what is left of the most.
+/// Reaches the column `c`, with this dual, over a settled column, if that is nearer than the exit. `left` is
+/// what is left of the most that a place may be charged.
 #[inline]
 fn take_way(search: &mut Search, c: usize, dual: u64, left: u64, ways: Ways)
     requires lengths_in { c + 1 < vec_len search.old.lengths }
@@ -321,8 +319,7 @@ fn take_way(search: &mut Search, c: usize, dual: u64, left: u64, ways: Ways)
     }
 }
 
-/// Reaches the column `c` by way of `q`, over the given length, where it is unsettled and that is
-/// shorter.
+/// Reaches the column `c` from `q` with a length, if `c` is unsettled and the length is shorter.
 fn reach_column(search: &mut Search, c: usize, length: u64, q: usize)
     requires lengths_in { c + 1 < vec_len search.old.lengths }
     requires froms_in { c < vec_len search.old.froms }
@@ -344,7 +341,7 @@ fn reach_column(search: &mut Search, c: usize, length: u64, q: usize)
     }
 }
 
-/// Lists the column `c` as one that is reached, unless one of the ways before reached it.
+/// Appends the column `c` to those that were reached, unless an earlier way reached it.
 fn note_column(search: &mut Search, c: usize)
     requires lengths_in { c < vec_len search.old.lengths }
     requires listed { IsListed search.old }
@@ -358,7 +355,7 @@ fn note_column(search: &mut Search, c: usize)
     }
 }
 
-/// Takes the ways of the job at `q` to the free places, and the nearest of them where it is nearer.
+/// Takes the ways of the job at `q` to the free places, and updates the exit if one of these ways is shorter.
 fn leave(costs: &Costs, matching: &Matching, free: &[Place], search: &mut Search, q: usize)
     requires sizes { IsSized matching.now search.old }
     requires one_each { vec_len search.old.nears ≡ length free.now }
@@ -386,7 +383,7 @@ fn leave(costs: &Costs, matching: &Matching, free: &[Place], search: &mut Search
     search.exit = nearest_free(costs, job, origin, free, &mut search.nears, search.exit);
 }
 
-/// The nearest free place so far, with the ways of a job taken.
+/// The nearest free place so far, after the ways of a job are taken.
 fn nearest_free(
     costs: &Costs,
     job: usize,

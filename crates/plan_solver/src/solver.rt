@@ -1,4 +1,4 @@
-//! The planner that looks at the places up to the next free one of each device.
+//! The planner that searches the places up to the next free place of each device.
 ghost use Rattle.std.specs.Prelude.{◌≡◌, ℕ, ◌<◌, [], ◌∷◌, ◌++◌, IfOk, OnOk, length, vec_len, slice_index_or, slice_set};
 ghost use Rattle.std.specs.List.{range_with_len};
 ghost use Rattle.std.specs.List.Sorted.{IsPermutation};
@@ -15,8 +15,8 @@ use crate::hint::Hint;
 use crate::matching::{Matching, augment, lift, slack};
 use std::alloc::{AllocError, Global};
 
-/// Matches all jobs, one by one, where each device shows its next free place alone. Those that can stay
-/// where the hint says are matched there first.
+/// Matches all jobs, one by one, with only the next free place of each device. The jobs that can stay at
+/// their hinted places are matched there first.
 pub(crate) fn solve(alloc: Global, costs: &Costs, hint: &Hint) -> Result<Matching, AllocError>
     requires { 0 < vec_len costs.now.rows → 0 < vec_len costs.now.waits }
     ensures filled { IfOk result (λ s. IsFilled costs.now s) }
@@ -43,7 +43,7 @@ pub(crate) fn solve(alloc: Global, costs: &Costs, hint: &Hint) -> Result<Matchin
     Ok(matching)
 }
 
-/// Matches one job more, and shows the place before the one that is taken then.
+/// Matches one more job, and replaces the free place that it took by the place before it.
 fn add_job(
     alloc: Global,
     costs: &Costs,

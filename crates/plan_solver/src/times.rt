@@ -1,4 +1,4 @@
-//! The times that a planner reads, and how often it looked.
+//! The times that a planner reads, with the number of its looks.
 ghost use Rattle.std.specs.Prelude.{◌≡◌, ℕ, ◌+◌, ◌*◌, ◌^◌, ◌<◌, ◌≤◌, [], IfOk, None, length, slice_index_or};
 ghost use Rattle.plan_problem.specs.Class.{Class, IsClass, place_of, time_in};
 ghost use Rattle.plan_solver.specs.Entries.{IsRead, IsReadRow};
@@ -8,7 +8,7 @@ use base_types::{DeviceId, JobId};
 use plan_problem::ClassProblem;
 use std::alloc::{AllocError, Global};
 
-/// A class problem whose time entries are read one at a time, and each look counted.
+/// A class problem whose times are read one by one. Each read is counted as a look.
 pub trait Times {
     ghost use Rattle.std.specs.Prelude.{ℕ};
     ghost use Rattle.plan_problem.specs.Class.{Class};
@@ -17,7 +17,7 @@ pub trait Times {
 
     ghost looked: { Self → ℕ };
 
-    /// The jobs, by rising id.
+    /// The jobs of the class, by rising id.
     fn ids(&self) -> &[JobId]
         ensures ids { result.now ≡ (class self.now).ids }
         ensures class { IsClass (class self.now) };
@@ -26,11 +26,11 @@ pub trait Times {
     fn waits(&self) -> &[u64]
         ensures { result.now ≡ (class self.now).waits };
 
-    /// How often an entry was looked at.
+    /// The number of looks.
     fn looks(&self) -> u64
         ensures { result ≡ looked self.now };
 
-    /// The time of a job on a device in ms, none where the device is not able. It is one look.
+    /// The time of a job on a device in ms, `None` if the device isn't able. It is one look.
     fn time(&mut self, job: JobId, device: DeviceId) -> Option<u64>
         requires { looked self.old < 2 ^ 63 }
         ensures time { result ≡ time_in (class self.old) job device }
@@ -38,8 +38,8 @@ pub trait Times {
         ensures looked { looked self.new ≡ looked self.old + 1 };
 }
 
-/// A class problem, how often one of its entries was looked at, and where the job of the last look
-/// stands: the next look mostly asks for the same one.
+/// A class problem, the number of looks at its times, and the place of the job of the last look, since the
+/// next look mostly is at the same job.
 #[derive(Debug, Drop)]
 pub struct Counted<'a> {
     class: &'a ClassProblem,
@@ -48,7 +48,7 @@ pub struct Counted<'a> {
 }
 
 impl<'a> Counted<'a> {
-    /// The class problem, not looked at yet.
+    /// A class problem without a look.
     pub fn new(class: &'a ClassProblem) -> Counted<'a>
         ensures class { result.class.now ≡ class.now }
         ensures looks { result.looks ≡ 0 }
@@ -85,8 +85,8 @@ impl<'a> Times for Counted<'a> {
     }
 }
 
-/// Where a job stands in the class, or the number of its jobs where it is none of them. The place
-/// `near` is looked at first.
+/// The place of a job in the class, or the number of jobs if the job isn't in the class. The place `near` is
+/// tried first.
 fn place_near(class: &ClassProblem, job: JobId, near: usize) -> usize
     ensures { result ≡ place_of class.now.ids job }
 {
@@ -100,7 +100,7 @@ fn place_near(class: &ClassProblem, job: JobId, near: usize) -> usize
     }
 }
 
-/// The entry of a row of the class; none where there is no such row.
+/// The entry of a row of the class; `None` if there is no such row.
 fn entry(class: &ClassProblem, place: usize, device: DeviceId) -> Option<u64>
     ensures { result ≡ slice_index_or (slice_index_or class.now.rows place []) device None }
 {
@@ -117,7 +117,7 @@ pub(crate) struct Entries {
     pub(crate) costs: Costs,
 }
 
-/// Reads each entry once.
+/// Reads each time once. The only error is out of memory.
 pub(crate) fn read<T: Times>(alloc: Global, times: &mut T) -> Result<Entries, AllocError>
     requires room { T.looked times.old < 2 ^ 62 }
     ensures read { IfOk result (λ entries. IsRead (T.class times.old) entries) }
@@ -137,7 +137,7 @@ pub(crate) fn read<T: Times>(alloc: Global, times: &mut T) -> Result<Entries, Al
     })
 }
 
-/// Reads the times of a job.
+/// Reads the times of a job. The only error is out of memory.
 fn read_row<T: Times>(
     alloc: Global,
     times: &mut T,

@@ -1,17 +1,17 @@
-//! A column whose job has left: its dual is lowered to nothing along the shortest way to a place before
-//! all others of a device, over which jobs move nearer to the column. None of it needs a proof, since it
-//! only makes a hint better.
+//! The vacancy of a column whose job has left. The column's dual is lowered to 0 along the shortest way to
+//! the first place of a device; jobs move along the way towards the column. The functions have no contracts:
+//! they only make a hint better.
 
 use crate::costs::{Costs, on_device};
 use crate::matching::Matching;
 use crate::recall::drop_column;
 use std::alloc::{AllocError, Global};
 
-/// Farther than any column.
+/// A length above that of any column.
 const FAR: u64 = u64::MAX / 4;
 
-/// The ways so far: of each column how far it is, from which one it was reached and whether it is
-/// settled, and where a way ends so far, and how far that is.
+/// The ways so far: for each column its length, the column from which it was reached and whether it is
+/// settled; and the end of the shortest way so far with its length.
 #[derive(Debug, Drop)]
 struct Ways {
     lengths: Vec<u64>,
@@ -21,10 +21,11 @@ struct Ways {
     end: usize,
 }
 
-/// Takes out the job of a column, and moves others so that prices stay fair.
+/// Takes out the job of a column, and moves others to keep the prices fair.
 ///
-/// All duals and prices fall by the least dual first, which leaves them as fair as they were. So a way may end
-/// where nothing is left to lower, and the search need not settle all that is no farther than that.
+/// First all duals and prices are lowered by the least dual, which leaves them as fair as they were.
+/// Therefore a way may end where the dual is 0, and the search needn't settle all columns that are no farther
+/// than that end.
 pub(crate) fn vacate(
     alloc: Global,
     costs: &Costs,
@@ -58,7 +59,7 @@ pub(crate) fn vacate(
     Ok(())
 }
 
-/// The nearest of the columns that aren't settled, where it is nearer than the end.
+/// The nearest column that isn't settled, if it is nearer than the end.
 fn nearest(ways: &Ways) -> Option<usize> {
     let mut nearest = None;
     let mut least = ways.least;
@@ -71,7 +72,7 @@ fn nearest(ways: &Ways) -> Option<usize> {
     nearest
 }
 
-/// The times of all columns' jobs, device by device, of which none is read yet.
+/// Empty lists for the times of the columns' jobs, one for each device.
 fn no_times(alloc: Global, devices: usize) -> Result<Vec<Vec<u64>>, AllocError> {
     let mut times = Vec::with_capacity(alloc, devices)?;
     for _ in 0..devices {
@@ -80,8 +81,8 @@ fn no_times(alloc: Global, devices: usize) -> Result<Vec<Vec<u64>>, AllocError> 
     Ok(times)
 }
 
-/// Reads the times of all columns' jobs on the device of a column, unless that is done: they lie apart,
-/// each in the row of its job.
+/// Reads the times of all columns' jobs on the device of a column, if they aren't read yet. The times are
+/// apart in memory, each in the row of its job.
 fn read_times(
     costs: &Costs,
     matching: &Matching,
@@ -125,7 +126,7 @@ fn settle(costs: &Costs, matching: &Matching, times: &[Vec<u64>], ways: &mut Way
     }
 }
 
-/// Reaches a column from another one, where that is the shortest way so far.
+/// Reaches a column from another column, if this way is the shortest so far.
 fn reach(matching: &Matching, ways: &mut Ways, other: usize, column: usize, length: u64) {
     if ways.lengths.get(other).copied().unwrap_or(0) <= length {
         return;
@@ -139,7 +140,7 @@ fn reach(matching: &Matching, ways: &mut Ways, other: usize, column: usize, leng
     }
 }
 
-/// The least of the values; nothing, where there is none.
+/// The least of the values; 0 if there are none.
 fn least(values: &[u64]) -> u64 {
     let mut least = values.first().copied().unwrap_or(0);
     for value in values {
@@ -148,21 +149,21 @@ fn least(values: &[u64]) -> u64 {
     least
 }
 
-/// Lowers each value by the same.
+/// Lowers each value by the same amount.
 fn lower_all(values: &mut [u64], less: u64) {
     for value in values.iter_mut() {
         *value = (*value).saturating_sub(less);
     }
 }
 
-/// Lowers the value of each column by how much nearer than the end it is.
+/// Lowers the value of each column by the amount by which it is nearer than the end.
 fn lower(values: &mut [u64], ways: &Ways) {
     for (value, length) in values.iter_mut().zip(ways.lengths.iter()) {
         *value = (*value).saturating_sub(ways.least.saturating_sub(*length));
     }
 }
 
-/// Moves each job on the way to the end to the column from which its own was reached.
+/// Moves each job on the way to the end to the column from which its own column was reached.
 fn move_jobs(matching: &mut Matching, ways: &Ways, hole: usize) {
     let mut job = matching.jobs.get(ways.end).copied().unwrap_or(0);
     let mut price = matching.prices.get(ways.end).copied().unwrap_or(0);

@@ -1,4 +1,4 @@
--- what public clauses say
+-- the definitions of public clauses
 pub mod NamedPlan
 pub mod Writing
 pub mod Summary
@@ -6,7 +6,7 @@ pub mod Ranges
 pub mod TextOf
 pub mod Reading
 pub mod Whole
--- what private functions say of lines and of a reader's steps
+-- the definitions of private functions, of lines and of a reader's steps
 pub mod Word
 pub mod Line
 pub mod Steps

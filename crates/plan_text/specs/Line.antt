@@ -1,5 +1,4 @@
--- The lines of a plan's text, each by itself. The form of all its words is judged first, then the
--- ranges of its numbers; which line may follow which is judged elsewhere.
+-- The lines of a plan's text, each by itself. The form of all words of a line is checked first, then the ranges of its numbers. `Steps.antt` says which line may follow which.
 use Rattle.std.specs.Prelude.{ℕ, ℤ, ◌&&◌, List, [], ◌∷◌, Option, Result, Ok, Err, if◌then◌else◌, codes}
 use Rattle.std.specs.List.{list_all}
 use Rattle.std.specs.Str.{bytes_eq}
@@ -14,7 +13,7 @@ use Rattle.text.specs.Steps.{◌>>=◌}
 use Rattle.text.specs.Digits.{is_number}
 use Rattle.plan_text.specs.Word.{number_at, numbers_at, is_entry, entries_at, is_price, prices_at, cause_at}
 
--- what a line says
+-- the content of a line
 pub data Said : Type 0 where
   SaysPlan : Said
   SaysDevice : (name : List ℕ) → Said
@@ -28,7 +27,7 @@ pub data Said : Type 0 where
   SaysStranded : Stranded → Said
   SaysEnd : Said
 
--- what a line that was read says
+-- the content of a line that was read
 abbrev pub said_by : Line → Said
 said_by lines.Plan = SaysPlan
 said_by (lines.Device name) = SaysDevice name
@@ -42,19 +41,19 @@ said_by (lines.PlacePrices device prices) = SaysPlacePrices device prices.items
 said_by (lines.Stranded stranded) = SaysStranded stranded
 said_by lines.End = SaysEnd
 
--- what may stand after the first word of each line; an empty word is no number and no name
+-- the words behind the first word of each line; an empty word is neither a number nor a name
 
 abbrev pub alone_at : Said → List (List ℕ) → Result Said TextFault
 alone_at line [] = Ok line
 alone_at line (word ∷ words) = Err BadLine
 
--- the one word
+-- the word, if there is exactly one
 abbrev pub only_word : List (List ℕ) → Result (List ℕ) TextFault
 only_word [] = Err BadLine
 only_word (word ∷ []) = Ok word
 only_word (word ∷ next ∷ words) = Err BadLine
 
--- the first word, and those after it
+-- the first word, and the words behind it
 abbrev pub first_word : List (List ℕ) → Result (List ℕ × List (List ℕ)) TextFault
 first_word [] = Err BadLine
 first_word (word ∷ words) = Ok (word, words)
@@ -97,7 +96,7 @@ stranded_at words = first_word words >>= λ w.
     (only_word w.1 >>= λ word. (cause_at word >>= λ cause. (number_at 1 LAST_JOB_ID w.0 >>= λ id.
     Ok (SaysStranded (record { job = id; cause = cause })))))
 
--- a line by its first word
+-- the content of a line, by its first word
 unfoldable pub line_of : List ℕ → List (List ℕ) → Result Said TextFault
 line_of first words =
     if bytes_eq first (codes "plan") then alone_at SaysPlan words
@@ -113,6 +112,6 @@ line_of first words =
     else if bytes_eq first (codes "end") then alone_at SaysEnd words
     else Err BadLine
 
--- what a line of these words says, or its fault
+-- the content of a line of these words, or its fault
 abbrev pub line_at : List (List ℕ) → Result Said TextFault
 line_at words = first_word words >>= λ w. line_of w.0 w.1

@@ -11,7 +11,7 @@ pub record NamedPlan : Type 0 where
 abbrev pub name_at : List (List ℕ) → ℕ → List ℕ
 name_at names place = slice_index_or names place []
 
--- a class has a way and place prices for each device
+-- the class has a way and place prices for each device
 pub record HasOneEach (devices : List (List ℕ)) (c : PlannedClass) : Type 0 where
   pub ways : length c.priced.way ≡ length devices
   pub places : length c.priced.prices.places ≡ length devices

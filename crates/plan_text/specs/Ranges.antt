@@ -1,4 +1,4 @@
--- The plans that a text can say: their numbers, names and orders.
+-- The plans that a text can have, by their numbers, names and orders.
 use Rattle.std.specs.Prelude.{◌≡◌, ℕ, ℤ, ◌+◌, ◌<◌, ◌≤◌, ◌≤ℤ◌, pos, neg_ℤ, IsTrue, List, [], ◌∷◌, length, All}
 use Rattle.base_types.specs.declared.limits.TheConstants.Limits.{HIGHEST_PRIORITY, UNFINISHED_JOBS, DEVICES, AMOUNT}
 use Rattle.base_types.specs.Forms.{is_name}
@@ -11,7 +11,7 @@ use Rattle.plan_text.specs.NamedPlan.{NamedPlan}
 abbrev pub IsPrice : ℤ → Type 0
 IsPrice price = (neg_ℤ (pos AMOUNT) ≤ℤ price) × (price ≤ℤ pos AMOUNT)
 
--- a class of jobs on so many devices: it has a wait, a way and place prices for each of them
+-- the class is within the limits for `devices` devices: it has a wait, a way and place prices for each of them
 pub record IsClassInRange (devices : ℕ) (c : PlannedClass) : Type 0 where
   pub priority : IsPriority c.priority
   pub problem : IsClass c.problem
@@ -24,17 +24,17 @@ pub record IsClassInRange (devices : ℕ) (c : PlannedClass) : Type 0 where
   pub places : length c.priced.prices.places ≡ devices
   pub place_prices : All (All IsPrice) c.priced.prices.places
 
--- the priorities fall, the first of them below a number
+-- the priorities fall, and the first of them is below a number
 abbrev pub PrioritiesFall : ℕ → List PlannedClass → Type 0
 PrioritiesFall below [] = Unit {0}
 PrioritiesFall below (c ∷ classes) = (c.priority < below) × PrioritiesFall c.priority classes
 
--- the ids rise, the first of them above a number
+-- the ids rise, and the first of them is above a number
 abbrev pub StrandedRise : ℕ → List Stranded → Type 0
 StrandedRise above [] = Unit {0}
 StrandedRise above (s ∷ stranded) = (above < s.job) × StrandedRise s.job stranded
 
--- the jobs of all classes
+-- the number of jobs of all classes
 abbrev pub jobs_in : List PlannedClass → ℕ
 jobs_in [] = 0
 jobs_in (c ∷ classes) = length c.problem.ids + jobs_in classes

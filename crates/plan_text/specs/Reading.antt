@@ -1,11 +1,11 @@
--- Reading step by step: each step gives a value, or the fault of the text.
+-- Reading step by step: each step has a value, or the fault of the text.
 use Rattle.std.specs.Prelude.{◌≡◌, List, ◌++◌, Result, Ok, Err}
 use Rattle.text.specs.Steps.{◌>>=◌}
 use Rattle.plan_text.specs.declared.fault.TextFault.{TextFault}
 use Rattle.plan_text.specs.declared.fault.ReadError.{ReadError}
 use Rattle.plan_text.specs.declared.fault.ReadError.TheVariants as errors
 
--- what a function returned, seen by view, is what reading gives, unless memory ran out
+-- the result of a function, seen by its view, is what the definition reads, unless memory ran out
 abbrev pub Fails : {Y : Type 0} → ReadError → Result Y TextFault → Type 0
 Fails errors.OutOfMemory read = Unit {0}
 Fails (errors.Fault fault) read = read ≡ Err fault
@@ -14,6 +14,6 @@ abbrev pub Gives : {X Y : Type 0} → (X → Y) → Result X ReadError → Resul
 Gives view (Ok x) read = read ≡ Ok (view x)
 Gives view (Err error) read = Fails error read
 
--- with these in front of what reading gives
+-- the values of the reading, with these in front
 abbrev pub with_front : {X : Type 0} → List X → Result (List X) TextFault → Result (List X) TextFault
 with_front front read = read >>= λ xs. Ok (front ++ xs)

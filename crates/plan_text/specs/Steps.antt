@@ -1,6 +1,4 @@
--- The steps of a reader of a plan's text: what it has heard, and how each line that is read changes that.
--- Only private functions cite them, and which fault a text has rests on them. Which texts are plans
--- doesn't: a text is one exactly where it is the text of that plan (`TextOf.antt`), by a law.
+-- The steps of a reader of a plan's text: its state, and the change that each line makes of it. Only private functions cite them, and they determine the fault of a text. Whether a text is that of a plan doesn't depend on them: by a law it is if and only if it is the text of that plan (`TextOf.antt`).
 use Rattle.std.specs.Prelude.{◌≡◌, ◌==◌, ◌&&◌, ◌+◌, not, ℕ, ℤ, Bool, true, List, [], ◌∷◌, ◌++◌, length, slice_index_or, nat_le, nat_lt, Result, Ok, Err, Option, Some, None, if◌then◌else◌}
 use Rattle.std.specs.List.{list_all}
 use Rattle.std.specs.Str.{bytes_eq}
@@ -30,10 +28,7 @@ pub record Opened : Type 0 where
   pub job_prices : List ℤ
   pub place_prices : List (List ℤ)
 
--- what the lines so far have said: the stage that they have reached, the names of the devices, the
--- whole classes, the stranded jobs, how many lines of jobs and stranded jobs there were, what the
--- priority of the next class must be below, what the next id must be above, and the class that is
--- being read
+-- the state after the lines so far: the stage, the names of the devices, the whole classes, the stranded jobs, the number of lines of jobs and stranded jobs, the bound below which the priority of the next class is, the bound above which the next id is, and the class that is being read
 pub record Heard : Type 0 where
   pub stage : Stage
   pub devices : List (List ℕ)
@@ -62,11 +57,11 @@ stage_number stages.Ended = 7
 abbrev pub is_at : Heard → Stage → Bool
 is_at heard stage = stage_number heard.stage == stage_number stage
 
--- whether there are as many of these as devices
+-- whether the list has one entry for each device
 abbrev pub one_each : {X : Type 0} → Heard → List X → Bool
 one_each heard xs = length xs == length heard.devices
 
--- whether the device at this place has this name
+-- whether the device at a place has a name
 abbrev pub is_named : Heard → ℕ → List ℕ → Bool
 is_named heard place name = nat_lt place (length heard.devices) && bytes_eq (slice_index_or heard.devices place []) name
 
@@ -80,7 +75,7 @@ device_next heard name =
     else if nat_lt (length heard.devices) DEVICES then Ok (record heard { devices = heard.devices ++ name ∷ [] })
     else Err OutOfRange
 
--- whether ids rise
+-- whether the ids rise
 abbrev pub rises : List ℕ → Bool
 rises [] = true
 rises (id ∷ []) = true
@@ -97,7 +92,7 @@ is_row devices row = (length row == devices) && list_all is_time row
 unfoldable pub is_wait : ℕ → Bool
 is_wait wait = nat_le wait WAIT
 
--- whether lists are the problem of a class
+-- whether the lists are the problem of a class
 unfoldable pub is_problem : Class → Bool
 is_problem c =
     nat_le (length c.ids) UNFINISHED_JOBS && nat_le (length c.waits) DEVICES && (length c.rows == length c.ids)
@@ -113,11 +108,11 @@ planned opened = record {
   priced = record { way = opened.queues; prices = record { jobs = opened.job_prices; places = opened.place_prices }; total = opened.total };
 }
 
--- the class that was being read stands with those before
+-- the state with the class that was being read among the whole classes
 abbrev pub opened_kept : Heard → Heard
 opened_kept heard = record heard { classes = heard.classes ++ planned heard.opened ∷ []; last = 0; opened = opened_at heard.opened.priority }
 
--- so it does once its lines are all there
+-- the same, if all lines of that class were read
 unfoldable pub closed : Heard → Result Heard TextFault
 closed heard =
     if is_at heard stages.Devices then Ok heard
@@ -134,7 +129,7 @@ class_opened heard priority =
 unfoldable pub class_next : Heard → ℕ → Result Heard TextFault
 class_next heard priority = closed heard >>= λ whole. class_opened whole priority
 
--- whether a line of a job may still come, and its id is above the one before
+-- whether a further line of a job may come, and its id is above the id of the job before
 abbrev pub may_have : Heard → ℕ → Bool
 may_have heard id = nat_lt heard.jobs UNFINISHED_JOBS && nat_lt heard.last id
 
@@ -175,7 +170,7 @@ place_prices_next heard name prices =
     then Ok (record heard { opened = record heard.opened { place_prices = heard.opened.place_prices ++ prices ∷ [] } })
     else Err BadLine
 
--- a stranded job comes after another, or after the classes
+-- the state in which a stranded job may come: after another, or after the classes
 unfoldable pub classes_over : Heard → Result Heard TextFault
 classes_over heard = if is_at heard stages.Stranded then Ok heard else closed heard
 
@@ -191,7 +186,7 @@ stranded_next heard stranded = classes_over heard >>= λ whole. stranded_added w
 unfoldable pub end_next : Heard → Result Heard TextFault
 end_next heard = classes_over heard >>= λ whole. Ok (record whole { stage = stages.Ended })
 
--- what has been heard once a line has said this
+-- the state after a line with this content
 abbrev pub next : Heard → Said → Result Heard TextFault
 next heard SaysPlan = plan_next heard
 next heard (SaysDevice name) = device_next heard name
@@ -205,7 +200,7 @@ next heard (SaysPlacePrices device prices) = place_prices_next heard device pric
 next heard (SaysStranded stranded) = stranded_next heard stranded
 next heard SaysEnd = end_next heard
 
--- what a reader has heard
+-- the state of a reader
 abbrev pub opened_of : OpenClass → Opened
 opened_of open' = record {
   priority = open'.priority;
@@ -230,7 +225,7 @@ heard_by draft = record {
   opened = opened_of draft.opened;
 }
 
--- what a step of a reader leaves, unless memory ran out
+-- the result of a reader's step, unless memory ran out
 abbrev pub Leaves : {X : Type 0} → Result X ReadError → Heard → Result Heard TextFault → Type 0
 Leaves (Ok x) new heard = heard ≡ Ok new
 Leaves (Err error) new heard = Fails error heard

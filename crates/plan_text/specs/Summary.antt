@@ -1,4 +1,4 @@
--- The words by which a played trace and a server's log tell of a plan, and of a job and its device.
+-- The words for a plan, and for a job and its device, in a played trace and in a server's log.
 use Rattle.std.specs.Prelude.{ℕ, List, ◌++◌, codes}
 use Rattle.std.specs.Fmt.{decimal}
 use Rattle.base_types.specs.declared.needs.Stranded.{Stranded}
@@ -9,10 +9,10 @@ use Rattle.plan_text.specs.Writing.{cause_word}
 abbrev pub class_word : ℕ → ℕ → List ℕ
 class_word priority total = codes " " ++ (decimal priority ++ (codes ":" ++ decimal total))
 
--- a job that no device can print, and why
+-- a job that no device can print, with its cause
 abbrev pub stranded_word : Stranded → List ℕ
 stranded_word stranded = codes " -" ++ (decimal stranded.job ++ (codes ":" ++ cause_word stranded.cause))
 
--- what happens to a job, its id, and the name of its device
+-- a word, the id of a job, and the name of its device
 abbrev pub job_words : List ℕ → List (List ℕ) → ℕ → ℕ → List ℕ
 job_words word names job device = word ++ (codes " " ++ (decimal job ++ (codes " " ++ name_at names device)))

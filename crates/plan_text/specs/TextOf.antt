@@ -1,4 +1,4 @@
--- A text that is the text of a plan: the grammar of plans' texts, which knows no reader.
+-- The texts of plans, defined without a reader.
 use Rattle.std.specs.Prelude.{ℕ, ◌≡◌, List}
 use Rattle.plan_text.specs.NamedPlan.{NamedPlan}
 use Rattle.plan_text.specs.Writing.{plan_text}

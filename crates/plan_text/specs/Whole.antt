@@ -1,6 +1,4 @@
--- The plan that a text is, or the fault of its first faulty line: its lines are read in turn, each a step
--- from what was heard before it. The text of a plan is read as that plan, and no other text is
--- (`TextOf.antt`), by a law.
+-- The plan of a text, or the fault of its first faulty line. The lines are read in order, each a step from the state before it. By a law, the text of a plan is read as that plan, and no other text is (`TextOf.antt`).
 use Rattle.std.specs.Prelude.{◌==◌, ◌+◌, ◌-◌, not, ℕ, List, [], ◌∷◌, length, take, slice_index_or, Result, Ok, Err, if◌then◌else◌}
 use Rattle.text.specs.Parts.{words_of, texts_of}
 use Rattle.base_types.specs.declared.limits.TheConstants.Limits.{HIGHEST_PRIORITY, DEFAULT_PRIORITY}
@@ -12,7 +10,7 @@ use Rattle.text.specs.Steps.{◌>>=◌}
 use Rattle.plan_text.specs.Line.{line_at}
 use Rattle.plan_text.specs.Steps.{Heard, opened_at, is_at, next}
 
--- a line is judged by itself, and then whether it may follow; none may follow `end`
+-- a line is checked by itself, and then in its place; no line may follow `end`
 unfoldable pub line_next : Heard → List ℕ → Result Heard TextFault
 line_next heard line = if is_at heard stages.Ended then Err BadLine else (line_at (words_of line) >>= λ said. next heard said)
 
@@ -20,14 +18,14 @@ abbrev pub lines_next : Heard → List (List ℕ) → Result Heard TextFault
 lines_next heard [] = Ok heard
 lines_next heard (line ∷ lines) = line_next heard line >>= λ then'. lines_next then' lines
 
--- before the first line
+-- the state before the first line
 abbrev pub nothing_heard : ℕ → Heard
 nothing_heard priority = record { stage = stages.Start; devices = []; classes = []; stranded = []; jobs = 0; below = HIGHEST_PRIORITY + 1; last = 0; opened = opened_at priority }
 
 abbrev pub plan_of : Heard → NamedPlan
 plan_of heard = record { devices = heard.devices; plan = record { classes = heard.classes; stranded = heard.stranded } }
 
--- all lines are read, and this follows the last line feed
+-- the plan after all lines, where `rest` follows the last line feed
 unfoldable pub ended : Heard → List ℕ → Result NamedPlan TextFault
 ended heard rest =
     if not (is_at heard stages.Ended) then Err NoEnd
@@ -39,6 +37,6 @@ plan_from lines rest = lines_next (nothing_heard DEFAULT_PRIORITY) lines >>= λ 
 unfoldable pub plan_in : List (List ℕ) → Result NamedPlan TextFault
 plan_in parts = plan_from (take (length parts - 1) parts) (slice_index_or parts (length parts - 1) [])
 
--- the plan that a text is, or its first fault
+-- the plan of a text, or its first fault
 abbrev pub plan_at : List ℕ → Result NamedPlan TextFault
 plan_at text = plan_in (texts_of text)

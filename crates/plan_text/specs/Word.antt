@@ -1,5 +1,4 @@
--- The words of a plan's text. A number is decimal without leading zeros, and may have any length;
--- a word that has the form of a number and is out of its range is told apart from one that has not.
+-- The words of a plan's text. A number is decimal without leading zeros, and may have any number of digits. A word that isn't a number and one whose number is out of range are different faults.
 use Rattle.std.specs.Prelude.{◌==◌, ◌&&◌, ◌||◌, not, ℕ, ℤ, pos, neg_ℤ, Bool, List, [], ◌∷◌, length, drop, slice_index, nat_lt, Result, Ok, Err, Option, Some, None, if◌then◌else◌, codes}
 use Rattle.std.specs.Str.{bytes_eq}
 use Rattle.std.specs.Str.Parse.{digits_value}
@@ -11,7 +10,7 @@ use Rattle.plan_text.specs.declared.fault.TextFault.{TextFault}
 use Rattle.plan_text.specs.declared.fault.TextFault.TheVariants.{BadLine, OutOfRange}
 use Rattle.text.specs.Steps.{◌>>=◌}
 
--- the number that a word spells, within a range
+-- the number of a word, within a range
 unfoldable pub number_at : ℕ → ℕ → List ℕ → Result ℕ TextFault
 number_at least most word =
     if is_number word
@@ -22,7 +21,7 @@ abbrev pub numbers_at : ℕ → ℕ → List (List ℕ) → Result (List ℕ) Te
 numbers_at least most [] = Ok []
 numbers_at least most (word ∷ words) = number_at least most word >>= λ n. (numbers_at least most words >>= λ ns. Ok (n ∷ ns))
 
--- a time of a job, or `-` where the device is not able
+-- a time of a job, or `-` for a device that isn't able
 unfoldable pub is_dash : List ℕ → Bool
 is_dash word = bytes_eq word (codes "-")
 
@@ -36,7 +35,7 @@ abbrev pub entries_at : List (List ℕ) → Result (List (Option ℕ)) TextFault
 entries_at [] = Ok []
 entries_at (word ∷ words) = entry_at word >>= λ entry. (entries_at words >>= λ entries. Ok (entry ∷ entries))
 
--- a price: a number, with a minus sign where it is below 0
+-- a price: a number, with a minus sign if it is negative
 unfoldable pub has_minus : List ℕ → Bool
 has_minus word = nat_lt 0 (length word) && slice_index word 0 == 45
 
@@ -52,7 +51,7 @@ abbrev pub prices_at : List (List ℕ) → Result (List ℤ) TextFault
 prices_at [] = Ok []
 prices_at (word ∷ words) = price_at word >>= λ price. (prices_at words >>= λ prices. Ok (price ∷ prices))
 
--- why a job is stranded
+-- the cause of a stranded job
 unfoldable pub cause_at : List ℕ → Result Cause TextFault
 cause_at word =
     if bytes_eq word (codes "NoDevice") then Ok causes.NoDevice

@@ -20,7 +20,7 @@ abbrev pub entry_word : Option ℕ → List ℕ
 entry_word None = codes "-"
 entry_word (Some time) = decimal time
 
--- words, each after a space
+-- words, each behind a space
 abbrev pub entries_text : List (Option ℕ) → List ℕ
 entries_text [] = []
 entries_text (entry ∷ entries) = (codes " " ++ entry_word entry) ++ entries_text entries
@@ -33,7 +33,7 @@ abbrev pub prices_text : List ℤ → List ℕ
 prices_text [] = []
 prices_text (price ∷ prices) = (codes " " ++ signed_decimal price) ++ prices_text prices
 
--- a line that says this, with its line feed
+-- a line with this content, with its line feed
 unfoldable pub line_text : Said → List ℕ
 line_text SaysPlan = codes "plan\n"
 line_text (SaysDevice name) = codes "device " ++ (name ++ codes "\n")
@@ -51,7 +51,7 @@ abbrev pub lines_text : List Said → List ℕ
 lines_text [] = []
 lines_text (line ∷ lines) = line_text line ++ lines_text lines
 
--- the lines of a class's jobs, of its ways and of its place prices, beside the names of the devices
+-- the lines of a class's jobs, of its ways and of its place prices, with the names of the devices
 abbrev pub job_lines : List ℕ → List (List (Option ℕ)) → List Said
 job_lines (id ∷ ids) (times ∷ rows) = SaysJob id times ∷ job_lines ids rows
 job_lines _ _ = []

@@ -1,11 +1,11 @@
-//! The first word of a line, and the only one.
+//! The words of a line.
 ghost use Rattle.std.specs.Prelude.{map};
 ghost use Rattle.plan_text.specs.Reading.{Gives};
 ghost use Rattle.plan_text.specs.Line.{only_word, first_word};
 
 use crate::fault::{ReadError, TextFault};
 
-/// The one word.
+/// The word, if there is exactly one.
 #[tactic(auto, using(crate::proofs::Words::one_word, crate::proofs::Words::not_one_word))]
 pub(crate) fn only_word<'a>(words: &[&'a [u8]]) -> Result<&'a [u8], ReadError>
     ensures { Gives (λ word. word.now) result (only_word (map (λ word. word.now) words.now)) }
@@ -16,7 +16,7 @@ pub(crate) fn only_word<'a>(words: &[&'a [u8]]) -> Result<&'a [u8], ReadError>
     Ok(words[0])
 }
 
-/// The first word, and those after it.
+/// The first word, and the words behind it.
 #[tactic(auto, using(crate::proofs::Words::some_word, crate::proofs::Words::no_word))]
 pub(crate) fn first_word<'a, 'b>(
     words: &'b [&'a [u8]],

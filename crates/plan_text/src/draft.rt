@@ -1,4 +1,4 @@
-//! What a reader has heard of a plan so far.
+//! The state of a reader of a plan's text.
 ghost use Rattle.std.specs.Prelude.{◌≡◌, ◌==◌, ◌&&◌, ◌≤◌, length, nat_lt, slice_index_or};
 ghost use Rattle.std.specs.Str.{bytes_eq};
 ghost use Rattle.plan_problem.specs.Class.{IsClass};
@@ -16,24 +16,24 @@ use plan_problem::{Row, is_class};
 use std::alloc::Global;
 use std::mem::replace;
 
-/// What the lines of a plan's text have said so far.
+/// The state after the lines of a plan's text that were read.
 #[derive(Debug, Drop)]
 pub(crate) struct Draft {
     pub(crate) stage: Stage,
     pub(crate) devices: Vec<Text>,
     pub(crate) classes: Vec<PlannedClass>,
     pub(crate) stranded: Vec<Stranded>,
-    /// Lines of jobs and of stranded jobs.
+    /// The number of lines of jobs and of stranded jobs.
     pub(crate) jobs: usize,
-    /// The priority of the next class is below it.
+    /// The bound below which the priority of the next class is.
     pub(crate) below: u8,
-    /// The id of the next job is above it.
+    /// The bound above which the id of the next job is.
     pub(crate) last: u32,
     pub(crate) opened: OpenClass,
 }
 
 impl Draft {
-    /// Goes on by a line.
+    /// Takes the step of a line.
     pub(crate) fn take(&mut self, alloc: Global, line: Line) -> Result<(), ReadError>
         ensures { Leaves result (heard_by self.new) (next (heard_by self.old) (said_by line)) }
     {
@@ -77,7 +77,7 @@ impl Draft {
         Ok(())
     }
 
-    /// Puts the class whose lines are all there with those before.
+    /// Adds the class that is being read to the whole classes, if all its lines were read.
     #[tactic(auto, unfolding(crate::specs::Steps::closed), using(crate::proofs::Problems::problem_is, crate::proofs::Problems::problem_isnt))]
     fn close(&mut self, alloc: Global) -> Result<(), ReadError>
         ensures { Leaves result (heard_by self.new) (closed (heard_by self.old)) }
@@ -96,7 +96,7 @@ impl Draft {
         self.keep_opened(alloc)
     }
 
-    /// Puts the class that is being read with those before.
+    /// Adds the class that is being read to the whole classes.
     fn keep_opened(&mut self, alloc: Global) -> Result<(), ReadError>
         requires { IsClass (problem_of (opened_of self.old.opened)) }
         ensures { Leaves result (heard_by self.new) (Ok (opened_kept (heard_by self.old))) }
@@ -131,7 +131,7 @@ impl Draft {
         self.open_class(alloc, priority)
     }
 
-    /// Whether a line of a job may still come, and this id is above the one before.
+    /// Returns whether a further line of a job may come, and its id is above the id of the job before.
     fn may_have(&self, id: JobId) -> bool
         ensures { result ≡ may_have (heard_by self.now) id }
     {
@@ -167,7 +167,7 @@ impl Draft {
         Ok(())
     }
 
-    /// Whether the device at this place has this name.
+    /// Returns whether the device at a place has a name.
     fn is_named(&self, place: usize, name: &Text) -> bool
         ensures { result ≡ is_named (heard_by self.now) place name.now }
     {
@@ -221,7 +221,7 @@ impl Draft {
         Ok(())
     }
 
-    /// No class may follow.
+    /// Ends the classes: no class may follow.
     #[tactic(auto, unfolding(crate::specs::Steps::classes_over))]
     fn end_classes(&mut self, alloc: Global) -> Result<(), ReadError>
         ensures { Leaves result (heard_by self.new) (classes_over (heard_by self.old)) }

@@ -1,22 +1,22 @@
 use std::alloc::{AllocError, AllocFailed};
 use thiserror::Error;
 
-/// What is wrong with a plan's text. The first faulty line decides.
+/// The fault of a plan's text, which is that of its first faulty line.
 #[derive(Clone, Copy, Debug, PartialEq, Eq)]
 pub enum TextFault {
-    /// A line that has no line's form, or stands where it may not stand.
+    /// A line of an unknown form, or at a place where it may not be.
     BadLine,
-    /// A number out of its range, a line beyond the numbers allowed, priorities that don't fall, or
-    /// ids that don't rise.
+    /// A number out of its range, a line above the allowed number, priorities that don't fall, or ids that
+    /// don't rise.
     OutOfRange,
-    /// The text ends before its line `end`.
+    /// The text ends without the line `end`.
     NoEnd,
 }
 
 /// Why no plan was read.
 #[derive(Debug, Drop, Error)]
 pub enum ReadError {
-    /// The text is none of a plan.
+    /// The text isn't that of a plan.
     #[error("the text is no plan: {0:?}")]
     Fault(TextFault),
     #[error("out of memory")]

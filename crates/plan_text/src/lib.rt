@@ -1,11 +1,11 @@
-//! This crate reads and writes the text of a plan, which has one line for each thing that the plan says.
+//! The text of a plan, which has one line for each part of the plan: reading and writing.
 //!
-//! [`read_plan_text`] gives the plan of a text, or the fault of its first faulty line. [`write_plan_text`]
-//! writes the text of a plan, which is read back as that plan. A text may hold a bad plan: `plan_checker`
-//! judges it.
+//! [`read_plan_text`] returns the plan of a text, or the fault of its first faulty line. [`write_plan_text`]
+//! writes the text of a plan, which is read back as that plan. A text may have a bad plan: `plan_checker`
+//! checks it.
 //!
-//! A played trace and a server's log tell of a plan in one line. [`put_class_word`] and
-//! [`put_stranded_word`] append the words of that line, and [`put_job_words`] those of a job and its device.
+//! A played trace and a server's log have one line for a plan. [`put_class_word`] and [`put_stranded_word`]
+//! append the words of that line, and [`put_job_words`] those of a job and its device.
 //!
 //! Tests stand in `unit_tests`.
 #![tactic(auto)]

@@ -5,8 +5,7 @@ use base_types::Text;
 use plan_prices::Plan;
 use std::marker::Model;
 
-/// A plan with the names of its devices, as a text shows it. In clauses it is a record of the same
-/// fields.
+/// A plan with the names of its devices, as its text has them. In clauses it is a record of the same fields.
 #[derive(Debug, Drop)]
 pub struct PlanText {
     devices: Vec<Text>,
@@ -22,7 +21,7 @@ impl Model for PlanText {
 }
 
 impl PlanText {
-    /// The plan with these names of its devices.
+    /// A plan with the names of its devices.
     pub fn new(devices: Vec<Text>, plan: Plan) -> PlanText
         ensures { result ≡ record { devices = devices.items; plan = plan } }
     {

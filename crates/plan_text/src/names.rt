@@ -5,7 +5,7 @@ ghost use Rattle.plan_text.specs.NamedPlan.{HasOneEach, name_at};
 use base_types::{DeviceId, Text};
 use plan_prices::PlannedClass;
 
-/// The name of a device, empty where it has none.
+/// The name of a device, empty if it has none.
 pub fn name_of(names: &[Text], device: DeviceId) -> &[u8]
     ensures { result.now ≡ name_at names.now device }
 {
@@ -15,7 +15,7 @@ pub fn name_of(names: &[Text], device: DeviceId) -> &[u8]
     }
 }
 
-/// Whether each class has a queue and a list of place prices for each of these devices.
+/// Returns whether each class has a list of jobs and a list of place prices for each device.
 pub fn has_one_each(devices: &[Text], classes: &[PlannedClass]) -> bool
     ensures { IsTrue result ↔ All (HasOneEach devices.now) classes.now }
 {

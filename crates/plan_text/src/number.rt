@@ -9,7 +9,7 @@ use crate::fault::TextFault;
 use base_types::{Cause, JobId, Limits};
 use text::{capped_value, is_number};
 
-/// The number that a word is, within a range.
+/// Reads the number of a word, within a range.
 #[tactic(auto, unfolding(crate::specs::Word::number_at))]
 pub(crate) fn read_number(word: &[u8], least: u64, most: u64) -> Result<u64, TextFault>
     requires range { least ≤ most }
@@ -27,7 +27,7 @@ pub(crate) fn read_number(word: &[u8], least: u64, most: u64) -> Result<u64, Tex
     Ok(value)
 }
 
-/// A job's id.
+/// Reads the id of a job.
 pub(crate) fn read_id(word: &[u8]) -> Result<JobId, TextFault>
     ensures { result ≡ number_at 1 Limits.LAST_JOB_ID word.now }
 {
@@ -45,7 +45,7 @@ fn is_dash(word: &[u8]) -> bool
     word == b"-".as_slice()
 }
 
-/// Whether a word is a number, or `-`.
+/// Returns whether a word is a number, or `-`.
 #[tactic(auto, unfolding(crate::specs::Word::is_entry))]
 pub(crate) fn is_entry(word: &[u8]) -> bool
     ensures { result ≡ is_entry word.now }
@@ -53,7 +53,7 @@ pub(crate) fn is_entry(word: &[u8]) -> bool
     is_dash(word) || is_number(word)
 }
 
-/// A time of a job in ms, or `-` where the device is not able.
+/// Reads a time of a job in ms, or `-` for a device that isn't able.
 #[tactic(auto, unfolding(crate::specs::Word::entry_at))]
 pub(crate) fn read_entry(word: &[u8]) -> Result<Option<u64>, TextFault>
     ensures { result ≡ entry_at word.now }
@@ -72,7 +72,7 @@ fn has_minus(word: &[u8]) -> bool
     !word.is_empty() && word[0] == b'-'
 }
 
-/// Whether a word is a number, with a minus sign where it is below 0.
+/// Returns whether a word is a number, with a minus sign if it is negative.
 #[tactic(auto, unfolding(crate::specs::Word::is_price, crate::specs::Word::has_minus))]
 pub(crate) fn is_price(word: &[u8]) -> bool
     ensures { result ≡ is_price word.now }
@@ -84,7 +84,7 @@ pub(crate) fn is_price(word: &[u8]) -> bool
     is_number(word)
 }
 
-/// A price in ms.
+/// Reads a price in ms.
 #[tactic(auto, unfolding(crate::specs::Word::price_at, crate::specs::Word::has_minus))]
 pub(crate) fn read_price(word: &[u8]) -> Result<i64, TextFault>
     ensures { result ≡ price_at word.now }
@@ -98,7 +98,7 @@ pub(crate) fn read_price(word: &[u8]) -> Result<i64, TextFault>
     Ok(number as i64)
 }
 
-/// Why a job is stranded.
+/// Reads the cause of a stranded job.
 #[tactic(auto, unfolding(crate::specs::Word::cause_at))]
 pub(crate) fn read_cause(word: &[u8]) -> Result<Cause, TextFault>
     ensures { result ≡ cause_at word.now }

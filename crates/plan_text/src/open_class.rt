@@ -1,4 +1,4 @@
-//! A class of which not all is read.
+//! A class whose lines are being read.
 ghost use Rattle.std.specs.Prelude.{◌≡◌};
 ghost use Rattle.plan_text.specs.Steps.{opened_of, opened_at, planned, problem_of};
 ghost use Rattle.plan_problem.specs.Class.{IsClass};
@@ -22,7 +22,7 @@ pub(crate) struct OpenClass {
 }
 
 impl OpenClass {
-    /// A class of which no line has been read.
+    /// Creates a class of which no line was read.
     pub(crate) fn new(alloc: Global, priority: Priority) -> OpenClass
         ensures { opened_of result ≡ opened_at priority }
     {
@@ -38,7 +38,7 @@ impl OpenClass {
         }
     }
 
-    /// The class that its lines make.
+    /// The class of the lines.
     pub(crate) fn planned(self) -> PlannedClass
         requires { IsClass (problem_of (opened_of self)) }
         ensures { result ≡ planned (opened_of self) }

@@ -1,4 +1,4 @@
-//! What a line says.
+//! The content of a line.
 ghost use Rattle.std.specs.Prelude.{◌≡◌, map};
 ghost use Rattle.std.specs.Str.{bytes_eq};
 ghost use Rattle.plan_text.specs.Reading.{Gives};
@@ -16,7 +16,7 @@ use plan_prices::Stranded;
 use std::alloc::Global;
 use text::is_number;
 
-/// What a line of these words says.
+/// Reads the line of these words.
 pub(crate) fn read_line(alloc: Global, words: &[&[u8]]) -> Result<Line, ReadError>
     ensures { Gives said_by result (line_at (map (λ word. word.now) words.now)) }
 {
@@ -24,7 +24,7 @@ pub(crate) fn read_line(alloc: Global, words: &[&[u8]]) -> Result<Line, ReadErro
     read_line_of(alloc, first, words)
 }
 
-/// A line by its first word.
+/// Reads a line by its first word.
 #[tactic(auto, unfolding(crate::specs::Line::line_of))]
 fn read_line_of(alloc: Global, first: &[u8], words: &[&[u8]]) -> Result<Line, ReadError>
     ensures { Gives said_by result (line_of first.now (map (λ word. word.now) words.now)) }
@@ -62,7 +62,7 @@ fn bad_line() -> Result<Line, ReadError>
     Err(ReadError::Fault(TextFault::BadLine))
 }
 
-/// A line of one word.
+/// Reads a line of one word.
 #[tactic(auto, using(crate::proofs::Words::alone, crate::proofs::Words::not_alone))]
 fn alone(line: Line, words: &[&[u8]]) -> Result<Line, ReadError>
     ensures { Gives said_by result (alone_at (said_by line) (map (λ word. word.now) words.now)) }

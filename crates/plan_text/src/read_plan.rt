@@ -18,15 +18,15 @@ use plan_prices::Plan;
 use std::alloc::Global;
 use text::{parts, words};
 
-/// The plan that a text is: the text is just that of this plan, whose numbers, names and orders are
-/// those of a text. Each of its classes has a wait, a queue and a list of place prices for each device,
-/// so it may be judged and written.
+/// Reads the plan of a text. The text is exactly that of this plan, whose numbers, names and orders are those
+/// of a text. Each of its classes has a wait, a list of jobs and a list of place prices for each device, so
+/// the plan may be checked and written.
 ///
 /// # Errors
 ///
-/// The fault of the first faulty line: a line is judged by itself, first for its form and then for
-/// its ranges, and then by those before it. A text that ends before the line `end` has no end.
-/// Otherwise out of memory.
+/// The fault of the first faulty line, or out of memory. A line is checked by itself, first for its form and
+/// then for its ranges, and then against the lines before it. A text without the line `end` has the fault
+/// [`TextFault::NoEnd`].
 #[tactic(auto, using(crate::proofs::Sound::judged_since, crate::proofs::Sound::written_since, crate::proofs::Told::told_since))]
 pub fn read_plan_text(alloc: Global, text: &[u8]) -> Result<PlanText, ReadError>
     ensures plan { Gives (λ plan. plan) result (plan_at text.now) }
@@ -38,7 +38,7 @@ pub fn read_plan_text(alloc: Global, text: &[u8]) -> Result<PlanText, ReadError>
     read_parts(alloc, &parts)
 }
 
-/// The plan of the parts of a text between line feeds.
+/// Reads the plan of the parts of a text between line feeds.
 #[tactic(auto, using(crate::proofs::Parts::no_parts, crate::proofs::Parts::some_parts))]
 fn read_parts(alloc: Global, parts: &[&[u8]]) -> Result<PlanText, ReadError>
     ensures { Gives (λ plan. plan) result (plan_in (map (λ part. part.now) parts.now)) }
@@ -50,7 +50,7 @@ fn read_parts(alloc: Global, parts: &[&[u8]]) -> Result<PlanText, ReadError>
     read_from(alloc, &parts[..count], parts[count])
 }
 
-/// The plan of these lines, where this follows the last of them.
+/// Reads the plan of the lines, where `rest` follows the last of them.
 #[tactic(auto, unfolding(crate::specs::Whole::plan_from))]
 fn read_from(alloc: Global, lines: &[&[u8]], rest: &[u8]) -> Result<PlanText, ReadError>
     ensures { Gives (λ plan. plan) result (plan_from (map (λ line. line.now) lines.now) rest.now) }
@@ -59,7 +59,7 @@ fn read_from(alloc: Global, lines: &[&[u8]], rest: &[u8]) -> Result<PlanText, Re
     finished(draft, rest)
 }
 
-/// What these lines say.
+/// Reads the lines.
 fn read_lines(alloc: Global, lines: &[&[u8]]) -> Result<Draft, ReadError>
     ensures { Gives heard_by result (lines_next (nothing_heard Limits.DEFAULT_PRIORITY) (map (λ line. line.now) lines.now)) }
 {
@@ -70,7 +70,7 @@ fn read_lines(alloc: Global, lines: &[&[u8]]) -> Result<Draft, ReadError>
     Ok(draft)
 }
 
-/// Nothing heard yet.
+/// The state before the first line.
 fn new_draft(alloc: Global) -> Draft
     ensures { heard_by result ≡ nothing_heard Limits.DEFAULT_PRIORITY }
 {
@@ -86,7 +86,7 @@ fn new_draft(alloc: Global) -> Draft
     }
 }
 
-/// Goes on by a line.
+/// Takes the step of a line.
 #[tactic(auto, unfolding(crate::specs::Whole::line_next))]
 fn take_line(alloc: Global, draft: &mut Draft, line: &[u8]) -> Result<(), ReadError>
     ensures { Leaves result (heard_by draft.new) (line_next (heard_by draft.old) line.now) }
@@ -99,7 +99,7 @@ fn take_line(alloc: Global, draft: &mut Draft, line: &[u8]) -> Result<(), ReadEr
     draft.take(alloc, line)
 }
 
-/// The plan, where its last line has come and nothing follows it.
+/// The plan, if its last line was read and nothing follows it.
 #[tactic(auto, unfolding(crate::specs::Whole::ended))]
 fn finished(draft: Draft, rest: &[u8]) -> Result<PlanText, ReadError>
     ensures { Gives (λ plan. plan) result (ended (heard_by draft) rest.now) }

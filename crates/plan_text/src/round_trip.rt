@@ -1,5 +1,4 @@
-//! That a text of a plan is the text of what it says, both ways. The functions do nothing: their
-//! contracts are what they are for.
+//! Laws of the text of a plan, in both directions, as contracts of functions that do nothing.
 ghost use Rattle.std.specs.Prelude.{◌≡◌, ◌↔◌, ℕ, List};
 ghost use Rattle.plan_text.specs.NamedPlan.{NamedPlan};
 ghost use Rattle.plan_text.specs.Whole.{plan_at};
@@ -9,19 +8,17 @@ ghost use Rattle.plan_text.specs.TextOf.{IsTextOf};
 
 use crate::named_plan::PlanText;
 
-/// The text of a plan is read back as the plan, where its numbers, names and orders are those of a
-/// text.
+/// The text of a plan is read back as the plan, if the plan's numbers, names and orders are those of a text.
 pub fn text_read_back(plan: &PlanText)
     requires { IsPlanInRange plan.now }
     ensures { plan_at (plan_text plan.now) ≡ Ok plan.now }
 {
-    // Reading the plan makes its view known.
+    // Reading the plan gives its view.
     let _devices = plan.devices();
 }
 
-/// A text is read as a plan exactly where it is the text of that plan, whose numbers, names and
-/// orders are then those of a text. So no two texts are one plan, and only what fault a text has
-/// rests on the reader's steps.
+/// A text is read as a plan if and only if it is the text of that plan, whose numbers, names and orders are
+/// then those of a text. Hence no plan has two texts. Only the fault of a text depends on the reader's steps.
 pub fn one_text()
     ensures { (text : List ℕ) (named : NamedPlan) → (plan_at text ≡ Ok named) ↔ IsTextOf text named }
 {}

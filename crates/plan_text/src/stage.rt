@@ -1,8 +1,8 @@
-//! Which lines may come next.
+//! The lines that may come next.
 ghost use Rattle.std.specs.Prelude.{◌≡◌, ◌==◌};
 ghost use Rattle.plan_text.specs.Steps.{stage_number};
 
-/// Which lines of a plan's text may come next.
+/// The lines of a plan's text that may come next.
 #[derive(Clone, Copy, Debug, PartialEq, Eq)]
 pub(crate) enum Stage {
     /// `plan`.
@@ -19,19 +19,19 @@ pub(crate) enum Stage {
     PlacePrices,
     /// A stranded job or `end`.
     Stranded,
-    /// None.
+    /// No line.
     Ended,
 }
 
 impl Stage {
-    /// Whether it is this stage.
+    /// Returns whether it is this stage.
     pub(crate) fn is(self, stage: Stage) -> bool
         ensures { result ≡ (stage_number self == stage_number stage) }
     {
         self.number() == stage.number()
     }
 
-    /// Its place in the order of the stages.
+    /// The place of the stage in the order of the stages.
     fn number(self) -> u8
         ensures { result ≡ stage_number self }
     {

@@ -1,5 +1,4 @@
-//! These functions append the words by which a played trace and a server's log tell of a plan, and of a job
-//! and its device.
+//! The words for a plan, and for a job and its device, in a played trace and in a server's log.
 ghost use Rattle.std.specs.Prelude.{◌≡◌, ◌++◌, OnOk};
 ghost use Rattle.plan_text.specs.Summary.{class_word, stranded_word, job_words};
 
@@ -23,7 +22,7 @@ pub fn put_class_word(
     output.extend_from_slice(word.as_bytes())
 }
 
-/// Appends a job that no device can print, and why.
+/// Appends a job that no device can print, with its cause.
 pub fn put_stranded_word(
     alloc: Global,
     output: &mut Vec<u8>,
@@ -37,8 +36,7 @@ pub fn put_stranded_word(
     output.extend_from_slice(word.as_bytes())
 }
 
-/// Appends the word for what happens to a job, its id, and the name of its device, empty where that has
-/// none.
+/// Appends a word, the id of a job, and the name of its device; the name is empty if the device has none.
 pub fn put_job_words(
     alloc: Global,
     output: &mut Vec<u8>,

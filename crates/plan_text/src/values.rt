@@ -44,7 +44,7 @@ pub(crate) fn are_prices(words: &[&[u8]]) -> bool
     true
 }
 
-/// The waits of devices, in ms.
+/// Reads the waits of devices, in ms.
 pub(crate) fn read_waits(alloc: Global, words: &[&[u8]]) -> Result<Vec<u64>, ReadError>
     ensures { Gives (λ waits. waits.items) result (numbers_at 0 Limits.WAIT (map (λ word. word.now) words.now)) }
 {
@@ -56,7 +56,7 @@ pub(crate) fn read_waits(alloc: Global, words: &[&[u8]]) -> Result<Vec<u64>, Rea
     Ok(waits)
 }
 
-/// The ids of jobs.
+/// Reads the ids of jobs.
 pub(crate) fn read_ids(alloc: Global, words: &[&[u8]]) -> Result<Vec<JobId>, ReadError>
     ensures { Gives (λ ids. ids.items) result (numbers_at 1 Limits.LAST_JOB_ID (map (λ word. word.now) words.now)) }
 {
@@ -68,7 +68,7 @@ pub(crate) fn read_ids(alloc: Global, words: &[&[u8]]) -> Result<Vec<JobId>, Rea
     Ok(ids)
 }
 
-/// The times of a job, one for each device.
+/// Reads the times of a job, one for each device.
 pub(crate) fn read_entries(alloc: Global, words: &[&[u8]]) -> Result<Vec<Option<u64>>, ReadError>
     ensures { Gives (λ entries. entries.items) result (entries_at (map (λ word. word.now) words.now)) }
 {
@@ -80,7 +80,7 @@ pub(crate) fn read_entries(alloc: Global, words: &[&[u8]]) -> Result<Vec<Option<
     Ok(entries)
 }
 
-/// Prices, in ms.
+/// Reads prices, in ms.
 pub(crate) fn read_prices(alloc: Global, words: &[&[u8]]) -> Result<Vec<i64>, ReadError>
     ensures { Gives (λ prices. prices.items) result (prices_at (map (λ word. word.now) words.now)) }
 {

@@ -1,4 +1,4 @@
-//! The text of a plan, written.
+//! The writer of a plan's text.
 ghost use Rattle.std.specs.Prelude.{◌≡◌, ◌++◌, IfOk, OnOk, OnErr, codes, length, map};
 ghost use Rattle.plan_text.specs.Line.{SaysPlan, SaysDevice, SaysClass, SaysJob, SaysWait, SaysWay, SaysTotal, SaysJobPrices, SaysPlacePrices, SaysStranded, SaysEnd};
 ghost use Rattle.plan_text.specs.Writing.{line_text, lines_text, job_lines, way_lines, place_price_lines, device_lines, stranded_lines, class_job_lines, class_way_lines, class_price_lines, class_lines, classes_lines, plan_text};
@@ -10,8 +10,8 @@ use plan_prices::{PlacePrices, Plan, PlannedClass, Queue, Stranded};
 use plan_problem::Row;
 use std::alloc::{AllocError, Global};
 
-/// Appends the text of a plan with the names of its devices. Where there is no memory, nothing is
-/// appended.
+/// Appends the text of a plan with the names of its devices. The only error is out of memory, and nothing is
+/// appended then.
 pub fn write_plan_text(
     alloc: Global,
     plan: &PlanText,
@@ -23,9 +23,9 @@ pub fn write_plan_text(
     write_named_plan(alloc, plan.devices(), plan.plan(), output)
 }
 
-/// Appends the text of a plan whose devices have these names. Where a class has fewer lists than
-/// there are names, or more, the rest is left out; a plan of the core has one for each device. Where
-/// there is no memory, nothing is appended.
+/// Appends the text of a plan whose devices have these names. If a class has fewer or more lists than there
+/// are names, the rest of either is left out; a plan of the core has one list for each device. The only error
+/// is out of memory, and nothing is appended then.
 pub fn write_named_plan(
     alloc: Global,
     devices: &[Text],
@@ -205,7 +205,7 @@ fn put_priority(alloc: Global, output: &mut Vec<u8>, class: &PlannedClass) -> Re
     output.extend_from_slice(b"\n")
 }
 
-/// Appends the lines of a class up to those of its jobs.
+/// Appends the lines of a class's priority and jobs.
 fn put_class_jobs(
     alloc: Global,
     output: &mut Vec<u8>,

@@ -1,4 +1,4 @@
-//! How a trace begins.
+//! The beginning of a trace.
 
 use crate::input::fill;
 use recordings::GOES_ON;
@@ -8,13 +8,13 @@ use std::io;
 use std::io::Read;
 use traces::split_settings;
 
-/// How many bytes are looked at, at most.
+/// The most bytes that are examined.
 const MOST: usize = 1_048_576;
 
-/// How many bytes are read at a time.
+/// The number of bytes that one read asks for.
 const PIECE: usize = 65_536;
 
-/// What a line behind the settings begins with, in a recorded day.
+/// The front of the first line behind the settings, in a recorded day.
 const START: &[u8] = b"recorded ";
 
 /// The first bytes of a trace, which were read, and whether it is a recorded day.
@@ -24,16 +24,16 @@ pub struct Peeked {
     pub recorded: bool,
 }
 
-/// A trace whose first bytes were read.
+/// A reader of a trace whose first bytes were already read.
 #[derive(Drop)]
 pub struct Whole<'a, R: Read> {
     front: Vec<u8>,
-    /// How many of the first bytes were given again.
+    /// The number of the first bytes that were given again.
     given: usize,
     rest: &'a mut R,
 }
 
-/// Whether a trace that begins so is a recorded day, if that can be told.
+/// Returns whether a trace that begins with these bytes is a recorded day. `None` if more bytes are needed.
 fn kind_of(bytes: &[u8]) -> Option<bool> {
     if bytes.starts_with(GOES_ON) {
         return Some(true);
@@ -45,8 +45,8 @@ fn kind_of(bytes: &[u8]) -> Option<bool> {
     Some(cut.lines.starts_with(START))
 }
 
-/// Looks at the first bytes of a trace, up to those that tell whether it is a recorded day. The error is the
-/// reader's, or out of memory.
+/// Reads the first bytes of a trace, until they tell whether it is a recorded day. The error is the reader's,
+/// or out of memory.
 pub fn peek<R: Read>(alloc: Global, reader: &mut R) -> io::Result<Peeked> {
     let mut bytes = Vec::new(alloc);
     let mut piece = vec![in alloc; 0; PIECE]?;
@@ -67,7 +67,7 @@ pub fn peek<R: Read>(alloc: Global, reader: &mut R) -> io::Result<Peeked> {
 }
 
 impl<'a, R: Read> Whole<'a, R> {
-    /// These bytes, and those that are still to be read.
+    /// Creates the reader of these first bytes and the bytes that follow.
     pub fn new(front: Vec<u8>, rest: &'a mut R) -> Whole<'a, R> {
         Whole {
             front,

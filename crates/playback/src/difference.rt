@@ -1,4 +1,4 @@
-//! Where a server does something else than was recorded, in lines.
+//! The lines for a difference: the server made a call that isn't the recorded one.
 
 use base_types::Moment;
 use recordings::{Entry, Sent, ServerCall, Stray, put_entry, put_turn};
@@ -6,7 +6,7 @@ use std::alloc::{AllocError, Global};
 use traces::put_out;
 use wires::WireId;
 
-/// The connection of which a line is.
+/// The connection of a line.
 fn connection_of(entry: &Entry) -> Option<WireId> {
     match entry {
         Entry::Accepted(accepted) => Some(accepted.id),
@@ -22,7 +22,7 @@ fn connection_of(entry: &Entry) -> Option<WireId> {
     }
 }
 
-/// The connection of which a call is.
+/// The connection of a call.
 fn connection_in(did: &ServerCall) -> Option<WireId> {
     match did {
         ServerCall::Closes(id) => Some(*id),
@@ -32,7 +32,7 @@ fn connection_in(did: &ServerCall) -> Option<WireId> {
     }
 }
 
-/// The connection at which a server strays.
+/// The connection of a difference.
 fn connection_at(stray: &Stray) -> Option<WireId> {
     if let Some(id) = connection_in(&stray.did) {
         return Some(id);
@@ -43,7 +43,7 @@ fn connection_at(stray: &Stray) -> Option<WireId> {
     }
 }
 
-/// Appends the line of what was recorded.
+/// Appends the recorded line.
 fn put_wanted(output: &mut Vec<u8>, stray: &Stray, moment: Moment) -> Result<(), AllocError> {
     output.extend_from_slice(b"was ")?;
     match &stray.wanted {
@@ -52,7 +52,7 @@ fn put_wanted(output: &mut Vec<u8>, stray: &Stray, moment: Moment) -> Result<(),
     }
 }
 
-/// Appends the line of what the server sends, and one with the bytes.
+/// Appends the line of the server's write, and a line with the bytes.
 fn put_sends(
     alloc: Global,
     output: &mut Vec<u8>,
@@ -66,7 +66,7 @@ fn put_sends(
     put_out(alloc, output, u64::from(sent.id), bytes)
 }
 
-/// Appends the lines of what the server does.
+/// Appends the lines of the server's call.
 fn put_call(
     alloc: Global,
     output: &mut Vec<u8>,
@@ -83,8 +83,8 @@ fn put_call(
     }
 }
 
-/// Appends where the server strays in the turn of a moment that ends with the line of this number: the line
-/// that was recorded, and what it does in its place.
+/// Appends the difference in a turn at a moment, which ends with the line of this number: the recorded line,
+/// and the server's call in its place.
 pub(crate) fn put_difference(
     alloc: Global,
     output: &mut Vec<u8>,

@@ -7,31 +7,31 @@ use std::cmp::min;
 use std::io;
 use std::io::Read;
 
-/// How many bytes are read at a time.
+/// The number of bytes that one read asks for.
 const PIECE: usize = 65_536;
 
-/// Reads some bytes into the front of a buffer: how many.
+/// Reads bytes into the front of a buffer. Returns their number.
 pub(crate) fn fill<R: Read>(reader: &mut R, buffer: &mut [u8]) -> io::Result<usize>
     ensures { ReadsAtMost result buffer.new }
 {
     reader.read(buffer)
 }
 
-/// Lines that are read one after the other.
+/// A reader of lines, one after the other.
 #[derive(Drop)]
 pub(crate) struct Lines<'a, R: Read> {
     reader: &'a mut R,
     piece: Vec<u8>,
-    /// How many bytes of the piece were taken.
+    /// The number of bytes of the piece that were taken.
     start: usize,
-    /// How many it has.
+    /// The number of bytes of the piece.
     end: usize,
-    /// How many line feeds were passed.
+    /// The number of line feeds that were passed.
     passed: u64,
 }
 
 impl<'a, R: Read> Lines<'a, R> {
-    /// Nothing was read yet. The error is out of memory.
+    /// Creates the reader of lines. The only error is out of memory.
     pub(crate) fn new(alloc: Global, reader: &'a mut R) -> io::Result<Lines<'a, R>> {
         let piece = vec![in alloc; 0; PIECE]?;
         Ok(Lines {
@@ -43,13 +43,13 @@ impl<'a, R: Read> Lines<'a, R> {
         })
     }
 
-    /// How many lines were read, with those among octets.
+    /// The number of lines that were read, with those within octets.
     pub(crate) fn passed(&self) -> u64 {
         self.passed
     }
 
-    /// Reads the next line, without its line feed, in the place of another: whether there is one. Bytes
-    /// behind the last line feed are none.
+    /// Reads the next line, without its line feed, into `line`. Returns whether there is one. Bytes behind
+    /// the last line feed aren't a line.
     pub(crate) fn read(&mut self, line: &mut Vec<u8>) -> io::Result<bool> {
         line.clear();
         for _ in 0..u64::MAX {
@@ -63,7 +63,7 @@ impl<'a, R: Read> Lines<'a, R> {
         Ok(false)
     }
 
-    /// The same, and the octets that follow it.
+    /// Reads the next line, and the octets that follow it. Returns whether there is one.
     pub(crate) fn read_whole(&mut self, line: &mut Vec<u8>) -> io::Result<bool> {
         if !self.read(line)? {
             return Ok(false);
@@ -74,8 +74,8 @@ impl<'a, R: Read> Lines<'a, R> {
         }
     }
 
-    /// Appends so many octets that follow a line, and passes the line feed behind them: whether they are there.
-    /// A byte that stands in its place is one more of them.
+    /// Appends this many octets that follow a line, and passes over the line feed behind them. Returns
+    /// whether they are there. Another byte in the place of the line feed is appended too.
     fn read_octets(&mut self, line: &mut Vec<u8>, count: usize) -> io::Result<bool> {
         line.push(b'\n')?;
         let mut left = count.saturating_add(1);
@@ -94,7 +94,7 @@ impl<'a, R: Read> Lines<'a, R> {
         Ok(true)
     }
 
-    /// Appends so many octets, or as many as the piece has: how many they were.
+    /// Appends at most `most` octets of the piece. Returns their number.
     fn takes_octets(&mut self, line: &mut Vec<u8>, most: usize) -> io::Result<usize> {
         if self.start > self.end || self.end > self.piece.len() {
             return Ok(0);
@@ -109,7 +109,7 @@ impl<'a, R: Read> Lines<'a, R> {
         Ok(taken)
     }
 
-    /// Appends what the piece has of a line: whether that is all of it.
+    /// Appends the bytes of the piece up to a line feed. Returns whether the line is complete.
     fn takes(&mut self, line: &mut Vec<u8>) -> io::Result<bool> {
         if self.start > self.end || self.end > self.piece.len() {
             return Ok(false);
@@ -130,7 +130,7 @@ impl<'a, R: Read> Lines<'a, R> {
         }
     }
 
-    /// Reads another piece: whether there is more.
+    /// Reads another piece. Returns whether there are more bytes.
     fn fills(&mut self) -> io::Result<bool> {
         let count = self.reader.read(&mut self.piece)?;
         self.start = 0;

@@ -1,8 +1,10 @@
-//! A recorded day, played: the server takes its turns again, over a wire that answers as the sockets did.
+//! The player of recorded days: the server takes its turns again, over a wire that answers as the sockets
+//! did.
 //!
-//! [`play`] writes what each connection got, the plans, the starts and the cancels; or the lines of a log; or
-//! compares the bytes with what was recorded and writes only whether they are the same. It promises that it is safe and ends.
-//! What a server does over a wire is `server`'s contract, and what a line says that of `recordings`.
+//! [`play`] writes the bytes that each connection got, the plans, the starts and the cancels; or the lines of
+//! a log; or it compares the bytes with the recorded bytes and writes only whether they are the same. Nothing
+//! is proved of it, except that it is safe and ends. The contract of a server over a wire is in `server`, and
+//! the content of a line in `recordings`.
 //!
 //! Its rows are recorded traces of `play_examples`.
 #![tactic(auto)]

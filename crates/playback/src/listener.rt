@@ -1,4 +1,4 @@
-//! What is printed of what a server tells.
+//! The printed text of a server's notes.
 
 use crate::playing::Shows;
 use base_types::Text;
@@ -10,8 +10,8 @@ use std::mem;
 use traces::{put_cancel, put_dispatch};
 use wires::WireId;
 
-/// A listener that keeps what is shown: the lines of each dispatch and of each cancel, as those of a trace
-/// are, or all that it heard, for a log.
+/// A listener that stores the lines of each dispatch and of each cancel, as a trace prints them; or all
+/// notes, for a log.
 #[derive(Drop)]
 pub(crate) struct Told {
     alloc: Global,
@@ -53,7 +53,7 @@ impl Listener for Told {
 }
 
 impl Told {
-    /// Nothing was told yet. The names are those of the devices.
+    /// Creates a listener without notes. `names` are those of the devices.
     pub(crate) fn new(alloc: Global, shows: Shows, names: Vec<Text>) -> Told {
         Told {
             alloc,
@@ -65,7 +65,7 @@ impl Told {
         }
     }
 
-    /// Keeps the lines of a dispatch.
+    /// Appends the lines of a dispatch.
     fn put_dispatched(&mut self, made: &Dispatched<'_>, texts: bool) {
         let put = put_dispatch(
             self.alloc,
@@ -78,23 +78,23 @@ impl Told {
         self.lost = self.lost || put.is_err();
     }
 
-    /// Keeps the line of a cancel.
+    /// Appends the line of a cancel.
     fn put_canceled(&mut self, cancel: Cancel) {
         let put = put_cancel(self.alloc, &mut self.text, &self.names, cancel);
         self.lost = self.lost || put.is_err();
     }
 
-    /// Whether memory was refused, to the server or for what it tells.
+    /// Returns whether memory was refused, to the server or for the text.
     pub(crate) fn is_lost(&self) -> bool {
         self.lost
     }
 
-    /// The lines, which are then kept no more.
+    /// Removes and returns the lines.
     pub(crate) fn take(&mut self) -> Vec<u8> {
         mem::replace(&mut self.text, Vec::new(self.alloc))
     }
 
-    /// What was heard, which is then kept no more. The error is that memory was refused for it.
+    /// Removes and returns the notes. The error is that memory for them was refused.
     pub(crate) fn take_heard(&mut self) -> Result<Vec<LoggedNote>, AllocError> {
         self.heard.take()
     }

@@ -12,27 +12,28 @@ use settings_file::Settings;
 use std::alloc::{AllocError, Global};
 use traces::{put_gone, put_out};
 
-/// What became of a line.
+/// The result of a line.
 #[derive(Drop)]
 pub(crate) enum Step {
-    /// It was played, or belongs to a turn that is still to end.
+    /// The line was played, or is part of a turn that hasn't ended.
     Played,
-    /// It is no line of a recording.
+    /// The line isn't a line of a recording.
     Bad,
-    /// In the turn that it ends, memory was refused to the server, as the line of this number says.
+    /// Memory was refused to the server in the turn that the line ends, as the line of this number says.
     Refused(u64),
-    /// In the turn that it ends the server does something else than was recorded, which these lines say.
+    /// In the turn that the line ends the server made a call that isn't the recorded one. These lines
+    /// describe it.
     Differs(Vec<u8>),
 }
 
-/// What hears of a server: what is printed of what it tells, and what the lines of a log are made of.
+/// The listener of a server, and the chronicle for the lines of a log.
 #[derive(Drop)]
 pub(crate) struct Audience {
     told: Told,
     chronicle: Chronicle,
 }
 
-/// A server that has started, and is told recorded lines.
+/// A server that has started, and plays recorded lines.
 #[derive(Drop)]
 pub(crate) struct Player<'a> {
     alloc: Global,
@@ -40,14 +41,15 @@ pub(crate) struct Player<'a> {
     script: Script,
     shows: Shows,
     audience: Audience,
-    /// The comments of a turn, each a line: of who came, or what else they say, and of who went.
+    /// The comments of a turn, one line each: `comings` are the comments of connections that came, and all
+    /// other comments; `goings` are the comments of connections that went.
     comings: Vec<u8>,
     goings: Vec<u8>,
     /// The moment that was printed last.
     printed: Option<Moment>,
 }
 
-/// The moment of a turn that ends, if a line says that.
+/// The moment of the turn that a line ends, if it ends one.
 fn turn_of(entry: &Entry) -> Option<Moment> {
     match entry {
         Entry::Turn(moment) => Some(*moment),
@@ -55,7 +57,7 @@ fn turn_of(entry: &Entry) -> Option<Moment> {
     }
 }
 
-/// Appends what became of a connection.
+/// Appends the bytes that a connection got, or its close.
 fn put_moved(alloc: Global, output: &mut Vec<u8>, moved: &Moved) -> Result<(), AllocError> {
     match moved {
         Moved::Got { id, bytes } => put_out(alloc, output, u64::from(*id), bytes),
@@ -63,7 +65,7 @@ fn put_moved(alloc: Global, output: &mut Vec<u8>, moved: &Moved) -> Result<(), A
     }
 }
 
-/// Appends what became of connections.
+/// Appends the bytes that connections got, and their closes.
 fn put_all_moved(alloc: Global, output: &mut Vec<u8>, all: &[Moved]) -> Result<(), AllocError> {
     for moved in all {
         put_moved(alloc, output, moved)?;
@@ -88,7 +90,7 @@ fn put_dated(
 }
 
 impl Audience {
-    /// Nothing was heard yet of a server with these settings.
+    /// Creates the audience of a server with these settings, without notes.
     pub(crate) fn new(
         alloc: Global,
         settings: &Settings,
@@ -101,7 +103,7 @@ impl Audience {
 }
 
 impl<'a> Player<'a> {
-    /// A server that was told nothing yet, of which this is shown.
+    /// Creates the player for a server that has only started. `shows` says what is written.
     pub(crate) fn new(
         alloc: Global,
         engine: &'a mut Engine<AugmentingPaths>,
@@ -120,7 +122,7 @@ impl<'a> Player<'a> {
         }
     }
 
-    /// Plays the line of this number, and appends what it gives.
+    /// Plays the line of this number, and appends its text.
     pub(crate) fn play(
         &mut self,
         number: u64,
@@ -137,7 +139,7 @@ impl<'a> Player<'a> {
         }
     }
 
-    /// Takes what the line of this number says.
+    /// Takes the line of this number.
     fn take(
         &mut self,
         number: u64,
@@ -153,7 +155,7 @@ impl<'a> Player<'a> {
         }
     }
 
-    /// Keeps a comment, where a log is written.
+    /// Stores a comment, if a log is written.
     fn keep_comment(&mut self, comment: &[u8]) -> Result<(), AllocError> {
         if self.shows != Shows::Log {
             return Ok(());
@@ -193,7 +195,7 @@ impl<'a> Player<'a> {
         }
     }
 
-    /// Appends what is shown of a turn.
+    /// Appends the text of a turn.
     fn put_turn(&mut self, moment: Moment, output: &mut Vec<u8>) -> Result<(), AllocError> {
         if self.audience.told.is_lost() {
             return Err(AllocError);
@@ -206,8 +208,8 @@ impl<'a> Player<'a> {
         }
     }
 
-    /// Appends what a turn gave: its moment, if that is another than that printed last, what the server
-    /// told, and what became of connections.
+    /// Appends the text of a turn: its moment, if another moment was printed last, the notes of the server,
+    /// and the bytes that connections got.
     fn put_happenings(
         &mut self,
         moment: Moment,
@@ -228,7 +230,8 @@ impl<'a> Player<'a> {
         put_all_moved(self.alloc, output, moved)
     }
 
-    /// Appends the lines of a log: who came, what was heard, which jobs ended, and who went.
+    /// Appends the lines of a log: connections that came, notes that were heard, jobs that ended, and
+    /// connections that went.
     fn put_log(&mut self, moment: Moment, output: &mut Vec<u8>) -> Result<(), AllocError> {
         let heard = self.audience.told.take_heard()?;
         let lines = self

@@ -1,4 +1,4 @@
-//! A recorded day, read and played.
+//! The reading and playing of a recorded day.
 ghost use Rattle.std.specs.Prelude.{IfOk};
 ghost use Rattle.settings_file.specs.Settings.{MeetsLimits};
 
@@ -14,34 +14,36 @@ use std::alloc::{AllocError, Global};
 use std::io;
 use std::io::{ErrorKind, Read, Write};
 
-/// How much is printed at a time.
+/// The number of printed bytes that are written at once.
 const PRINTED: usize = 65_536;
 
-/// What is written of a recorded day that is played.
+/// The output of playing a recorded day.
 #[derive(Clone, Copy, Debug, PartialEq, Eq)]
 pub enum Shows {
-    /// What each connection gets, the plans, with their texts or without, the starts and the cancels.
+    /// The bytes that each connection gets, the plans, with or without their texts, the starts and the
+    /// cancels.
     Happenings { texts: bool },
-    /// Whether all is the same, or where it first differs.
+    /// Whether all is the same, or the first difference.
     Verdict,
     /// The lines of a log.
     Log,
 }
 
-/// How a play ends.
+/// The end of a play.
 #[derive(Debug, Drop)]
 pub struct Played {
     pub status: ExitStatus,
-    /// Why the day isn't played to its end, in a sentence, where it isn't and memory is there for it.
+    /// Why the day wasn't played to its end, in a sentence. `None` if it was, or if memory for the sentence
+    /// was refused.
     pub objection: Option<String>,
 }
 
 /// Why a play ends early.
 #[derive(Debug, Drop)]
 enum Fault {
-    /// For what a sentence says, with this status.
+    /// The exit status, and the reason as a sentence.
     Said(ExitStatus, String),
-    /// The lines differ as it is printed.
+    /// The lines differ; the difference was printed.
     Differs,
     OutOfMemory,
     Failed,
@@ -63,7 +65,7 @@ impl From<io::Error> for Fault {
     }
 }
 
-/// The fault that a sentence says.
+/// The fault with a sentence.
 fn said(status: ExitStatus, sentence: Result<String, AllocError>) -> Fault {
     match sentence {
         Ok(sentence) => Fault::Said(status, sentence),
@@ -71,18 +73,18 @@ fn said(status: ExitStatus, sentence: Result<String, AllocError>) -> Fault {
     }
 }
 
-/// What stands in front of the turns.
+/// The lines before the turns.
 #[derive(Drop)]
 enum Front {
     /// The text of the settings.
     Settings(Vec<u8>),
-    /// The file goes on where another one ends.
+    /// The file continues another file.
     GoesOn,
     /// No line is a point.
     Neither,
 }
 
-/// Reads what stands in front of the turns.
+/// Reads the lines before the turns.
 fn read_front<R: Read>(alloc: Global, lines: &mut Lines<'_, R>) -> io::Result<Front> {
     let mut settings = Vec::new(alloc);
     let mut line = Vec::new(alloc);
@@ -102,13 +104,13 @@ fn read_front<R: Read>(alloc: Global, lines: &mut Lines<'_, R>) -> io::Result<Fr
     Ok(Front::Neither)
 }
 
-/// Whether the next line is the first of a recording's.
+/// Returns whether the next line is the first of a recording.
 fn is_start<R: Read>(alloc: Global, lines: &mut Lines<'_, R>) -> io::Result<bool> {
     let mut line = Vec::new(alloc);
     Ok(lines.read(&mut line)? && line.starts_with(b"recorded "))
 }
 
-/// The text of the settings in front of the turns.
+/// Reads the text of the settings before the turns.
 fn read_start<R: Read>(
     alloc: Global,
     file: &str,
@@ -144,7 +146,7 @@ fn settings_refused(alloc: Global, file: &str, settings: &[u8], fault: &Settings
     }
 }
 
-/// The settings of a file.
+/// Reads the settings of a file.
 fn settings_of(alloc: Global, file: &str, text: &[u8]) -> Result<Settings, Fault>
     ensures { IfOk result MeetsLimits }
 {
@@ -154,20 +156,20 @@ fn settings_of(alloc: Global, file: &str, text: &[u8]) -> Result<Settings, Fault
     }
 }
 
-/// A recorded day that is played, and what is printed of it.
+/// A recorded day that is played, and its printed text.
 #[derive(Drop)]
 struct Day<'file, 'output, W: Write> {
     alloc: Global,
-    /// The name of its file.
+    /// The name of the day's file.
     file: &'file str,
     writer: &'output mut W,
-    /// What is printed and not written yet.
+    /// The text that is printed and not yet written.
     output: Vec<u8>,
     shows: Shows,
 }
 
 impl<'file, 'output, W: Write> Day<'file, 'output, W> {
-    /// A day of which nothing was read yet.
+    /// Creates a day of which nothing was read.
     fn new(
         alloc: Global,
         file: &'file str,
@@ -183,7 +185,7 @@ impl<'file, 'output, W: Write> Day<'file, 'output, W> {
         }
     }
 
-    /// The fault of a line that isn't just played, and what is printed of it.
+    /// Appends the printed text of a step, and returns the fault of a line that wasn't just played.
     fn heed(&mut self, number: u64, step: Step) -> Result<(), Fault> {
         let (alloc, file) = (self.alloc, self.file);
         match step {
@@ -211,7 +213,7 @@ impl<'file, 'output, W: Write> Day<'file, 'output, W> {
         }
     }
 
-    /// Writes what is printed, if that is much or all.
+    /// Writes the printed text, if it is longer than `most` bytes.
     fn put_out(&mut self, most: usize) -> Result<(), Fault> {
         if self.output.len() > most {
             self.writer.write_all(&self.output)?;
@@ -232,7 +234,7 @@ impl<'file, 'output, W: Write> Day<'file, 'output, W> {
         self.put_out(PRINTED)
     }
 
-    /// Plays the lines of turns, which come behind the settings.
+    /// Plays the lines of the turns, which are behind the settings.
     fn play_turns<R: Read>(
         &mut self,
         lines: &mut Lines<'_, R>,
@@ -249,7 +251,7 @@ impl<'file, 'output, W: Write> Day<'file, 'output, W> {
         Ok(())
     }
 
-    /// The same, on a server that has started, of which this is shown.
+    /// Plays the lines of the turns on a server that has started.
     fn play_on<R: Read>(
         &mut self,
         lines: &mut Lines<'_, R>,
@@ -260,7 +262,7 @@ impl<'file, 'output, W: Write> Day<'file, 'output, W> {
         self.play_turns(lines, &mut player)
     }
 
-    /// The same, on a server that starts with these settings.
+    /// Plays the lines of the turns on a server that starts with these settings.
     fn play_with<R: Read>(
         &mut self,
         lines: &mut Lines<'_, R>,
@@ -276,14 +278,14 @@ impl<'file, 'output, W: Write> Day<'file, 'output, W> {
         self.play_on(lines, &mut engine, audience)
     }
 
-    /// Plays all of it.
+    /// Plays the whole day.
     fn play_all<R: Read>(&mut self, lines: &mut Lines<'_, R>) -> Result<(), Fault> {
         let text = read_start(self.alloc, self.file, lines)?;
         let settings = settings_of(self.alloc, self.file, &text)?;
         self.play_with(lines, settings)
     }
 
-    /// The same, and writes what is printed of it up to where it ends.
+    /// Plays the whole day, and writes the printed text up to its end.
     fn play<R: Read>(&mut self, lines: &mut Lines<'_, R>) -> Result<(), Fault> {
         let played = self.play_all(lines);
         if played.is_ok() && self.shows == Shows::Verdict {
@@ -294,7 +296,7 @@ impl<'file, 'output, W: Write> Day<'file, 'output, W> {
     }
 }
 
-/// Plays the recorded day of a file of this name, and writes what is printed of it.
+/// Plays the recorded day of a file of this name, and writes its text.
 fn play_day<R: Read, W: Write>(
     alloc: Global,
     file: &str,
@@ -307,7 +309,7 @@ fn play_day<R: Read, W: Write>(
     day.play(&mut lines)
 }
 
-/// Plays the recorded day of a file of this name, and writes what it gives: `docs/TRACES.md`.
+/// Plays the recorded day of a file of this name, and writes its text, as `docs/TRACES.md` describes it.
 pub fn play<R: Read, W: Write>(
     alloc: Global,
     file: &str,

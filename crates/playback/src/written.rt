@@ -1,4 +1,4 @@
-//! A recorded day as a trace that a hand could have written.
+//! The conversion of a recorded day into a trace as a person writes it.
 ghost use Rattle.std.specs.Prelude.{◌<◌, IfSome, length};
 
 use base_types::Moment;
@@ -7,18 +7,18 @@ use std::alloc::{AllocError, Global};
 use traces::{CutLine, next_line, split_settings};
 use wires::{Door, WireId};
 
-/// What a trace comes to.
+/// The result of the conversion of a trace.
 #[derive(Drop)]
 pub enum Written {
-    /// It is one that a hand could have written.
+    /// The trace is already one as a person writes it.
     Already,
-    /// It is a recorded day, which says this in the lines of the other.
+    /// The trace is a recorded day. The text has the same content as a trace.
     Made(Vec<u8>),
-    /// It is a recorded day whose line of this number isn't one of a recorded day.
+    /// The trace is a recorded day whose line of this number isn't a line of a recorded day.
     Bad(u64),
 }
 
-/// A connection that is open, by its number in a recorded day and its number in a written one.
+/// An open connection, with its number in the recorded day and its number in the written trace.
 #[derive(Clone, Copy)]
 struct Peer {
     id: WireId,
@@ -26,20 +26,20 @@ struct Peer {
     ended: bool,
 }
 
-/// What was written so far.
+/// The text that was written so far.
 #[derive(Drop)]
 struct Writer {
     alloc: Global,
     text: Vec<u8>,
-    /// The lines of the turn that isn't ended.
+    /// The lines of the turn that hasn't ended.
     turn: Vec<u8>,
     peers: Vec<Peer>,
-    /// How many connections came.
+    /// The number of connections that came.
     came: u64,
 }
 
 impl Writer {
-    /// Takes what a line says.
+    /// Takes the content of a line.
     fn take(&mut self, entry: &Entry) -> Result<(), AllocError> {
         match entry {
             Entry::Accepted(accepted) => self.open(accepted.id, accepted.door),
@@ -57,7 +57,7 @@ impl Writer {
         }
     }
 
-    /// A connection comes.
+    /// Adds a connection that was accepted.
     fn open(&mut self, id: WireId, door: Door) -> Result<(), AllocError> {
         self.came = self.came.saturating_add(1);
         let (number, word) = (self.came, door.word());
@@ -67,12 +67,12 @@ impl Writer {
         self.put(format!(in self.alloc; "open {number} {word}\n")?)
     }
 
-    /// A connection is given up.
+    /// Removes a connection that was closed.
     fn close(&mut self, id: WireId) {
         self.peers.retain(|peer| peer.id != id);
     }
 
-    /// The number of a connection that isn't ended.
+    /// The number of a connection whose input hasn't ended.
     fn number_of(&self, id: WireId) -> Option<u64> {
         for peer in &self.peers {
             if peer.id == id && !peer.ended {
@@ -82,7 +82,7 @@ impl Writer {
         None
     }
 
-    /// Bytes come on a connection.
+    /// Appends the line of bytes that came on a connection.
     fn put_input(&mut self, id: WireId, bytes: &[u8]) -> Result<(), AllocError> {
         let Some(number) = self.number_of(id) else {
             return Ok(());
@@ -91,7 +91,7 @@ impl Writer {
         self.put(format!(in self.alloc; "in {number} {digits}\n")?)
     }
 
-    /// Nothing more comes on a connection.
+    /// Appends the line of the end of a connection's input.
     fn end(&mut self, id: WireId) -> Result<(), AllocError> {
         let Some(number) = self.number_of(id) else {
             return Ok(());
@@ -104,7 +104,7 @@ impl Writer {
         self.put(format!(in self.alloc; "end {number}\n")?)
     }
 
-    /// A turn ends. One in which nothing came is a tick.
+    /// Ends a turn. A turn without lines is written as a tick.
     fn end_turn(&mut self, moment: Moment) -> Result<(), AllocError> {
         let millis = moment.millis();
         let front = format!(in self.alloc; "at {millis}\n")?;
@@ -124,19 +124,18 @@ impl Writer {
     }
 }
 
-/// Whether a trace is a recorded day, whose lines behind the settings these are.
+/// Returns whether a trace with these lines behind its settings is a recorded day.
 fn is_recorded(lines: &[u8]) -> bool {
     lines.starts_with(b"recorded ")
 }
 
-/// Whether a line of a recorded day says nothing: a comment, or when the day began.
+/// Returns whether a line of a recorded day has no entry: a comment, or the start of the day.
 fn is_remark(line: &[u8]) -> bool {
     line.starts_with(b"#") || line.starts_with(b"recorded ")
 }
 
-/// The first line of a text with the octets that follow it, and what comes behind their line feeds. Where some
-/// of them aren't there, all is one line; where another byte stands in the place of the last line feed, none
-/// follow.
+/// Cuts a text behind its first line and the octets that follow it. If some of the octets aren't there, the
+/// whole text is one line; if another byte is in the place of the last line feed, no octets follow.
 fn next_whole(text: &[u8]) -> Option<CutLine<'_>>
     ensures { IfSome result (λ cut. length cut.later.now < length text.now) }
 {
@@ -157,7 +156,7 @@ fn next_whole(text: &[u8]) -> Option<CutLine<'_>>
     }
 }
 
-/// A text cut at the byte of this place.
+/// A text cut at the byte at a place.
 fn whole_of(text: &[u8], place: usize) -> Option<CutLine<'_>>
     ensures { IfSome result (λ cut. length cut.later.now < length text.now) }
 {
@@ -166,13 +165,14 @@ fn whole_of(text: &[u8], place: usize) -> Option<CutLine<'_>>
     Some(CutLine { line, later })
 }
 
-/// How many line feeds stand in a line with the octets that follow it, and behind it.
+/// The number of line feeds in and behind a line with the octets that follow it.
 fn feeds_of(line: &[u8]) -> u64 {
     let within = line.iter().filter(|byte| **byte == b'\n').count();
     (within as u64).saturating_add(1)
 }
 
-/// A trace as one that a hand could have written, if it isn't one.
+/// Converts a recorded day into a trace as a person writes it. Another trace is left as it is. The only error
+/// is out of memory.
 pub fn as_written(alloc: Global, trace: &[u8]) -> Result<Written, AllocError> {
     if trace.starts_with(GOES_ON) {
         return Ok(Written::Bad(1));
@@ -186,7 +186,7 @@ pub fn as_written(alloc: Global, trace: &[u8]) -> Result<Written, AllocError> {
     }
 }
 
-/// Writes the lines behind this front, which come behind so many others.
+/// Writes the lines behind the front. `before` lines are in front of them.
 fn write_lines(
     alloc: Global,
     front: &[u8],

@@ -42,7 +42,7 @@ pub record Submits (now : ℕ) (old : State) (job : Submission) (incoming : Bool
 abbrev pub asker_of : List ℕ → State → AskerRecord
 asker_of name state = record { name = name; is_operator = is_operator name state }
 
--- why a document of so many octets isn't taken for the job of an id, if there is a cause other than out of memory
+-- why a document of this many octets isn't taken for the job of an id, if there is a cause other than out of memory
 abbrev pub sending_refusal : ℕ → List ℕ → ℕ → Bool → State → Option SpoolRefusal
 sending_refusal id name octets last state = document_refusal (asker_of name state) octets last (spooled_at id state.spool.jobs)
 

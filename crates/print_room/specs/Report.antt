@@ -39,7 +39,7 @@ abbrev pub left_of : ℕ → ℕ → List SpooledRecord → Device → Option �
 left_of number printed jobs device =
     if has_job number device.activity then option_map (λ job. time_left job.needs device printed) (job_at number jobs) else None
 
--- the activity of a device after it has printed so many impressions of its job
+-- the activity of a device after it has printed this many impressions of its job
 abbrev pub paged : ℕ → ℕ → ℕ → List SpooledRecord → Device → Activity
 paged now number printed jobs device = option_map_or (λ left. taking left now device.activity) (left_of number printed jobs device) device.activity
 

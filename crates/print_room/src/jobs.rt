@@ -74,8 +74,8 @@ impl PrintRoom {
         Ok(())
     }
 
-    /// Returns why a document of so many octets isn't taken, if there is a cause other than out of memory. It
-    /// takes no memory.
+    /// Returns why a document of this many octets isn't taken, if there is a cause other than out of memory.
+    /// It takes no memory.
     pub fn admits_document(
         &self,
         id: JobId,

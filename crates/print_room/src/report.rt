@@ -77,7 +77,7 @@ impl PrintRoom {
         }
     }
 
-    /// The activity of a device after it has printed so many impressions of its job.
+    /// The activity of a device after it has printed this many impressions of its job.
     fn paged(&self, number: u32, printed: u32, device: &DeviceNow, now: Moment) -> Activity
         requires { KeepsTime now device.now.activity }
         ensures activity { result ≡ paged now number printed self.now.spool.jobs device.now }
@@ -107,7 +107,7 @@ impl PrintRoom {
 
     /// Applies a report of the device at a place, at a moment that isn't before the last one. Returns the
     /// documents of a job that the report ends. If no device is at the place, only the last moment changes.
-    /// It takes no memory.
+    /// The call takes no memory.
     pub fn report(&mut self, place: usize, report: &Report, now: Moment) -> Vec<Document>
         requires { self.old.last ≤ now }
         ensures reports { Reports now place report.now self.old result.items self.new }

@@ -5,7 +5,8 @@ use command_line::Attaching;
 use program::ExitStatus;
 use std::io;
 
-/// Attaches a printer, until told to stop; the error is one of what was said.
+/// Attaches a printer until the attachment is told to stop. An error is reported, and its exit status
+/// returned.
 pub(crate) fn run_attach(
     rt: &HostRuntime,
     attaching: Attaching<'_>,
@@ -33,7 +34,7 @@ pub(crate) fn run_attach(
     }
 }
 
-/// Says which word makes no sense, and gives the status.
+/// Reports the invalid word, and returns the exit status.
 fn refuse(rt: &HostRuntime, fault: WordFault, words: PlanWords<'_>) -> ExitStatus {
     let said = match fault {
         WordFault::Name => say(
@@ -64,7 +65,7 @@ fn refuse(rt: &HostRuntime, fault: WordFault, words: PlanWords<'_>) -> ExitStatu
     }
 }
 
-/// Says that a word makes no sense, and what does.
+/// Reports an invalid value of an option, and the values that are valid.
 fn say(rt: &HostRuntime, option: &str, value: &str, wanted: &str) -> io::Result<()> {
     eprintln!(rt; "error: '{value}' makes no sense for {option}: it is {wanted}")
 }

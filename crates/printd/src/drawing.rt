@@ -11,7 +11,7 @@ use program::ExitStatus;
 use recorded_days::{DayFault, draw_day};
 use std::io;
 
-/// The form that is asked for.
+/// The form of a picture: for a terminal if `text` is set, else SVG.
 pub(crate) fn form_of(text: bool) -> Form {
     if text { Form::Text } else { Form::Svg }
 }
@@ -27,7 +27,7 @@ fn draw_plan(rt: &HostRuntime, form: Form) -> ExitStatus {
     told(rt, audit)
 }
 
-/// Says why a trace tells of no day, and gives the status.
+/// Reports why a trace has no day, and returns the exit status.
 pub(crate) fn refuse_day(rt: &HostRuntime, what: &str, fault: &DayFault) -> ExitStatus {
     match fault {
         DayFault::Refused { sentence } => {
@@ -38,7 +38,8 @@ pub(crate) fn refuse_day(rt: &HostRuntime, what: &str, fault: &DayFault) -> Exit
     }
 }
 
-/// A trace that is the text of a file, as one that a hand could have written.
+/// The trace of a file in the written form: a recorded day is converted. An error is reported, and its exit
+/// status returned.
 pub(crate) fn written_trace(
     rt: &HostRuntime,
     file: &str,
@@ -57,7 +58,7 @@ pub(crate) fn written_trace(
     }
 }
 
-/// Draws the day of a trace; the error is one of what was said.
+/// Draws the day of a trace. An error is reported, and its exit status returned.
 fn draw_trace(rt: &HostRuntime, file: &str, form: Form) -> Result<ExitStatus, ExitStatus> {
     let text = written_trace(rt, file, read_file(rt, file)?)?;
     let drawn = draw_day(rt.alloc(), file, &text, form);
@@ -65,7 +66,7 @@ fn draw_trace(rt: &HostRuntime, file: &str, form: Form) -> Result<ExitStatus, Ex
     write_text(rt, &picture)
 }
 
-/// Draws the day of a trace, or, where there is none, a plan; the error is one of what was said.
+/// Draws the day of a trace or, without a trace, a plan. An error is reported, and its exit status returned.
 pub(crate) fn draw(
     rt: &HostRuntime,
     trace: Option<&str>,

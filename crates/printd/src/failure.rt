@@ -1,4 +1,4 @@
-//! What is said where the program fails.
+//! Reports about failures of the program.
 use program::ExitStatus;
 use std::fmt::Display;
 use std::io;
@@ -21,18 +21,18 @@ fn reason(error: &io::Error) -> &'static str {
     }
 }
 
-/// The error that there is no memory.
+/// The error of refused memory.
 pub(crate) fn out_of_memory() -> io::Error {
     io::Error::from(ErrorKind::OutOfMemory)
 }
 
-/// Says something in a line of standard error, if that can be written.
+/// Writes a line to standard error. A failure of the write is ignored.
 pub(crate) fn say<T: Display>(rt: &HostRuntime, what: &T) {
     let _said = eprintln!(rt; "printd: {what}");
 }
 
-/// Says in a line of standard error what couldn't be done, and why, and gives the status. Where nobody
-/// reads the output any more, it ends quietly.
+/// Reports in a line of standard error what failed and why, and returns the exit status. Writes nothing where
+/// nobody reads the output any more.
 pub(crate) fn cannot(rt: &HostRuntime, what: &str, error: io::Error) -> ExitStatus {
     if error.kind() != ErrorKind::BrokenPipe {
         let reason = reason(&error);
@@ -46,7 +46,7 @@ pub(crate) fn cannot(rt: &HostRuntime, what: &str, error: io::Error) -> ExitStat
     ExitStatus::Failed
 }
 
-/// The same of something that has a name.
+/// Reports as [`cannot`] does, for an object with a name.
 pub(crate) fn cannot_with(
     rt: &HostRuntime,
     what: &str,
@@ -59,7 +59,7 @@ pub(crate) fn cannot_with(
     }
 }
 
-/// Writes a text to standard output; the error is one of what was said.
+/// Writes a text to standard output. An error is reported, and its exit status returned.
 pub(crate) fn write_text(rt: &HostRuntime, text: &str) -> Result<ExitStatus, ExitStatus> {
     match io::writer(rt).write_all(text.as_bytes()) {
         Ok(()) => Ok(ExitStatus::Done),

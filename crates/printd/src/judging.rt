@@ -1,4 +1,4 @@
-//! `printd check`: the text of a plan from standard input, judged.
+//! `printd check`: the verdict on the text of a plan from standard input.
 use crate::failure::{cannot, out_of_memory, say};
 use crate::noted::{NotedInput, NotedOutput};
 use plan_audit::{Audit, run_check};
@@ -17,7 +17,7 @@ pub(crate) fn check(rt: &HostRuntime, starts: bool) -> ExitStatus {
     told(rt, audit)
 }
 
-/// Says what is objected to in a plan, and gives the status.
+/// Reports the objection to a plan, and returns the exit status.
 pub(crate) fn told(rt: &HostRuntime, audit: Audit) -> ExitStatus {
     if let Some(objection) = &audit.objection {
         say(rt, objection);
@@ -25,7 +25,7 @@ pub(crate) fn told(rt: &HostRuntime, audit: Audit) -> ExitStatus {
     audit.status
 }
 
-/// Says why it failed: the output couldn't be written, the input couldn't be read, or memory was refused.
+/// Reports the failure: of the output, of the input, or of memory; and returns the exit status.
 pub(crate) fn failed<R: Read + Drop, W: Write + Drop>(
     rt: &HostRuntime,
     what: &str,

@@ -1,4 +1,4 @@
-//! Where a log goes: standard error, or a file.
+//! The destination of a log: standard error, or a file.
 use libc::net::{POLLOUT, poll};
 use libc::types::pollfd;
 use std::fs::{File, OpenOptions};
@@ -10,14 +10,15 @@ use std::{fs, io};
 /// The descriptor of standard error.
 const STANDARD_ERROR: RawFd = 2;
 
-/// Where the lines of a log go. A write that would wait gives [`ErrorKind::WouldBlock`].
+/// The destination of the lines of a log. A write that would have to wait returns [`ErrorKind::WouldBlock`].
 #[derive(Drop)]
 pub(crate) enum LogOutput<'a> {
     StandardError(Stderr),
     File(LogFile<'a>),
 }
 
-/// A file to which lines are appended. It is opened anew where its path leads to another file, or to none.
+/// A file to which lines are appended. It is opened again where its path leads to another file, or to no
+/// file.
 #[derive(Drop)]
 pub(crate) struct LogFile<'a> {
     rt: &'a HostRuntime,
@@ -25,12 +26,12 @@ pub(crate) struct LogFile<'a> {
     file: File,
 }
 
-/// Opens a file to append to, which is made where it isn't there.
+/// Opens a file for appending, and creates the file if it is missing.
 fn open(rt: &HostRuntime, path: &str) -> io::Result<File> {
     OpenOptions::new().append(true).create(true).open(rt, path)
 }
 
-/// Whether a write of up to 4,096 bytes to a descriptor doesn't wait, by the system's word.
+/// Returns whether the system says that a write of up to 4,096 bytes to a descriptor does not wait.
 fn has_room(fd: RawFd) -> bool {
     let mut asked = [pollfd {
         fd,
@@ -41,20 +42,20 @@ fn has_room(fd: RawFd) -> bool {
 }
 
 impl<'a> LogFile<'a> {
-    /// The error is the system's.
+    /// Opens the file of a path. The error is the system's.
     pub(crate) fn open(rt: &'a HostRuntime, path: &'a str) -> io::Result<LogFile<'a>> {
         let file = open(rt, path)?;
         Ok(LogFile { rt, path, file })
     }
 
-    /// Whether its path leads to it.
+    /// Returns whether the path leads to the open file.
     fn is_there(&self) -> io::Result<bool> {
         let found = fs::metadata(self.rt, self.path)?;
         let own = self.file.metadata()?;
         Ok(found.dev() == own.dev() && found.ino() == own.ino())
     }
 
-    /// Opens the file of its path, where that is another. Where that fails it goes on with the one it has.
+    /// Opens the file of the path again if it is another file. Where the open fails, the open file is kept.
     fn renew(&mut self) {
         if let Ok(true) = self.is_there() {
             return;

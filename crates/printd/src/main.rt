@@ -1,8 +1,10 @@
-//! The program: `printd serve` is the server over sockets, `printd settings` shows or judges settings,
-//! `printd replay` plays a trace and writes what the server does, `printd log` writes the log of a recorded
-//! day, `printd check` reads the text of a plan and writes the verdict on it, `printd draw` draws it or the
-//! day of a trace, `printd simulate` plays a day of jobs, and `printd attach` is a device of a server, whose
-//! jobs a printer prints.
+//! The program.
+//!
+//! `printd serve` is the server over sockets. `printd settings` shows or judges settings. `printd replay`
+//! plays a trace and writes the happenings of the server. `printd log` writes the log of a recorded day.
+//! `printd check` reads the text of a plan and writes the verdict on it. `printd draw` draws a plan or the
+//! day of a trace. `printd simulate` plays a day of jobs. `printd attach` is a device of a server, whose jobs
+//! a printer prints.
 #![tactic(auto)]
 
 mod attaching;
@@ -32,7 +34,8 @@ use std::io::{ErrorKind, Write};
 use std::process::ExitCode;
 use std::{env, io};
 
-/// Why the words can't be read: one isn't UTF-8, which is said, or the system fails.
+/// Reports why the command line can't be read: a word is not UTF-8, or the system fails. Returns the exit
+/// status.
 fn unread(rt: &HostRuntime, error: io::Error) -> ExitStatus {
     if error.kind() != ErrorKind::InvalidData {
         return cannot(rt, "read the command line", error);
@@ -43,7 +46,7 @@ fn unread(rt: &HostRuntime, error: io::Error) -> ExitStatus {
     }
 }
 
-/// The words that the program was given.
+/// The words of the command line.
 fn words_of(rt: &HostRuntime) -> io::Result<Vec<String>> {
     let mut words = Vec::new(rt.alloc());
     for word in env::args(rt)? {
@@ -52,7 +55,7 @@ fn words_of(rt: &HostRuntime) -> io::Result<Vec<String>> {
     Ok(words)
 }
 
-/// The same words, lent.
+/// The words as references. The only error is out of memory.
 fn lent<'a>(rt: &HostRuntime, words: &'a [String]) -> Result<Vec<&'a str>, AllocError> {
     let mut texts = Vec::with_capacity(rt.alloc(), words.len())?;
     for word in words {
@@ -61,8 +64,8 @@ fn lent<'a>(rt: &HostRuntime, words: &'a [String]) -> Result<Vec<&'a str>, Alloc
     Ok(texts)
 }
 
-/// Writes the text about words that ask for nothing to do, and gives the status: help and the version to
-/// standard output, else what is wrong to standard error.
+/// Writes the text about words that name no subcommand, and returns the exit status. Help and the version go
+/// to standard output, errors to standard error.
 fn tell(rt: &HostRuntime, error: &WordsError) -> ExitStatus {
     match error {
         WordsError::Help(text) => match io::writer(rt).write_all(text.as_bytes()) {
@@ -77,7 +80,7 @@ fn tell(rt: &HostRuntime, error: &WordsError) -> ExitStatus {
     }
 }
 
-/// Does what the words ask for, and gives the status; the error is one of what was said already.
+/// Runs the subcommand, and returns its exit status. An error is reported, and its exit status returned.
 fn run(rt: &HostRuntime, asked: &Subcommand<'_>) -> Result<ExitStatus, ExitStatus> {
     match asked {
         Subcommand::Serve(serving) => run_serve(rt, serving),
@@ -91,8 +94,8 @@ fn run(rt: &HostRuntime, asked: &Subcommand<'_>) -> Result<ExitStatus, ExitStatu
     }
 }
 
-/// What the program does, and its status; the error is the status where it isn't known what to do, or
-/// where it can't be done, which is said.
+/// Runs the program, and returns its exit status. Where the words can't be read or the subcommand fails, the
+/// error is reported, and its exit status returned.
 fn run_words(rt: &HostRuntime) -> Result<ExitStatus, ExitStatus> {
     let words = words_of(rt).map_err(|error| unread(rt, error))?;
     let texts = lent(rt, &words).map_err(|error| cannot(

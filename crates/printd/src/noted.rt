@@ -1,19 +1,19 @@
-//! Standard input and standard output, of which is kept why they fail.
+//! Standard input and standard output that keep the errors at which they fail.
 use base_types::Limits;
 use std::io;
 use std::io::{ErrorKind, Read, Write};
 
-/// What is read, with the error at which it failed.
+/// An input, with the error at which it failed.
 #[derive(Drop)]
 pub(crate) struct NotedInput<R> {
     reader: R,
-    /// The reads that are left of those that an input may take.
+    /// The number of reads that the input may still take.
     left: u32,
     ended: bool,
     error: Option<io::Error>,
 }
 
-/// What is written to, with the error at which it failed.
+/// An output, with the error at which it failed.
 #[derive(Drop)]
 pub(crate) struct NotedOutput<W> {
     writer: W,
@@ -30,12 +30,12 @@ impl<R: Read + Drop> NotedInput<R> {
         }
     }
 
-    /// Whether it took as many reads as an input may take, and had not ended by then.
+    /// Returns whether the input took as many reads as an input may take, and had not ended by then.
     pub(crate) fn takes_too_many_reads(&self) -> bool {
         self.left == 0 && !self.ended
     }
 
-    /// The error at which it failed, if it did.
+    /// The error at which the input failed, if it failed.
     pub(crate) fn into_error(self) -> Option<io::Error> {
         self.error
     }
@@ -49,13 +49,13 @@ impl<W: Write + Drop> NotedOutput<W> {
         }
     }
 
-    /// The error at which it failed, if it did.
+    /// The error at which the output failed, if it failed.
     pub(crate) fn into_error(self) -> Option<io::Error> {
         self.error
     }
 }
 
-/// Keeps an error, and gives one of its kind.
+/// Keeps an error, and returns an error of the same kind.
 fn keep(kept: &mut Option<io::Error>, error: io::Error) -> io::Error {
     let kind = error.kind();
     *kept = Some(error);

@@ -11,15 +11,15 @@ use std::fs::File;
 use std::io;
 use std::io::{Input, Read, Write};
 
-/// What standard input is called.
+/// The name of standard input in reports.
 const INPUT: &str = "<standard input>";
 
-/// Opens a file to read it.
+/// Opens a file for reading. An error is reported, and its exit status returned.
 fn open(rt: &HostRuntime, file: &str) -> Result<File, ExitStatus> {
     File::open(rt, file).map_err(|error| cannot_with(rt, "read", file, error))
 }
 
-/// Plays a trace.
+/// Plays a trace. An error of opening the file is reported, and its exit status returned.
 pub(crate) fn replay(rt: &HostRuntime, replaying: Replaying<'_>) -> Result<ExitStatus, ExitStatus> {
     match replaying.file {
         Some(file) => Ok(replay_input(rt, file, open(rt, file)?, replaying)),
@@ -27,7 +27,8 @@ pub(crate) fn replay(rt: &HostRuntime, replaying: Replaying<'_>) -> Result<ExitS
     }
 }
 
-/// Writes the log's lines of a recorded day.
+/// Writes the log lines of a recorded day. An error of opening the file is reported, and its exit status
+/// returned.
 pub(crate) fn log(rt: &HostRuntime, file: Option<&str>) -> Result<ExitStatus, ExitStatus> {
     match file {
         Some(file) => Ok(log_input(rt, file, open(rt, file)?)),
@@ -35,7 +36,7 @@ pub(crate) fn log(rt: &HostRuntime, file: Option<&str>) -> Result<ExitStatus, Ex
     }
 }
 
-/// Plays a trace, which is an input of this name.
+/// Plays the trace of an input with this name, and returns the exit status.
 fn replay_input<R: Read + Drop>(
     rt: &HostRuntime,
     name: &str,
@@ -50,7 +51,7 @@ fn replay_input<R: Read + Drop>(
     }
 }
 
-/// Plays a trace of either kind: its status, unless memory or a stream fails.
+/// Plays a trace of either kind, and returns the exit status; `None` where memory or a stream fails.
 fn play_any<R: Read, W: Write>(
     rt: &HostRuntime,
     name: &str,
@@ -68,7 +69,7 @@ fn play_any<R: Read, W: Write>(
     }
 }
 
-/// Writes the log's lines of a recorded day, which is an input of this name.
+/// Writes the log lines of a recorded day from an input with this name, and returns the exit status.
 fn log_input<R: Read + Drop>(rt: &HostRuntime, name: &str, reader: R) -> ExitStatus {
     let mut input = NotedInput::new(reader);
     let mut output = NotedOutput::new(io::writer(rt));
@@ -78,7 +79,7 @@ fn log_input<R: Read + Drop>(rt: &HostRuntime, name: &str, reader: R) -> ExitSta
     }
 }
 
-/// What is written of a recorded day.
+/// The output for a recorded day.
 fn shows_of(replaying: Replaying<'_>) -> Shows {
     if replaying.verify {
         Shows::Verdict
@@ -89,7 +90,7 @@ fn shows_of(replaying: Replaying<'_>) -> Shows {
     }
 }
 
-/// Plays a recorded day: its status, unless memory or a stream fails.
+/// Plays a recorded day, and returns the exit status; `None` where memory or a stream fails.
 fn play_recorded<R: Read, W: Write>(
     rt: &HostRuntime,
     name: &str,
@@ -107,7 +108,7 @@ fn play_recorded<R: Read, W: Write>(
     Some(played.status)
 }
 
-/// Plays a trace that was written: its status, unless memory or a stream fails.
+/// Plays a written trace, and returns the exit status; `None` where memory or a stream fails.
 fn play_written<R: Read, W: Write>(
     rt: &HostRuntime,
     name: &str,
@@ -125,7 +126,8 @@ fn play_written<R: Read, W: Write>(
     Some(played.status)
 }
 
-/// Says what is objected to in a trace, if anything is, with the name of its file in front.
+/// Reports the objection to a trace, if there is an objection, behind the name of the file. The only error is
+/// out of memory.
 fn say_objection(rt: &HostRuntime, name: &str, played: &Replayed) -> Result<(), AllocError> {
     let Some(objection) = &played.objection else {
         return Ok(());

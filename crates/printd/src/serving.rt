@@ -14,7 +14,7 @@ use std::io;
 use std::net::SocketAddr;
 use wires::Door;
 
-/// It can't be listened for a door at an address, which is said.
+/// Reports that a door can't listen at an address, and returns the exit status.
 fn cannot_listen(rt: &HostRuntime, listening: Listening, error: io::Error) -> ExitStatus {
     let (door, address) = (listening.door.option(), listening.address);
     match format!(in rt.alloc(); "listen for {door} at {address}") {
@@ -23,7 +23,7 @@ fn cannot_listen(rt: &HostRuntime, listening: Listening, error: io::Error) -> Ex
     }
 }
 
-/// Listens for a door at each of these addresses.
+/// Listens for a door at each of these addresses. An error is reported, and its exit status returned.
 fn listen_at(
     rt: &HostRuntime,
     sockets: &mut Sockets,
@@ -42,7 +42,7 @@ fn listen_at(
     Ok(())
 }
 
-/// Writes where a door listens: its port, or a line for each of its addresses where it has several.
+/// Writes where a door listens: its port, or, where it has several addresses, a line for each address.
 fn announce(rt: &HostRuntime, listening: &[Listening], door: Door) -> io::Result<()> {
     let name = door.option();
     let count = listening.iter().filter(|one| one.door == door).count();
@@ -58,7 +58,7 @@ fn announce(rt: &HostRuntime, listening: &[Listening], door: Door) -> io::Result
     Ok(())
 }
 
-/// The same of all doors.
+/// Writes where all doors listen.
 fn announce_all(rt: &HostRuntime, sockets: &Sockets) -> io::Result<()> {
     let listening = sockets.listening()?;
     announce(rt, &listening, Door::Ipp)?;
@@ -66,7 +66,8 @@ fn announce_all(rt: &HostRuntime, sockets: &Sockets) -> io::Result<()> {
     announce(rt, &listening, Door::Devices)
 }
 
-/// Sockets that listen where they are asked to.
+/// Opens the sockets of all doors, and writes where they listen. An error is reported, and its exit status
+/// returned.
 fn open(rt: &HostRuntime, serving: &Serving<'_>) -> Result<Sockets, ExitStatus> {
     let mut sockets = Sockets::new(rt.alloc(), rt).map_err(|error| cannot(
         rt,
@@ -80,7 +81,7 @@ fn open(rt: &HostRuntime, serving: &Serving<'_>) -> Result<Sockets, ExitStatus> 
     Ok(sockets)
 }
 
-/// Where the log goes, if there is one.
+/// The destination of the log, if a log is written. An error is reported, and its exit status returned.
 fn log_of<'a>(
     rt: &'a HostRuntime,
     serving: &Serving<'a>,
@@ -95,7 +96,8 @@ fn log_of<'a>(
     }
 }
 
-/// Where the day is recorded, if it is. The error is the status of what was said.
+/// The files of the recording, if the day is recorded; the first file is begun. An error is reported, and its
+/// exit status returned.
 fn tape_of<'a>(
     rt: &'a HostRuntime,
     serving: &Serving<'a>,
@@ -109,7 +111,7 @@ fn tape_of<'a>(
     Ok(Some(tape))
 }
 
-/// A recording to a tape, where there is one.
+/// A recording to a tape, if there is a tape.
 fn recording_of<'a, 'b>(
     tape: Option<&'a mut TapeFiles<'b>>,
     heads: bool,
@@ -120,7 +122,8 @@ fn recording_of<'a, 'b>(
     Some(Recording { tape, heads })
 }
 
-/// Serves with these settings over these sockets, with the log and the recording that are asked for.
+/// Serves with these settings over these sockets, with the log and the recording asked for. An error is
+/// reported, and its exit status returned.
 fn serve_over(
     rt: &HostRuntime,
     settings: Settings,
@@ -146,7 +149,7 @@ fn serve_over(
     }
 }
 
-/// Serves with the settings of a text.
+/// Serves with the settings of a text. An error is reported, and its exit status returned.
 fn serve_settings(
     rt: &HostRuntime,
     settings: Settings,
@@ -163,12 +166,12 @@ fn serve_settings(
     }
 }
 
-/// What the file of the settings is called.
+/// The name of the file of the settings in reports.
 fn file_of<'a>(serving: &Serving<'a>) -> &'a str {
     serving.settings.unwrap_or("the settings that are built in")
 }
 
-/// The text of the settings.
+/// The text of the settings. An error is reported, and its exit status returned.
 fn text_of(rt: &HostRuntime, file: Option<&str>) -> Result<Vec<u8>, ExitStatus> {
     match file {
         Some(file) => read_file(rt, file),
@@ -176,7 +179,8 @@ fn text_of(rt: &HostRuntime, file: Option<&str>) -> Result<Vec<u8>, ExitStatus> 
     }
 }
 
-/// Serves, and says where; the error is the status of what was said already.
+/// Runs `printd serve`: writes where the doors listen, and serves. An error is reported, and its exit status
+/// returned.
 pub(crate) fn run_serve(rt: &HostRuntime, serving: &Serving<'_>) -> Result<ExitStatus, ExitStatus> {
     let text = text_of(rt, serving.settings)?;
     let settings = settings_in(rt, file_of(serving), &text)?;

@@ -1,4 +1,4 @@
-//! The settings of a file, or those that are built in.
+//! The settings of a file, and the built-in settings.
 ghost use Rattle.std.specs.Prelude.{IfOk};
 ghost use Rattle.settings_file.specs.Settings.{MeetsLimits};
 
@@ -10,7 +10,8 @@ use settings_file::{PrinterSettings, Settings, explain};
 use std::io::Write;
 use std::{fs, io};
 
-/// Says what is wrong with the settings of a file, if anything is.
+/// Reports the fault in the settings of a file, if there is a fault. An error is reported, and its exit
+/// status returned.
 fn say_fault(rt: &HostRuntime, file: &str, bytes: &[u8]) -> Result<(), ExitStatus> {
     let told = explain(rt.alloc(), file, bytes).map_err(|error| cannot_with(
         rt,
@@ -24,8 +25,8 @@ fn say_fault(rt: &HostRuntime, file: &str, bytes: &[u8]) -> Result<(), ExitStatu
     Ok(())
 }
 
-/// The settings of the text of a file; where it is refused, its first fault is said in a sentence, and then
-/// in a line for programs.
+/// The settings of the text of a file. The first fault of a refused text is reported in a sentence, and then
+/// in a line for programs; its exit status is returned.
 pub(crate) fn settings_in(
     rt: &HostRuntime,
     file: &str,
@@ -37,7 +38,7 @@ pub(crate) fn settings_in(
     read_or_refuse(rt.alloc(), bytes, &mut rt.stderr())
 }
 
-/// The settings of a file.
+/// The settings of a file. An error is reported, and its exit status returned.
 pub(crate) fn settings_of(rt: &HostRuntime, file: &str) -> Result<Settings, ExitStatus>
     ensures { IfOk result MeetsLimits }
 {
@@ -45,12 +46,12 @@ pub(crate) fn settings_of(rt: &HostRuntime, file: &str) -> Result<Settings, Exit
     settings_in(rt, file, &bytes)
 }
 
-/// The bytes of a file.
+/// The bytes of a file. An error is reported, and its exit status returned.
 pub(crate) fn read_file(rt: &HostRuntime, file: &str) -> Result<Vec<u8>, ExitStatus> {
     fs::read(rt, file).map_err(|error| cannot_with(rt, "read", file, error))
 }
 
-/// The text of the settings that are built in.
+/// The text of the built-in settings. An error is reported, and its exit status returned.
 pub(crate) fn built_in_text(rt: &HostRuntime) -> Result<Vec<u8>, ExitStatus> {
     let mut text = Vec::new(rt.alloc());
     match text.extend_from_slice(BUILT_IN_SETTINGS.as_bytes()) {
@@ -63,7 +64,7 @@ pub(crate) fn built_in_text(rt: &HostRuntime) -> Result<Vec<u8>, ExitStatus> {
     }
 }
 
-/// Shows the settings that are built in.
+/// Shows the built-in settings.
 fn show_built_in(rt: &HostRuntime) -> Result<ExitStatus, ExitStatus> {
     match print!(rt; "{BUILT_IN_SETTINGS}") {
         Ok(()) => Ok(ExitStatus::Done),
@@ -80,7 +81,7 @@ fn judge(rt: &HostRuntime, file: &str) -> Result<ExitStatus, ExitStatus> {
     }
 }
 
-/// Says that no printer is announced, and why, in a line of standard error.
+/// Reports that no printer is announced, and why, in a line of standard error. Returns the exit status.
 fn refuse_printer(rt: &HostRuntime, file: &str, printer: Option<&str>) -> ExitStatus {
     let said = match printer {
         Some(name) => eprintln!(rt; "printd: {file} has no printer \"{name}\""),
@@ -92,7 +93,7 @@ fn refuse_printer(rt: &HostRuntime, file: &str, printer: Option<&str>) -> ExitSt
     }
 }
 
-/// The printer of these settings that is asked for: the named one, or the only one.
+/// The printer with this name or, without a name, the only printer; `None` where there is no such printer.
 fn printer_of<'a>(settings: &'a Settings, printer: Option<&str>) -> Option<&'a PrinterSettings> {
     match printer {
         Some(name) => printer_named(settings, name.as_bytes()),
@@ -100,7 +101,7 @@ fn printer_of<'a>(settings: &'a Settings, printer: Option<&str>) -> Option<&'a P
     }
 }
 
-/// Shows the Avahi service of a printer of a file.
+/// Shows the Avahi service of a printer of a file. An error is reported, and its exit status returned.
 fn announce(
     rt: &HostRuntime,
     file: &str,
@@ -128,7 +129,7 @@ fn announce(
     }
 }
 
-/// Answers what is asked about settings; the error is the status of what was said already.
+/// Runs `printd settings`. An error is reported, and its exit status returned.
 pub(crate) fn run_settings(
     rt: &HostRuntime,
     asked: AboutSettings<'_>,

@@ -15,19 +15,19 @@ use std::fs;
 use std::os::unix::fs::FileTypeExt;
 use traces::split_settings;
 
-/// What is done here, in words.
+/// The work of the command, in reports.
 const PLAY: &str = "play the jobs";
 
-/// Tells on a terminal how far a day has been played.
+/// The progress of a day, shown on a terminal.
 #[derive(Drop)]
 struct Progress<'a> {
     rt: &'a HostRuntime,
     is_told: bool,
-    /// How many hundredths of the jobs had come when it was told last.
+    /// The hundredths of the jobs that had come when progress was last shown.
     told: usize,
 }
 
-/// Whether standard error is a terminal, or another device of characters.
+/// Returns whether standard error is a terminal, or another character device.
 fn is_terminal(rt: &HostRuntime) -> bool {
     match fs::metadata(rt, "/dev/stderr") {
         Ok(found) => found.file_type().is_char_device(),
@@ -54,7 +54,7 @@ impl Progress<'_> {
         }
     }
 
-    /// Takes the line away.
+    /// Clears the line of the progress.
     fn end(&self) {
         if self.is_told {
             let _said = eprint!(self.rt; "\r\x1b[K");
@@ -62,7 +62,7 @@ impl Progress<'_> {
     }
 }
 
-/// The devices that there are more.
+/// The additional devices. The only error is out of memory.
 fn added_of<'a>(
     rt: &HostRuntime,
     simulating: &'a Simulating<'_>,
@@ -74,7 +74,7 @@ fn added_of<'a>(
     Ok(added)
 }
 
-/// The policy of a name.
+/// The policy with this name; `None` for any other name.
 fn policy_named(name: &str) -> Option<Policy> {
     Policy::ALL
         .iter()
@@ -82,14 +82,14 @@ fn policy_named(name: &str) -> Option<Policy> {
         .find(|policy| policy.name() == name)
 }
 
-/// What is drawn, if anything is.
+/// The drawing that is asked for, if there is one.
 fn drawn_of(simulating: &Simulating<'_>) -> Option<Drawn> {
     let policy = policy_named(simulating.draw?)?;
     let form = form_of(simulating.text);
     Some(Drawn { policy, form })
 }
 
-/// Says why a list isn't read, and gives the status.
+/// Reports why a list is not read, and returns the exit status.
 fn refuse_list(rt: &HostRuntime, file: &str, error: &ListError) -> ExitStatus {
     match error {
         ListError::Fault { line, fault } => {
@@ -100,7 +100,7 @@ fn refuse_list(rt: &HostRuntime, file: &str, error: &ListError) -> ExitStatus {
     }
 }
 
-/// Says why nothing is played, and gives the status.
+/// Reports why no job is played, and returns the exit status.
 fn refuse(rt: &HostRuntime, fault: &FleetFault) -> ExitStatus {
     match fault {
         FleetFault::OutOfMemory => cannot(rt, PLAY, out_of_memory()),
@@ -111,7 +111,7 @@ fn refuse(rt: &HostRuntime, fault: &FleetFault) -> ExitStatus {
     }
 }
 
-/// The jobs that a trace tells of, for some settings.
+/// The jobs of a trace, for some settings.
 fn jobs_of_trace(
     rt: &HostRuntime,
     file: &str,
@@ -122,7 +122,8 @@ fn jobs_of_trace(
     listed_jobs(rt.alloc(), &day, settings)
 }
 
-/// The jobs of a file: those of a trace, where a line is a point alone, else those of a list.
+/// The jobs of a file: of a trace where a line of the file is a point alone, else of a list. An error is
+/// reported, and its exit status returned.
 fn jobs_of(
     rt: &HostRuntime,
     file: &str,
@@ -137,7 +138,8 @@ fn jobs_of(
     }
 }
 
-/// Plays jobs with these settings: the text that tells of it. The error is one of what was said.
+/// Plays jobs with these settings, and returns the text of the results. An error is reported, and its exit
+/// status returned.
 fn played(
     rt: &HostRuntime,
     simulating: &Simulating<'_>,
@@ -162,7 +164,7 @@ fn played(
     played.map_err(|fault| refuse(rt, &fault))
 }
 
-/// Plays the jobs of a list; the error is one of what was said.
+/// Runs `printd simulate`: plays the jobs of a list. An error is reported, and its exit status returned.
 pub(crate) fn run_simulate(
     rt: &HostRuntime,
     simulating: &Simulating<'_>,

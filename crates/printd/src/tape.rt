@@ -11,14 +11,14 @@ use std::io::{ErrorKind, Write};
 use std::os::unix::fs::OpenOptionsExt;
 use std::time::{Duration, SystemTime};
 
-/// How many files a name may have.
+/// The most files of one name.
 const MOST_FILES: u32 = 1_000_000;
 
 /// The seconds of a day.
 const DAY: u64 = 86_400;
 
-/// The files of a recording: the first, and one more for each day that begins. Each can be read by its
-/// owner alone.
+/// The files of a recording: the first file, and a further file for each day that begins. Only its owner can
+/// read a file.
 #[derive(Drop)]
 pub(crate) struct TapeFiles<'a> {
     rt: &'a HostRuntime,
@@ -26,15 +26,15 @@ pub(crate) struct TapeFiles<'a> {
     /// The text of the settings with which the server starts.
     settings: &'a [u8],
     heads: bool,
-    /// The file that is open; none before the first.
+    /// The open file; `None` before the first file.
     file: Option<File>,
-    /// The number of the next.
+    /// The number of the next file.
     next: u32,
-    /// The day of the file that is open, counted from the beginning of 1970.
+    /// The day of the open file, in days since the beginning of 1970.
     day: u64,
 }
 
-/// The time since the beginning of 1970.
+/// The time since the beginning of 1970; 0 where the clock is before 1970.
 fn now(rt: &HostRuntime) -> io::Result<Duration> {
     match SystemTime::now(rt)?.duration_since(SystemTime::UNIX_EPOCH) {
         Ok(passed) => Ok(passed),
@@ -42,7 +42,8 @@ fn now(rt: &HostRuntime) -> io::Result<Duration> {
     }
 }
 
-/// The place of the point in front of the last part of a file's name, or the end, if it has no such part.
+/// The place of the point in front of the last part of a file's name; the end of the path where the name has
+/// no such part.
 fn point_of(path: &str) -> usize {
     let bytes = path.as_bytes();
     let start = match bytes.iter().rposition(|byte| *byte == b'/') {
@@ -55,7 +56,7 @@ fn point_of(path: &str) -> usize {
     }
 }
 
-/// The name of the file of a number: the first has the path itself, and of `day.trace` the next is
+/// The name of the file with this number. The first file has the path itself; the next file of `day.trace` is
 /// `day.1.trace`.
 fn name_of(rt: &HostRuntime, path: &str, number: u32) -> Result<String, AllocError> {
     if number == 0 {
@@ -67,7 +68,8 @@ fn name_of(rt: &HostRuntime, path: &str, number: u32) -> Result<String, AllocErr
     }
 }
 
-/// Makes a file that nobody else can read; none, where there is one of its name, or one that was packed.
+/// Creates a file that nobody else can read; `None` where a file of its name exists, or a packed file of its
+/// name.
 fn make(rt: &HostRuntime, name: &str) -> io::Result<Option<File>> {
     let packed = format!(in rt.alloc(); "{name}.gz")?;
     if std::fs::metadata(rt, &packed).is_ok() {
@@ -85,13 +87,13 @@ fn make(rt: &HostRuntime, name: &str) -> io::Result<Option<File>> {
     }
 }
 
-/// The time as a number of ms.
+/// The time in ms, since the beginning of 1970.
 fn millis_of(time: Duration) -> u64 {
     u64::try_from(time.as_millis()).unwrap_or(0)
 }
 
 impl<'a> TapeFiles<'a> {
-    /// No file is open yet.
+    /// Creates a recording without any open file.
     pub(crate) fn new(
         rt: &'a HostRuntime,
         path: &'a str,
@@ -109,7 +111,7 @@ impl<'a> TapeFiles<'a> {
         }
     }
 
-    /// Begins the first file. The error is the status of what was said.
+    /// Begins the first file. An error is reported, and its exit status returned.
     pub(crate) fn begin(&mut self) -> Result<(), ExitStatus> {
         match self.open_first() {
             Ok(()) => Ok(()),
@@ -117,7 +119,7 @@ impl<'a> TapeFiles<'a> {
         }
     }
 
-    /// The same; the error is the system's.
+    /// Opens the first file, and writes its start. The error is the system's.
     fn open_first(&mut self) -> io::Result<()> {
         let began = now(self.rt)?;
         let mut text = Vec::new(self.rt.alloc());
@@ -133,7 +135,7 @@ impl<'a> TapeFiles<'a> {
         self.write(&text)
     }
 
-    /// Opens the first file of a number from the next on that isn't there yet.
+    /// Opens the first file, from the next number on, whose name is free.
     fn open_next(&mut self) -> io::Result<()> {
         for number in self.next..MOST_FILES {
             let made = self.make(number)?;
@@ -146,13 +148,13 @@ impl<'a> TapeFiles<'a> {
         Err(io::Error::from(ErrorKind::AlreadyExists))
     }
 
-    /// Makes the file of a number, unless it is there.
+    /// Creates the file with this number; `None` where the file exists.
     fn make(&self, number: u32) -> io::Result<Option<File>> {
         let name = name_of(self.rt, self.path, number)?;
         make(self.rt, &name)
     }
 
-    /// Goes on in another file, where another day has begun.
+    /// Goes on in another file where another day has begun.
     fn turn_over(&mut self) -> io::Result<()> {
         let day = now(self.rt)?.as_secs() / DAY;
         if day == self.day {
@@ -166,7 +168,7 @@ impl<'a> TapeFiles<'a> {
         self.write(&text)
     }
 
-    /// Writes to the file that is open.
+    /// Writes to the open file.
     fn write(&mut self, bytes: &[u8]) -> io::Result<()> {
         match &mut self.file {
             Some(file) => file.write_all(bytes),
@@ -174,13 +176,13 @@ impl<'a> TapeFiles<'a> {
         }
     }
 
-    /// Appends lines.
+    /// Appends lines to the file of the day.
     fn append(&mut self, lines: &[u8]) -> io::Result<()> {
         self.turn_over()?;
         self.write(lines)
     }
 
-    /// Says that the recording has ended, and why.
+    /// Reports that the recording has ended, and why.
     fn say_ended(&self, error: io::Error) {
         let _status = cannot_with(self.rt, "record to", self.path, error);
         let _said = eprintln!(self.rt; "printd: the recording has ended; the server goes on");

@@ -1,4 +1,4 @@
--- What the creation of a job is answered with (RFC 8011, section 4.2.1.2): the job group.
+-- The job group of the response to a job creation (RFC 8011, section 4.2.1.2).
 use Rattle.std.specs.Prelude.{ℕ, Bool, List, [], ◌∷◌, codes}
 use Rattle.ipp_codec.specs.Message.{IppGroup}
 use Rattle.ipp_codec.specs.Tag as tags
@@ -10,7 +10,7 @@ use Rattle.job_objects.specs.Reasons.{reasons_of}
 use Rattle.printer_objects.specs.Attribute.{alone, text, number, enumerated, reasons_attribute}
 use Rattle.printer_objects.specs.JobShown.{job_uri}
 
--- its URI, its id, its state and the reasons of that, in this order
+-- the job's URI, id, state and reasons, in this order
 abbrev pub created_attributes : List ℕ → ℕ → JobState → JobReasons → IppGroup
 created_attributes uri_base id state reasons = record {
   tag = tags.job_attributes;
@@ -21,6 +21,6 @@ created_attributes uri_base id state reasons = record {
       ∷ [];
 }
 
--- the group of a job, told whether its printer is paused
+-- the group of a job; `paused` says whether its printer is paused
 abbrev pub created_group : List ℕ → JobRecord → Bool → IppGroup
 created_group uri_base job paused = created_attributes uri_base job.id job.state (reasons_of job paused)

@@ -30,7 +30,7 @@ job_attribute_name Media = codes "media"
 job_attribute_name Sides = codes "sides"
 job_attribute_name Finishings = codes "finishings"
 
--- the name of its group in requested-attributes
+-- the name of the attribute's group in requested-attributes
 abbrev pub job_attribute_group : JobAttribute → List ℕ
 job_attribute_group Uri = codes "job-description"
 job_attribute_group Id = codes "job-description"
@@ -53,10 +53,10 @@ job_attribute_group Media = codes "job-template"
 job_attribute_group Sides = codes "job-template"
 job_attribute_group Finishings = codes "job-template"
 
--- whether requested-attributes asks for it
+-- whether requested-attributes asks for the attribute
 abbrev pub is_wanted : List (List ℕ) → JobAttribute → Bool
 is_wanted requested which = is_requested (job_attribute_name which) (job_attribute_group which) requested
 
--- those that it asks for, in the table's order
+-- the requested attributes, in the table's order
 abbrev pub wanted_of : List (List ℕ) → List JobAttribute
 wanted_of requested = filter (is_wanted requested) job_table

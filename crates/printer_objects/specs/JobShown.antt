@@ -15,15 +15,15 @@ use Rattle.printer_objects.specs.Attribute.{alone, text, number, enumerated, key
 use Rattle.printer_objects.specs.Finishing.{each_finishing, finishings_attribute}
 use Rattle.printer_objects.specs.JobAttribute.{job_attribute_name}
 
--- what the attributes of a job are made of
+-- the data of a job's attributes
 pub record ShownJob : Type 0 where
   pub job : JobRecord
-  -- what the URIs of printers and jobs begin with
+  -- the front of the URIs of printers and jobs
   pub uri_base : List ℕ
-  -- the name of the printer that the job was sent to, and whether that is paused
+  -- the name of the job's printer, and whether that is paused
   pub printer_name : List ℕ
   pub printer_paused : Bool
-  -- when it is asked
+  -- the moment of the request
   pub moment : ℕ
 
 -- the base of URIs, `/jobs/` and the id
@@ -38,7 +38,7 @@ printer_uri base name = base ++ (codes "/printers/" ++ name)
 abbrev pub k_octets : ℕ → ℕ
 k_octets octets = (octets + (OCTETS_PER_K - 1)) / OCTETS_PER_K
 
--- as given, else as estimated
+-- the number as given, else as estimated
 abbrev pub given_or : Option ℕ → ℕ → ℕ
 given_or (Some given) estimated = given
 given_or None estimated = estimated
@@ -46,7 +46,7 @@ given_or None estimated = estimated
 abbrev pub impressions_shown : JobRecord → ℕ
 impressions_shown job = given_or job.impressions job.needs.impressions
 
--- the values of an attribute under its name
+-- the attribute of a name, with its values
 abbrev pub valued : List ℕ → ShownJob → JobAttribute → IppAttribute
 valued name shown Uri = alone name (text tags.uri (job_uri shown.uri_base shown.job.id))
 valued name shown Id = alone name (number shown.job.id)
@@ -73,6 +73,6 @@ valued name shown Finishings = finishings_attribute name (each_finishing shown.j
 abbrev pub job_shown : ShownJob → JobAttribute → IppAttribute
 job_shown shown which = valued (job_attribute_name which) shown which
 
--- the job group of a reply with these attributes
+-- the job group of a response with these attributes
 abbrev pub job_attributes : ShownJob → List JobAttribute → IppGroup
 job_attributes shown attributes = record { tag = tags.job_attributes; attributes = map (job_shown shown) attributes }

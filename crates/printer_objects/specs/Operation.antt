@@ -3,7 +3,7 @@ use Rattle.std.specs.Prelude.{ℕ, List, [], ◌∷◌}
 use Rattle.printer_objects.specs.declared.operation.Operation.{Operation}
 use Rattle.printer_objects.specs.declared.operation.Operation.TheVariants.{PrintJob, ValidateJob, CreateJob, SendDocument, CancelJob, GetJobAttributes, GetJobs, GetPrinterAttributes, HoldJob, ReleaseJob, PausePrinter, ResumePrinter}
 
--- by rising code
+-- all operations, by rising code
 abbrev pub operation_table : List Operation
 operation_table = PrintJob ∷ ValidateJob ∷ CreateJob ∷ SendDocument ∷ CancelJob ∷ GetJobAttributes ∷ GetJobs ∷ GetPrinterAttributes ∷ HoldJob ∷ ReleaseJob ∷ PausePrinter ∷ ResumePrinter ∷ []
 

@@ -44,7 +44,7 @@ printer_attribute_name SidesSupported = codes "sides-supported"
 printer_attribute_name FinishingsDefault = codes "finishings-default"
 printer_attribute_name FinishingsSupported = codes "finishings-supported"
 
--- the name of its group in requested-attributes
+-- the name of the attribute's group in requested-attributes
 abbrev pub printer_attribute_group : PrinterAttribute → List ℕ
 printer_attribute_group UriSupported = codes "printer-description"
 printer_attribute_group UriSecuritySupported = codes "printer-description"
@@ -81,6 +81,6 @@ printer_attribute_group SidesSupported = codes "job-template"
 printer_attribute_group FinishingsDefault = codes "job-template"
 printer_attribute_group FinishingsSupported = codes "job-template"
 
--- whether requested-attributes asks for it
+-- whether requested-attributes asks for the attribute
 abbrev pub is_wanted_of_printer : List (List ℕ) → PrinterAttribute → Bool
 is_wanted_of_printer requested which = is_requested (printer_attribute_name which) (printer_attribute_group which) requested

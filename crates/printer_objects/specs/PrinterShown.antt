@@ -20,21 +20,21 @@ use Rattle.printer_objects.specs.Finishing.{finishings_supported}
 use Rattle.printer_objects.specs.Offer.{OfferRecord, formats_of, media_of, ready_media_of, sides_of, finishings_of}
 use Rattle.printer_objects.specs.Offered.{operations_attribute, range, hold_untils_attribute, sides_attribute}
 
--- what the attributes of a printer are made of
+-- the data of a printer's attributes
 pub record ShownPrinter : Type 0 where
   pub paused : Bool
-  -- its settings, and what it offers
+  -- the printer's settings and offer
   pub offer : OfferRecord
-  -- what the URIs of printers and jobs begin with
+  -- the front of the URIs of printers and jobs
   pub uri_base : List ℕ
-  -- whether some job keeps it busy
+  -- whether some job keeps the printer busy
   pub busy : Bool
-  -- its unfinished jobs
+  -- the number of its unfinished jobs
   pub queued : ℕ
-  -- when it is asked
+  -- the moment of the request
   pub moment : ℕ
 
--- the values of an attribute under its name
+-- the attribute of a name, with its values
 abbrev pub valued_of_printer : List ℕ → ShownPrinter → PrinterAttribute → IppAttribute
 valued_of_printer name shown UriSupported = alone name (text tags.uri (printer_uri shown.uri_base shown.offer.printer.name))
 valued_of_printer name shown UriSecuritySupported = alone name (keyword (codes "none"))
@@ -75,6 +75,6 @@ valued_of_printer name shown FinishingsSupported = finishings_supported name (fi
 abbrev pub printer_shown : ShownPrinter → PrinterAttribute → IppAttribute
 printer_shown shown which = valued_of_printer (printer_attribute_name which) shown which
 
--- the printer group of a reply: the attributes that are asked for, in the table's order
+-- the printer group of a response: the requested attributes, in the table's order
 abbrev pub printer_attributes : ShownPrinter → List (List ℕ) → IppGroup
 printer_attributes shown requested = record { tag = tags.printer_attributes; attributes = map (printer_shown shown) (filter (is_wanted_of_printer requested) printer_table) }

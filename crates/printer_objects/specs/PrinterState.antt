@@ -1,4 +1,4 @@
--- The state of a printer (RFC 8011, section 5.4.11), and why it is in it (section 5.4.12).
+-- The state of a printer (RFC 8011, section 5.4.11) and its reason (section 5.4.12).
 use Rattle.std.specs.Prelude.{ℕ, Bool, true, false, ◌==◌, ◌&&◌, List, codes}
 use Rattle.job_objects.specs.declared.job_state.JobState.{JobState}
 use Rattle.job_objects.specs.declared.job_state.JobState.TheVariants as Job
@@ -14,7 +14,7 @@ printer_state_code Idle = 3
 printer_state_code Processing = 4
 printer_state_code Stopped = 5
 
--- whether a job in this state is printed, or was until its device stopped
+-- whether a job of this state is processing or processing-stopped
 abbrev pub is_printing_or_stopped : JobState → Bool
 is_printing_or_stopped Job.Pending = false
 is_printing_or_stopped Job.PendingHeld = false
@@ -24,17 +24,17 @@ is_printing_or_stopped Job.Canceled = false
 is_printing_or_stopped Job.Aborted = false
 is_printing_or_stopped Job.Completed = false
 
--- the job was sent to the printer at this place of the settings, and is printed or was until its device stopped
+-- the job was sent to the printer at a place, and is processing or processing-stopped
 abbrev pub is_busy_with : ℕ → JobRecord → Bool
 is_busy_with printer job = (job.needs.printer == printer) && is_printing_or_stopped job.state
 
--- told whether some job keeps the printer busy, and whether it is paused
+-- the state of a printer; `busy` says whether some job keeps the printer busy
 abbrev pub printer_state_of : Bool → Bool → PrinterState
 printer_state_of true paused = Processing
 printer_state_of false true = Stopped
 printer_state_of false false = Idle
 
--- told the same
+-- the reason of a printer's state, by the same flags
 abbrev pub printer_reason_of : Bool → Bool → PrinterReason
 printer_reason_of busy false = Nothing
 printer_reason_of true true = MovingToPaused

@@ -1,4 +1,4 @@
--- Entries that several devices list, each at its first place.
+-- The entries of several devices, each once.
 use Rattle.std.specs.Prelude.{ℕ, Bool, if◌then◌else◌, List, [], ◌∷◌, ◌++◌, map}
 use Rattle.std.specs.List.{fold, list_any}
 use Rattle.std.specs.Str.{bytes_eq}
@@ -6,7 +6,7 @@ use Rattle.base_types.specs.Device.{Device, loaded_media}
 use Rattle.printer_objects.specs.declared.together.Listed.{Listed}
 use Rattle.printer_objects.specs.declared.together.Listed.TheVariants.{Formats, Media, LoadedMedia}
 
--- what a device lists
+-- the entries of a device
 abbrev pub listed_by : Listed → Device → List (List ℕ)
 listed_by Formats device = device.formats
 listed_by Media device = map (λ m. m.name) device.media
@@ -15,11 +15,11 @@ listed_by LoadedMedia device = loaded_media device
 abbrev pub is_among : List (List ℕ) → List ℕ → Bool
 is_among found entry = list_any (λ other. bytes_eq other entry) found
 
--- the entry behind those found, unless it is one of them
+-- the entry behind those found, unless it is among them
 abbrev pub with_entry : List (List ℕ) → List ℕ → List (List ℕ)
 with_entry found entry = if is_among found entry then found else found ++ entry ∷ []
 
--- each of the entries in turn
+-- the entries behind those found, one after the other
 abbrev pub with_entries : List (List ℕ) → List (List ℕ) → List (List ℕ)
 with_entries found entries = fold with_entry found entries
 

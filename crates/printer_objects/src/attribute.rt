@@ -1,4 +1,4 @@
-//! Attributes of the kinds that the tables have.
+//! Attributes of the syntaxes that the tables use.
 ghost use Rattle.std.specs.Prelude.{◌≡◌, IfOk, pos, min, [], ◌∷◌, codes, take};
 ghost use Rattle.ipp_codec.specs.Message.{plain};
 ghost use Rattle.ipp_codec.specs.Owned.{value_owned};
@@ -10,12 +10,12 @@ use ipp_codec::{Attribute, Value, ValueTag};
 use job_objects::JobReasons;
 use std::alloc::{AllocError, Global};
 
-/// Times are shown in seconds.
+/// The ms of a second; times are shown in seconds.
 pub(crate) const MILLIS_PER_SECOND: u64 = 1_000;
-/// The most bytes of a value: their number is a short integer with a sign (RFC 8010, section 3.8).
+/// The most bytes of a value: its length is a signed short integer (RFC 8010, section 3.8).
 pub(crate) const VALUE_BYTES: usize = 32_767;
 
-/// One value that is bytes of a kind.
+/// An attribute of one value: bytes with a tag.
 pub(crate) fn bytes(
     alloc: Global,
     name: &str,
@@ -28,7 +28,7 @@ pub(crate) fn bytes(
     Attribute::new(alloc, name.as_bytes(), value)
 }
 
-/// As many bytes of a text as a value can have.
+/// The front of a text, of at most as many bytes as a value can have.
 fn front(bytes: &[u8]) -> &[u8]
     ensures { result.now ≡ take VALUE_BYTES bytes.now }
 {
@@ -39,7 +39,7 @@ fn front(bytes: &[u8]) -> &[u8]
     }
 }
 
-/// A text of a kind, as a value: of one with more bytes than a value can have, its front.
+/// A value of a text with a tag; of a text with more than [`VALUE_BYTES`] bytes, its front.
 #[tactic(auto, unfolding(crate::specs::Attribute::text))]
 pub(crate) fn text_value(alloc: Global, tag: ValueTag, bytes: &[u8]) -> Result<Value, AllocError>
     ensures { IfOk result (λ value. value_owned value ≡ text tag bytes.now) }
@@ -47,7 +47,7 @@ pub(crate) fn text_value(alloc: Global, tag: ValueTag, bytes: &[u8]) -> Result<V
     Value::copy_of(alloc, tag, front(bytes))
 }
 
-/// One text of a kind.
+/// An attribute of one text with a tag.
 pub(crate) fn text(
     alloc: Global,
     name: &str,
@@ -60,28 +60,28 @@ pub(crate) fn text(
     Attribute::new(alloc, name.as_bytes(), value)
 }
 
-/// One keyword (RFC 8010, section 3.9).
+/// An attribute of one keyword (RFC 8010, section 3.9).
 pub(crate) fn keyword(alloc: Global, name: &str, word: &[u8]) -> Result<Attribute, AllocError>
     ensures { IfOk result (λ a. a ≡ alone name.now (keyword word.now)) }
 {
     text(alloc, name, ValueTag::KEYWORD, word)
 }
 
-/// The natural language of all texts of the server: English.
+/// An attribute of the natural language of all texts of the server: English.
 pub(crate) fn english(alloc: Global, name: &str) -> Result<Attribute, AllocError>
     ensures { IfOk result (λ a. a ≡ alone name.now (text tags.natural_language (codes "en"))) }
 {
     text(alloc, name, ValueTag::NATURAL_LANGUAGE, b"en")
 }
 
-/// One boolean, which is true.
+/// An attribute of one boolean, which is true.
 pub(crate) fn yes(alloc: Global, name: &str) -> Result<Attribute, AllocError>
     ensures { IfOk result (λ a. a ≡ alone name.now (plain tags.boolean (1 ∷ []))) }
 {
     bytes(alloc, name, ValueTag::BOOLEAN, &[1])
 }
 
-/// One integer.
+/// An attribute of one integer.
 pub(crate) fn number(alloc: Global, name: &str, amount: u64) -> Result<Attribute, AllocError>
     ensures { IfOk result (λ a. a ≡ alone name.now (number amount)) }
 {
@@ -89,7 +89,7 @@ pub(crate) fn number(alloc: Global, name: &str, amount: u64) -> Result<Attribute
     Attribute::new(alloc, name.as_bytes(), value)
 }
 
-/// One number of an enumeration.
+/// An attribute of one number of an enumeration.
 pub(crate) fn enumerated(alloc: Global, name: &str, code: u32) -> Result<Attribute, AllocError>
     ensures { IfOk result (λ a. a ≡ alone name.now (enumerated code)) }
 {
@@ -97,21 +97,22 @@ pub(crate) fn enumerated(alloc: Global, name: &str, code: u32) -> Result<Attribu
     Attribute::new(alloc, name.as_bytes(), value)
 }
 
-/// A number of an enumeration, as a value.
+/// A value of a number of an enumeration.
 pub(crate) fn enumeration(alloc: Global, code: u32) -> Result<Value, AllocError>
     ensures { IfOk result (λ value. value_owned value ≡ enumerated code) }
 {
     Value::enumeration(alloc, integer(u64::from(code)))
 }
 
-/// No value.
+/// An attribute with the value `no-value`.
 pub(crate) fn no_value(alloc: Global, name: &str) -> Result<Attribute, AllocError>
     ensures { IfOk result (λ a. a ≡ alone name.now no_value) }
 {
     bytes(alloc, name, ValueTag::NO_VALUE, &[])
 }
 
-/// A moment, in seconds that have begun since the server's start; no value before it has come.
+/// An attribute of a moment, as the number of seconds begun since the server's start; the value `no-value`
+/// for a moment that hasn't come.
 pub(crate) fn time(
     alloc: Global,
     name: &str,
@@ -125,7 +126,7 @@ pub(crate) fn time(
     }
 }
 
-/// The reasons of a job, one or two.
+/// An attribute of a job's reasons, one or two.
 pub(crate) fn reasons(
     alloc: Global,
     name: &str,
@@ -143,7 +144,7 @@ pub(crate) fn reasons(
     Ok(attribute)
 }
 
-/// Texts of a kind, in order; no value where there is none.
+/// An attribute of texts with a tag, in order; the value `no-value` if there are none.
 pub(crate) fn texts(
     alloc: Global,
     name: &str,
@@ -163,7 +164,7 @@ pub(crate) fn texts(
     Ok(attribute)
 }
 
-/// The number as an integer of IPP: one past the greatest is the greatest.
+/// A number as an integer of IPP; a number above the greatest integer as that.
 fn integer(number: u64) -> i32
     ensures { result ≡ pos (min number Limits.LAST_INTEGER) }
 {

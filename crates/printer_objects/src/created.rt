@@ -1,4 +1,4 @@
-//! What the creation of a job is answered with.
+//! The response to a job creation.
 ghost use Rattle.std.specs.Prelude.{◌≡◌, IfOk};
 ghost use Rattle.printer_objects.specs.Created.{created_attributes};
 
@@ -9,8 +9,8 @@ use ipp_codec::{Group, GroupTag, ValueTag};
 use job_objects::{JobReasons, JobState};
 use std::alloc::{AllocError, Global};
 
-/// What the creation of a job is answered with (RFC 8011, section 4.2.1.2): the job group with the
-/// URI, the id, the state and the reasons that the job has or will have.
+/// The job group of the response to a job creation (RFC 8011, section 4.2.1.2): the URI, the id, the state
+/// and the reasons that the job has or will have.
 ///
 /// The only error is out of memory.
 pub fn created_job_attributes(

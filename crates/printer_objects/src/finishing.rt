@@ -1,4 +1,4 @@
-//! Finishings one by one, and by their numbers (RFC 8011, section 5.2.6).
+//! Single finishings and their numbers (RFC 8011, section 5.2.6).
 ghost use Rattle.std.specs.Prelude.{◌≡◌, IfOk};
 ghost use Rattle.printer_objects.specs.Attribute.{alone, enumerated};
 ghost use Rattle.printer_objects.specs.Finishing.{finishing_table, finishing_code, has_finishing, with_finishing, each_finishing, finishings_attribute, finishings_supported};
@@ -8,10 +8,10 @@ use base_types::Finishings;
 use ipp_codec::Attribute;
 use std::alloc::{AllocError, Global};
 
-/// The number that says that there is no finishing.
+/// The number of no finishing.
 pub const NO_FINISHING: u32 = 3;
 
-/// What is done to the sheets of a job (RFC 8011, section 5.2.6).
+/// A finishing of a job's sheets (RFC 8011, section 5.2.6).
 #[derive(Clone, Copy, Debug, PartialEq, Eq)]
 pub enum Finishing {
     Staple,
@@ -20,14 +20,14 @@ pub enum Finishing {
 }
 
 impl Finishing {
-    /// All of them, by rising numbers.
+    /// All finishings, by rising number.
     pub(crate) fn all() -> [Finishing; 3]
         ensures { result ≡ finishing_table }
     {
         [Finishing::Staple, Finishing::Punch, Finishing::Bind]
     }
 
-    /// Its number.
+    /// The number of the finishing.
     pub(crate) fn code(self) -> u32
         ensures { result ≡ finishing_code self }
     {
@@ -38,7 +38,7 @@ impl Finishing {
         }
     }
 
-    /// Whether it is one of these.
+    /// Returns whether it is one of the finishings.
     pub fn is_in(self, finishings: Finishings) -> bool
         ensures { result ≡ has_finishing finishings self }
     {
@@ -49,7 +49,7 @@ impl Finishing {
         }
     }
 
-    /// It, and these.
+    /// The finishings with this finishing added.
     pub fn with(self, finishings: Finishings) -> Finishings
         ensures { result ≡ with_finishing finishings self }
     {
@@ -63,7 +63,7 @@ impl Finishing {
     }
 }
 
-/// Each of these finishings by itself, by rising numbers.
+/// Each of the finishings, by rising number. The only error is out of memory.
 pub(crate) fn each_finishing(
     alloc: Global,
     finishings: Finishings,
@@ -79,7 +79,7 @@ pub(crate) fn each_finishing(
     Ok(each)
 }
 
-/// The finishings of a job by their numbers, or the number of none.
+/// An attribute of the numbers of a job's finishings, or of the number of no finishing.
 pub(crate) fn finishings(
     alloc: Global,
     name: &str,
@@ -98,7 +98,7 @@ pub(crate) fn finishings(
     Ok(attribute)
 }
 
-/// What a job may ask for: no finishing, and then these.
+/// An attribute of the finishings that a job may have: the number of no finishing, and then these.
 pub(crate) fn supported_finishings(
     alloc: Global,
     name: &str,

@@ -32,10 +32,10 @@ pub enum JobAttribute {
 }
 
 impl JobAttribute {
-    /// How many there are.
+    /// The number of attributes.
     pub const COUNT: usize = 20;
 
-    /// All of them, in the table's order.
+    /// All attributes, in the table's order.
     pub fn all() -> [JobAttribute; JobAttribute::COUNT]
         ensures { result ≡ job_table }
     {
@@ -63,7 +63,7 @@ impl JobAttribute {
         ]
     }
 
-    /// Its name.
+    /// The name of the attribute.
     pub fn name(self) -> &'static str
         ensures { result.now ≡ job_attribute_name self }
     {
@@ -91,7 +91,7 @@ impl JobAttribute {
         }
     }
 
-    /// The name of the group by which requested-attributes can ask for it.
+    /// The name of the attribute's group in requested-attributes.
     pub fn group(self) -> &'static str
         ensures { result.now ≡ job_attribute_group self }
     {
@@ -103,7 +103,7 @@ impl JobAttribute {
         }
     }
 
-    /// Those that requested-attributes asks for, in the table's order.
+    /// The requested attributes, in the table's order. The only error is out of memory.
     pub fn wanted(alloc: Global, requested: &[Text]) -> Result<Vec<JobAttribute>, AllocError>
         ensures { IfOk result (λ wanted. wanted.items ≡ wanted_of requested.now) }
     {
@@ -116,7 +116,7 @@ impl JobAttribute {
         Ok(wanted)
     }
 
-    /// Whether requested-attributes asks for it.
+    /// Returns whether requested-attributes asks for the attribute.
     fn is_wanted(self, requested: &[Text]) -> bool
         ensures { result ≡ is_wanted requested.now self }
     {

@@ -11,20 +11,20 @@ use job_objects::Job;
 use std::alloc::{AllocError, Global};
 use std::marker::Model;
 
-/// Octets that are shown as one k-octet.
+/// The number of octets in a k-octet.
 pub(crate) const OCTETS_PER_K: usize = 1_024;
 
-/// What the attributes of a job are made of. In clauses it is a record of what these fields refer to.
+/// The data of a job's attributes. In clauses it is a record of the referents of these fields.
 #[derive(Drop)]
 pub struct JobShown<'a> {
     pub job: &'a Job,
-    /// What the URIs of printers and jobs begin with.
+    /// The front of the URIs of printers and jobs.
     pub uri_base: &'a Text,
     /// The name of the printer that the job was sent to.
     pub printer_name: &'a Text,
     /// Whether that printer is paused.
     pub printer_paused: bool,
-    /// The moment at which it is asked.
+    /// The moment of the request.
     pub moment: Moment,
 }
 
@@ -42,7 +42,7 @@ impl<'a> Model for JobShown<'a> {
     } };
 }
 
-/// The job group of a reply: these attributes of a job.
+/// The job group of a response, with these attributes of a job. The only error is out of memory.
 pub fn job_attributes(
     alloc: Global,
     shown: &JobShown<'_>,
@@ -58,7 +58,7 @@ pub fn job_attributes(
 }
 
 impl JobAttribute {
-    /// The attribute of this job.
+    /// The attribute of a job, with its values.
     fn shown(self, alloc: Global, shown: &JobShown<'_>) -> Result<Attribute, AllocError>
         ensures { IfOk result (λ attribute. attribute ≡ job_shown shown.now self) }
     {
@@ -129,14 +129,14 @@ pub fn printer_uri(alloc: Global, uri_base: &Text, name: &Text) -> Result<Vec<u8
     Ok(uri)
 }
 
-/// The k-octets of a job, rounded up.
+/// The octets of a job in k-octets, rounded up.
 fn k_octets(octets: usize) -> u64
     ensures { result ≡ k_octets octets }
 {
     octets.div_ceil(OCTETS_PER_K) as u64
 }
 
-/// The impressions of a job, as they were given, else as they are estimated.
+/// The impressions of a job, as given, else as estimated.
 fn impressions(job: &Job) -> u64
     ensures { result ≡ impressions_shown job.now }
 {

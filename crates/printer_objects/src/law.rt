@@ -1,4 +1,4 @@
-//! A law of what is shown. Its function does nothing: its contract is what it is for.
+//! A law of the groups, as the contract of a function that does nothing.
 ghost use Rattle.std.specs.Prelude.{◌≡◌, ◌≤◌, ℕ, List, length};
 ghost use Rattle.ipp_codec.specs.Grammar.{IsGroup};
 ghost use Rattle.ipp_codec.specs.Message.{plain};
@@ -11,8 +11,7 @@ ghost use Rattle.printer_objects.specs.PrinterShown.{ShownPrinter, printer_attri
 ghost use Rattle.printer_objects.specs.declared.attribute.TheConstants.{VALUE_BYTES};
 ghost use Rattle.printer_objects.specs.declared.job_attribute.JobAttribute.{JobAttribute};
 
-/// Each group that is shown has a spelling, whatever the texts in it are. A text that a value can have
-/// is shown whole.
+/// Each group has a spelling, with any texts in it. A text that fits in a value is shown whole.
 pub fn groups_are_spelt()
     ensures job { (shown : ShownJob) (attributes : List JobAttribute) → IsGroup (job_attributes shown attributes) }
     ensures created { (uri_base : List ℕ) (id : ℕ) (state : JobState) (reasons : JobReasons) → IsGroup (created_attributes uri_base id state reasons) }

@@ -1,11 +1,11 @@
-//! What people see of printers and jobs: the state of a printer, the attributes of printers and jobs
-//! (RFC 8011, sections 5.4, 5.3 and 5.2) as groups of a reply, and what a printer offers ([`Offer`]).
+//! The objects that clients see: the state of a printer, the attributes of printers and jobs (RFC 8011,
+//! sections 5.4, 5.3 and 5.2) as groups of a response, and the offer of a printer ([`Offer`]).
 //!
-//! What is shown as supported is what a request may ask for: one list, in which it is looked up.
-//! It promises the state and its reason, and that a group has just the attributes of the tables in
-//! `docs/ATTRIBUTES.md` that requested-attributes asks for, in the table's order, with their tags and
-//! values. It keeps no jobs and looks at no clock: what a value depends on is passed in, such as
-//! whether a job keeps the printer busy ([`keeps_busy`]). Only what makes attributes takes memory.
+//! The lists of supported values are also those in which a request's values are looked up. The contracts
+//! determine the state and its reason. A group has exactly the requested attributes of the tables in
+//! `docs/ATTRIBUTES.md`, in the table's order, with their tags and values. The crate keeps no jobs and reads
+//! no clock: its arguments have the data of the values, such as whether a job keeps the printer busy
+//! ([`keeps_busy`]). Only the functions that make attributes take memory.
 //!
 //! Its rows are traces of `play_examples`.
 #![tactic(auto)]

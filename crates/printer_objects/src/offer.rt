@@ -1,5 +1,5 @@
-//! What a printer offers (RFC 8011, sections 5.2 and 5.4): its devices' formats, media, sides and
-//! finishings, and its defaults. What is shown as supported is what a request may ask for.
+//! The offer of a printer (RFC 8011, sections 5.2 and 5.4): its devices' formats, media, sides and
+//! finishings, and its defaults. A request's values are looked up in the lists that are shown as supported.
 ghost use Rattle.std.specs.Prelude.{◌≡◌, ◌==◌, ◌&&◌, find, map, IfOk, IsSome, OnOk, Contains};
 ghost use Rattle.std.specs.Option.{option_copied};
 ghost use Rattle.std.specs.List.{slice_get};
@@ -18,7 +18,7 @@ use settings_file::PrinterSettings;
 use std::alloc::{AllocError, Global};
 use std::marker::Model;
 
-/// What a printer offers, by what its devices are now. In clauses it is a record of the same fields.
+/// The offer of a printer, by the state of its devices now. In clauses it is a record of the same fields.
 #[derive(Drop)]
 pub struct Offer<'a> {
     /// All devices, in the order of the settings.
@@ -35,7 +35,7 @@ impl<'a> Model for Offer<'a> {
 }
 
 impl<'a> Offer<'a> {
-    /// What a printer offers with these devices, which are all devices of the settings.
+    /// The offer of a printer. `devices` are all devices of the settings.
     pub fn new(devices: &'a [DeviceNow], printer: &'a PrinterSettings) -> Offer<'a>
         ensures { result ≡ record { devices = devices.now; printer = printer.now } }
     {
@@ -49,7 +49,8 @@ impl<'a> Offer<'a> {
         self.printer
     }
 
-    /// The formats of documents: those of its devices in their order, then its default, each once.
+    /// The document formats: those of the printer's devices in order, then its default, each once. The only
+    /// error is out of memory.
     #[tactic(auto, unfolding(crate::specs::Offer::formats_of))]
     pub fn formats(&self, alloc: Global) -> Result<Vec<Text>, AllocError>
         ensures { IfOk result (λ formats. formats.items ≡ formats_of self.now) }
@@ -59,7 +60,8 @@ impl<'a> Offer<'a> {
         Ok(formats)
     }
 
-    /// The media, loaded or not: those of its devices in their order, then its default, each once.
+    /// The media, loaded or not: those of the printer's devices in order, then its default, each once. The
+    /// only error is out of memory.
     #[tactic(auto, unfolding(crate::specs::Offer::media_of))]
     pub fn media(&self, alloc: Global) -> Result<Vec<Text>, AllocError>
         ensures { IfOk result (λ media. media.items ≡ media_of self.now) }
@@ -69,14 +71,14 @@ impl<'a> Offer<'a> {
         Ok(media)
     }
 
-    /// The media that its devices hold, each once.
+    /// The loaded media of the printer's devices, each once. The only error is out of memory.
     pub fn ready_media(&self, alloc: Global) -> Result<Vec<Text>, AllocError>
         ensures { IfOk result (λ media. media.items ≡ ready_media_of self.now) }
     {
         self.listed(alloc, Listed::LoadedMedia)
     }
 
-    /// The sides: one, and both ways of two where some device of it prints so.
+    /// The sides: one-sided, and both two-sided ways if some device of the printer prints two-sided.
     #[tactic(auto, unfolding(crate::specs::Offer::sides_of))]
     pub fn sides(&self) -> &'static [Sides]
         ensures { result.now ≡ sides_of self.now }
@@ -88,7 +90,7 @@ impl<'a> Offer<'a> {
         }
     }
 
-    /// The finishings that some device of it has, by rising numbers.
+    /// The finishings that some device of the printer has, by rising number. The only error is out of memory.
     #[tactic(auto, unfolding(crate::specs::Offer::finishings_of))]
     pub fn finishings(&self, alloc: Global) -> Result<Vec<Finishing>, AllocError>
         ensures { IfOk result (λ finishings. finishings.items ≡ finishings_of self.now) }
@@ -102,7 +104,8 @@ impl<'a> Offer<'a> {
         Ok(found)
     }
 
-    /// The first of its formats that is the one asked for. Each that it shows is found.
+    /// The first of the printer's formats that is equal to the requested one. Each format that the printer
+    /// shows is found.
     #[tactic(auto, using(crate::proofs::Listing::find_offered, crate::proofs::Taken::format_taken), unfolding(crate::specs::Offer::format_named, crate::specs::Offer::formats_of))]
     pub fn format_named(&self, asked: &[u8]) -> Option<&'a Text>
         ensures found { option_copied result ≡ format_named self.now asked.now }
@@ -116,7 +119,7 @@ impl<'a> Offer<'a> {
         }
     }
 
-    /// The medium of this name. Each that it shows is found.
+    /// The medium of a name. Each medium that the printer shows is found.
     #[tactic(auto, using(crate::proofs::Listing::find_offered, crate::proofs::Taken::medium_taken), unfolding(crate::specs::Offer::medium_named, crate::specs::Offer::media_of))]
     pub fn medium_named(&self, name: &[u8]) -> Option<&'a Text>
         ensures found { option_copied result ≡ medium_named self.now name.now }
@@ -130,7 +133,7 @@ impl<'a> Offer<'a> {
         }
     }
 
-    /// The sides of this keyword.
+    /// The sides of a keyword.
     #[tactic(auto, unfolding(crate::specs::Offer::sides_named))]
     pub fn sides_named(&self, keyword: &[u8]) -> Option<Sides>
         ensures { result ≡ sides_named self.now keyword.now }
@@ -138,7 +141,7 @@ impl<'a> Offer<'a> {
         sides_among(self.sides(), keyword).copied()
     }
 
-    /// The finishing of this number. Each that it shows is found.
+    /// The finishing of a number. Each finishing that the printer shows is found.
     #[tactic(auto, using(crate::proofs::Searches::find_kept, crate::proofs::Taken::finishing_taken), unfolding(crate::specs::Offer::finishing_named, crate::specs::Offer::finishings_of))]
     pub fn finishing_named(&self, number: u32) -> Option<Finishing>
         ensures found { result ≡ finishing_named self.now number }
@@ -147,7 +150,7 @@ impl<'a> Offer<'a> {
         self.finishing_among(&Finishing::all(), number).copied()
     }
 
-    /// The format of a document that names none.
+    /// The format of a document without document-format.
     pub fn default_format(&self) -> &'a Text
         ensures { result.now ≡ self.now.printer.format_default }
     {
@@ -155,7 +158,7 @@ impl<'a> Offer<'a> {
         &printer.format_default
     }
 
-    /// The medium of a job that names none.
+    /// The medium of a job without media.
     pub fn default_medium(&self) -> &'a Text
         ensures { result.now ≡ self.now.printer.media_default }
     {
@@ -163,7 +166,7 @@ impl<'a> Offer<'a> {
         &printer.media_default
     }
 
-    /// The places of its devices.
+    /// The places of the printer's devices.
     fn places(&self) -> &'a [DeviceId]
         ensures { result.now ≡ self.now.printer.devices }
     {
@@ -178,7 +181,7 @@ impl<'a> Offer<'a> {
         self.devices.get(place.place())
     }
 
-    /// What its devices list, in their order, each entry once.
+    /// The entries of the printer's devices, in order, each once. The only error is out of memory.
     fn listed(&self, alloc: Global, listed: Listed) -> Result<Vec<Text>, AllocError>
         ensures { IfOk result (λ found. found.items ≡ distinct (listed_of listed self.now)) }
     {
@@ -190,7 +193,7 @@ impl<'a> Offer<'a> {
         Ok(found)
     }
 
-    /// Adds what the device at a place lists, where there is one.
+    /// Adds the entries of the device at a place, if there is one.
     fn add_listed_at(
         &self,
         alloc: Global,
@@ -206,14 +209,14 @@ impl<'a> Offer<'a> {
         }
     }
 
-    /// Whether some device of it prints on both sides.
+    /// Returns whether some device of the printer prints two-sided.
     fn prints_two_sided(&self) -> bool
         ensures { result ≡ prints_two_sided self.now }
     {
         self.places().iter().any(|place| self.is_two_sided(*place))
     }
 
-    /// Whether the device at a place prints on both sides.
+    /// Returns whether the device at a place prints two-sided.
     fn is_two_sided(&self, place: DeviceId) -> bool
         ensures { result ≡ is_two_sided (slice_get self.now.devices place) }
     {
@@ -223,7 +226,7 @@ impl<'a> Offer<'a> {
         }
     }
 
-    /// Whether some device of it has the finishing.
+    /// Returns whether some device of the printer has the finishing.
     fn has_finishing(&self, finishing: Finishing) -> bool
         ensures { result ≡ offers_finishing self.now finishing }
     {
@@ -232,7 +235,7 @@ impl<'a> Offer<'a> {
             .any(|place| self.finishes_so(finishing, *place))
     }
 
-    /// Whether the device at a place has the finishing.
+    /// Returns whether the device at a place has the finishing.
     fn finishes_so(&self, finishing: Finishing, place: DeviceId) -> bool
         ensures { result ≡ finishes_so finishing (slice_get self.now.devices place) }
     {
@@ -242,14 +245,14 @@ impl<'a> Offer<'a> {
         }
     }
 
-    /// The first of these finishings that it has and that has this number.
+    /// The first of the finishings that the printer has and that has the number.
     fn finishing_among<'b>(&self, all: &'b [Finishing], number: u32) -> Option<&'b Finishing>
         ensures { option_copied result ≡ find (λ f. offers_finishing self.now f && (number == finishing_code f)) all.now }
     {
         all.iter().find(|finishing| self.has_finishing(**finishing) && number == finishing.code())
     }
 
-    /// The first format of its devices that is the one asked for.
+    /// The first format of the printer's devices that is equal to the requested one.
     fn first_format(&self, asked: &[u8]) -> Option<&'a Text>
         ensures { option_copied result ≡ find (is_same_format asked.now) (listed_of Listed.Formats self.now) }
     {
@@ -262,7 +265,7 @@ impl<'a> Offer<'a> {
         None
     }
 
-    /// The first format of the device at a place that is the one asked for.
+    /// The first format of the device at a place that is equal to the requested one.
     fn format_at(&self, place: DeviceId, asked: &[u8]) -> Option<&'a Text>
         ensures { option_copied result ≡ find (is_same_format asked.now) (listed_at Listed.Formats self.now place) }
     {
@@ -270,7 +273,7 @@ impl<'a> Offer<'a> {
         format_among(&device.formats, asked)
     }
 
-    /// The first medium of this name that its devices have.
+    /// The first medium of a name of the printer's devices.
     fn first_medium(&self, name: &[u8]) -> Option<&'a Text>
         ensures { option_copied result ≡ find (bytes_eq name.now) (listed_of Listed.Media self.now) }
     {
@@ -283,7 +286,7 @@ impl<'a> Offer<'a> {
         None
     }
 
-    /// The first medium of this name that the device at a place has.
+    /// The first medium of a name of the device at a place.
     fn medium_at(&self, place: DeviceId, name: &[u8]) -> Option<&'a Text>
         ensures { option_copied result ≡ find (bytes_eq name.now) (listed_at Listed.Media self.now place) }
     {
@@ -292,7 +295,7 @@ impl<'a> Offer<'a> {
     }
 }
 
-/// The first of these formats that is the one asked for.
+/// The first of the formats that is equal to the requested one.
 fn format_among<'a>(formats: &'a [Text], asked: &[u8]) -> Option<&'a Text>
     ensures { option_copied result ≡ find (is_same_format asked.now) formats.now }
 {
@@ -301,7 +304,7 @@ fn format_among<'a>(formats: &'a [Text], asked: &[u8]) -> Option<&'a Text>
         .find(|format| is_same_format(asked, format.as_bytes()))
 }
 
-/// The name of the first of these media that has it.
+/// The name of the first of the media with that name.
 #[tactic(auto, using(crate::proofs::Searches::find_mapped))]
 fn medium_among<'a>(media: &'a [Medium], name: &[u8]) -> Option<&'a Text>
     ensures { option_copied result ≡ find (bytes_eq name.now) (map (λ m. m.name) media.now) }
@@ -312,14 +315,14 @@ fn medium_among<'a>(media: &'a [Medium], name: &[u8]) -> Option<&'a Text>
     }
 }
 
-/// The first of these media that has this name.
+/// The first of the media with a name.
 fn medium_of_name<'a>(media: &'a [Medium], name: &[u8]) -> Option<&'a Medium>
     ensures { option_copied result ≡ find (λ m. bytes_eq name.now m.name) media.now }
 {
     media.iter().find(|medium| name == medium.name.as_bytes())
 }
 
-/// The first of these sides that has this keyword.
+/// The first of the sides with a keyword.
 fn sides_among<'a>(sides: &'a [Sides], keyword: &[u8]) -> Option<&'a Sides>
     ensures { option_copied result ≡ find (λ s. bytes_eq keyword.now (sides_keyword s)) sides.now }
 {

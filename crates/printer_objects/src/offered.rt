@@ -1,4 +1,4 @@
-//! Attributes of a printer that say what it offers.
+//! The attributes of a printer's offer.
 ghost use Rattle.std.specs.Prelude.{◌≡◌, IfOk};
 ghost use Rattle.printer_objects.specs.Attribute.{alone};
 ghost use Rattle.printer_objects.specs.Offered.{operations_attribute, range, hold_untils_attribute, sides_attribute};
@@ -9,7 +9,7 @@ use base_types::{Hold, Limits, Sides};
 use ipp_codec::{Attribute, ValueTag};
 use std::alloc::{AllocError, Global};
 
-/// The operations; no value where there are none.
+/// An attribute of operations; the value `no-value` if there are none.
 pub(crate) fn operations(
     alloc: Global,
     name: &str,
@@ -28,7 +28,7 @@ pub(crate) fn operations(
     Ok(attribute)
 }
 
-/// How many copies a job may have.
+/// An attribute of the number of copies that a job may have.
 pub(crate) fn copies(alloc: Global, name: &str) -> Result<Attribute, AllocError>
     ensures { IfOk result (λ a. a ≡ alone name.now (range 1 Limits.COPIES)) }
 {
@@ -38,7 +38,7 @@ pub(crate) fn copies(alloc: Global, name: &str) -> Result<Attribute, AllocError>
     bytes(alloc, name, ValueTag::RANGE_OF_INTEGER, &range)
 }
 
-/// Until when a job can be held.
+/// An attribute of the supported values of job-hold-until.
 pub(crate) fn hold_untils(alloc: Global, name: &str) -> Result<Attribute, AllocError>
     ensures { IfOk result (λ a. a ≡ hold_untils_attribute name.now) }
 {
@@ -49,7 +49,7 @@ pub(crate) fn hold_untils(alloc: Global, name: &str) -> Result<Attribute, AllocE
     Ok(attribute)
 }
 
-/// On which sides a job can be printed; no value where there are none.
+/// An attribute of sides; the value `no-value` if there are none.
 pub(crate) fn sides(alloc: Global, name: &str, sides: &[Sides]) -> Result<Attribute, AllocError>
     ensures { IfOk result (λ a. a ≡ sides_attribute name.now sides.now) }
 {

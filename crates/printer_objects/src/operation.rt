@@ -20,10 +20,10 @@ pub enum Operation {
 }
 
 impl Operation {
-    /// How many there are.
+    /// The number of operations.
     pub const COUNT: usize = 12;
 
-    /// All of them, by rising code.
+    /// All operations, by rising code.
     pub fn all() -> [Operation; Operation::COUNT]
         ensures { result ≡ operation_table }
     {
@@ -43,7 +43,7 @@ impl Operation {
         ]
     }
 
-    /// Its code in a request.
+    /// The code of the operation in a request.
     pub fn code(self) -> u16
         ensures { result ≡ operation_code self }
     {

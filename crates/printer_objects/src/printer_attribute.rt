@@ -45,10 +45,10 @@ pub enum PrinterAttribute {
 }
 
 impl PrinterAttribute {
-    /// How many there are.
+    /// The number of attributes.
     pub const COUNT: usize = 34;
 
-    /// All of them, in the table's order.
+    /// All attributes, in the table's order.
     pub fn all() -> [PrinterAttribute; PrinterAttribute::COUNT]
         ensures { result ≡ printer_table }
     {
@@ -90,7 +90,7 @@ impl PrinterAttribute {
         ]
     }
 
-    /// Its name.
+    /// The name of the attribute.
     pub fn name(self) -> &'static str
         ensures { result.now ≡ printer_attribute_name self }
     {
@@ -133,7 +133,7 @@ impl PrinterAttribute {
         }
     }
 
-    /// The name of the group by which requested-attributes can ask for it.
+    /// The name of the attribute's group in requested-attributes.
     pub fn group(self) -> &'static str
         ensures { result.now ≡ printer_attribute_group self }
     {
@@ -152,7 +152,7 @@ impl PrinterAttribute {
         }
     }
 
-    /// Whether requested-attributes asks for it.
+    /// Returns whether requested-attributes asks for the attribute.
     pub(crate) fn is_wanted(self, requested: &[Text]) -> bool
         ensures { result ≡ is_wanted_of_printer requested.now self }
     {

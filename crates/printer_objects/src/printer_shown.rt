@@ -18,20 +18,19 @@ use job_objects::Printer;
 use std::alloc::{AllocError, Global};
 use std::marker::Model;
 
-/// What the attributes of a printer are made of. In clauses it is a record of what these fields refer
-/// to.
+/// The data of a printer's attributes. In clauses it is a record of the referents of these fields.
 #[derive(Drop)]
 pub struct PrinterShown<'a> {
     pub printer: &'a Printer,
-    /// Its settings, and what it offers.
+    /// The printer's settings and offer.
     pub offer: &'a Offer<'a>,
-    /// What the URIs of printers and jobs begin with.
+    /// The front of the URIs of printers and jobs.
     pub uri_base: &'a Text,
     /// Whether some job keeps the printer busy ([`crate::keeps_busy`]).
     pub busy: bool,
-    /// The unfinished jobs of the printer.
+    /// The number of unfinished jobs of the printer.
     pub queued: usize,
-    /// The moment at which it is asked.
+    /// The moment of the request.
     pub moment: Moment,
 }
 
@@ -50,7 +49,8 @@ impl<'a> Model for PrinterShown<'a> {
     } };
 }
 
-/// The printer group of a reply: the attributes of a printer that are asked for, in the table's order.
+/// The printer group of a response: the requested attributes of a printer, in the table's order. The only
+/// error is out of memory.
 pub fn printer_attributes(
     alloc: Global,
     shown: &PrinterShown<'_>,
@@ -69,7 +69,7 @@ pub fn printer_attributes(
 }
 
 impl PrinterAttribute {
-    /// The attribute of this printer.
+    /// The attribute of a printer, with its values.
     fn shown(self, alloc: Global, shown: &PrinterShown<'_>) -> Result<Attribute, AllocError>
         ensures { IfOk result (λ attribute. attribute ≡ printer_shown shown.now self) }
     {

@@ -1,4 +1,4 @@
-//! Which attributes requested-attributes asks for.
+//! The attributes that requested-attributes asks for.
 ghost use Rattle.std.specs.Prelude.{◌≡◌, ◌++◌, ◌∷◌, [], OnOk, OnErr};
 ghost use Rattle.printer_objects.specs.Requested.{asks_for, is_requested};
 
@@ -6,7 +6,7 @@ use base_types::Text;
 use std::alloc::{AllocError, Global};
 use std::marker::Model;
 
-/// The values of requested-attributes, in their order. In clauses they are the list of their texts.
+/// The values of requested-attributes, in order. In clauses they are the list of their texts.
 #[derive(Debug, Drop)]
 pub struct Requested {
     names: Vec<Text>,
@@ -21,7 +21,7 @@ impl Model for Requested {
 }
 
 impl Requested {
-    /// None; it takes no memory.
+    /// Creates an empty list. It takes no memory.
     pub fn new(alloc: Global) -> Requested
         ensures { result ≡ [] }
     {
@@ -30,7 +30,7 @@ impl Requested {
         }
     }
 
-    /// One value more. Where memory is refused, nothing changes.
+    /// Appends a value. The only error is out of memory, and nothing is changed then.
     pub fn push(&mut self, name: Text) -> Result<(), AllocError>
         ensures ok { OnOk result (self.new ≡ self.old ++ name ∷ []) }
         ensures kept { OnErr result (self.new ≡ self.old) }
@@ -47,15 +47,15 @@ impl Requested {
     }
 }
 
-/// Whether requested-attributes asks for an attribute of this name and group.
+/// Returns whether requested-attributes asks for an attribute of a name and a group.
 pub(crate) fn is_requested(name: &str, group: &str, requested: &[Text]) -> bool
     ensures { result ≡ is_requested name.now group.now requested.now }
 {
     requested.iter().any(|asked| asks_for(asked, name, group))
 }
 
-/// Whether a value of requested-attributes names an attribute: by its name, by its group's, or as one
-/// of all.
+/// Returns whether a value of requested-attributes asks for an attribute: by the attribute's name, by its
+/// group's name, or by `all`.
 fn asks_for(asked: &Text, name: &str, group: &str) -> bool
     ensures { result ≡ asks_for name.now group.now asked.now }
 {

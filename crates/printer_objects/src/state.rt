@@ -5,30 +5,30 @@ ghost use Rattle.printer_objects.specs.PrinterState.{is_printing_or_stopped, pri
 use base_types::PrinterId;
 use job_objects::{Job, JobState, Printer};
 
-/// Whether a printer prints (RFC 8011, section 5.4.11).
+/// The state of a printer (RFC 8011, section 5.4.11).
 #[derive(Clone, Copy, Debug, PartialEq, Eq)]
 pub enum PrinterState {
-    /// It has no job on a device, and may start one.
+    /// No job of the printer is on a device, and one may start.
     Idle,
-    /// It has a job on a device.
+    /// A job of the printer is on a device.
     Processing,
-    /// It is paused, and has no job on a device.
+    /// The printer is paused, and no job of it is on a device.
     Stopped,
 }
 
-/// Why a printer is in its state (RFC 8011, section 5.4.12).
+/// The reason of a printer's state (RFC 8011, section 5.4.12).
 #[derive(Clone, Copy, Debug, PartialEq, Eq)]
 pub enum PrinterReason {
-    /// There is nothing to say.
+    /// The keyword `none`.
     Nothing,
-    /// It is paused, and a device still has a job of it.
+    /// The printer is paused, and a device still has a job of it.
     MovingToPaused,
-    /// It is paused.
+    /// The printer is paused.
     Paused,
 }
 
 impl PrinterState {
-    /// Its value as a printer-state.
+    /// The value of printer-state.
     pub fn code(self) -> u32
         ensures { result ≡ printer_state_code self }
     {
@@ -41,7 +41,7 @@ impl PrinterState {
 }
 
 impl PrinterReason {
-    /// Its keyword.
+    /// The keyword of the reason.
     pub fn keyword(self) -> &'static str
         ensures { result.now ≡ printer_keyword self }
     {
@@ -53,15 +53,15 @@ impl PrinterReason {
     }
 }
 
-/// Whether a job keeps a printer processing: it was sent to that printer, and a device has it,
-/// stopped or not.
+/// Returns whether a job keeps a printer processing: it was sent to that printer, and a running or stopped
+/// device has it.
 pub fn keeps_busy(job: &Job, printer: PrinterId) -> bool
     ensures { result ≡ is_busy_with printer job.now }
 {
     job.needs.printer.place() == printer.place() && is_printing_or_stopped(job.state)
 }
 
-/// Whether a job in this state is printed, or was until its device stopped.
+/// Returns whether a job of this state is processing or processing-stopped.
 fn is_printing_or_stopped(state: JobState) -> bool
     ensures { result ≡ is_printing_or_stopped state }
 {
@@ -72,7 +72,7 @@ fn is_printing_or_stopped(state: JobState) -> bool
     }
 }
 
-/// The state of a printer, told whether some job keeps it busy ([`keeps_busy`]).
+/// The state of a printer. `busy` says whether some job keeps the printer busy ([`keeps_busy`]).
 pub fn printer_state(printer: &Printer, busy: bool) -> PrinterState
     ensures { result ≡ printer_state_of busy printer.now }
 {
@@ -85,7 +85,7 @@ pub fn printer_state(printer: &Printer, busy: bool) -> PrinterState
     }
 }
 
-/// Why a printer is in its state, told whether some job keeps it busy ([`keeps_busy`]).
+/// The reason of a printer's state. `busy` says whether some job keeps the printer busy ([`keeps_busy`]).
 pub fn printer_reason(printer: &Printer, busy: bool) -> PrinterReason
     ensures { result ≡ printer_reason_of busy printer.now }
 {

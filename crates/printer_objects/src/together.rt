@@ -1,22 +1,22 @@
-//! Entries that several devices list, each at its first place.
+//! The entries of several devices, each once.
 ghost use Rattle.std.specs.Prelude.{◌≡◌, OnOk};
 ghost use Rattle.printer_objects.specs.Together.{is_among, listed_by, with_entries, with_entry};
 
 use base_types::{DeviceNow, Text};
 use std::alloc::{AllocError, Global};
 
-/// What a device lists.
+/// A list of a device.
 #[derive(Clone, Copy, Debug, PartialEq, Eq)]
 pub(crate) enum Listed {
-    /// The document formats that it prints.
+    /// The document formats that the device prints.
     Formats,
-    /// The media that it can hold.
+    /// The media that the device can hold.
     Media,
-    /// The media that it holds.
+    /// The media that the device holds.
     LoadedMedia,
 }
 
-/// Adds what a device lists.
+/// Adds the entries of a device's list, each if it isn't there yet. The only error is out of memory.
 pub(crate) fn add_listed(
     alloc: Global,
     found: &mut Vec<Text>,
@@ -75,7 +75,7 @@ pub(crate) fn add_once(alloc: Global, found: &mut Vec<Text>, entry: &Text) -> Re
     Ok(())
 }
 
-/// Whether an entry is there.
+/// Returns whether an entry is there.
 fn is_among(found: &[Text], entry: &Text) -> bool
     ensures { result ≡ is_among found.now entry.now }
 {

@@ -1,4 +1,4 @@
--- What a program says: a text on standard output, and its exit status.
+-- The output of a program: a text on standard output, and its exit status.
 use Rattle.std.specs.Prelude.{ℕ, List, ◌++◌, codes}
 use Rattle.program.specs.declared.exit_status.ExitStatus.{ExitStatus}
 use Rattle.program.specs.declared.exit_status.ExitStatus.TheVariants as Ends
@@ -7,10 +7,10 @@ pub record Said : Type 0 where
   pub text : List ℕ
   pub status : ExitStatus
 
--- what is said of an input that is refused
+-- the output for an input that is refused
 abbrev pub refused_as : List ℕ → Said
 refused_as name = record { text = codes "refused " ++ (name ++ codes "\n"); status = Ends.Refused }
 
--- with a text before it
+-- the output with a text before it
 abbrev pub said_after : List ℕ → Said → Said
 said_after text said = record said { text = text ++ said.text }

@@ -1,7 +1,7 @@
 //! The settings that are built in.
 
-/// The text of the settings of a server that is given none: an office with one printer and one device,
-/// as a file to begin with.
+/// The text of the settings of a server that is started without settings: an office with one printer and one
+/// device, as a file to begin with.
 pub const BUILT_IN_SETTINGS: &str =
     r#"# An office: one printer for everybody, and behind it one device. What each line may say is in docs/SETTINGS.md.
 version = 1

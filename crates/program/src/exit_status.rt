@@ -1,22 +1,22 @@
-//! How a program ends.
+//! The exit statuses of a program.
 ghost use Rattle.std.specs.Prelude.{◌≡◌};
 ghost use Rattle.program.specs.ExitStatus.{code_of};
 
-/// How a program ends, for its caller.
+/// The exit status of a program.
 #[derive(Clone, Copy, Debug, PartialEq, Eq)]
 pub enum ExitStatus {
-    /// What was asked for is done; of a question, the answer is yes.
+    /// The program did what was asked. For a question, the answer is yes.
     Done,
     /// The answer is no.
     No,
-    /// What was given is refused: words, settings, a text or its size.
+    /// The input is refused: words, settings, a text or its size.
     Refused,
     /// Memory was refused, or a file, a stream, a socket or the clock failed.
     Failed,
 }
 
 impl ExitStatus {
-    /// Its number, as a shell sees it.
+    /// The number of the status for a shell.
     pub fn code(self) -> u8
         ensures { result ≡ code_of self }
     {

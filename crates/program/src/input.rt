@@ -1,21 +1,22 @@
-//! What a program reads.
+//! The input that a program reads.
 ghost use Rattle.std.specs.Prelude.{MatchResult};
 ghost use Rattle.program.specs.Input.{IsWhole, StopsAt};
 
 use std::alloc::Global;
 use std::io::Read;
 
-/// Why an input is not read whole.
+/// Why an input isn't read as a whole.
 #[derive(Clone, Copy, Debug, PartialEq, Eq)]
 pub enum InputFault {
-    /// It has too many bytes.
+    /// The input has too many bytes.
     Size,
     /// The stream failed, or took too many reads.
     Stream,
     OutOfMemory,
 }
 
-/// The input up to its end, unless it has too many bytes or takes too many reads.
+/// Reads an input up to its end. The error is that it has too many bytes, takes too many reads, or that the
+/// stream or memory failed.
 pub fn read_whole<R: Read>(
     alloc: Global,
     reader: &mut R,

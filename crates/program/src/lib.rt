@@ -1,11 +1,11 @@
-//! What a run of a program reads and writes, the settings with which it starts, and how it ends.
+//! The input and output of a program's run, its settings, and its exit status.
 //!
-//! [`read_whole`] gives the whole of an input, or says why not; [`write_front`] writes a front of some
-//! bytes and tells how many; [`refused_line`] is the line that says that an input is refused, and
-//! [`ExitStatus`] what a program answers to its caller. [`read_or_refuse`] reads the settings of a file's
-//! bytes, or writes why they are refused; [`refusal_line`] is that line, for a caller that writes it among
-//! others. A program that is given no settings takes [`BUILT_IN_SETTINGS`]. What settings are, and their
-//! first fault, is `settings_file`'s; no file is opened here. It is tested by the programs of `printd`.
+//! [`read_whole`] reads a whole input. [`write_front`] writes a front of bytes, and returns its length.
+//! [`refused_line`] is the line for an input that is refused, and [`ExitStatus`] is the status for the
+//! program's caller. [`read_or_refuse`] reads the settings of a file's bytes, or writes why they are refused.
+//! [`refusal_line`] is that line, for a caller that writes it among others. A program without settings uses
+//! [`BUILT_IN_SETTINGS`]. The settings and their first fault are defined in `settings_file`. The crate opens
+//! no file. It is tested by the programs of `printd`.
 #![tactic(auto)]
 
 mod built_in;

@@ -1,10 +1,10 @@
-//! What a program writes.
+//! The output of a program.
 ghost use Rattle.std.specs.Prelude.{◌≤◌, length, take};
 ghost use Rattle.std.specs.Io.KnownBytes.{Appends};
 
 use std::io::Write;
 
-/// Writes the bytes until the writer fails, and tells how many it took.
+/// Writes the bytes until the writer fails. Returns how many bytes it took.
 pub fn write_front<W: Write>(writer: &mut W, bytes: &[u8]) -> usize
     ensures front { Appends (W.contents writer.old) (W.contents writer.new) (take result bytes.now) }
     ensures bound { result ≤ length bytes.now }

@@ -4,7 +4,7 @@ ghost use Rattle.program.specs.Said.{refused_as};
 
 use std::alloc::{AllocError, Global};
 
-/// The line that says that an input is refused, and as what.
+/// The line for an input that is refused as `name`. The only error is out of memory.
 pub fn refused_line(alloc: Global, name: &[u8]) -> Result<Vec<u8>, AllocError>
     ensures { IfOk result (λ line. line.items ≡ (refused_as name.now).text) }
 {

@@ -1,4 +1,4 @@
-//! Settings that are read, or refused.
+//! Reading settings, or refusing them.
 ghost use Rattle.std.specs.Prelude.{◌≡◌, IfOk, IfErr, OnOk, Ok, Some};
 ghost use Rattle.settings_file.specs.Settings.{MeetsLimits};
 ghost use Rattle.settings_file.specs.Fault.{Fault, fault_of};
@@ -12,12 +12,12 @@ use settings_file::{Settings, SettingsFault, read_settings_bytes, write_fault};
 use std::alloc::{AllocError, Global};
 use std::io::Write;
 
-/// The settings that a file's bytes are.
+/// Reads the settings of a file's bytes.
 ///
 /// # Errors
 ///
-/// The exit status, once the line of the first fault is written to `err`: refused, or failed for
-/// lack of memory or a writer that fails. Bytes that aren't UTF-8 are no TOML.
+/// The exit status, once the line of the first fault is written to `err`: refused; or failed, if memory is
+/// refused or the writer fails. Bytes that aren't UTF-8 aren't TOML.
 pub fn read_or_refuse<W: Write>(
     alloc: Global,
     bytes: &[u8],
@@ -34,11 +34,11 @@ pub fn read_or_refuse<W: Write>(
     }
 }
 
-/// The line that says that settings are refused, and for which fault.
+/// The line for settings that are refused, with the fault.
 ///
 /// # Errors
 ///
-/// Out of memory, which the fault may be already.
+/// The only error is out of memory, which may be the fault itself.
 pub fn refusal_line(alloc: Global, fault: &SettingsFault) -> Result<Vec<u8>, AllocError>
     ensures { IfOk result (λ line. (named : Fault) × (fault_of fault.now ≡ Some named) × (line.items ≡ (settings_refused named).text)) }
 {
@@ -47,7 +47,7 @@ pub fn refusal_line(alloc: Global, fault: &SettingsFault) -> Result<Vec<u8>, All
     refused_line(alloc, &words)
 }
 
-/// Writes a line, and gives the exit status.
+/// Writes a line. Returns the exit status.
 fn say<W: Write>(line: &[u8], err: &mut W) -> ExitStatus
     ensures { Says line.now (W.contents err.old) (W.contents err.new) result }
 {
@@ -58,7 +58,7 @@ fn say<W: Write>(line: &[u8], err: &mut W) -> ExitStatus
     }
 }
 
-/// Writes the line of a fault, and gives the exit status.
+/// Writes the line of a fault. Returns the exit status.
 fn refuse<W: Write>(alloc: Global, fault: &SettingsFault, err: &mut W) -> ExitStatus
     ensures { RefusesAs (fault_of fault.now) (W.contents err.old) (W.contents err.new) result }
 {

@@ -1,4 +1,4 @@
--- What a client is answered: item by item of what it sent, the bytes that this comes to, with the reply that the core's run gave where a request asks the core.
+-- The answers to a client: for each item of its stream the bytes that become due, with the reply that the core's run gave if the item is a request to the core.
 use Rattle.std.specs.Prelude.{ℕ, ◌≡◌, ◌⊎◌, ◌==◌, Bool, true, false, if◌then◌else◌, List, [], ◌∷◌, ◌++◌, All, Option, Some, None}
 use Rattle.std.specs.List.{flat_map}
 use Rattle.settings_file.specs.Settings.{ServerSettings}
@@ -32,9 +32,9 @@ use Rattle.server.specs.Law.{core_notes, happenings_in}
 use Rattle.server.specs.Turn.{Trace}
 use Rattle.promises.specs.Orders.{Handled, AreHandled, AreOf}
 
--- ---- an act: the next of what a client sent, and what it comes to
+-- ---- an act: the next item of a client's stream, and its result
 
--- what was acted on before and after it, what it comes to, the event of it that the core handled, the bytes that are due by it, and the core's state at that moment
+-- the peer before and after the act, its step, the event of it that the core handled, the bytes that it makes due, and the core's state at its moment
 pub record Act : Type 0 where
   pub before : PeerRecord
   pub after : PeerRecord
@@ -43,7 +43,7 @@ pub record Act : Type 0 where
   pub bytes : List ℕ
   pub state : State
 
--- the next item of an IPP client, as what was read by then says it
+-- the next item of an IPP client, by the bytes that were read
 pub record NextIpp (said : List Said) (closes : Bool) (body : List ℕ) (what : Step) (after : PeerRecord) : Type 0 where
   pub item : HttpItem
   pub part : List ℕ
@@ -59,33 +59,33 @@ pub record NextLpd (queues : List ℕ → Bool) (items : List ItemRecord) (sessi
   pub comes : StepsLpd queues session said what session_after
   pub is : after ≡ Queue (items ++ said ∷ []) session_after
 
--- or a fault in what it sends, which is refused, and nothing more counts
+-- the next item, or a fault in the stream, which is refused, and the connection drains
 abbrev pub IsNext : ServerSettings → PeerRecord → Step → PeerRecord → Type 0
 IsNext settings (Http said closes body) what after = NextIpp said closes body what after
 IsNext settings (Queue items session) what after = NextLpd (is_queue settings) items session what after ⊎ ((what ≡ refused) × (after ≡ Queue items session))
 IsNext settings (Link reports device) what after = ⊥
 
--- ---- the bytes of it
+-- ---- the bytes of an act
 
--- the reply to an IPP request; where memory for it was refused, the status that says so
+-- the reply to an IPP request; or, if memory for it was refused, the status TemporaryError
 abbrev pub GivenIpp : Bool → ℕ → Response → List ℕ → Type 0
 GivenIpp closes request (Says.Ipp answer) bytes = ((spelt : List ℕ) × IsReply answer request spelt × (bytes ≡ http_reply closes spelt)) ⊎ (bytes ≡ http_status closes TemporaryError request)
 GivenIpp closes request (Says.Lpd answer) bytes = ⊥
 GivenIpp closes request Says.Nothing bytes = ⊥
 
--- an LPD job is acknowledged or refused
+-- the acknowledgement or the refusal of an LPD job
 abbrev pub GivenJob : Response → List ℕ → Type 0
 GivenJob (Says.Lpd (Shown.Taken taken)) bytes = bytes ≡ ack_of (Shown.Taken taken) ∷ []
 GivenJob _ bytes = ⊥
 
--- a queue is shown by its text, and a removal isn't answered
+-- the text of a queue; a removal has no answer
 abbrev pub GivenCommand : Response → List ℕ → Type 0
 GivenCommand (Says.Lpd (Shown.Queue listing)) bytes = bytes ≡ text_of (Shown.Queue listing)
 GivenCommand (Says.Lpd Shown.NoQueue) bytes = bytes ≡ text_of Shown.NoQueue
 GivenCommand Says.Nothing bytes = bytes ≡ []
 GivenCommand _ bytes = ⊥
 
--- by the core's reply, or where memory for the event was refused; a command is then answered nothing, and its connection breaks
+-- the answer by the core's reply, or if memory for the event was refused; a command has no answer then, and its connection breaks
 abbrev pub Given : Bool → Client → Option Effects → List ℕ → Type 0
 Given closes (client.Ipp request) (Some reply) bytes = GivenIpp closes request reply.answer bytes
 Given closes (client.Ipp request) None bytes = bytes ≡ http_status closes TemporaryError request
@@ -94,14 +94,14 @@ Given closes client.LpdJob None bytes = bytes ≡ 1 ∷ []
 Given closes client.LpdCommand (Some reply) bytes = GivenCommand reply.answer bytes
 Given closes client.LpdCommand None bytes = ⊥
 
--- of what is asked of the server
+-- the answer to the connection's ask
 abbrev pub IsGiven : Bool → Ask → List Handled → List ℕ → Type 0
 IsGiven closes (ask.Event who event) asked bytes = (it : Handled) × (asked ≡ it ∷ []) × (it.event ≡ event) × Given closes who (reply_of it.outcome) bytes
 IsGiven closes (ask.Unread request) asked bytes = (asked ≡ []) × (bytes ≡ http_status closes TemporaryError request)
 IsGiven closes (ask.Lost part) asked bytes = (asked ≡ []) × (bytes ≡ 1 ∷ [])
 IsGiven closes _ asked bytes = ⊥
 
--- the connection owes it by itself, or the server is asked
+-- the bytes of a step: those that the connection owes by itself, or the server's answer
 abbrev pub IsOwed : Bool → Step → List Handled → List ℕ → Type 0
 IsOwed closes (step.Due due last) asked bytes = (asked ≡ []) × (bytes ≡ due_bytes due)
 IsOwed closes (step.Asks what last) asked bytes = IsGiven closes what asked bytes
@@ -111,14 +111,14 @@ pub record IsAct (a : Act) : Type 0 where
   pub next : IsNext a.state.settings a.before a.what a.after
   pub owed : IsOwed (closes_of a.after) a.what a.asked a.bytes
 
--- one after the other
+-- acts, one after the other
 abbrev pub AreActs : PeerRecord → List Act → PeerRecord → Type 0
 AreActs before [] after = after ≡ before
 AreActs before (a ∷ acts) after = (a.before ≡ before) × IsAct a × AreActs a.after acts after
 
 -- ---- the run
 
--- a state of the run: the opening, or one after an event
+-- a state of the run: the opening, or the state after an event
 abbrev pub IsStateOf : State → State → List Handled → Type 0
 IsStateOf state opening [] = state ≡ opening
 IsStateOf state opening (it ∷ later) = (state ≡ opening) ⊎ IsStateOf state it.state later
@@ -134,8 +134,7 @@ asked_by key (it ∷ later) = (if is_asked key it.asked then it ∷ [] else []) 
 
 -- ---- the law
 
--- What is due on a client's connection is what its acts come to, from its first byte on. The events that it
--- asked for since it was accepted are just those of these acts, in their order.
+-- The bytes due on a client's connection are those of its acts, from its first byte on. The events that it asked for since it was accepted are exactly those of these acts, in order.
 pub record IsAnswered (opening : State) (key : ℕ) (handled : List Handled) (e : Entry) : Type 0 where
   pub earlier : List Handled
   pub since : List Handled
@@ -147,16 +146,15 @@ pub record IsAnswered (opening : State) (key : ℕ) (handled : List Handled) (e 
   pub asked : asked_by key since ≡ flat_map (λ (a : Act). a.asked) acts
   pub due : e.due ≡ flat_map (λ (a : Act). a.bytes) acts
 
--- nothing is due by what comes next, if anything does: the connection broke at it
+-- the next item, if there is one, makes no bytes due: the connection broke at it
 abbrev pub IsLast : State → List Handled → PeerRecord → PeerRecord → Type 0
 IsLast opening handled after talk = (after ≡ talk) ⊎ ((state : State) × (what : Step) × IsStateOf state opening handled × IsNext state.settings after what talk)
 
--- none, or just one
+-- at most one event
 abbrev pub IsOneAtMost : List Handled → Type 0
 IsOneAtMost handled = (handled ≡ []) ⊎ ((it : Handled) × (handled ≡ it ∷ []))
 
--- A connection went on by these acts and then broke. Its events are those of these acts, and at most one more,
--- which was handled, and isn't answered.
+-- A connection took these acts and then broke. Its events are those of these acts, and at most one more, which was handled and has no answer.
 pub record BrokeAfter (opening : State) (key : ℕ) (handled since : List Handled) (before : PeerRecord) (base : List ℕ) (e : Entry) : Type 0 where
   pub acts : List Act
   pub after : PeerRecord
@@ -168,7 +166,7 @@ pub record BrokeAfter (opening : State) (key : ℕ) (handled since : List Handle
   pub last : IsLast opening handled after e.talk
   pub due : e.due ≡ base ++ flat_map (λ (a : Act). a.bytes) acts
 
--- What is due on a client's connection that broke is what its acts came to until then.
+-- The bytes due on a client's connection that broke are those of its acts before.
 pub record IsCutOff (opening : State) (key : ℕ) (handled : List Handled) (e : Entry) : Type 0 where
   pub earlier : List Handled
   pub since : List Handled
@@ -176,23 +174,21 @@ pub record IsCutOff (opening : State) (key : ℕ) (handled : List Handled) (e : 
   pub door : Door
   pub until : BrokeAfter opening key handled since (opening_peer door) [] e
 
--- a client's, and no device's
+-- the connection is that of a client, not of a device
 abbrev pub ClientTalk : PeerRecord → Type 0
 ClientTalk (Http said closes body) = Unit {0}
 ClientTalk (Queue items session) = Unit {0}
 ClientTalk (Link reports device) = ⊥
 
--- of a client's connection that was closed, and wasn't broken, by the events until then
+-- a client's connection that was closed without having broken was answered, by the events before
 abbrev pub WasAnswered : State → List Handled → Entry → Type 0
 WasAnswered opening handled e = ClientTalk e.talk → e.broken ≡ false → (key : ℕ) × (before : List Handled) × (behind : List Handled) × (handled ≡ before ++ behind) × IsAnswered opening key before e
 
--- of a client's connection that was closed, and was broken
+-- a client's connection that broke and was closed was answered until it broke
 abbrev pub WasCutOff : State → List Handled → Entry → Type 0
 WasCutOff opening handled e = ClientTalk e.talk → e.broken ≡ true → (key : ℕ) × (before : List Handled) × (behind : List Handled) × (handled ≡ before ++ behind) × IsCutOff opening key before e
 
--- The events of a trace are one run of the core, which tells what the listener was told. Each open
--- connection of a client that isn't broken is answered by it, and so was each that was closed without having
--- broken; one that broke was until then; and on each open connection all that was read was acted on, unless nothing counts any more.
+-- The events of a trace are one run of the core, which tells the listener's notes. Each open connection of a client that isn't broken is answered by the run, and so was each that was closed without having broken. A broken one was answered until it broke. On each open connection all that was read was acted on, unless it is draining or broken.
 pub record AreAnswered (opening : State) (trace : Trace) (l : Ledger) : Type 0 where
   pub handled : List Handled
   pub timed : AreOf trace handled

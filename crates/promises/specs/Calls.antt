@@ -1,4 +1,4 @@
--- For every list of calls of an engine, turns and calls between them: what their contracts say together.
+-- For each list of calls of an engine, turns and calls between them: the conclusion from their contracts together.
 use Rattle.std.specs.Prelude.{ℕ, ◌≡◌, List, [], ◌∷◌, Result}
 use Rattle.std.specs.declared.alloc.AllocError.{AllocError}
 use Rattle.base_types.specs.Report.{ReportRecord}
@@ -12,26 +12,26 @@ use Rattle.server.specs.Turn.{Outcome, Action, Turned, Served_body, Reported, Ti
 use Rattle.server.specs.State.{EngineState}
 use Rattle.server.specs.Refinement.{Represents, RefinesTurn, RefinesCall, RefinesBody}
 
--- what is called
+-- a call of an engine
 pub data Call : Type 0 where
   TakesTurn : (moment : ℕ) → Call
   Serves : (moment : ℕ) (body : List ℕ) → Call
   Reports : (moment device : ℕ) (said : ReportRecord) → Call
   Ticks : (moment : ℕ) → Call
 
--- by its contract it leads a wire, a listener and an engine on; between turns the wire stays
+-- the change that the call's contract makes of a wire, a listener and an engine; a call between turns leaves the wire unchanged
 abbrev pub ByContract : {W N : Type 0} → (W → Poll → W → Type 0) → (N → Note → N → Type 0) → Call → W × N → EngineState → W × N → EngineState → Type 0
 ByContract polled told (TakesTurn moment) u old v new = RefinesTurn (both polled told) moment u old v new
 ByContract polled told (Serves moment body) u old v new = (answer : Outcome) × (v.0 ≡ u.0) × RefinesBody (alone told) moment body u.1 old v.1 new answer
 ByContract polled told (Reports moment device said) u old v new = (result : Result (Unit {0}) AllocError) × (v.0 ≡ u.0) × RefinesCall (alone told) (Reported moment device said) u.1 old v.1 new result
 ByContract polled told (Ticks moment) u old v new = (result : Result (Unit {0}) AllocError) × (v.0 ≡ u.0) × RefinesCall (alone told) (Ticked moment) u.1 old v.1 new result
 
--- one after the other
+-- calls, one after the other
 abbrev pub AreMade : {W N : Type 0} → (W → Poll → W → Type 0) → (N → Note → N → Type 0) → List Call → W × N → EngineState → W × N → EngineState → Type 0
 AreMade polled told [] u old v new = (v ≡ u) × (new ≡ old)
 AreMade {W} {N} polled told (call ∷ calls) u old v new = (w : W × N) × (mid : EngineState) × ByContract polled told call u old w mid × AreMade polled told calls w mid v new
 
--- an action is of this call
+-- the action is of this call
 abbrev pub IsOf : Call → Action → Type 0
 IsOf (TakesTurn moment) (Turned at hs) = at ≡ moment
 IsOf (Serves moment body) (Served_body at bytes answer hs) = (at ≡ moment) × (bytes ≡ body)
@@ -45,9 +45,7 @@ AreOf (call ∷ calls) (action ∷ actions) = IsOf call action × AreOf calls ac
 AreOf [] (action ∷ actions) = ⊥
 AreOf (call ∷ calls) [] = ⊥
 
--- There is a trace of just these calls. It leads the wire and the listener from where they were to where
--- they are, and leads to a ledger that the engine fits: of each open connection what the wire took and what
--- waits are just what is due.
+-- There is a trace of exactly these calls. It leads the wire and the listener from their states before to their states after, and it leads to a ledger that represents the engine: on each open connection the bytes that the wire took and those that wait are exactly the bytes that are due.
 pub record IsAccounted {W N : Type 0} (polled : W → Poll → W → Type 0) (told : N → Note → N → Type 0) (opening : State) (calls : List Call) (u v : W × N) (engine : EngineState) : Type 0 where
   pub trace : Trace
   pub of_calls : AreOf calls trace

@@ -1,4 +1,4 @@
--- What a wire carried on each connection, by its calls alone: the numbers that are open, what was read and what was taken on each.
+-- The bytes that a wire carried on each connection, by the wire's calls alone: the open numbers, and the bytes read and taken on each.
 use Rattle.std.specs.Prelude.{ℕ, ◌≡◌, ◌==◌, Bool, true, false, if◌then◌else◌, List, [], ◌∷◌, ◌++◌, take, Some}
 use Rattle.wires.specs.Poll.{Poll, Accepts, Reads, Writes, Closes}
 use Rattle.wires.specs.declared.wire.Progress.TheVariants.{Done, Waiting, End, Fault}
@@ -9,21 +9,21 @@ use Rattle.server.specs.Law.{happenings_in}
 use Rattle.server.specs.Turn.{Trace}
 
 pub record Carried : Type 0 where
-  -- whether a connection of a number is open
+  -- whether a connection of the number is open
   pub open_now : ℕ → Bool
-  -- what was read on it since it was accepted, and what was taken
+  -- the bytes read on the connection since it was accepted, and the bytes taken
   pub read : ℕ → List ℕ
   pub taken : ℕ → List ℕ
 
--- nothing has happened
+-- nothing was carried yet
 abbrev pub nothing_carried : Carried
 nothing_carried = record { open_now = λ id. false; read = λ id. []; taken = λ id. [] }
 
--- another value for a number
+-- the table with another value for a number
 abbrev pub at_number : {A : Type 0} → ℕ → A → (ℕ → A) → ℕ → A
 at_number id value table other = if other == id then value else table other
 
--- one call of the wire
+-- the change of one call of the wire
 abbrev pub carry : Carried → Poll → Carried
 carry c (Accepts door (Done id)) = record { open_now = at_number id true c.open_now; read = at_number id [] c.read; taken = at_number id [] c.taken }
 carry c (Accepts door Waiting) = c
@@ -45,7 +45,7 @@ carried c (Polled poll ∷ hs) = carried (carry c poll) hs
 carried c (Told note ∷ hs) = carried c hs
 carried c (Chosen choice ∷ hs) = carried c hs
 
--- an accepted connection gets a number that no open one has
+-- an accepted connection gets a number that no open connection has
 abbrev pub IsNew : Carried → Poll → Type 0
 IsNew c (Accepts door (Done id)) = c.open_now id ≡ false
 IsNew c _ = Unit {0}
@@ -56,16 +56,15 @@ AreNew c (Polled poll ∷ hs) = IsNew c poll × AreNew (carry c poll) hs
 AreNew c (Told note ∷ hs) = AreNew c hs
 AreNew c (Chosen choice ∷ hs) = AreNew c hs
 
--- all that was carried in a trace
+-- the bytes that were carried in a trace
 abbrev pub carried_in : Trace → Carried
 carried_in trace = carried nothing_carried (happenings_in trace)
 
--- no open connection's number is given to another
+-- the number of an open connection isn't given to another
 abbrev pub NumbersDiffer : Trace → Type 0
 NumbersDiffer trace = AreNew nothing_carried (happenings_in trace)
 
--- Of each open connection what is due is what the wire took on it, followed by what waits; and while what it
--- reads counts, it has read just what the wire brought.
+-- On each open connection the bytes due are those that the wire took on it, followed by those that wait. A connection that is neither draining nor broken has read exactly the bytes that the wire brought.
 pub record IsCarried (trace : Trace) (l : Ledger) : Type 0 where
   pub due : (key : ℕ) (e : Entry) → l.entries key ≡ Some e → e.due ≡ (carried_in trace).taken e.id ++ waiting e
   pub read : (key : ℕ) (e : Entry) → l.entries key ≡ Some e → e.draining ≡ false → e.broken ≡ false → e.read ≡ (carried_in trace).read e.id

@@ -1,4 +1,4 @@
--- What an IPP client is answered, exchange by exchange of what it sent: `100 Continue` where its head invites one, and behind its body one answer, which is the reply that the run gave to the event that the body asks, or a status alone.
+-- The answers to an IPP client, exchange by exchange of its stream: `100 Continue` if its head invites it, and one answer behind its body. The answer is the reply that the run gave to the event of the body, or a status alone.
 use Rattle.std.specs.Prelude.{ℕ, ◌≡◌, ◌⊎◌, Bool, true, false, if◌then◌else◌, List, [], ◌∷◌, ◌++◌, map, All, Option, Some, None}
 use Rattle.std.specs.List.{flat_map}
 use Rattle.print_room.specs.State.{State}
@@ -26,48 +26,46 @@ use Rattle.promises.specs.Answers.{Act, AreActs, Given, asked_by, IsOneAtMost}
 
 -- ---- one exchange
 
--- a request, from its head to the end of its body (RFC 9112, section 2.1); the event of it that the core handled, and its answer
+-- a request, from its head to the end of its body (RFC 9112, section 2.1), with the event of it that the core handled, and its answer
 pub record Exchange : Type 0 where
-  -- the connection closes behind it (RFC 9112, section 9.3)
+  -- whether the connection closes behind the exchange (RFC 9112, section 9.3)
   pub closes : Bool
-  -- its head expects `100-continue` (RFC 9110, section 10.1.1)
+  -- whether the head expects `100-continue` (RFC 9110, section 10.1.1)
   pub invites : Bool
   pub body : List ℕ
   pub asked : List Handled
   pub answer : List ℕ
 
--- a head, the invitation that it waits for, and so much of a body
+-- a head, the invitation that it waits for, and a front of a body
 abbrev pub says_begun : Bool → Bool → List ℕ → List Said
 says_begun closes invites body = HasHead closes ∷ ((if invites then Invites ∷ [] else []) ++ map HasByte body)
 
 abbrev pub says_exchange : Exchange → List Said
 says_exchange x = says_begun x.closes x.invites x.body ++ EndsBody ∷ []
 
--- A body without a whole header (RFC 8010, section 3.1.1) is answered by the head of a refusal, one that is refused by
--- its status, and no event is asked. Of a body that asks an event the core handles just that one, and the answer is
--- the reply that it gave, or the status that memory was refused (RFC 8011, section 4.1).
+-- A body without a whole header (RFC 8010, section 3.1.1) is answered by the head of a refusal, and a refused body by its status; no event is asked. For a body with an event, the core handles exactly that event, and the answer is the reply that it gave, or the status that memory was refused (RFC 8011, section 4.1).
 abbrev pub IsAnswerTo : Bool → ParsedRequest → List Handled → List ℕ → Type 0
 IsAnswerTo closes asks.TooShort asked answer = (asked ≡ []) × (answer ≡ refusal_head BadRequest)
 IsAnswerTo closes (asks.Refused status request) asked answer = (asked ≡ []) × (answer ≡ http_status closes status request)
 IsAnswerTo closes (asks.Event request event) asked answer = (it : Handled) × (asked ≡ it ∷ []) × (it.event ≡ event) × Given closes (client.Ipp request) (reply_of it.outcome) answer
 
--- where memory to read a body was refused no event is asked, and the status says so
+-- if memory to read a body was refused, no event is asked, and the answer is the status TemporaryError
 abbrev pub IsUnread : Bool → List ℕ → List Handled → List ℕ → Type 0
 IsUnread closes body asked answer = (request : ℕ) × (request_id_of body ≡ Some request) × (asked ≡ []) × (answer ≡ http_status closes TemporaryError request)
 
 abbrev pub IsExchange : Exchange → Type 0
 IsExchange x = ((it : ParsedRequest) × Asks x.body it × IsAnswerTo x.closes it x.asked x.answer) ⊎ IsUnread x.closes x.body x.asked x.answer
 
--- what is due by it: the interim response where its head invites one (RFC 9110, section 15.2.1), and the answer
+-- the bytes of an exchange: the interim response if its head invites it (RFC 9110, section 15.2.1), and the answer
 abbrev pub invitation : Bool → List ℕ
 invitation invites = if invites then continue_head else []
 
 abbrev pub due_in : Exchange → List ℕ
 due_in x = invitation x.invites ++ x.answer
 
--- ---- what follows the whole ones
+-- ---- the part behind the whole exchanges
 
--- nothing, or the front of one more
+-- nothing, or the front of one more exchange
 pub data Front : Type 0 where
   Nothing : Front
   Begun : (closes invites : Bool) (body : List ℕ) → Front
@@ -80,7 +78,7 @@ abbrev pub due_front : Front → List ℕ
 due_front Nothing = []
 due_front (Begun closes invites body) = invitation invites
 
--- what it sends may be refused there
+-- the rest may be refused
 abbrev pub says_refusal : Option HttpRejection → List Said
 says_refusal None = []
 says_refusal (Some refusal) = IsRefused refusal ∷ []
@@ -91,9 +89,7 @@ due_refusal (Some refusal) = refusal_head refusal
 
 -- ---- the law
 
--- What a client said is whole exchanges, one after the other, and at most the front of one more, or a refusal.
--- Nothing follows an exchange that closes, one with too short a body, or a refusal. What is due is what
--- they come to, and the events that are asked are just theirs, in order.
+-- A client's stream is whole exchanges, one after the other, and then at most the front of one more, or a refusal. Nothing follows an exchange that closes, one with too short a body, or a refusal. The bytes due are those of the exchanges, and the events asked are exactly theirs, in order.
 pub record AreExchanges (heard : List Said) (handled : List Handled) (bytes : List ℕ) : Type 0 where
   pub order : in_order Between heard ≡ true
   pub exchanges : List Exchange
@@ -104,24 +100,24 @@ pub record AreExchanges (heard : List Said) (handled : List Handled) (bytes : Li
   pub asked : handled ≡ flat_map (λ (x : Exchange). x.asked) exchanges
   pub due : bytes ≡ flat_map due_in exchanges ++ (due_front front ++ due_refusal refusal)
 
--- so it is with all acts of an IPP client
+-- all acts of an IPP client are such exchanges
 abbrev pub ActsAreExchanges : Type 0
 ActsAreExchanges =
     (acts : List Act) (said : List Said) (closes : Bool) (body : List ℕ) → AreActs (opening_peer Ipp) acts (Http said closes body)
     → AreExchanges said (flat_map (λ (a : Act). a.asked) acts) (flat_map (λ (a : Act). a.bytes) acts)
 
--- what was asked on a connection since it was accepted, and is due on it
+-- the events asked on a connection since it was accepted, and the bytes due on it, are those of exchanges
 pub record ByExchanges (key : ℕ) (handled : List Handled) (said : List Said) (e : Entry) : Type 0 where
   pub earlier : List Handled
   pub since : List Handled
   pub whole : handled ≡ earlier ++ since
   pub are : AreExchanges said (asked_by key since) e.due
 
--- at most one item more was acted on
+-- at most one more item was acted on
 abbrev pub IsOneMore : List Said → List Said → Type 0
 IsOneMore until said = (said ≡ until) ⊎ ((item : HttpItem) × (part : List ℕ) × (said ≡ until ++ said_by item part))
 
--- A connection broke: what is due is what the exchanges came to until then, and at most one event more was asked, and isn't answered.
+-- A connection broke: the bytes due are those of the exchanges before, and at most one more event was asked, which has no answer.
 pub record UntilBroken (key : ℕ) (handled : List Handled) (said : List Said) (e : Entry) : Type 0 where
   pub earlier : List Handled
   pub since : List Handled
@@ -138,18 +134,16 @@ abbrev pub IsByExchanges : ℕ → List Handled → PeerRecord → Entry → Typ
 IsByExchanges key handled (Http said closes body) e = (e.broken ≡ false → ByExchanges key handled said e) × (e.broken ≡ true → UntilBroken key handled said e)
 IsByExchanges key handled talk e = Unit {0}
 
--- of a connection that was closed, by the events until then
+-- a connection that was closed has this property, by the events before
 abbrev pub WasByExchanges : List Handled → Entry → Type 0
 WasByExchanges handled e = (key : ℕ) × (before : List Handled) × (behind : List Handled) × (handled ≡ before ++ behind) × IsByExchanges key before e.talk e
 
--- what was acted on is what the bytes that were read say first, as HTTP has it
+-- the items acted on are a front of those that the bytes read say by HTTP
 abbrev pub IsFirst : List ℕ → PeerRecord → Type 0
 IsFirst read (Http said closes body) = SaysFirst read said
 IsFirst read talk = Unit {0}
 
--- The events of a trace are one run of the core, by which each IPP client, also one whose connection was closed, is
--- answered exchange by exchange. On each connection the exchanges are what its bytes say first, and on an open one
--- all that they say, unless nothing counts any more.
+-- The events of a trace are one run of the core, by which each IPP client is answered exchange by exchange, even if its connection was closed. On each connection the exchanges are a front of the exchanges that its bytes say. On an open connection they are all of these, unless the connection is draining or broken.
 pub record AreByExchanges (opening : State) (trace : Trace) (l : Ledger) : Type 0 where
   pub handled : List Handled
   pub timed : AreOf trace handled

@@ -1,4 +1,4 @@
--- What a device is sent: the line of each cancel for it, and the line and the documents of each job that begins on it, as the core's run has them.
+-- The bytes that a device is sent: the line of each cancel for it, and the line and the documents of each job that begins on it, by the core's run.
 use Rattle.std.specs.Prelude.{ℕ, ◌≡◌, ◌==◌, Bool, true, false, if◌then◌else◌, List, [], ◌∷◌, ◌++◌, All, Option, Some, None}
 use Rattle.std.specs.List.{flat_map}
 use Rattle.base_types.specs.declared.report.Report.TheVariants as report
@@ -19,9 +19,7 @@ use Rattle.server.specs.Law.{core_notes, moment_of, happenings_in}
 
 -- ---- the run
 
--- An event that the core handled: what became of it, what the listener was told, and the state after it. By
--- a HELLO a device may have said its name on its connection; a client's event was asked on the connection
--- under a key.
+-- An event that the core handled: its outcome, the listener's notes, and the state after it. A device may have given its name on its connection by the event, which is a HELLO then; a client's event was asked on the connection under a key.
 pub record Handled : Type 0 where
   pub moment : ℕ
   pub event : Event
@@ -36,24 +34,24 @@ abbrev pub IsNaming : Option ℕ → Event → Type 0
 IsNaming None event = Unit {0}
 IsNaming (Some device) event = (name : List ℕ) × (event ≡ Is.Report device (report.Hello name))
 
--- each event in turn
+-- the events in order
 abbrev pub AreHandled : State → List Handled → State → Type 0
 AreHandled old [] new = new ≡ old
 AreHandled old (it ∷ later) new =
     IsNaming it.named it.event × Handles it.moment it.event old it.outcome it.notes it.state × AreHandled it.state later new
 
--- each comes at this moment
+-- each event is at this moment
 abbrev pub AreAt : ℕ → List Handled → Type 0
 AreAt moment handled = All (λ (it : Handled). it.moment ≡ moment) handled
 
--- those of the first action, each at its moment, then those of the next, and so on
+-- the events of the first action, each at its moment, then those of the next, and so on
 abbrev pub AreOf : Trace → List Handled → Type 0
 AreOf [] handled = handled ≡ []
 AreOf (action ∷ actions) handled = (first : List Handled) × (later : List Handled) × (handled ≡ first ++ later) × AreAt (moment_of action) first × AreOf actions later
 
--- ---- what a device is sent
+-- ---- the orders of a device
 
--- the jobs that begin, where a plan was made
+-- the jobs that begin, if a plan was made
 abbrev pub began : Outcome → State → List Started
 began Dropped state = []
 began (Queried reply) state = []
@@ -76,7 +74,7 @@ cancel_for device cancel = if cancel.device == device then cancel_line cancel.jo
 abbrev pub start_for : ℕ → State → Started → List ℕ
 start_for device state start = if start.device == device then job_bytes state start.job else []
 
--- what an event has sent to a device: the cancels, and then the jobs that begin
+-- the orders of an event for a device: the cancels, and then the jobs that begin
 abbrev pub orders_of : ℕ → Handled → List ℕ
 orders_of device it = flat_map (cancel_for device) (canceled it.outcome) ++ flat_map (start_for device it.state) (began it.outcome it.state)
 
@@ -84,31 +82,26 @@ abbrev pub names : ℕ → Option ℕ → Bool
 names device None = false
 names device (Some other) = other == device
 
--- What is due on a device's connection after these events, where this was due before: all that they send to
--- it, since it last said its name on a connection.
+-- The bytes due on a device's connection after these events, where `before` was due: all orders for the device since it last gave its name on a connection.
 abbrev pub due_by : ℕ → List ℕ → List Handled → List ℕ
 due_by device before [] = before
 due_by device before (it ∷ later) = due_by device ((if names device it.named then [] else before) ++ orders_of device it) later
 
 -- ---- the law
 
--- of a device's connection that was closed, and wasn't broken, by the events until then
+-- a device's connection that was closed without having broken was sent its orders, by the events before
 abbrev pub WasSent : List Handled → Entry → Type 0
 WasSent handled e = (device : ℕ) → device_of e.talk ≡ Some device → e.broken ≡ false → (before : List Handled) × (behind : List Handled) × (handled ≡ before ++ behind) × (e.due ≡ due_by device [] before)
 
--- a front of what is sent to a device by these events, until one of them
+-- the bytes due are a front of the orders for a device, by the events up to one of these
 abbrev pub IsFrontSent : List Handled → ℕ → List ℕ → Type 0
 IsFrontSent handled device due = (before : List Handled) × (behind : List Handled) × (handled ≡ before ++ behind) × (rest : List ℕ) × (due ++ rest ≡ due_by device [] before)
 
--- of a device's connection that broke
+-- a device's connection that broke was sent a front of its orders
 abbrev pub WasHalted : List Handled → Entry → Type 0
 WasHalted handled e = (device : ℕ) → device_of e.talk ≡ Some device → e.broken ≡ true → IsFrontSent handled device e.due
 
--- The events of a trace are one run of the core, which tells what the listener was told. On each open
--- connection of a device that isn't broken, what is due is what the run has sent to the device since it said
--- its name: each cancel's line, and of each job the line and the documents as they were when it began. So it
--- is on each that was closed without having broken, by the events until then. On one that broke, a front of
--- it is due.
+-- The events of a trace are one run of the core, which tells the listener's notes. On each open connection of a device that isn't broken, the bytes due are the run's orders for the device since it gave its name: the line of each cancel, and for each job the line and the documents as they were when the job began. The same holds for each that was closed without having broken, by the events before. On one that broke, a front of the orders is due.
 pub record AreSent (opening : State) (trace : Trace) (l : Ledger) : Type 0 where
   pub handled : List Handled
   pub timed : AreOf trace handled

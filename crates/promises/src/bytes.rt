@@ -16,9 +16,9 @@ ghost use Rattle.server.specs.Turn.{Trace, Runs};
 use dispatcher::Listener;
 use wires::Wire;
 
-/// A trace leads to one ledger: with the calls of the wire and their answers, what the listener was told
-/// (the plans among it), and what was chosen in between, the state of the core is fixed, and of each
-/// connection all that was read, is due and was taken.
+/// A trace leads to one ledger. The calls of the wire and their answers, the listener's notes (the plans
+/// among them), and the choices in between determine the state of the core, and for each connection the bytes
+/// that were read, are due and were taken.
 pub fn one_ledger()
     ensures { LeadsToOne }
 {
@@ -28,53 +28,54 @@ pub fn one_ledger()
     ipp_operations::one_asked();
 }
 
-/// Of a trace the core's events are one run, which tells just what the listener was told. On each open
-/// connection of a device that isn't broken, what is due is what that run has sent to the device since it
-/// said its name: each cancel's line, and of each job that began on it the line and the documents, as they
-/// were when it began. On one that broke, a front of that is due.
+/// The core's events of a trace are one run, which tells exactly the listener's notes. On each open
+/// connection of a device that isn't broken, the bytes due are the run's orders for the device since it gave
+/// its name: the line of each cancel, and for each job that began on it the line and the documents as they
+/// were when the job began. On a connection that broke, a front of the orders is due.
 pub fn devices_are_sent_their_orders()
     ensures { (opening : State) (trace : Trace) (ledger : Ledger) → Runs trace (opening_ledger opening) ledger → AreSent opening trace ledger }
 {}
 
-/// Of a trace the core's events are one run. Of each device the reports among those that came in turns are what
-/// it said on its connections, one connection after another: its name, each further report in order, and that it
-/// is gone, as the connection was closed or the device came again on another one; then what it has said on the
-/// connection that is open. The connections that ended are just the closed ones that bear its name, in the order
-/// of their ends, and those that it gave up as it came again. The name is the one that the settings give the
-/// device. What was said on a connection are the first reports that what was read on it says: all of them, unless
-/// nothing counts any more.
+/// The core's events of a trace are one run. For each device the reports among the events that came in turns
+/// are those on its connections, one connection after another: its name, each further report in order, and
+/// that it is gone, when the connection was closed or the device had another connection; then the reports of
+/// the open connection. The connections that ended are exactly the closed connections of the device, in the
+/// order of their ends, and the connections that it gave up by another connection. The name is that of the
+/// device in the settings. The reports of a connection are a front of those that its bytes say: all of them,
+/// unless the connection is draining or broken.
 pub fn devices_are_heard()
     ensures { (opening : State) (trace : Trace) (ledger : Ledger) → Runs trace (opening_ledger opening) ledger → AreHeard opening trace ledger }
 {}
 
-/// Of a trace the core's events are one run. On each open connection of a client that isn't broken what is due
-/// is what its acts come to, one after the other, from its first byte on: `100 Continue` where a head invites
-/// a body, an acknowledgement or a refusal, the reply that the run gave to an event that it asked for, or
-/// the status that memory for it was refused. The events of the run that it asked for are just those of its
-/// acts, in order. On one that broke, this is so of the acts until then. On each open connection all that was
-/// read was acted on, unless nothing counts any more.
+/// The core's events of a trace are one run. On each open connection of a client that isn't broken, the bytes
+/// due are those of its acts, one after the other, from its first byte on: `100 Continue` if a head invites a
+/// body, an acknowledgement or a refusal, the reply that the run gave to an event that the connection asked
+/// for, or the status that memory for it was refused. The run's events that the connection asked for are
+/// exactly those of its acts, in order. On a connection that broke, the same holds for the acts before. On
+/// each open connection all that was read was acted on, unless it is draining or broken.
 pub fn clients_are_answered()
     ensures { (opening : State) (trace : Trace) (ledger : Ledger) → Runs trace (opening_ledger opening) ledger → AreAnswered opening trace ledger }
 {}
 
-/// Where no open connection's number is given to another: of each open connection what is due is what the wire
-/// took on it since it was accepted, followed by what waits; and while what it reads counts, it has read just
-/// what the wire brought. Both are known from the calls of the wire alone.
+/// Assume that the number of an open connection isn't given to another. Then on each open connection the
+/// bytes due are those that the wire took on it since it was accepted, followed by those that wait. A
+/// connection that is neither draining nor broken has read exactly the bytes that the wire brought. Both are
+/// known from the calls of the wire alone.
 pub fn due_was_carried()
     ensures { (opening : State) (trace : Trace) (ledger : Ledger) → Runs trace (opening_ledger opening) ledger → NumbersDiffer trace → IsCarried trace ledger }
 {}
 
-/// What is done on one connection leaves the others alone: a client's is as it was, and on a device's more may
-/// be due, as jobs begin and are canceled, or it is closed, where memory for that was refused or the device
-/// came again on another one.
+/// An action on one connection spares the others. A client's connection is unchanged. On a device's
+/// connection more may be due, as jobs begin and are canceled; or it is closed, if memory for that was
+/// refused or the device had another connection.
 pub fn others_are_spared()
     ensures { (moment : ℕ) → SparesAll moment }
 {}
 
-/// Whatever the wire answers and however memory is refused: after any calls, from the start of an engine on,
-/// there is a trace of just these calls. It leads the wire and the listener to where they are, and it leads to
-/// a ledger that the engine fits. So of each open connection what the wire took and what waits are just what is
-/// due.
+/// For each answer of the wire and each refusal of memory: after any calls from the start of an engine on,
+/// there is a trace of exactly these calls. It leads the wire and the listener to their present states, and
+/// leads to a ledger that represents the engine. Hence on each open connection the bytes that the wire took
+/// and those that wait are exactly the bytes due.
 pub fn due_after_calls<W: Wire, N: Listener>()
     ensures { (opening : State) (calls : List Call) (u v : W × N) (old new : EngineState) → StandsAt opening [] old → AreMade W.polled N.told calls u old v new → IsAccounted W.polled N.told opening calls u v new }
 {}

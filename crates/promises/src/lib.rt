@@ -1,11 +1,11 @@
-//! What the server promises, above all of its crates.
+//! The promises of the server, as laws above all of its crates.
 //!
-//! Of plans: the text of each good plan of a core is read back as that plan, and the checker, who sees
-//! nothing but what is read, says yes to it. Of bytes: one trace allows one ledger, so what is due on each
-//! connection is fixed by what the wire answered, which memory was refused, and the plans; and after any calls
-//! an engine stands at the trace of just these calls. Of devices: what each says, and the end of each of its
-//! connections, reaches the core. Of events: of each that was dropped the listener was told. The functions do
-//! nothing: their contracts are what they are for.
+//! Plans: the text of each good plan of a core is read back as that plan, and the checker, which reads
+//! nothing but the text, accepts it. Bytes: one trace leads to one ledger, so the wire's answers, the
+//! refusals of memory and the plans determine the bytes due on each connection; and after any calls an engine
+//! stands at the trace of exactly these calls. Devices: the reports of each device, and the end of each of
+//! its connections, reach the core. Events: the listener was told of each event that was dropped. The
+//! functions do nothing; their contracts are the laws.
 #![tactic(auto)]
 
 mod bytes;

@@ -1,4 +1,4 @@
-//! A day of a trace, drawn.
+//! The chart of a trace's day.
 
 use crate::fault::DayFault;
 use crate::job::{RecordedJob, RecordedPrint};
@@ -9,7 +9,7 @@ use job_objects::JobState;
 use std::alloc::{AllocError, Global};
 use std::slice;
 
-/// The jobs that came.
+/// The arrivals of the jobs. The only error is out of memory.
 fn arrivals_of(alloc: Global, jobs: &[RecordedJob]) -> Result<Vec<Arrival>, AllocError> {
     let mut arrivals = Vec::with_capacity(alloc, jobs.len())?;
     for job in jobs {
@@ -22,7 +22,7 @@ fn arrivals_of(alloc: Global, jobs: &[RecordedJob]) -> Result<Vec<Arrival>, Allo
     Ok(arrivals)
 }
 
-/// What became of a job on its device.
+/// The ending of a job on its device.
 fn ending_of(job: Option<&RecordedJob>) -> Ending {
     let Some(job) = job else {
         return Ending::Open;
@@ -36,7 +36,7 @@ fn ending_of(job: Option<&RecordedJob>) -> Ending {
     }
 }
 
-/// What a device printed, as it is drawn.
+/// A print of a device, as it is drawn.
 fn print_of(day: &RecordedDay, print: &RecordedPrint) -> Print {
     Print {
         job: print.job,
@@ -47,7 +47,7 @@ fn print_of(day: &RecordedDay, print: &RecordedPrint) -> Print {
     }
 }
 
-/// What devices printed, as it is drawn.
+/// The prints of the devices, as they are drawn. The only error is out of memory.
 fn prints_of(alloc: Global, day: &RecordedDay) -> Result<Vec<Print>, AllocError> {
     let mut prints = Vec::with_capacity(alloc, day.prints.len())?;
     for print in &day.prints {
@@ -56,7 +56,7 @@ fn prints_of(alloc: Global, day: &RecordedDay) -> Result<Vec<Print>, AllocError>
     Ok(prints)
 }
 
-/// Whether a job waits, and the last plan found no device for it.
+/// Returns whether a job waits and the last plan found no device for it.
 fn is_stranded(stranded: &[Stranded], job: &RecordedJob) -> bool {
     if job.state.is_pending() {
         for one in stranded {
@@ -68,7 +68,7 @@ fn is_stranded(stranded: &[Stranded], job: &RecordedJob) -> bool {
     false
 }
 
-/// What became of a job that no device had.
+/// The words for the state of a job that no device had.
 fn fate_of(state: JobState) -> &'static str {
     match state {
         JobState::Canceled => "was canceled before a device had it",
@@ -79,7 +79,7 @@ fn fate_of(state: JobState) -> &'static str {
     }
 }
 
-/// A sentence about a job that no device had.
+/// A sentence about a job that no device had. The only error is out of memory.
 fn note_of(alloc: Global, job: &RecordedJob) -> Result<String, AllocError> {
     Page::new(alloc)
         .put("Job ")
@@ -90,7 +90,8 @@ fn note_of(alloc: Global, job: &RecordedJob) -> Result<String, AllocError> {
         .finish()
 }
 
-/// A sentence about each job that no device had, but for those that stand below the chart anyway.
+/// A sentence about each job that no device had, except those that are below the chart anyway. The only error
+/// is out of memory.
 fn notes_of(alloc: Global, day: &RecordedDay) -> Result<Vec<String>, AllocError> {
     let mut notes = Vec::new(alloc);
     for job in &day.jobs {
@@ -101,7 +102,7 @@ fn notes_of(alloc: Global, day: &RecordedDay) -> Result<Vec<String>, AllocError>
     Ok(notes)
 }
 
-/// Whether a job still waits.
+/// Returns whether a job still waits.
 fn waits(jobs: &[RecordedJob], id: JobId) -> bool {
     for job in jobs {
         if job.id == id && job.state.is_pending() {
@@ -111,7 +112,7 @@ fn waits(jobs: &[RecordedJob], id: JobId) -> bool {
     false
 }
 
-/// The jobs that no device can print, of those that still wait.
+/// The stranded jobs that still wait. The only error is out of memory.
 fn stranded_of(alloc: Global, day: &RecordedDay) -> Result<Vec<Stranded>, AllocError> {
     let mut stranded = Vec::new(alloc);
     for one in &day.stranded {
@@ -122,7 +123,7 @@ fn stranded_of(alloc: Global, day: &RecordedDay) -> Result<Vec<Stranded>, AllocE
     Ok(stranded)
 }
 
-/// How many jobs were printed.
+/// The number of printed jobs.
 fn printed_in(prints: &[Print]) -> usize {
     let mut printed = 0usize;
     for print in prints {
@@ -133,13 +134,13 @@ fn printed_in(prints: &[Print]) -> usize {
     printed
 }
 
-/// Appends a number of things, in words.
+/// Appends a count with its noun.
 fn put_counted(page: Page, count: usize, one: &str) -> Page {
     let plural = if count == 1 { "" } else { "s" };
     page.put_shown(count).put(" ").put(one).put(plural)
 }
 
-/// What a chart is of, in a line.
+/// The title of a chart, in one line. The only error is out of memory.
 fn title_of(alloc: Global, day: &RecordedDay, prints: &[Print]) -> Result<String, AllocError> {
     let title = put_counted(
         Page::new(alloc).put("a day of "),
@@ -153,7 +154,7 @@ fn title_of(alloc: Global, day: &RecordedDay, prints: &[Print]) -> Result<String
         .finish()
 }
 
-/// The chart of a day, of these jobs and prints.
+/// The chart of a day with these jobs and prints. The only error is out of memory.
 fn chart_with(
     alloc: Global,
     day: &RecordedDay,
@@ -173,7 +174,7 @@ fn chart_with(
     )
 }
 
-/// The chart of a day.
+/// The chart of a day. The only error is out of memory.
 fn chart_of(alloc: Global, day: &RecordedDay) -> Result<Chart, AllocError> {
     let arrivals = arrivals_of(alloc, &day.jobs)?;
     let prints = prints_of(alloc, day)?;
@@ -186,11 +187,11 @@ fn draw(alloc: Global, day: &RecordedDay, form: Form) -> Result<String, AllocErr
     draw_charts(alloc, slice::from_ref(&chart), form)
 }
 
-/// A picture of the day that a trace tells of, which is the text of a file of this name.
+/// Draws the day of a trace, whose text is that of a file of this name.
 ///
 /// # Errors
 ///
-/// Those of [`read_day`].
+/// The errors of [`read_day`].
 pub fn draw_day(alloc: Global, file: &str, text: &[u8], form: Form) -> Result<String, DayFault> {
     let day = read_day(alloc, file, text)?;
     Ok(draw(alloc, &day, form)?)

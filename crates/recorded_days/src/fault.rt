@@ -1,13 +1,13 @@
-//! Why there is no day.
+//! The faults of a day.
 
 use gantt_chart::Page;
 use std::alloc::{AllocError, AllocFailed};
 use thiserror::Error;
 
-/// Why a text tells of no day, or its jobs are no list for some settings.
+/// Why a text has no day, or why its jobs aren't a list for some settings.
 #[derive(Debug, Drop, Error)]
 pub enum DayFault {
-    /// For what this sentence says.
+    /// The reason is in the sentence.
     #[error("{sentence}")]
     Refused { sentence: String },
     #[error("out of memory")]
@@ -26,7 +26,7 @@ impl<T: Drop> From<AllocFailed<T>> for DayFault {
     }
 }
 
-/// The fault that something is refused for what a sentence says, unless there was no memory for it.
+/// The fault with a sentence as its reason, unless memory for it was refused.
 pub(crate) fn refused(sentence: Page) -> DayFault {
     match sentence.finish() {
         Ok(sentence) => DayFault::Refused { sentence },

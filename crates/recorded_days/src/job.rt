@@ -1,4 +1,4 @@
-//! What became of a job.
+//! The jobs of a day, and their prints.
 
 use base_types::{JobId, Needs, Text};
 use job_objects::{Job, JobState};
@@ -8,19 +8,20 @@ use std::alloc::{AllocError, Global};
 #[derive(Drop)]
 pub struct RecordedJob {
     pub id: JobId,
-    /// When all of it had come in and nothing held it back, in ms; when it was made, where that never was.
+    /// The moment at which the job became ready for the first time, in ms; that of its creation if it never
+    /// was.
     pub came: u64,
     /// 1 to [`base_types::Limits::HIGHEST_PRIORITY`].
     pub priority: u8,
-    /// What it needs of a device, once all of it had come in and nothing held it back.
+    /// The job's needs, once it was ready.
     pub needs: Option<Needs>,
-    /// Whether a device began it.
+    /// Whether a device began the job.
     pub begun: bool,
-    /// The state in which it was seen last.
+    /// The state in which the job was last seen.
     pub state: JobState,
 }
 
-/// What a device printed of a job, in ms.
+/// The print of a job on a device; times are in ms.
 #[derive(Clone, Copy)]
 pub struct RecordedPrint {
     /// The place of the job among those of the day.
@@ -28,7 +29,7 @@ pub struct RecordedPrint {
     /// The place of the device in the settings.
     pub device: usize,
     pub start: u64,
-    /// When the device had the job no more; none where it still has it when the day ends.
+    /// The end of the print on the device. `None` if the device still has the job when the day ends.
     pub end: Option<u64>,
 }
 
@@ -41,7 +42,7 @@ fn copies_of(alloc: Global, texts: &[Text]) -> Result<Vec<Text>, AllocError> {
     Ok(copies)
 }
 
-/// A copy of what a job needs.
+/// A copy of a job's needs. The only error is out of memory.
 pub(crate) fn copy_of(alloc: Global, needs: &Needs) -> Result<Needs, AllocError> {
     Ok(Needs {
         printer: needs.printer,
@@ -54,7 +55,7 @@ pub(crate) fn copy_of(alloc: Global, needs: &Needs) -> Result<Needs, AllocError>
     })
 }
 
-/// Whether a device may begin a job, or has begun it.
+/// Returns whether a device may begin a job, or has begun it.
 fn is_ready(job: &Job) -> bool {
     match job.state {
         JobState::PendingHeld => false,
@@ -64,7 +65,7 @@ fn is_ready(job: &Job) -> bool {
 }
 
 impl RecordedJob {
-    /// A job as it is made.
+    /// Creates the record of a job that was just made.
     pub(crate) fn new(job: &Job) -> RecordedJob {
         RecordedJob {
             id: job.id,
@@ -76,7 +77,8 @@ impl RecordedJob {
         }
     }
 
-    /// Notes what the job is at a moment: whether it is ready now, and wasn't before.
+    /// Records the state of the job at a moment. Returns whether it is ready now, and wasn't before. The only
+    /// error is out of memory.
     pub(crate) fn note(&mut self, alloc: Global, job: &Job, now: u64) -> Result<bool, AllocError> {
         self.state = job.state;
         if self.needs.is_some() || !is_ready(job) {

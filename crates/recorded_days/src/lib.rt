@@ -1,10 +1,10 @@
-//! A day that a trace tells of: which job came when, which device printed it and from when to when, and what
-//! became of it.
+//! The day of a trace: for each job its moment, the device that printed it, the start and the end of the
+//! print, and its last state.
 //!
 //! [`read_day`] has a server play the trace, as a replay does, and looks at its jobs after each event and
-//! each turn. [`draw_day`] draws what it saw, and [`listed_jobs`] gives its jobs as a list, to be played in
-//! other ways. It promises that it is safe and ends. What a server does with a line is `server`'s, and which
-//! lines there are `traces`'.
+//! each turn. [`draw_day`] draws the day, and [`listed_jobs`] returns its jobs as a list that can be played
+//! in other ways. Nothing is proved of them, except that they are safe and end. The contract of a server is
+//! in `server`, and the lines are those of `traces`.
 //!
 //! Its rows are traces of `play_examples`.
 #![tactic(auto)]

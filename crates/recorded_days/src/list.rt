@@ -1,4 +1,4 @@
-//! The jobs of a day as a list, to be played in other ways.
+//! The jobs of a day as a list that can be played in other ways.
 
 use crate::fault::{DayFault, refused};
 use crate::job::{RecordedJob, copy_of};
@@ -9,7 +9,7 @@ use job_lists::ListedJob;
 use settings_file::Settings;
 use std::alloc::{AllocError, Global};
 
-/// The printer of some settings that has the name of a printer of a day.
+/// The printer of some settings with the name of a day's printer.
 fn printer_in(day: &RecordedDay, printer: PrinterId, settings: &Settings) -> Option<PrinterId> {
     let name = day.printers.get(printer.place())?;
     for (place, known) in settings.printers.iter().enumerate() {
@@ -32,7 +32,8 @@ fn no_printer(alloc: Global, day: &RecordedDay, job: &RecordedJob, printer: Prin
     refused(sentence.put_shown(number).put(" goes"))
 }
 
-/// What a job needs, for the printer of other settings; of its documents the format of the first counts.
+/// The needs of a job, for the printer of other settings. Of several documents the format of the first
+/// counts.
 fn needs_at(alloc: Global, needs: &Needs, printer: PrinterId) -> Result<Needs, AllocError> {
     let mut moved = copy_of(alloc, needs)?;
     moved.printer = printer;
@@ -40,7 +41,7 @@ fn needs_at(alloc: Global, needs: &Needs, printer: PrinterId) -> Result<Needs, A
     Ok(moved)
 }
 
-/// The job at a place as one of a list; none where it was canceled or given up before a device had it.
+/// The job at a place as one of a list. `None` if it was canceled or aborted before a device had it.
 fn listed_job(
     alloc: Global,
     day: &RecordedDay,
@@ -66,13 +67,13 @@ fn listed_job(
     }))
 }
 
-/// The jobs of a day for some settings, in the order in which they came, each at the moment at which all of
-/// it had come in and nothing held it back. A job that was canceled or given up before a device had it is
-/// left out; what became of any other doesn't count. Of several documents the format of the first counts.
+/// The jobs of a day for some settings, in the order in which they became ready, each with that moment. A job
+/// that was canceled or aborted before a device had it is left out; the end of any other job makes no
+/// difference. Of several documents the format of the first counts.
 ///
 /// # Errors
 ///
-/// The settings lack a printer of the day's name, or there is no memory.
+/// The settings lack a printer with the name of one of the day's, or memory was refused.
 pub fn listed_jobs(
     alloc: Global,
     day: &RecordedDay,

@@ -1,4 +1,4 @@
-//! A server that is told the lines of a trace, and is looked at.
+//! A server that acts on the lines of a trace, and whose jobs are observed.
 
 use crate::recorder::Recorder;
 use base_types::{DeviceId, Moment, Report, Text};
@@ -11,10 +11,10 @@ use traces::{
 };
 use wires::{Door, MemoryPeer, MemoryWire};
 
-/// After so many turns for one line no more are taken for it.
+/// The most turns that are taken for one line.
 const MOST_TURNS: usize = 16_777_216;
 
-/// A server, the wire of its connections, and what was seen of its jobs.
+/// A server, the wire of its connections, and the record of its jobs.
 #[derive(Drop)]
 pub(crate) struct Player<'a> {
     alloc: Global,
@@ -22,7 +22,7 @@ pub(crate) struct Player<'a> {
     wire: TraceWire,
     connections: Vec<Connection>,
     heard: NoteLog,
-    /// The moment that the trace told last.
+    /// The current moment of the trace.
     told: Moment,
     /// The moment of the last event.
     now: Moment,
@@ -30,7 +30,7 @@ pub(crate) struct Player<'a> {
 }
 
 impl<'a> Player<'a> {
-    /// A server that has started, and no connection.
+    /// Creates the player of a server that has started, without connections.
     pub(crate) fn new(alloc: Global, engine: &'a mut Engine<AugmentingPaths>) -> Player<'a> {
         Player {
             alloc,
@@ -53,12 +53,12 @@ impl<'a> Player<'a> {
         self.now.millis()
     }
 
-    /// What was seen so far. From then on nothing has been.
+    /// Removes and returns the record, and begins an empty one.
     pub(crate) fn take_recorder(&mut self) -> Recorder {
         std::mem::replace(&mut self.recorder, Recorder::new(self.alloc))
     }
 
-    /// Acts on a line, where the devices have these names; the inner error is what is wrong with it.
+    /// Acts on a line, where the devices have these names. The inner error is the line's fault.
     pub(crate) fn act(
         &mut self,
         bytes: &[u8],
@@ -74,7 +74,7 @@ impl<'a> Player<'a> {
         Ok(Ok(()))
     }
 
-    /// Why a line may not come now.
+    /// The reason why a line may not come now.
     fn objection(&self, line: &Line) -> Option<LineFault> {
         match line {
             Line::At(_) | Line::Ipp(_) | Line::Device(_, _) | Line::Tick => None,
@@ -87,7 +87,7 @@ impl<'a> Player<'a> {
         }
     }
 
-    /// The fault that no connection of a number is open, unless one is.
+    /// The fault that no connection of a number is open, if none is.
     fn unless_open(&self, number: u64) -> Option<LineFault> {
         let peer = match numbered(&self.connections, number) {
             Some(connection) => self.wire.memory.peers.get(connection.place),
@@ -99,7 +99,7 @@ impl<'a> Player<'a> {
         }
     }
 
-    /// Does what a line says.
+    /// Takes the actions of a line.
     fn give(&mut self, line: Line) -> Result<(), AllocError> {
         match line {
             Line::At(moment) => {
@@ -115,33 +115,33 @@ impl<'a> Player<'a> {
         }
     }
 
-    /// A body of a request comes, on no connection.
+    /// Serves the body of a request, without a connection.
     fn serve(&mut self, body: &[u8]) -> Result<(), AllocError> {
         let _served = self.engine.serve_body(body, &mut self.heard, self.told)?;
         self.look()
     }
 
-    /// A device says something.
+    /// Acts on a device's report.
     fn report(&mut self, device: DeviceId, report: Report) -> Result<(), AllocError> {
         self.engine
             .report(device, report, &mut self.heard, self.told)?;
         self.look()
     }
 
-    /// Time goes on.
+    /// Acts on a tick.
     fn tick(&mut self) -> Result<(), AllocError> {
         self.engine.tick(&mut self.heard, self.told)?;
         self.look()
     }
 
-    /// Looks at what an event did.
+    /// Records the result of an event.
     fn look(&mut self) -> Result<(), AllocError> {
         self.now = self.told.later(self.now);
         let heard = self.heard.take()?;
         self.recorder.look(self.engine, &heard, self.now.millis())
     }
 
-    /// A connection comes in.
+    /// Opens a connection.
     fn open(&mut self, opening: Opening) -> Result<(), AllocError> {
         let place = self.wire.memory.peers.len();
         self.add_peer(opening.door)?;
@@ -154,7 +154,7 @@ impl<'a> Player<'a> {
         self.take_turns()
     }
 
-    /// Adds the other end of a connection, from which nothing came yet.
+    /// Adds the peer of a connection, which has sent nothing yet.
     fn add_peer(&mut self, door: Door) -> Result<(), AllocError> {
         let input = Vec::new(self.alloc);
         let peer = MemoryPeer::new(self.alloc, door, input, usize::MAX, usize::MAX);
@@ -162,7 +162,7 @@ impl<'a> Player<'a> {
         Ok(())
     }
 
-    /// Bytes come on a connection.
+    /// Brings bytes to a connection.
     fn bring(&mut self, input: &Input) -> Result<(), AllocError> {
         if let Some(connection) = numbered(&self.connections, input.number) {
             send_at(&mut self.wire.memory.peers, connection.place, &input.bytes)?;
@@ -170,7 +170,7 @@ impl<'a> Player<'a> {
         self.take_turns()
     }
 
-    /// Nothing more comes on a connection.
+    /// Ends the input of a connection.
     fn end_input(&mut self, number: u64) -> Result<(), AllocError> {
         if let Some(connection) = numbered(&self.connections, number) {
             end_at(&mut self.wire.memory.peers, connection.place);
@@ -178,7 +178,7 @@ impl<'a> Player<'a> {
         self.take_turns()
     }
 
-    /// Takes turns until one in which no poll came to something, and looks after each.
+    /// Takes turns up to one in which each poll waits, and records the result of each.
     fn take_turns(&mut self) -> Result<(), AllocError> {
         for _turn in 0..MOST_TURNS {
             self.wire.stirred = false;

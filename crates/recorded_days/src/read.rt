@@ -1,4 +1,4 @@
-//! A trace, read as a day.
+//! The reading of a trace as a day.
 ghost use Rattle.std.specs.Prelude.{IfOk};
 ghost use Rattle.settings_file.specs.Settings.{MeetsLimits};
 
@@ -14,20 +14,20 @@ use settings_file::{Settings, SettingsFault, explain, read_settings_bytes};
 use std::alloc::{AllocError, Global};
 use traces::{CutTrace, next_line, split_settings};
 
-/// What became of the jobs of a trace.
+/// The jobs of a trace and their prints.
 #[derive(Drop)]
 pub struct RecordedDay {
     /// The names of the devices.
     pub devices: Vec<Text>,
     /// The names of the printers.
     pub printers: Vec<Text>,
-    /// By rising id.
+    /// The jobs, by rising id.
     pub jobs: Vec<RecordedJob>,
-    /// The places of the jobs that were ready, in the order in which they came to be.
+    /// The places of the jobs that were ready, in the order in which they became so.
     pub ready: Vec<usize>,
-    /// By rising start.
+    /// The prints, by rising start.
     pub prints: Vec<RecordedPrint>,
-    /// The jobs that waited when the day ended and for which no device was found.
+    /// The jobs that waited at the end of the day without a device that can print them.
     pub stranded: Vec<Stranded>,
     /// The moment of the last event, in ms.
     pub end: u64,
@@ -56,7 +56,7 @@ fn names_of(alloc: Global, settings: &Settings) -> Result<Names, AllocError> {
     Ok(Names { devices, printers })
 }
 
-/// A sentence about a file, which begins with its name.
+/// A page with a file's name at its front.
 fn of_file(alloc: Global, file: &str) -> Page {
     Page::new(alloc).put(file).put(": ")
 }
@@ -79,7 +79,7 @@ fn line_refused(alloc: Global, file: &str, number: usize, fault: LineFault) -> D
     refused(sentence.put(": ").put_shown(fault))
 }
 
-/// Has a server play the lines of a trace.
+/// Plays the lines of a trace with a server.
 fn play_lines(
     alloc: Global,
     file: &str,
@@ -109,7 +109,7 @@ fn settings_of(alloc: Global, file: &str, text: &[u8]) -> Result<Settings, DayFa
     }
 }
 
-/// What a player saw of jobs, where devices and printers have these names. From then on it has seen nothing.
+/// The day of a player's record, where devices and printers have these names. The record is empty then.
 fn day_of(player: &mut Player<'_>, names: Names) -> RecordedDay {
     let recorder = player.take_recorder();
     RecordedDay {
@@ -123,7 +123,7 @@ fn day_of(player: &mut Player<'_>, names: Names) -> RecordedDay {
     }
 }
 
-/// What became of the jobs of a trace, as a server that has started plays it.
+/// The day of a trace, played by a server that has started.
 fn play_trace(
     alloc: Global,
     file: &str,
@@ -136,7 +136,7 @@ fn play_trace(
     Ok(day_of(&mut player, names))
 }
 
-/// What became of the jobs of a trace, as a server of its settings plays it.
+/// The day of a trace, played by a server with the trace's settings.
 fn play_day(
     alloc: Global,
     file: &str,
@@ -149,7 +149,7 @@ fn play_day(
     play_settings(alloc, file, trace, settings, names)
 }
 
-/// What became of the jobs of a trace, as a server of settings with these names plays it.
+/// The day of a trace, played by a server whose settings have these names.
 fn play_settings(
     alloc: Global,
     file: &str,
@@ -169,12 +169,12 @@ fn no_settings(alloc: Global, file: &str) -> DayFault {
     refused(sentence.put("no line is \".\" alone, as the one behind the settings is"))
 }
 
-/// What became of the jobs of a trace, which is the text of a file of this name (`docs/TRACES.md`).
+/// Reads the day of a trace, whose text is that of a file of this name (`docs/TRACES.md`).
 ///
 /// # Errors
 ///
-/// The text is no trace, or a line of it is bad: a sentence that begins with the name says where. Or there
-/// is no memory.
+/// The text isn't a trace, or a line of it is bad: a sentence that begins with the name says where. Or memory
+/// was refused.
 pub fn read_day(alloc: Global, file: &str, text: &[u8]) -> Result<RecordedDay, DayFault> {
     let Some(trace) = split_settings(text) else {
         return Err(no_settings(alloc, file));

@@ -1,4 +1,4 @@
-//! What is seen of a server's jobs while it plays.
+//! The record of a server's jobs while it plays.
 
 use crate::job::{RecordedJob, RecordedPrint};
 use base_types::{Activity, DeviceId, JobId, Limits, Stranded};
@@ -8,29 +8,29 @@ use plan_solver::AugmentingPaths;
 use server::{Engine, LoggedNote};
 use std::alloc::{AllocError, Global};
 
-/// The jobs that were seen, and what devices printed of them.
+/// The jobs that were seen, and their prints.
 #[derive(Drop)]
 pub(crate) struct Recorder {
     alloc: Global,
-    /// By rising id.
+    /// The jobs, by rising id.
     pub(crate) jobs: Vec<RecordedJob>,
-    /// The numbers of their ids.
+    /// The numbers of the jobs' ids.
     ids: Vec<u32>,
-    /// The places of the jobs that were ready, in the order in which they came to be.
+    /// The places of the jobs that were ready, in the order in which they became so.
     pub(crate) ready: Vec<usize>,
-    /// By rising start.
+    /// The prints, by rising start.
     pub(crate) prints: Vec<RecordedPrint>,
     /// The jobs for which the last plan found no device.
     pub(crate) stranded: Vec<Stranded>,
-    /// The places of the jobs that weren't finished when they were seen last.
+    /// The places of the jobs that weren't finished when they were last seen.
     unfinished: Vec<usize>,
-    /// The places of the prints that hadn't ended.
+    /// The places of the prints that haven't ended.
     running: Vec<usize>,
-    /// The number of the first id that wasn't looked for yet.
+    /// The number of the first id that hasn't been looked for.
     next: u32,
 }
 
-/// The highest number of a job that was heard to begin; 0 where none was.
+/// The greatest number of a job that a note says was begun; 0 if there is none.
 fn last_begun(heard: &[LoggedNote]) -> u32 {
     let mut last = 0;
     for one in heard {
@@ -41,13 +41,13 @@ fn last_begun(heard: &[LoggedNote]) -> u32 {
     last
 }
 
-/// The job of the id of a number, if it is kept.
+/// The job with the id of a number, if the server keeps it.
 fn job_numbered(engine: &Engine<AugmentingPaths>, number: u32) -> Option<&Job> {
     let id = JobId::new(number)?;
     engine.job(id)
 }
 
-/// Whether a device has a job.
+/// Returns whether a device has a job.
 fn has(engine: &Engine<AugmentingPaths>, device: usize, job: JobId) -> bool {
     let Some(device) = engine.device(DeviceId::new(device)) else {
         return false;
@@ -60,7 +60,7 @@ fn has(engine: &Engine<AugmentingPaths>, device: usize, job: JobId) -> bool {
 }
 
 impl Recorder {
-    /// Nothing was seen yet.
+    /// Creates an empty record.
     pub(crate) fn new(alloc: Global) -> Recorder {
         Recorder {
             alloc,
@@ -75,7 +75,7 @@ impl Recorder {
         }
     }
 
-    /// Notes what a server did until a moment, and what was heard of it.
+    /// Records the changes of a server up to a moment, and its notes. The only error is out of memory.
     pub(crate) fn look(
         &mut self,
         engine: &Engine<AugmentingPaths>,
@@ -89,7 +89,8 @@ impl Recorder {
         Ok(())
     }
 
-    /// Finds the jobs that were made. One that was made, has ended and is forgotten is left out.
+    /// Finds the new jobs. A new job that has ended and isn't kept any more is left out. The only error is
+    /// out of memory.
     fn find_jobs(
         &mut self,
         engine: &Engine<AugmentingPaths>,
@@ -108,7 +109,7 @@ impl Recorder {
         Ok(())
     }
 
-    /// Adds a job that was made.
+    /// Adds a new job. The only error is out of memory.
     fn add(&mut self, job: &Job) -> Result<(), AllocError> {
         let place = self.jobs.len();
         self.jobs.push(RecordedJob::new(job))?;
@@ -117,7 +118,7 @@ impl Recorder {
         Ok(())
     }
 
-    /// Notes what was heard.
+    /// Records notes. The only error is out of memory.
     fn hear(&mut self, heard: &[LoggedNote], now: u64) -> Result<(), AllocError> {
         for one in heard {
             match one {
@@ -130,7 +131,7 @@ impl Recorder {
         Ok(())
     }
 
-    /// Notes that a device begins a job.
+    /// Records that a device begins a job. The only error is out of memory.
     fn begin(&mut self, started: Started, now: u64) -> Result<(), AllocError> {
         let Ok(job) = self.ids.binary_search(&started.job.number()) else {
             return Ok(());
@@ -148,7 +149,7 @@ impl Recorder {
         Ok(())
     }
 
-    /// Notes what the jobs are that weren't finished.
+    /// Records the states of the jobs that weren't finished. The only error is out of memory.
     fn note_jobs(&mut self, engine: &Engine<AugmentingPaths>, now: u64) -> Result<(), AllocError> {
         for step in 0..self.unfinished.len() {
             self.note_job(engine, step, now)?;
@@ -158,7 +159,7 @@ impl Recorder {
         Ok(())
     }
 
-    /// Notes what the job at a place of those is that weren't finished.
+    /// Records the state of the unfinished job at a place. The only error is out of memory.
     fn note_job(
         &mut self,
         engine: &Engine<AugmentingPaths>,
@@ -180,7 +181,7 @@ impl Recorder {
         Ok(())
     }
 
-    /// Ends the prints whose devices have let go of their jobs.
+    /// Ends the prints whose devices don't have their jobs any more.
     fn end_prints(&mut self, engine: &Engine<AugmentingPaths>, now: u64) {
         for step in 0..self.running.len() {
             self.end_print(engine, step, now);
@@ -189,7 +190,7 @@ impl Recorder {
         self.running.retain(|place| is_running(prints, *place));
     }
 
-    /// Ends the print at a place of those that hadn't ended, if its device has let go of its job.
+    /// Ends the print at a place of `running`, if its device doesn't have its job any more.
     fn end_print(&mut self, engine: &Engine<AugmentingPaths>, step: usize, now: u64) {
         let Some(place) = self.running.get(step).copied() else {
             return;
@@ -205,7 +206,7 @@ impl Recorder {
     }
 }
 
-/// Whether the job at a place isn't finished.
+/// Returns whether the job at a place isn't finished.
 fn is_unfinished(jobs: &[RecordedJob], place: usize) -> bool {
     match jobs.get(place) {
         Some(job) => !job.state.is_finished(),
@@ -213,7 +214,7 @@ fn is_unfinished(jobs: &[RecordedJob], place: usize) -> bool {
     }
 }
 
-/// Whether the print at a place hasn't ended.
+/// Returns whether the print at a place hasn't ended.
 fn is_running(prints: &[RecordedPrint], place: usize) -> bool {
     match prints.get(place) {
         Some(print) => print.end.is_none(),

@@ -11,44 +11,44 @@ use Rattle.recordings.specs.Data.{escaped}
 abbrev pub about : List ℕ → ℕ → List ℕ
 about word number = word ++ (codes " " ++ decimal number)
 
--- the same as a line
+-- the line of a word and a number
 abbrev pub line_about : List ℕ → ℕ → List ℕ
 line_about word number = about word number ++ codes "\n"
 
--- a connection was accepted
+-- the line of a connection that was accepted
 abbrev pub accept_line : Door → ℕ → List ℕ
 accept_line door id = codes "accept " ++ line_about (door_word door) id
 
--- bytes were read
+-- the line of bytes that were read, with the bytes in it
 abbrev pub read_line : ℕ → List ℕ → List ℕ
 read_line id bytes = about (codes "read") id ++ (codes " " ++ (escaped bytes ++ codes "\n"))
 
--- so many bytes follow that were read, as they are
+-- the line in front of this many octets that were read and are written as they are
 abbrev pub octets_head : ℕ → ℕ → List ℕ
 octets_head id count = about (codes "octets") id ++ (codes " " ++ decimal count)
 
--- the same with these bytes
+-- the same line with the octets behind it
 abbrev pub octets_line : ℕ → List ℕ → List ℕ
 octets_line id bytes = octets_head id (length bytes) ++ (codes "\n" ++ (bytes ++ codes "\n"))
 
--- bytes were read, and behind them so many octets that are left out
+-- the line of bytes that were read, with `zeros` octets behind them that are left out
 abbrev pub zeros_line : ℕ → ℕ → List ℕ → List ℕ
 zeros_line id zeros bytes = about (codes "zeros") id ++ (codes " " ++ (decimal zeros ++ (codes " " ++ (escaped bytes ++ codes "\n"))))
 
--- few bytes stand in their line, many behind it
+-- the line of bytes that were read: few bytes are in the line, many behind it
 abbrev pub came_line : ℕ → List ℕ → List ℕ
 came_line id bytes = if nat_lt (length bytes) 1024 then read_line id bytes else octets_line id bytes
 
--- a space and a sum, or a line where there is none
+-- a space and a sum, or ` -` if there is no sum
 abbrev pub sum_words : Option ℕ → List ℕ
 sum_words (Some sum) = codes " " ++ decimal sum
 sum_words None = codes " -"
 
--- so many bytes were taken, by their sum
+-- the line of bytes that were taken, with their number and their sum
 abbrev pub sent_line : ℕ → ℕ → Option ℕ → List ℕ
 sent_line id count sum = about (codes "sent") id ++ (codes " " ++ (decimal count ++ (sum_words sum ++ codes "\n")))
 
--- a turn ended, which was taken at this moment
+-- the line of the end of a turn, with the turn's moment
 abbrev pub turn_line : ℕ → List ℕ
 turn_line moment = line_about (codes "turn") moment
 
@@ -67,6 +67,6 @@ entry_line (Closed id) = line_about (codes "close") id
 entry_line Refused = codes "refused\n"
 entry_line (Turn moment) = turn_line moment
 
--- a line, without its line feed, is that of an entry
+-- the line, without its line feed, is that of an entry
 abbrev pub IsLineOf : List ℕ → Entry → Type 0
 IsLineOf line entry = entry_line entry ≡ line ++ codes "\n"

@@ -1,16 +1,16 @@
-//! What was read, without the octets of documents.
+//! The bytes of a read, without the octets of documents.
 ghost use Rattle.std.specs.Prelude.{◌≡◌, ◌+◌, OnOk, OnErr, length};
 
 use std::alloc::{AllocError, Global};
 use std::marker::Model;
 
-/// Bytes that were read, and behind them octets of documents, which are left out: as many zeros stand in their
-/// place. In clauses it is how many bytes were read.
+/// Bytes that were read, and octets of documents behind them that are left out; zeros take their place. In
+/// clauses it is the number of bytes that were read.
 #[derive(Drop)]
 pub(crate) struct Blanked {
-    /// The bytes, with zeros for what is left out between them.
+    /// The bytes, with zeros for the octets that are left out between them.
     bytes: Vec<u8>,
-    /// How many are left out behind them.
+    /// The number of octets behind the bytes that are left out.
     zeros: usize,
 }
 
@@ -23,7 +23,7 @@ impl Model for Blanked {
 }
 
 impl Blanked {
-    /// Nothing was read.
+    /// Creates the record of a read of no bytes.
     pub(crate) fn new(alloc: Global) -> Blanked
         ensures { result ≡ 0 }
     {
@@ -33,17 +33,17 @@ impl Blanked {
         }
     }
 
-    /// The bytes in front of those that are left out last.
+    /// The bytes before the last octets that are left out.
     pub(crate) fn bytes(&self) -> &[u8] {
         &self.bytes
     }
 
-    /// How many are left out behind these.
+    /// The number of octets behind the bytes that are left out.
     pub(crate) fn zeros(&self) -> usize {
         self.zeros
     }
 
-    /// Forgets what was read.
+    /// Removes all bytes.
     pub(crate) fn clear(&mut self)
         ensures { self.new ≡ 0 }
     {
@@ -51,7 +51,7 @@ impl Blanked {
         self.zeros = 0;
     }
 
-    /// Writes zeros for what is left out last.
+    /// Appends zeros for the last octets that are left out.
     fn fill(&mut self) -> Result<(), AllocError>
         ensures { OnOk result (self.new ≡ self.old) }
     {
@@ -62,7 +62,7 @@ impl Blanked {
         Ok(())
     }
 
-    /// These bytes were read, and stay.
+    /// Appends bytes that were read and are kept. The only error is out of memory.
     pub(crate) fn keep(&mut self, bytes: &[u8]) -> Result<(), AllocError>
         ensures { OnOk result (self.new ≡ self.old + length bytes.now) }
     {
@@ -74,7 +74,7 @@ impl Blanked {
         Ok(())
     }
 
-    /// So many octets of documents were read.
+    /// Appends `count` octets of documents that were read and are left out. The only error is out of memory.
     pub(crate) fn leave_out(&mut self, count: usize) -> Result<(), AllocError>
         ensures { OnOk result (self.new ≡ self.old + count) }
     {

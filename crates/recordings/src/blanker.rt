@@ -1,4 +1,4 @@
-//! The connections of clients.
+//! The connections of a server, with the readers that find the octets of documents.
 ghost use Rattle.std.specs.Prelude.{◌≡◌, ◌<◌, ◌≤◌, ◌+◌, OnOk, length};
 
 use crate::blanked::Blanked;
@@ -8,12 +8,12 @@ use memchr::memchr;
 use std::alloc::{AllocError, Global};
 use wires::{Door, WireId};
 
-/// What is read on a connection.
+/// The reader of a connection's bytes.
 #[derive(Drop)]
 enum Stream {
     Http(HttpStream),
     Lpd(LpdStream),
-    /// Lines of a device, which sends no documents.
+    /// The lines of a device, which has no documents.
     Device,
 }
 
@@ -24,14 +24,14 @@ struct Heard {
     stream: Stream,
 }
 
-/// The connections that are open, with what was read on each.
+/// The open connections, with their readers.
 #[derive(Drop)]
 pub(crate) struct Blanker {
     alloc: Global,
     heard: Vec<Heard>,
 }
 
-/// How many bytes stand up to the first line feed, or all.
+/// The number of bytes up to and with the first line feed, or of all bytes.
 fn line_end(bytes: &[u8]) -> usize
     requires { 0 < length bytes.now }
     ensures low { 0 < result }
@@ -44,7 +44,7 @@ fn line_end(bytes: &[u8]) -> usize
 }
 
 impl Stream {
-    /// How many bytes at the front are read at once: of a body or a data file, or a line.
+    /// The number of bytes at the front that are read at once: those of a body or a data file, or of a line.
     fn piece(&self, bytes: &[u8]) -> usize
         requires { 0 < length bytes.now }
         ensures low { 0 < result }
@@ -58,7 +58,7 @@ impl Stream {
         if body > 0 { body } else { line_end(bytes) }
     }
 
-    /// Reads a piece, and leaves out what is of documents.
+    /// Reads a piece, and leaves out the octets of documents. The only error is out of memory.
     fn blank(&mut self, bytes: &[u8], output: &mut Blanked) -> Result<(), AllocError>
         ensures { OnOk result (output.new ≡ output.old + length bytes.now) }
     {
@@ -69,7 +69,7 @@ impl Stream {
         }
     }
 
-    /// Reads bytes, piece by piece.
+    /// Reads bytes, piece by piece. The only error is out of memory.
     fn blank_all(&mut self, bytes: &[u8], output: &mut Blanked) -> Result<(), AllocError>
         ensures { OnOk result (output.new ≡ output.old + length bytes.now) }
     {
@@ -84,7 +84,7 @@ impl Stream {
 }
 
 impl Blanker {
-    /// No connection is open.
+    /// Creates a blanker without connections.
     pub(crate) fn new(alloc: Global) -> Blanker {
         Blanker {
             alloc,
@@ -92,7 +92,7 @@ impl Blanker {
         }
     }
 
-    /// A connection comes in at a door.
+    /// Adds a connection that was accepted at a door. The only error is out of memory.
     pub(crate) fn open(&mut self, id: WireId, door: Door) -> Result<(), AllocError> {
         let stream = match door {
             Door::Ipp => Stream::Http(HttpStream::new(self.alloc)),
@@ -103,7 +103,7 @@ impl Blanker {
         Ok(())
     }
 
-    /// A connection is given up.
+    /// Removes a connection that was closed.
     pub(crate) fn close(&mut self, id: WireId) {
         self.heard.retain(|heard| heard.id != id);
     }
@@ -113,7 +113,7 @@ impl Blanker {
         self.heard.iter().position(|heard| heard.id == id)
     }
 
-    /// Whether a connection is a device's.
+    /// Returns whether a connection is that of a device.
     pub(crate) fn is_device(&self, id: WireId) -> bool {
         match self.place_of(id) {
             Some(place) if place < self.heard.len() => {
@@ -123,7 +123,7 @@ impl Blanker {
         }
     }
 
-    /// These bytes were read on a connection: those of documents are left out.
+    /// Reads bytes of a connection, and leaves out the octets of documents. The only error is out of memory.
     pub(crate) fn blank(
         &mut self,
         id: WireId,

@@ -1,11 +1,11 @@
-//! Bytes in a line: as they are, but a line feed is `\n` and a backslash `\\`.
+//! The written form of bytes in a line: a line feed is `\n`, a backslash `\\`, any other byte itself.
 ghost use Rattle.std.specs.Prelude.{◌≡◌, ◌<◌, ◌++◌, ◌==◌, ◌||◌, true, OnOk, IfSome, IfNone, length};
 ghost use Rattle.recordings.specs.Data.{escape, escaped};
 
 use memchr::memchr2;
 use std::alloc::{AllocError, Global};
 
-/// Bytes that are written as they are, the one behind them, which isn't, and the others.
+/// Bytes that are written as themselves, the byte behind them that isn't, and the bytes behind that.
 #[derive(Clone, Copy)]
 struct Cut<'a> {
     plain: &'a [u8],
@@ -13,7 +13,7 @@ struct Cut<'a> {
     more: &'a [u8],
 }
 
-/// Cuts bytes at the first that isn't written as it is.
+/// Cuts bytes at the first that isn't written as itself.
 fn cut_special(bytes: &[u8]) -> Option<Cut<'_>>
     ensures cut { IfSome result (λ cut. escaped bytes.now ≡ cut.plain.now ++ (escape cut.byte ++ escaped cut.more.now)) }
     ensures byte { IfSome result (λ cut. (cut.byte == 10 || cut.byte == 92) ≡ true) }
@@ -32,7 +32,7 @@ fn cut_special(bytes: &[u8]) -> Option<Cut<'_>>
     })
 }
 
-/// How a line feed or a backslash is written.
+/// The written form of a line feed or a backslash.
 fn escape(byte: u8) -> &'static [u8; 2]
     requires { (byte == 10 || byte == 92) ≡ true }
     ensures { result.now ≡ escape byte }
@@ -40,7 +40,7 @@ fn escape(byte: u8) -> &'static [u8; 2]
     if byte == b'\n' { b"\\n" } else { b"\\\\" }
 }
 
-/// Appends bytes as they stand in a line.
+/// Appends the written form of bytes. The only error is out of memory.
 pub(crate) fn put_data(output: &mut Vec<u8>, bytes: &[u8]) -> Result<(), AllocError>
     ensures { OnOk result (output.new.items ≡ output.old.items ++ escaped bytes.now) }
 {
@@ -54,7 +54,7 @@ pub(crate) fn put_data(output: &mut Vec<u8>, bytes: &[u8]) -> Result<(), AllocEr
     Ok(())
 }
 
-/// The byte that is written so behind a backslash.
+/// The byte with this letter behind a backslash.
 fn unescape(byte: u8) -> Option<u8> {
     match byte {
         b'n' => Some(b'\n'),
@@ -63,7 +63,8 @@ fn unescape(byte: u8) -> Option<u8> {
     }
 }
 
-/// The bytes that stand in a line so, if some do. The error is out of memory.
+/// Reads bytes from their written form; `None` if the text isn't such a form. The only error is out of
+/// memory.
 pub(crate) fn read_data(alloc: Global, text: &[u8]) -> Result<Option<Vec<u8>>, AllocError> {
     let mut bytes = Vec::new(alloc);
     let mut escapes = false;

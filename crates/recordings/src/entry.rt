@@ -1,4 +1,4 @@
-//! What a line of a recording says.
+//! The content of a line of a recording.
 ghost use Rattle.std.specs.Prelude.{IfOk, IfSome, IsTrue};
 ghost use Rattle.recordings.specs.Lines.{IsLineOf};
 
@@ -14,27 +14,27 @@ use wires::{Door, WireId};
 pub enum Entry {
     /// A connection was accepted.
     Accepted(Accepted),
-    /// Bytes were read, and stand in the line.
+    /// Bytes were read, and are in the line.
     Came(Came),
-    /// Bytes were read, and stand behind the line as they are.
+    /// Bytes were read, and are behind the line as they are.
     Octets(Came),
-    /// Bytes were read, and behind them octets that are left out.
+    /// Bytes were read, with octets behind them that are left out.
     Zeros(CameZeros),
-    /// Nothing more came on the connection of a number.
+    /// The input of the connection of a number ended.
     Ended(WireId),
-    /// A read of it failed.
+    /// A read of the connection failed.
     Failed(WireId),
-    /// Bytes were taken of what was written.
+    /// Bytes of a write were taken.
     Sent(Sent),
-    /// Nothing more was taken on the connection of a number.
+    /// The connection of a number takes no more bytes.
     Shut(WireId),
-    /// A write on it failed.
+    /// A write on the connection failed.
     Broken(WireId),
-    /// The connection of a number was given up.
+    /// The connection of a number was closed.
     Closed(WireId),
     /// Memory was refused to the server.
     Refused,
-    /// A turn ended, which was taken at this moment.
+    /// A turn at this moment ended.
     Turn(Moment),
 }
 
@@ -52,7 +52,7 @@ pub struct Came {
     pub bytes: Vec<u8>,
 }
 
-/// Bytes that came on a connection, and so many zeros behind them, in the place of octets that are left out.
+/// Bytes that came on a connection, and the number of zeros behind them, for octets that are left out.
 #[derive(Drop)]
 pub struct CameZeros {
     pub id: WireId,
@@ -61,7 +61,7 @@ pub struct CameZeros {
 }
 
 impl CameZeros {
-    /// The bytes, and the zeros behind them.
+    /// The bytes, and the zeros behind them. The only error is out of memory.
     pub fn octets(&self, alloc: Global) -> Result<Vec<u8>, AllocError> {
         let mut octets = Vec::from_slice(alloc, &self.bytes)?;
         octets.resize(self.bytes.len().saturating_add(self.zeros), 0)?;
@@ -69,7 +69,7 @@ impl CameZeros {
     }
 }
 
-/// So many bytes that were taken on a connection, by their sum, if it was noted.
+/// The number of bytes that were taken on a connection, with their sum if that was noted.
 #[derive(Clone, Copy, PartialEq, Eq)]
 pub struct Sent {
     pub id: WireId,
@@ -77,13 +77,13 @@ pub struct Sent {
     pub sum: Option<u32>,
 }
 
-/// The greatest number of a connection, and of bytes.
+/// The greatest number of a connection, and the greatest number of bytes.
 const LAST_NUMBER: u64 = 4_294_967_295;
 
-/// The most zeros of a line, which are more than the server reads at once.
+/// The most zeros of a line; the server reads fewer bytes at once.
 const MOST_ZEROS: u64 = 1_048_576;
 
-/// How many zeros there are, one at least, in decimal digits.
+/// Reads the number of zeros, at least one, in decimal digits.
 fn read_count(digits: &[u8]) -> Option<usize> {
     match number_up_to(digits, MOST_ZEROS) {
         Some(count) if count > 0 => usize::try_from(count).ok(),
@@ -91,7 +91,7 @@ fn read_count(digits: &[u8]) -> Option<usize> {
     }
 }
 
-/// The number of a connection in decimal digits.
+/// Reads the number of a connection in decimal digits.
 fn read_id(digits: &[u8]) -> Option<WireId> {
     match number_up_to(digits, LAST_NUMBER) {
         Some(number) => u32::try_from(number).ok(),
@@ -99,7 +99,7 @@ fn read_id(digits: &[u8]) -> Option<WireId> {
     }
 }
 
-/// The word for a door and a number.
+/// Reads the word for a door and a number.
 fn read_accepted(said: &[u8]) -> Option<Entry> {
     let (word, digits) = cut_at(said, b' ')?;
     let door = Door::of_word(word)?;
@@ -107,7 +107,7 @@ fn read_accepted(said: &[u8]) -> Option<Entry> {
     Some(Entry::Accepted(Accepted { door, id }))
 }
 
-/// A number and bytes, one at least.
+/// Reads a number and bytes, at least one.
 fn read_came(alloc: Global, said: &[u8]) -> Result<Option<Entry>, AllocError> {
     let Some((digits, written)) = cut_at(said, b' ') else {
         return Ok(None);
@@ -121,7 +121,7 @@ fn read_came(alloc: Global, said: &[u8]) -> Result<Option<Entry>, AllocError> {
     }
 }
 
-/// A number, how many bytes follow, and these, one at least.
+/// Reads a number, the number of octets that follow, and the octets, at least one.
 fn read_octets(alloc: Global, said: &[u8]) -> Result<Option<Entry>, AllocError> {
     let Some((digits, counted)) = cut_at(said, b' ') else {
         return Ok(None);
@@ -140,7 +140,7 @@ fn read_octets(alloc: Global, said: &[u8]) -> Result<Option<Entry>, AllocError> 
     Ok(Some(Entry::Octets(Came { id, bytes })))
 }
 
-/// A number, how many zeros, one at least, and the bytes in front of them.
+/// Reads a number, the number of zeros, at least one, and the bytes in front of them.
 fn read_zeros(alloc: Global, said: &[u8]) -> Result<Option<Entry>, AllocError> {
     let Some((digits, more)) = cut_at(said, b' ') else {
         return Ok(None);
@@ -155,15 +155,14 @@ fn read_zeros(alloc: Global, said: &[u8]) -> Result<Option<Entry>, AllocError> {
     Ok(bytes.map(|bytes| Entry::Zeros(CameZeros { id, bytes, zeros })))
 }
 
-/// How many octets follow this line as they are, and a line feed, before what it says is whole; nothing where
-/// it is whole.
+/// The number of octets that follow this line as they are, before a line feed. `None` if none follow.
 pub fn octets_behind(line: &[u8]) -> Option<usize> {
     let said = line.strip_prefix(b"octets ")?;
     let (_, count) = cut_at(said, b' ')?;
     Some(read_id(count)? as usize)
 }
 
-/// A sum, or nothing for a line alone, where there is none.
+/// Reads a sum, or `-` for no sum.
 fn read_sum(word: &[u8]) -> Option<Option<u32>> {
     if word == b"-".as_slice() {
         return Some(None);
@@ -171,7 +170,7 @@ fn read_sum(word: &[u8]) -> Option<Option<u32>> {
     Some(Some(read_id(word)?))
 }
 
-/// A number, how many bytes, and their sum.
+/// Reads a number, the number of bytes, and their sum.
 fn read_sent(said: &[u8]) -> Option<Entry> {
     let (digits, more) = cut_at(said, b' ')?;
     let (count, sum) = cut_at(more, b' ')?;
@@ -190,9 +189,8 @@ fn read_turn(digits: &[u8]) -> Option<Entry> {
     Some(Entry::Turn(Moment::new(number)?))
 }
 
-/// What a line of a recording says, without its last line feed, and with the octets that follow it, where some
-/// do; nothing where it is no such line, also where what it says is written in another way. The error is out of
-/// memory.
+/// Reads a line of a recording, without its last line feed, and with the octets that follow it. Returns
+/// `None` if it isn't such a line, or isn't written as the writer writes it. The only error is out of memory.
 pub fn read_entry(alloc: Global, line: &[u8]) -> Result<Option<Entry>, AllocError>
     ensures { IfOk result (λ read. IfSome read (λ entry. IsLineOf line.now entry)) }
 {
@@ -202,7 +200,7 @@ pub fn read_entry(alloc: Global, line: &[u8]) -> Result<Option<Entry>, AllocErro
     }
 }
 
-/// An entry, if it is written as this line.
+/// The entry, if this line is its written form. The only error is out of memory.
 fn kept(alloc: Global, entry: Entry, line: &[u8]) -> Result<Option<Entry>, AllocError>
     ensures { IfOk result (λ read. IfSome read (λ entry. IsLineOf line.now entry)) }
 {
@@ -213,7 +211,7 @@ fn kept(alloc: Global, entry: Entry, line: &[u8]) -> Result<Option<Entry>, Alloc
     }
 }
 
-/// Whether an entry is written as this line.
+/// Returns whether the line is the written form of an entry. The only error is out of memory.
 fn is_written_so(alloc: Global, entry: &Entry, line: &[u8]) -> Result<bool, AllocError>
     ensures { IfOk result (λ so. IsTrue so → IsLineOf line.now entry.now) }
 {
@@ -225,7 +223,7 @@ fn is_written_so(alloc: Global, entry: &Entry, line: &[u8]) -> Result<bool, Allo
     Ok(written.as_slice() == wanted.as_slice())
 }
 
-/// What a line says, however its numbers are written.
+/// Reads a line with numbers in any written form. The only error is out of memory.
 fn read_any(alloc: Global, line: &[u8]) -> Result<Option<Entry>, AllocError> {
     if let Some(said) = line.strip_prefix(b"read ") {
         return read_came(alloc, said);
@@ -239,7 +237,7 @@ fn read_any(alloc: Global, line: &[u8]) -> Result<Option<Entry>, AllocError> {
     Ok(read_plain(line))
 }
 
-/// The same of a line that has no bytes.
+/// Reads a line without bytes, with numbers in any written form.
 fn read_plain(line: &[u8]) -> Option<Entry> {
     if let Some(said) = line.strip_prefix(b"sent ") {
         return read_sent(said);
@@ -256,7 +254,7 @@ fn read_plain(line: &[u8]) -> Option<Entry> {
     read_about(line)
 }
 
-/// The same of a line of a word and a number.
+/// Reads a line of a word and a number.
 fn read_about(line: &[u8]) -> Option<Entry> {
     let (word, digits) = cut_at(line, b' ')?;
     let id = read_id(digits)?;

@@ -1,4 +1,4 @@
-//! What a client of IPP sends.
+//! The stream of an IPP client.
 ghost use Rattle.std.specs.Prelude.{◌≡◌, ◌≤◌, ◌+◌, OnOk, IfOk, length};
 
 use crate::blanked::Blanked;
@@ -7,17 +7,17 @@ use http_front::{HttpItem, HttpReader};
 use std::alloc::{AllocError, Global};
 use std::cmp::min;
 
-/// What a client sends over HTTP, read as the server does.
+/// The stream of an HTTP client, read as the server reads it.
 #[derive(Drop)]
 pub(crate) struct HttpStream {
     reader: HttpReader,
     message: Message,
-    /// A request was refused: the server reads nothing more.
+    /// Whether a request was refused: the server reads no more bytes.
     over: bool,
 }
 
 impl HttpStream {
-    /// Nothing was read yet.
+    /// Creates a stream of which nothing was read.
     pub(crate) fn new(alloc: Global) -> HttpStream {
         HttpStream {
             reader: HttpReader::new(alloc),
@@ -26,7 +26,8 @@ impl HttpStream {
         }
     }
 
-    /// How many of these bytes are of a body, or are read no more; the others are read by lines.
+    /// The number of bytes at the front that are those of a body, or aren't read any more; other bytes are
+    /// read by lines.
     pub(crate) fn body_front(&self, bytes: &[u8]) -> usize
         ensures { result ≤ length bytes.now }
     {
@@ -36,10 +37,11 @@ impl HttpStream {
         min(self.reader.body_left() as usize, bytes.len())
     }
 
-    /// Reads bytes of a body, or up to a line feed, and leaves out those of documents.
+    /// Reads bytes of a body, or up to a line feed, and leaves out the octets of documents. The only error is
+    /// out of memory.
     ///
-    /// A part of a body stands at their front, since a head and the line of a chunk's size end with a line
-    /// feed.
+    /// A part of a body is at the front of the bytes, since a head and the line of a chunk's size end in a
+    /// line feed.
     pub(crate) fn blank(&mut self, bytes: &[u8], output: &mut Blanked) -> Result<(), AllocError>
         ensures { OnOk result (output.new ≡ output.old + length bytes.now) }
     {
@@ -54,7 +56,8 @@ impl HttpStream {
         output.keep(&bytes[count..])
     }
 
-    /// Goes past bytes that are of a body alone, of which the reader needs only their number: whether they are.
+    /// Passes over bytes that are only of a body, of which the reader needs only their number. Returns
+    /// whether they are.
     fn pass_body(&mut self, bytes: &[u8]) -> bool {
         match u32::try_from(bytes.len()) {
             Ok(count) => self.reader.pass_body(count),
@@ -62,8 +65,8 @@ impl HttpStream {
         }
     }
 
-    /// Reads what was fed, and leaves out what is of documents in the parts of a body: how many bytes these
-    /// are.
+    /// Reads the bytes that were fed, and leaves out the octets of documents in the parts of a body. Returns
+    /// the number of bytes in these parts.
     fn blank_parts(&mut self, bytes: &[u8], output: &mut Blanked) -> Result<usize, AllocError>
         ensures { IfOk result (λ count. count ≤ length bytes.now × (output.new ≡ output.old + count)) }
     {
@@ -77,7 +80,7 @@ impl HttpStream {
         Ok(count)
     }
 
-    /// Takes an item that these bytes brought: how many of them are its part of a body.
+    /// Takes an item of these bytes. Returns the number of bytes of its part of a body.
     fn take(
         &mut self,
         item: HttpItem,
@@ -95,7 +98,7 @@ impl HttpStream {
         Ok(0)
     }
 
-    /// Takes the part of a body at the front of bytes: how many these are.
+    /// Takes the part of a body at the front of the bytes. Returns its length.
     fn take_part(&mut self, bytes: &[u8], output: &mut Blanked) -> Result<usize, AllocError>
         ensures { IfOk result (λ count. count ≤ length bytes.now × (output.new ≡ output.old + count)) }
     {

@@ -1,14 +1,14 @@
-//! Days that are recorded: the lines of a recording, a wire that notes its calls, and one that plays them.
+//! Recordings of days: their lines, a wire that notes its calls, and a wire that plays them.
 //!
-//! A server's bytes are fixed by the calls of its wire with their answers, and by the moments of its turns.
-//! [`Noted`] forwards each call to another wire and notes it as a line, unless it only waited; [`Script`]
-//! answers each call by the next line, and tells where a server calls something else. `docs/TRACES.md` has
-//! the lines. What a server does over either stands above.
+//! The calls of a server's wire with their answers, and the moments of its turns, determine the bytes that
+//! the server writes. [`Noted`] passes each call to another wire and notes it as a line, unless the call
+//! would have to wait. [`Script`] answers each call by the next line, and reports where a server makes
+//! another call. `docs/TRACES.md` describes the lines. The server over these wires is in other crates.
 //!
-//! A recording may go without the octets of documents: a `Blanker` is told which connections come and
-//! what is read of each, and leaves them out: in a body of IPP what stands behind the attributes, in
-//! a session of LPD the data files. It reads with the readers of the server, so that it finds the heads
-//! where the server does. What the server reads no more, behind a fault, is left out too.
+//! A recording may leave out the octets of documents. A `Blanker` gets the connections that come and the
+//! bytes that are read of each, and leaves out the octets behind the attributes in a body of IPP, and the
+//! data files in a session of LPD. It reads with the readers of the server, so it finds the same heads as the
+//! server. Bytes that the server drops behind a fault are left out too.
 //!
 //! Its rows are recorded traces of `play_examples`.
 #![tactic(auto)]

@@ -1,4 +1,4 @@
-//! What a client of LPD sends.
+//! The stream of an LPD client.
 ghost use Rattle.std.specs.Prelude.{◌≡◌, ◌+◌, ◌≤◌, OnOk, IfOk, length};
 
 use crate::blanked::Blanked;
@@ -6,24 +6,24 @@ use lpd::{FileKind, LpdError, LpdItem, LpdReader};
 use std::alloc::{AllocError, Global};
 use std::cmp::min;
 
-/// A command after which the subcommands of a session follow.
+/// A command that opens a session, in which subcommands follow.
 const RECEIVE_JOB: &[u8] = b"\x02-\n";
 
-/// What comes next.
+/// The next part of the stream.
 #[derive(Clone, Copy)]
 enum Next {
-    /// A command, a subcommand, or a control file, which the reader reads.
+    /// A command, a subcommand or a control file, which the reader reads.
     Read,
-    /// So many bytes of a data file, and the zero byte behind them.
+    /// This many bytes of a data file, and the zero byte behind them.
     Data(usize),
     /// The zero byte behind a data file.
     Zero,
-    /// A fault was found: the server reads nothing more.
+    /// Nothing: a fault was found, and the server reads no more bytes.
     Over,
 }
 
-/// What a client sends over LPD, read as the server does. A data file is passed, and a new reader reads what
-/// follows it.
+/// The stream of an LPD client, read as the server reads it. A data file is passed over, and a new reader
+/// reads the bytes behind it.
 #[derive(Drop)]
 pub(crate) struct LpdStream {
     alloc: Global,
@@ -31,7 +31,7 @@ pub(crate) struct LpdStream {
     next: Next,
 }
 
-/// A reader of subcommands.
+/// Creates a reader of subcommands. The only error is out of memory.
 fn subcommands(alloc: Global) -> Result<LpdReader, AllocError> {
     let mut reader = LpdReader::new(alloc);
     reader.feed(RECEIVE_JOB)?;
@@ -42,7 +42,7 @@ fn subcommands(alloc: Global) -> Result<LpdReader, AllocError> {
 }
 
 impl LpdStream {
-    /// Nothing was read yet.
+    /// Creates a stream of which nothing was read.
     pub(crate) fn new(alloc: Global) -> LpdStream {
         LpdStream {
             alloc,
@@ -51,7 +51,7 @@ impl LpdStream {
         }
     }
 
-    /// How many of these bytes are octets of a data file; the others are read by lines.
+    /// The number of bytes at the front that are octets of a data file; other bytes are read by lines.
     pub(crate) fn body_front(&self, bytes: &[u8]) -> usize
         ensures { result ≤ length bytes.now }
     {
@@ -61,7 +61,8 @@ impl LpdStream {
         }
     }
 
-    /// Reads bytes up to a line feed, or of a data file, and leaves out those of data files.
+    /// Reads bytes up to a line feed, or of a data file, and leaves out the octets of data files. The only
+    /// error is out of memory.
     pub(crate) fn blank(&mut self, bytes: &[u8], output: &mut Blanked) -> Result<(), AllocError>
         ensures { OnOk result (output.new ≡ output.old + length bytes.now) }
     {
@@ -69,7 +70,7 @@ impl LpdStream {
         self.blank_line(&bytes[count..], output)
     }
 
-    /// Leaves out the bytes of a data file at the front: how many they are.
+    /// Leaves out the octets of a data file at the front. Returns their number.
     fn pass_data(&mut self, bytes: &[u8], output: &mut Blanked) -> Result<usize, AllocError>
         ensures { IfOk result (λ count. count ≤ length bytes.now × (output.new ≡ output.old + count)) }
     {
@@ -85,7 +86,7 @@ impl LpdStream {
         Ok(count)
     }
 
-    /// Reads bytes of no data file.
+    /// Reads bytes that aren't of a data file.
     fn blank_line(&mut self, bytes: &[u8], output: &mut Blanked) -> Result<(), AllocError>
         ensures { OnOk result (output.new ≡ output.old + length bytes.now) }
     {
@@ -102,7 +103,7 @@ impl LpdStream {
         }
     }
 
-    /// Reads the zero byte behind a data file, which is left out with the file, and what follows it.
+    /// Reads the zero byte behind a data file, which is left out with the file, and the bytes behind it.
     fn end_data(&mut self, bytes: &[u8], output: &mut Blanked) -> Result<(), AllocError>
         ensures { OnOk result (output.new ≡ output.old + length bytes.now) }
     {

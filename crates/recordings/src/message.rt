@@ -1,39 +1,39 @@
-//! Where a message of IPP ends and its document begins.
+//! The reader of IPP messages that finds where the document begins.
 ghost use Rattle.std.specs.Prelude.{◌≡◌, ◌+◌, ◌≤◌, OnOk, length};
 
 use crate::blanked::Blanked;
 use base_types::Limits;
 use std::alloc::AllocError;
 
-/// What comes next of a message (RFC 8010, section 3.1).
+/// The next part of a message (RFC 8010, section 3.1).
 #[derive(Clone, Copy)]
 enum Next {
-    /// Bytes that are passed, and what comes behind them.
+    /// This many bytes that are passed over, and the part behind them.
     Passed(u32, Behind),
     /// The tag of a group or of an attribute.
     Tag,
-    /// The first byte of a length, which tells what comes behind so many bytes.
+    /// The first byte of a length, and the part behind this many bytes.
     High(Behind),
-    /// The second one, where the first is this.
+    /// The second byte of a length, whose first byte is this, and the part behind this many bytes.
     Low(u8, Behind),
     /// The document.
     Document,
 }
 
-/// What comes behind bytes that are passed.
+/// The part behind bytes that are passed over.
 #[derive(Clone, Copy)]
 enum Behind {
     Tag,
     ValueLength,
 }
 
-/// How many bytes stand in front of the groups: a version, an operation or status, a number.
+/// The number of bytes before the groups: a version, an operation or status, and a request-id.
 const FRONT: u32 = Limits::IPP_HEADER_BYTES as u32;
 
-/// The tag that ends the attributes.
+/// The end-of-attributes tag.
 const END_OF_ATTRIBUTES: u8 = 3;
 
-/// The first tag of a value.
+/// The least tag of a value.
 const FIRST_VALUE: u8 = 16;
 
 /// A message that is read byte by byte.
@@ -42,7 +42,7 @@ pub(crate) struct Message {
     next: Next,
 }
 
-/// What comes behind the bytes of a length.
+/// The part behind the bytes of a length.
 fn passing(count: u32, behind: Behind) -> Next {
     match (count, behind) {
         (0, Behind::Tag) => Next::Tag,
@@ -51,7 +51,7 @@ fn passing(count: u32, behind: Behind) -> Next {
     }
 }
 
-/// What comes behind a tag.
+/// The part behind a tag.
 fn after_tag(tag: u8) -> Next {
     if tag == END_OF_ATTRIBUTES {
         Next::Document
@@ -62,7 +62,7 @@ fn after_tag(tag: u8) -> Next {
     }
 }
 
-/// What comes behind a byte.
+/// The part behind a byte.
 fn after(next: Next, byte: u8) -> Next {
     match next {
         Next::Passed(count, behind) => passing(count.saturating_sub(1), behind),
@@ -74,14 +74,14 @@ fn after(next: Next, byte: u8) -> Next {
 }
 
 impl Message {
-    /// None of its bytes was read yet.
+    /// Creates the reader of a message of which nothing was read.
     pub(crate) fn new() -> Message {
         Message {
             next: Next::Passed(FRONT, Behind::Tag),
         }
     }
 
-    /// Reads some bytes, and leaves out those of the document.
+    /// Reads bytes, and leaves out those of the document. The only error is out of memory.
     pub(crate) fn blank(&mut self, bytes: &[u8], output: &mut Blanked) -> Result<(), AllocError>
         ensures { OnOk result (output.new ≡ output.old + length bytes.now) }
     {
@@ -90,7 +90,7 @@ impl Message {
         output.leave_out(bytes.len() - place)
     }
 
-    /// Reads some bytes: where the document begins, if it does.
+    /// Reads bytes. Returns the place where the document begins, or the number of bytes.
     fn read(&mut self, bytes: &[u8]) -> usize
         ensures { result ≤ length bytes.now }
     {

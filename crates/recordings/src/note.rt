@@ -9,7 +9,7 @@ use base_types::Moment;
 use std::alloc::AllocError;
 use wires::{Door, Progress, WireId};
 
-/// Appends what is noted of an accept.
+/// Appends the note of an accept.
 pub(crate) fn put_accept(
     output: &mut Vec<u8>,
     door: Door,
@@ -25,7 +25,7 @@ pub(crate) fn put_accept(
     }
 }
 
-/// Appends what is noted of a read into the front of a buffer.
+/// Appends the note of a read into the front of a buffer.
 pub(crate) fn put_read(
     output: &mut Vec<u8>,
     id: WireId,
@@ -43,7 +43,7 @@ pub(crate) fn put_read(
     }
 }
 
-/// Appends what is noted of a write, where the bytes that were taken have this sum, if it is noted.
+/// Appends the note of a write, with the sum of the bytes that were taken, if it is noted.
 pub(crate) fn put_write(
     output: &mut Vec<u8>,
     id: WireId,
@@ -60,7 +60,8 @@ pub(crate) fn put_write(
     }
 }
 
-/// Appends the lines that end a turn, in which memory was refused to the server or not.
+/// Appends the lines of the end of a turn. `refused` says whether memory was refused to the server in the
+/// turn.
 pub(crate) fn put_end(output: &mut Vec<u8>, moment: Moment, refused: bool) -> Result<(), AllocError>
     ensures { OnOk result (output.new.items ≡ output.old.items ++ end_of moment refused) }
 {

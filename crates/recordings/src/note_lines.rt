@@ -1,4 +1,4 @@
-//! The lines of calls, as they are kept.
+//! The store of the lines of calls.
 ghost use Rattle.std.specs.Prelude.{◌≡◌, ◌⊎◌, ℕ, List, Some, None, [], OnOk, length, option_map};
 ghost use Rattle.wires.specs.Poll.{Accepts, Reads, Writes, Closes, bytes_read, IsCount};
 ghost use Rattle.recordings.specs.Noting.{note_of, written_note, end_of, with_note, NotesLine, EndsTurn};
@@ -11,13 +11,12 @@ use std::alloc::{AllocError, Global};
 use std::marker::Model;
 use wires::{Door, Progress, WireId};
 
-/// The lines of calls, from the last time on that they were forgotten; none, where none are wanted, or since
-/// memory for one was refused.
+/// The lines of calls since the last `clear`. `None` if no lines are kept, or memory for one was refused.
 #[derive(Drop)]
 pub(crate) struct NoteLines {
     text: Vec<u8>,
     keeps: bool,
-    /// The bytes of the turns that have ended.
+    /// The number of bytes of the turns that have ended.
     whole: usize,
 }
 
@@ -30,7 +29,7 @@ impl Model for NoteLines {
 }
 
 impl NoteLines {
-    /// No lines are kept.
+    /// Creates a store that keeps no lines.
     pub(crate) fn new(alloc: Global) -> NoteLines
         ensures { result ≡ None }
     {
@@ -41,7 +40,7 @@ impl NoteLines {
         }
     }
 
-    /// Keeps lines from now on.
+    /// Starts keeping lines.
     pub(crate) fn begin(&mut self)
         ensures { self.new ≡ Some [] }
     {
@@ -50,22 +49,22 @@ impl NoteLines {
         self.keeps = true;
     }
 
-    /// Whether lines are kept.
+    /// Returns whether lines are kept.
     pub(crate) fn keeps(&self) -> bool {
         self.keeps
     }
 
-    /// The lines; they count only where some are kept.
+    /// The lines, which have a meaning only while lines are kept.
     pub(crate) fn text(&self) -> &[u8] {
         &self.text
     }
 
-    /// Whether a call was noted since the last turn ended.
+    /// Returns whether a call was noted since the last turn ended.
     pub(crate) fn has_call(&self) -> bool {
         self.whole < self.text.len()
     }
 
-    /// Adds whole lines, each of which is a comment.
+    /// Appends whole lines, each of which is a comment. If memory is refused, no lines are kept any more.
     pub(crate) fn comment(&mut self, lines: &[u8])
         ensures { (self.new ≡ None) ⊎ (self.new ≡ with_note lines.now self.old) }
     {
@@ -74,7 +73,7 @@ impl NoteLines {
         }
     }
 
-    /// Forgets the lines.
+    /// Removes all lines.
     pub(crate) fn clear(&mut self)
         ensures { self.new ≡ option_map (λ text. []) self.old }
     {
@@ -82,7 +81,7 @@ impl NoteLines {
         self.whole = 0;
     }
 
-    /// Keeps no lines from now on.
+    /// Stops keeping lines.
     pub(crate) fn stop(&mut self)
         ensures { self.new ≡ None }
     {
@@ -91,7 +90,8 @@ impl NoteLines {
         self.keeps = false;
     }
 
-    /// A turn ends, which was taken at this moment, and in which memory was refused to the server or not.
+    /// Notes the end of a turn at a moment. `refused` says whether memory was refused to the server in the
+    /// turn.
     pub(crate) fn end_turn(&mut self, moment: Moment, refused: bool)
         ensures { EndsTurn moment refused self.old self.new }
     {
@@ -101,7 +101,7 @@ impl NoteLines {
         self.whole = self.text.len();
     }
 
-    /// An accept was answered so.
+    /// Notes an accept with its answer.
     pub(crate) fn accepted(&mut self, door: Door, answer: Progress<WireId>)
         ensures { NotesLine (Accepts door answer) self.old self.new }
     {
@@ -110,7 +110,7 @@ impl NoteLines {
         }
     }
 
-    /// A read was answered so.
+    /// Notes a read with its answer.
     pub(crate) fn read(&mut self, id: WireId, answer: Progress<usize>, buffer: &[u8])
         requires { IsCount answer (length buffer.now) }
         ensures { NotesLine (Reads id (bytes_read answer buffer.now)) self.old self.new }
@@ -120,14 +120,14 @@ impl NoteLines {
         }
     }
 
-    /// What was read is noted without documents.
+    /// Notes the bytes of a read, without documents.
     pub(crate) fn came(&mut self, id: WireId, blanked: &Blanked) {
         if self.keeps && put_blanked(&mut self.text, id, blanked).is_err() {
             self.stop();
         }
     }
 
-    /// A write was answered so, and this is the sum of the bytes that were taken, if it is noted.
+    /// Notes a write with its answer, and the sum of the bytes that were taken, if it is noted.
     pub(crate) fn written(&mut self, id: WireId, answer: Progress<usize>, sum: Option<u32>)
         ensures { NotesLine (Writes id [] answer) self.old self.new }
     {
@@ -136,7 +136,7 @@ impl NoteLines {
         }
     }
 
-    /// A connection was given up.
+    /// Notes the close of a connection.
     pub(crate) fn closed(&mut self, id: WireId)
         ensures { NotesLine (Closes id) self.old self.new }
     {
@@ -145,7 +145,7 @@ impl NoteLines {
         }
     }
 
-    /// Notes the end of a turn.
+    /// Appends the lines of the end of a turn. The only error is out of memory.
     fn note_end(&mut self, moment: Moment, refused: bool) -> Result<(), AllocError>
         ensures { OnOk result (self.new ≡ with_note (end_of moment refused) self.old) }
     {
@@ -156,7 +156,7 @@ impl NoteLines {
         Ok(())
     }
 
-    /// Notes an accept.
+    /// Appends the line of an accept. The only error is out of memory.
     fn note_accept(&mut self, door: Door, answer: Progress<WireId>) -> Result<(), AllocError>
         ensures { OnOk result (self.new ≡ with_note (note_of (Accepts door answer) None) self.old) }
     {
@@ -167,7 +167,7 @@ impl NoteLines {
         Ok(())
     }
 
-    /// Notes a read.
+    /// Appends the line of a read. The only error is out of memory.
     fn note_read(
         &mut self,
         id: WireId,
@@ -184,7 +184,7 @@ impl NoteLines {
         Ok(())
     }
 
-    /// Notes a write, of which so many bytes were taken, whose sum this is.
+    /// Appends the line of a write that took this many bytes with this sum. The only error is out of memory.
     fn note_write(
         &mut self,
         id: WireId,
@@ -200,7 +200,7 @@ impl NoteLines {
         Ok(())
     }
 
-    /// Notes that a connection is given up.
+    /// Appends the line of a close. The only error is out of memory.
     fn note_close(&mut self, id: WireId) -> Result<(), AllocError>
         ensures { OnOk result (self.new ≡ with_note (note_of (Closes id) None) self.old) }
     {

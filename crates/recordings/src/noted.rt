@@ -1,4 +1,4 @@
-//! A wire whose calls are noted.
+//! A wire that notes its calls.
 ghost use Rattle.std.specs.Prelude.{◌≡◌, ◌⊎◌, ℕ, List, Some, None, [], length, option_map, false};
 ghost use Rattle.std.specs.Io.Slices.{io_slices_bytes};
 ghost use Rattle.wires.specs.Poll.{Accepts, Reads, Writes, Closes, bytes_read, IsCount};
@@ -14,16 +14,16 @@ use std::io::IoSlice;
 use std::marker::Model;
 use wires::{Door, Progress, Wire, WireId};
 
-/// What is noted of calls: their lines, from the last time on that they were forgotten; none, where none are
-/// wanted, or since memory for one was refused.
+/// The notes of calls: their lines since the last `clear`. `None` if no lines are kept, or memory for one was
+/// refused.
 #[derive(Drop)]
 pub struct NoteText {
     lines: NoteLines,
-    /// What was read last, without documents, where heads are noted.
+    /// The bytes of the last read, without documents, if documents are left out.
     blanked: Blanked,
-    /// The octets of documents are left out, and so are the sums of what devices get.
+    /// Whether the octets of documents are left out, and the sums of the bytes that devices get too.
     heads: bool,
-    /// The connections, where heads are noted.
+    /// The connections, if documents are left out.
     blanker: Blanker,
 }
 
@@ -35,8 +35,8 @@ impl Model for NoteText {
     ghost view = { λ n. record { lines = n.lines; heads = n.heads } };
 }
 
-/// A wire that forwards each call to another wire, and notes it, unless it only waited or an accept brought
-/// nothing.
+/// A wire that passes each call to another wire, and notes it, unless the call would have to wait or is an
+/// accept without a connection.
 #[derive(Drop)]
 pub struct Noted<W: Wire> {
     pub wire: W,
@@ -44,7 +44,7 @@ pub struct Noted<W: Wire> {
 }
 
 impl NoteText {
-    /// No lines are kept.
+    /// Creates notes that keep no lines.
     pub fn new(alloc: Global) -> NoteText
         ensures { result ≡ record { lines = None; heads = false } }
     {
@@ -56,7 +56,7 @@ impl NoteText {
         }
     }
 
-    /// Keeps lines from now on, when no connection is open yet. With heads alone the octets of documents are
+    /// Starts keeping lines. No connection may be open yet. `heads` says whether the octets of documents are
     /// left out.
     pub fn begin(&mut self, heads: bool)
         ensures { self.new ≡ record { lines = Some []; heads = heads } }
@@ -65,22 +65,22 @@ impl NoteText {
         self.heads = heads;
     }
 
-    /// Whether lines are kept.
+    /// Returns whether lines are kept.
     pub fn keeps(&self) -> bool {
         self.lines.keeps()
     }
 
-    /// The lines; they count only where some are kept.
+    /// The lines, which have a meaning only while lines are kept.
     pub fn text(&self) -> &[u8] {
         self.lines.text()
     }
 
-    /// Whether a call was noted since the last turn ended.
+    /// Returns whether a call was noted since the last turn ended.
     pub fn has_call(&self) -> bool {
         self.lines.has_call()
     }
 
-    /// Adds whole lines, each of which is a comment.
+    /// Appends whole lines, each of which is a comment. If memory is refused, no lines are kept any more.
     pub fn comment(&mut self, lines: &[u8])
         ensures lines { (self.new.lines ≡ None) ⊎ (self.new.lines ≡ with_note lines.now self.old.lines) }
         ensures heads { self.new.heads ≡ self.old.heads }
@@ -88,21 +88,22 @@ impl NoteText {
         self.lines.comment(lines);
     }
 
-    /// Forgets the lines.
+    /// Removes all lines.
     pub fn clear(&mut self)
         ensures { self.new ≡ record self.old { lines = option_map (λ text. []) self.old.lines } }
     {
         self.lines.clear();
     }
 
-    /// Keeps no lines from now on.
+    /// Stops keeping lines.
     pub fn stop(&mut self)
         ensures { self.new ≡ record self.old { lines = None } }
     {
         self.lines.stop();
     }
 
-    /// A turn ends, which was taken at this moment, and in which memory was refused to the server or not.
+    /// Notes the end of a turn at a moment. `refused` says whether memory was refused to the server in the
+    /// turn.
     pub fn end_turn(&mut self, moment: Moment, refused: bool)
         ensures lines { EndsTurn moment refused self.old.lines self.new.lines }
         ensures heads { self.new.heads ≡ self.old.heads }
@@ -110,7 +111,7 @@ impl NoteText {
         self.lines.end_turn(moment, refused);
     }
 
-    /// An accept was answered so.
+    /// Notes an accept with its answer.
     fn accepted(&mut self, door: Door, answer: Progress<WireId>)
         ensures { Notes (Accepts door answer) self.old self.new }
     {
@@ -120,7 +121,7 @@ impl NoteText {
         }
     }
 
-    /// A connection comes in whose documents are to be found.
+    /// Adds a connection whose documents are to be left out. The only error is out of memory.
     fn open(&mut self, door: Door, answer: Progress<WireId>) -> Result<(), AllocError>
         ensures { self.new ≡ self.old }
     {
@@ -130,7 +131,7 @@ impl NoteText {
         }
     }
 
-    /// A read was answered so.
+    /// Notes a read with its answer.
     fn read(&mut self, id: WireId, answer: Progress<usize>, buffer: &[u8])
         requires { IsCount answer (length buffer.now) }
         ensures { Notes (Reads id (bytes_read answer buffer.now)) self.old self.new }
@@ -141,7 +142,7 @@ impl NoteText {
         }
     }
 
-    /// These bytes were read, where heads are noted.
+    /// Notes the bytes of a read, if documents are left out.
     fn read_heads(&mut self, id: WireId, bytes: &[u8])
         ensures { self.new.heads ≡ self.old.heads }
     {
@@ -152,7 +153,7 @@ impl NoteText {
         self.lines.came(id, &self.blanked);
     }
 
-    /// Keeps bytes that were read, without those of documents.
+    /// Stores bytes that were read, without documents. The only error is out of memory.
     fn blank(&mut self, id: WireId, bytes: &[u8]) -> Result<(), AllocError>
         ensures { self.new ≡ self.old }
     {
@@ -160,7 +161,7 @@ impl NoteText {
         self.blanker.blank(id, bytes, &mut self.blanked)
     }
 
-    /// A write was answered so.
+    /// Notes a write with its answer.
     fn written(&mut self, id: WireId, answer: Progress<usize>, parts: &[IoSlice<'_>])
         ensures { Notes (Writes id (io_slices_bytes parts.now) answer) self.old self.new }
     {
@@ -168,7 +169,7 @@ impl NoteText {
         self.lines.written(id, answer, sum);
     }
 
-    /// The sum of the bytes that were taken of a write, if some were and it is noted.
+    /// The sum of the bytes that a write took, if it took some and the sum is noted.
     fn sum_taken(&self, id: WireId, parts: &[IoSlice<'_>], answer: Progress<usize>) -> Option<u32> {
         match answer {
             Progress::Done(count) if self.notes_sum(id) => Some(sum_of_front(parts, count)),
@@ -176,12 +177,12 @@ impl NoteText {
         }
     }
 
-    /// Whether the sum of what is written to a connection is noted.
+    /// Returns whether the sums of a connection's writes are noted.
     fn notes_sum(&self, id: WireId) -> bool {
         self.lines.keeps() && !(self.heads && self.blanker.is_device(id))
     }
 
-    /// A connection was given up.
+    /// Notes the close of a connection.
     fn closed(&mut self, id: WireId)
         ensures { Notes (Closes id) self.old self.new }
     {
@@ -191,7 +192,7 @@ impl NoteText {
 }
 
 impl<W: Wire> Noted<W> {
-    /// A wire of which nothing is noted yet.
+    /// Creates a wire of which nothing is noted.
     pub fn new(alloc: Global, wire: W) -> Noted<W>
         ensures wire { result.wire ≡ wire }
         ensures notes { result.notes ≡ record { lines = None; heads = false } }

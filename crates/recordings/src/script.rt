@@ -1,4 +1,4 @@
-//! A wire that plays a recorded turn.
+//! A wire that plays the calls of a recorded turn.
 ghost use Rattle.std.specs.Prelude.{◌≡◌, ◌<◌, ◌≤◌, ◌+◌, ℕ, length, IsTrue, IsFalse};
 ghost use Rattle.std.specs.Io.Slices.{io_slices_bytes};
 ghost use Rattle.wires.specs.Poll.{IsCount, HasCause};
@@ -18,29 +18,29 @@ pub struct Scripted {
     pub entry: Entry,
 }
 
-/// What a connection got, or that it was given up.
+/// The bytes that a connection got, or its close.
 #[derive(Drop)]
 pub enum Moved {
     Got { id: WireId, bytes: Vec<u8> },
     Gone(WireId),
 }
 
-/// What a server did in the place of what was recorded.
+/// The call of a server that isn't the recorded one.
 #[derive(Drop)]
 pub enum ServerCall {
-    /// Nothing with it, by the end of the turn.
+    /// The server made no call, up to the end of the turn.
     Nothing,
-    /// It closes a connection.
+    /// The server closes a connection.
     Closes(WireId),
-    /// It sends bytes, of which those that were taken are these, by this sum.
+    /// The server sends bytes. Those that would be taken are `bytes`, with the sum in `sent`.
     Sends { sent: Sent, bytes: Vec<u8> },
-    /// It reads of a connection fewer bytes than were read.
+    /// The server reads fewer bytes of a connection than were read.
     ReadsLess(WireId),
     /// Memory was refused to the player.
     Unknown,
 }
 
-/// Where a server does something else than was recorded.
+/// The place where a server makes a call that isn't the recorded one.
 #[derive(Drop)]
 pub struct Stray {
     /// The next line, if the turn has one more.
@@ -48,23 +48,24 @@ pub struct Stray {
     pub did: ServerCall,
 }
 
-/// A wire that answers each call by the next line of a turn, if that is of such a call, and else waits.
+/// A wire that answers each call by the next line of a turn, if that is the line of such a call. Any other
+/// call would have to wait.
 #[derive(Drop)]
 pub struct Script {
     alloc: Global,
     /// The lines of the turn.
     lines: Vec<Scripted>,
-    /// How many of them were played.
+    /// The number of lines that were played.
     played: usize,
-    /// What became of connections.
+    /// The bytes that connections got, and their closes.
     moved: Vec<Moved>,
-    /// The first that wasn't as recorded.
+    /// The first call that isn't the recorded one.
     did: Option<ServerCall>,
     faults: u64,
 }
 
 impl Script {
-    /// A turn without lines.
+    /// Creates the script of a turn without lines.
     pub fn new(alloc: Global) -> Script {
         Script {
             alloc,
@@ -76,13 +77,13 @@ impl Script {
         }
     }
 
-    /// One more line of the turn.
+    /// Appends a line of the turn. The only error is out of memory.
     pub fn add(&mut self, number: u64, entry: Entry) -> Result<(), AllocError> {
         self.lines.push(Scripted { number, entry })?;
         Ok(())
     }
 
-    /// Whether the turn has a line that says that memory was refused to the server: its number.
+    /// The number of the turn's line that says that memory was refused to the server, if there is one.
     pub fn refusal(&self) -> Option<u64> {
         for line in &self.lines {
             if let Entry::Refused = &line.entry {
@@ -92,12 +93,12 @@ impl Script {
         None
     }
 
-    /// What became of connections in the turn, which is then kept no more.
+    /// Removes and returns the bytes that connections got in the turn, and their closes.
     pub fn take_moved(&mut self) -> Vec<Moved> {
         mem::replace(&mut self.moved, Vec::new(self.alloc))
     }
 
-    /// Ends the turn: where the server did something else than was recorded, if it did.
+    /// Ends the turn. Returns the place where the server made a call that isn't the recorded one, if it did.
     pub fn end_turn(&mut self) -> Option<Stray> {
         let lines = mem::replace(&mut self.lines, Vec::new(self.alloc));
         let played = mem::replace(&mut self.played, 0);
@@ -113,7 +114,7 @@ impl Script {
         }
     }
 
-    /// The next line, unless the server has strayed.
+    /// The next line, unless the server made a call that isn't the recorded one.
     fn next(&self) -> Option<&Entry> {
         if self.did.is_some() {
             return None;
@@ -124,14 +125,14 @@ impl Script {
         }
     }
 
-    /// The next line was played.
+    /// Goes on to the next line.
     fn pass(&mut self)
         ensures { self.new.faults ≡ self.old.faults }
     {
         self.played = self.played.saturating_add(1);
     }
 
-    /// The server strays.
+    /// Records a call that isn't the recorded one.
     fn strays(&mut self, did: ServerCall)
         ensures { self.new.faults ≡ self.old.faults }
     {
@@ -140,7 +141,7 @@ impl Script {
         }
     }
 
-    /// Counts a fault, unless the count is full: whether it was counted.
+    /// Counts a fault, unless the count is full. Returns whether it was counted.
     fn counts_fault(&mut self) -> bool
         ensures yes { IsTrue result → self.old.faults < self.new.faults }
         ensures never { IsFalse result → self.new.faults ≡ self.old.faults }
@@ -152,7 +153,7 @@ impl Script {
         true
     }
 
-    /// Keeps what became of a connection.
+    /// Stores the bytes that a connection got, or its close.
     fn keep(&mut self, moved: Moved)
         ensures { self.new.faults ≡ self.old.faults }
     {
@@ -161,7 +162,7 @@ impl Script {
         }
     }
 
-    /// A connection is offered bytes, of which it gets as many as it got then, if they are the same.
+    /// Answers a write: the connection gets as many bytes as were recorded, if they are the same.
     fn gets(&mut self, id: WireId, parts: &[IoSlice<'_>], wanted: Sent) -> Progress<usize>
         ensures count { IsCount result (length (io_slices_bytes parts.now)) }
         ensures cause { HasCause self.old.faults self.new.faults result }
@@ -185,7 +186,7 @@ impl Script {
         Progress::Done(count)
     }
 
-    /// So many bytes are read of a connection, if there was room for what was read then.
+    /// Answers a read of `count` bytes, if the buffer has room for the bytes that were recorded.
     fn read(&mut self, id: WireId, count: usize) -> Progress<usize>
         ensures count { (room : ℕ) → count ≤ room → IsCount result room }
         ensures cause { HasCause self.old.faults self.new.faults result }
@@ -198,7 +199,7 @@ impl Script {
         Progress::Done(count)
     }
 
-    /// A call that failed.
+    /// Answers a call that failed.
     fn fault(&mut self) -> Progress<usize>
         ensures count { (room : ℕ) → IsCount result room }
         ensures cause { HasCause self.old.faults self.new.faults result }
@@ -212,7 +213,8 @@ impl Script {
     }
 }
 
-/// Reads bytes and so many zeros behind them into a buffer: how many, or 0 where there is no room for them.
+/// Copies bytes, and `zeros` zeros behind them, into a buffer. Returns their number, or 0 if there is no room
+/// for all of them.
 fn read_into(buffer: &mut [u8], bytes: &[u8], zeros: usize) -> usize
     ensures count { result ≤ length buffer.old }
     ensures room { length buffer.new ≡ length buffer.old }

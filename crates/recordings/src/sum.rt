@@ -1,27 +1,28 @@
-//! The sum of bytes, by which two runs of them are told apart.
+//! The sum of bytes, which differs for most different bytes.
 
 use std::cmp::min;
 use std::io::IoSlice;
 
-/// How many bytes a word has.
+/// The number of bytes of a word.
 const WORD: usize = 8;
 
-/// The sum of bytes that come in pieces, as `docs/TRACES.md` has it: of their words of eight bytes, the last
-/// of which may be shorter, one number is the sum, and another the sum of all those sums.
+/// The sum of bytes that come in pieces, as `docs/TRACES.md` defines it. The bytes are words of eight bytes,
+/// of which the last may be shorter. One number is the sum of the words, and another the sum of all those
+/// sums.
 #[derive(Clone, Copy)]
 struct Sum {
     sum: u64,
     sums: u64,
-    /// The bytes of a word that isn't whole, as a number, the first the lowest.
+    /// The bytes of an incomplete word as a number, the first byte lowest.
     word: u64,
-    /// What the next of them counts.
+    /// The factor of the next byte of the word.
     scale: u64,
-    /// How many more that word has; none, where it hasn't begun.
+    /// The number of bytes that the word lacks; 0 if it hasn't begun.
     missing: usize,
 }
 
 impl Sum {
-    /// No bytes came yet.
+    /// Creates the sum of no bytes.
     fn new() -> Sum {
         Sum {
             sum: 0,
@@ -32,7 +33,7 @@ impl Sum {
         }
     }
 
-    /// These bytes follow.
+    /// Adds bytes.
     fn add(&mut self, bytes: &[u8]) {
         let (front, rest) = bytes.split_at(min(self.missing, bytes.len()));
         self.add_bytes(front);
@@ -41,7 +42,7 @@ impl Sum {
         self.add_bytes(last);
     }
 
-    /// These words follow, where the one before them is whole.
+    /// Adds words, where the word before them is complete.
     fn add_words(&mut self, words: &[[u8; WORD]]) {
         let mut sum = self.sum;
         let mut sums = self.sums;
@@ -53,14 +54,14 @@ impl Sum {
         self.sums = sums;
     }
 
-    /// These bytes follow, one after the other.
+    /// Adds bytes, one after the other.
     fn add_bytes(&mut self, bytes: &[u8]) {
         for byte in bytes {
             self.add_byte(*byte);
         }
     }
 
-    /// This byte follows.
+    /// Adds a byte.
     fn add_byte(&mut self, byte: u8) {
         let counts = self.scale.wrapping_mul(u64::from(byte));
         self.word = self.word.wrapping_add(counts);
@@ -72,7 +73,7 @@ impl Sum {
         }
     }
 
-    /// The word that has begun is whole, or the last.
+    /// Ends the current word, which is complete or the last one.
     fn end_word(&mut self) {
         self.sum = self.sum.wrapping_add(self.word);
         self.sums = self.sums.wrapping_add(self.sum);
@@ -81,7 +82,7 @@ impl Sum {
         self.missing = 0;
     }
 
-    /// The sum, where no more bytes follow.
+    /// The sum, once all bytes were added.
     fn value(&mut self) -> u32 {
         if self.missing > 0 {
             self.end_word();
@@ -98,7 +99,7 @@ pub(crate) fn sum_of(bytes: &[u8]) -> u32 {
     sum.value()
 }
 
-/// The sum of the first so many of the bytes that lie in parts, where they lie.
+/// The sum of a front of bytes in parts, of at most `count` bytes, computed without a copy.
 pub(crate) fn sum_of_front(parts: &[IoSlice<'_>], count: usize) -> u32 {
     let mut sum = Sum::new();
     let mut left = count;

@@ -1,4 +1,4 @@
-//! The lines of a recording, written.
+//! The writers of a recording's lines.
 ghost use Rattle.std.specs.Prelude.{◌≡◌, ◌++◌, ℕ, OnOk, codes};
 ghost use Rattle.std.specs.Fmt.{decimal};
 ghost use Rattle.recordings.specs.Lines.{about, line_about, accept_line, read_line, octets_line, zeros_line, came_line, sent_line, sum_words, turn_line, entry_line};
@@ -11,10 +11,10 @@ use itoa::Buffer;
 use std::alloc::AllocError;
 use wires::{Door, WireId};
 
-/// From how many bytes on those that were read stand behind their line.
+/// The number of bytes from which on the bytes of a read are written behind their line.
 const MANY: usize = 1024;
 
-/// What the first line of a file begins with that goes on where another one ends.
+/// The front of the first line of a file that continues another file.
 pub const GOES_ON: &[u8] = b"#goes on behind ";
 
 /// Appends the digits of a number.
@@ -53,7 +53,7 @@ pub(crate) fn put_accepted(output: &mut Vec<u8>, door: Door, id: WireId) -> Resu
     Ok(())
 }
 
-/// Appends the line of bytes that were read, which stand in it.
+/// Appends the line of bytes that were read, with the bytes in it.
 fn put_read(output: &mut Vec<u8>, id: WireId, bytes: &[u8]) -> Result<(), AllocError>
     ensures { OnOk result (output.new.items ≡ output.old.items ++ read_line id bytes.now) }
 {
@@ -64,7 +64,7 @@ fn put_read(output: &mut Vec<u8>, id: WireId, bytes: &[u8]) -> Result<(), AllocE
     Ok(())
 }
 
-/// Appends the line of bytes that were read, and the bytes behind it, as they are.
+/// Appends the line of bytes that were read, with the bytes behind it as they are.
 fn put_octets(output: &mut Vec<u8>, id: WireId, bytes: &[u8]) -> Result<(), AllocError>
     ensures { OnOk result (output.new.items ≡ output.old.items ++ octets_line id bytes.now) }
 {
@@ -76,7 +76,7 @@ fn put_octets(output: &mut Vec<u8>, id: WireId, bytes: &[u8]) -> Result<(), Allo
     Ok(())
 }
 
-/// Appends what is noted of bytes that were read: few stand in their line, many behind it.
+/// Appends the line of bytes that were read: few bytes are in the line, many behind it.
 pub(crate) fn put_came(output: &mut Vec<u8>, id: WireId, bytes: &[u8]) -> Result<(), AllocError>
     ensures { OnOk result (output.new.items ≡ output.old.items ++ came_line id bytes.now) }
 {
@@ -87,7 +87,7 @@ pub(crate) fn put_came(output: &mut Vec<u8>, id: WireId, bytes: &[u8]) -> Result
     }
 }
 
-/// Appends the line of bytes that were read, behind which so many octets are left out.
+/// Appends the line of bytes that were read, behind which `zeros` octets are left out.
 fn put_zeros(output: &mut Vec<u8>, id: WireId, zeros: usize, bytes: &[u8]) -> Result<(), AllocError>
     ensures { OnOk result (output.new.items ≡ output.old.items ++ zeros_line id zeros bytes.now) }
 {
@@ -99,7 +99,7 @@ fn put_zeros(output: &mut Vec<u8>, id: WireId, zeros: usize, bytes: &[u8]) -> Re
     Ok(())
 }
 
-/// Appends what is noted of what was read, without documents.
+/// Appends the line of a read without documents.
 pub(crate) fn put_blanked(
     output: &mut Vec<u8>,
     id: WireId,
@@ -123,7 +123,7 @@ pub(crate) fn put_sent(output: &mut Vec<u8>, sent: Sent) -> Result<(), AllocErro
     Ok(())
 }
 
-/// Appends a space and a sum, or a line where there is none.
+/// Appends a space and a sum, or ` -` if there is no sum.
 fn put_sum(output: &mut Vec<u8>, sum: Option<u32>) -> Result<(), AllocError>
     ensures { OnOk result (output.new.items ≡ output.old.items ++ sum_words sum) }
 {
@@ -133,14 +133,14 @@ fn put_sum(output: &mut Vec<u8>, sum: Option<u32>) -> Result<(), AllocError>
     }
 }
 
-/// Appends the line that ends a turn.
+/// Appends the line of the end of a turn.
 pub fn put_turn(output: &mut Vec<u8>, moment: Moment) -> Result<(), AllocError>
     ensures { OnOk result (output.new.items ≡ output.old.items ++ turn_line moment) }
 {
     put_line(output, b"turn", moment.millis())
 }
 
-/// Appends the line that says that memory was refused.
+/// Appends the line `refused`: memory was refused.
 pub(crate) fn put_refused(output: &mut Vec<u8>) -> Result<(), AllocError>
     ensures { OnOk result (output.new.items ≡ output.old.items ++ codes "refused\n") }
 {
@@ -168,8 +168,8 @@ pub fn put_entry(output: &mut Vec<u8>, entry: &Entry) -> Result<(), AllocError>
     }
 }
 
-/// Appends the lines in front of the turns: the settings, the point behind them, and when the server
-/// started, in ms since the beginning of 1970, by which version, and whether heads alone are noted.
+/// Appends the lines before the turns: the settings, the point behind them, and a line with the start of the
+/// server in ms since the beginning of 1970, its version, and whether documents are left out.
 pub fn put_start(
     output: &mut Vec<u8>,
     settings: &[u8],
@@ -188,7 +188,7 @@ pub fn put_start(
     output.extend_from_slice(if heads { b" heads\n" } else { b"\n" })
 }
 
-/// Appends the line in front of the turns of a file that goes on where another one, of this name, ends.
+/// Appends the line before the turns of a file that continues the file `name`.
 pub fn put_goes_on(output: &mut Vec<u8>, name: &[u8]) -> Result<(), AllocError> {
     output.extend_from_slice(GOES_ON)?;
     output.extend_from_slice(name)?;

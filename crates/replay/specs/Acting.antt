@@ -1,4 +1,4 @@
--- How a program plays a trace, step by step.
+-- The steps of a program that plays a trace.
 use Rattle.std.specs.Prelude.{ℕ, ◌≡◌, ◌+◌, Bool, true, false, List, [], ◌∷◌, ◌++◌, map, Some}
 use Rattle.std.specs.Option.{ForSome}
 use Rattle.settings_file.specs.Settings.{ServerSettings, device_names}
@@ -18,15 +18,15 @@ use Rattle.replay.specs.Replay.{start}
 use Rattle.traces.specs.TraceLine.{IsLine}
 use Rattle.replay.specs.Wire.{PeersSee, any_stirs, all_turns}
 
--- how far it has come
+-- the progress of a play
 abbrev pub standing : Play → Standing
 standing p = record { moment = p.moment; connections = p.connections.items; peers = p.wire.memory.peers.items }
 
--- wherever the old engine stands, the new one stands after these actions
+-- for each trace at which the old engine stands, the new one stands at that trace with these actions behind it
 abbrev pub Moves : EngineState → Trace → EngineState → Type 0
 Moves old actions new = (opening : State) (trace : Trace) → StandsAt opening trace old → StandsAt opening (trace ++ actions) new
 
--- all that was heard was printed, and no poll of the wire has failed
+-- all that was told was printed, and no poll of the wire has failed
 pub record IsReady (p : Play) : Type 0 where
   pub silent : p.log.heard ≡ Some []
   pub prompt : p.wire.failed ≡ false
@@ -38,14 +38,14 @@ pub record IsStart (texts : Bool) (settings : ServerSettings) (p : Play) : Type 
   pub starts : standing p ≡ start
   pub stands : StandsAt (opening settings 1) [] p.engine
 
--- its connections and their peers have changed, and nothing else
+-- only the connections and their peers have changed
 pub record Becomes (old new : Play) (s : Standing) : Type 0 where
   pub engine : new.engine ≡ old.engine
   pub log : new.log ≡ old.log
   pub prompt : new.wire.failed ≡ old.wire.failed
   pub stands : standing new ≡ s
 
--- actions are done, which have this property, and all is printed
+-- the play took actions with this property, and printed all that was told
 pub record Does (old new : Play) (Is : Trace → Type 0) : Type 0 where
   pub actions : Trace
   pub is : Is actions
@@ -53,7 +53,7 @@ pub record Does (old new : Play) (Is : Trace → Type 0) : Type 0 where
   pub log : new.log ≡ old.log
   pub prompt : new.wire.failed ≡ false
 
--- one turn is taken, in which a poll came to something or not
+-- the play took one turn; `stirred` says whether a poll of it had an answer other than Waiting
 pub record TakesTurn (old new : Play) (stirred : Bool) : Type 0 where
   pub turn : List Happening
   pub is : stirred ≡ any_stirs turn
@@ -64,7 +64,7 @@ pub record TakesTurn (old new : Play) (stirred : Bool) : Type 0 where
   pub moment : new.moment ≡ old.moment
   pub connections : new.connections ≡ old.connections
 
--- turns are taken, one after another
+-- the play took turns, one after another
 pub record TakesTurns (old : Play) (turns : List (List Happening)) (new : Play) : Type 0 where
   pub sees : new.wire.failed ≡ false → (old.wire.failed ≡ false) × Leads PeersSee old.wire.memory.peers.items (all_turns turns) new.wire.memory.peers.items
   pub hears : ForSome new.log.heard (λ text. (before : List ℕ) × (old.log.heard ≡ Some before) × (text ≡ before ++ happenings_text old.log.texts old.log.names (all_turns turns)))
@@ -73,18 +73,18 @@ pub record TakesTurns (old : Play) (turns : List (List Happening)) (new : Play) 
   pub moment : new.moment ≡ old.moment
   pub connections : new.connections ≡ old.connections
 
--- till all is quiet
+-- the play took turns up to a quiet one
 abbrev pub TakesTillQuiet : Play → Play → Type 0
 TakesTillQuiet old new = (turns : List (List Happening)) × AreTillQuiet turns × TakesTurns old turns new
 
--- the bytes were a line that may come, and what it gives was appended; or they were bad, and nothing changed
+-- the bytes are a line that may come, and its text was appended; or they aren't, and nothing changed
 abbrev pub Acts : Play → List ℕ → List ℕ → Bool → Play → List ℕ → Type 0
 Acts old bytes output true new output' =
     (line : Line) × (text : List ℕ) × IsLine old.log.names bytes line × (may_come line (standing old) ≡ true)
     × Does old new (λ actions. Plays old.log.texts old.log.names line (standing old) actions text (standing new)) × (output' ≡ output ++ text)
 Acts old bytes output false new output' = IsBad old.log.names bytes (standing old) × (output' ≡ output)
 
--- what lines give, the first of which has this number, wherever the server stood before: the actions that they are, up to here
+-- the text and the status of lines, of which the first has this number, for each trace at which the server stood before, with the actions of the lines
 pub record PlaysAll (old : Play) (number : ℕ) (lines : List (List ℕ)) (before : List ℕ) (all : Said) : Type 0 where
   pub actions : Trace
   pub said : Said
@@ -93,7 +93,7 @@ pub record PlaysAll (old : Play) (number : ℕ) (lines : List (List ℕ)) (befor
   pub moves : Moves old.engine actions new
   pub printed : all ≡ said_after before said
 
--- what the first of them give, where memory was refused
+-- the text of a front of the lines, where memory was refused
 pub record PlaysFirst (old : Play) (number : ℕ) (lines : List (List ℕ)) (before left : List ℕ) : Type 0 where
   pub first : List (List ℕ)
   pub others : List (List ℕ)

@@ -1,29 +1,29 @@
--- A log: what was printed of what an engine tells.
+-- A log: the printed text of an engine's notes.
 use Rattle.std.specs.Prelude.{ℕ, ◌≡◌, ◌⊎◌, Bool, List, [], ◌∷◌, ◌++◌, Option, None, option_map}
 use Rattle.dispatcher.specs.Notes.{Note, Planned, Canceled, DeviceRefused, Refused}
 use Rattle.server.specs.Polls.{Happening, Polled, Told, Chosen}
 use Rattle.traces.specs.Printed.{dispatch_lines, cancel_line}
 
--- whether the texts of plans are asked for, the names of the devices, and what was heard, unless memory was refused
+-- whether the texts of plans are printed, the names of the devices, and the text so far; `None` if memory was refused
 pub record LogRecord : Type 0 where
   pub texts : Bool
   pub names : List (List ℕ)
   pub heard : Option (List ℕ)
 
--- what is printed of a note
+-- the printed text of a note
 abbrev pub note_text : Bool → List (List ℕ) → Note → List ℕ
 note_text texts names (Planned plan started) = dispatch_lines texts names plan started
 note_text texts names (Canceled cancel) = cancel_line names cancel
 note_text texts names (DeviceRefused id why) = []
 note_text texts names (Refused place id) = []
 
--- a note is printed after what was heard before, or memory was refused
+-- the text of a note is appended, or memory was refused
 abbrev pub Hears : LogRecord → Note → LogRecord → Type 0
 Hears old note new =
     (new ≡ record old { heard = option_map (λ text. text ++ note_text old.texts old.names note) old.heard })
     ⊎ (new ≡ record old { heard = None })
 
--- what is printed of what happens: of its notes, in their order
+-- the printed text of a happening, which is that of its note
 abbrev pub happening_text : Bool → List (List ℕ) → Happening → List ℕ
 happening_text texts names (Polled poll) = []
 happening_text texts names (Told note) = note_text texts names note

@@ -1,4 +1,4 @@
--- That what the lines of a trace without connections give is given by one run of the core over their events.
+-- The printed text of a trace without connections is that of one run of the core over the events of its lines.
 use Rattle.std.specs.Prelude.{ℕ, suc, ◌≡◌, ◌⊎◌, Bool, All, List, [], ◌∷◌, ◌++◌, Some, codes}
 use Rattle.std.specs.List.{concat}
 use Rattle.std.specs.Fmt.{decimal}
@@ -38,17 +38,17 @@ IsOfNoConnection (Form.Open connection) = ⊥
 IsOfNoConnection (Form.In input) = ⊥
 IsOfNoConnection (Form.End number) = ⊥
 
--- no line opens a connection, or brings its bytes or its end
+-- no line opens a connection, or has a connection's bytes or its end
 abbrev pub SpeaksOfNoConnection : List (List ℕ) → List (List ℕ) → Type 0
 SpeaksOfNoConnection names lines = All (λ bytes. (line : Line) → IsLine names bytes line → IsOfNoConnection line) lines
 
--- ---- a run, and what is heard of it
+-- ---- a run and its printed text
 
--- a listener that keeps the lines of each note, one text a note
+-- a listener that stores the text of each note
 abbrev pub PrintsEach : Bool → List (List ℕ) → List (List ℕ) → Note → List (List ℕ) → Type 0
 PrintsEach texts names before note after = after ≡ before ++ note_text texts names note ∷ []
 
--- a part of a run: events, what became of each, and the text of each note
+-- a part of a run: its events, the outcome of each, and the text of each note
 pub record Part : Type 0 where
   pub events : List Timed
   pub outcomes : List Outcome
@@ -57,11 +57,11 @@ pub record Part : Type 0 where
 abbrev pub nothing : Part
 nothing = record { events = []; outcomes = []; heard = [] }
 
--- one part, and then another
+-- two parts, one after the other
 abbrev pub then_part : Part → Part → Part
 then_part first later = record { events = first.events ++ later.events; outcomes = first.outcomes ++ later.outcomes; heard = first.heard ++ later.heard }
 
--- one event came, and was answered this; no memory was refused
+-- the part of one event with this reply, where no memory was refused
 pub record IsOne (event : Event) (moment : ℕ) (reply : Effects) (part : Part) : Type 0 where
   pub outcome : Outcome
   pub heard : List (List ℕ)
@@ -69,22 +69,22 @@ pub record IsOne (event : Event) (moment : ℕ) (reply : Effects) (part : Part) 
   pub whole : IsWhole outcome
   pub is : part ≡ record { events = record { event = event; moment = moment } ∷ []; outcomes = outcome ∷ []; heard = heard }
 
--- ---- what a line is to the core
+-- ---- the event of a line
 
--- the bytes that answer the request of this id
+-- the bytes of the reply to the request with this id
 abbrev pub IsReplyOf : Response → ℕ → List ℕ → Type 0
 IsReplyOf (Says.Ipp answer) request_id bytes = IsReply answer request_id bytes
 IsReplyOf (Says.Lpd answer) request_id bytes = ⊥
 IsReplyOf Says.Nothing request_id bytes = ⊥
 
--- what a body is to the core, and what is printed of its reply
+-- the part of a run for a body, and the printed text of its reply
 abbrev pub BodyMeans : ParsedRequest → ℕ → Part → List ℕ → Type 0
 BodyMeans Body.TooShort moment part text = (part ≡ nothing) × (text ≡ codes "http 400\n")
 BodyMeans (Body.Refused status request_id) moment part text = (part ≡ nothing) × (text ≡ reply_line (refusal_bytes status request_id))
 BodyMeans (Body.Event request_id event) moment part text =
     (reply : Effects) × (bytes : List ℕ) × IsOne event moment reply part × IsReplyOf reply.answer request_id bytes × (text ≡ reply_line bytes)
 
--- what a line is to the core at the moment that the trace told last, and what is printed of its reply
+-- the part of a run for a line at the current moment of the trace, and the printed text of its reply
 abbrev pub Means : Line → ℕ → Part → List ℕ → Type 0
 Means (Form.At later) moment part text = (part ≡ nothing) × (text ≡ [])
 Means (Form.Ipp body) moment part text = (asked : ParsedRequest) × Asks body.items asked × BodyMeans asked moment part text
@@ -94,19 +94,18 @@ Means (Form.Open connection) moment part text = ⊥
 Means (Form.In input) moment part text = ⊥
 Means (Form.End number) moment part text = ⊥
 
--- the moment that the trace told last, after a line
+-- the current moment of the trace after a line
 abbrev pub moment_after : Line → ℕ → ℕ
 moment_after (Form.At later) moment = later
 moment_after _ moment = moment
 
 -- ---- all lines
 
--- bytes that are no line of a trace
+-- the bytes aren't a line of a trace
 abbrev pub IsNoLine : List (List ℕ) → List ℕ → Type 0
 IsNoLine names bytes = (line : Line) → ¬ (IsLine names bytes line)
 
--- Each line in turn, up to one that is no line of a trace: what it is to the core; and of each what is
--- printed of its reply, followed by what was heard of its event.
+-- The part of a run for the lines, in order, up to the first bytes that aren't a line; and the text: for each line the text of its reply, and then that of the notes of its event.
 abbrev pub LinesMean : List (List ℕ) → ℕ → List (List ℕ) → ℕ → Part → Said → Type 0
 LinesMean names number [] moment all said = (all ≡ nothing) × (said ≡ record { text = []; status = Ends.Done })
 LinesMean names number (bytes ∷ more) moment all said =
@@ -115,7 +114,7 @@ LinesMean names number (bytes ∷ more) moment all said =
     × IsLine names bytes line × Means line moment part text × LinesMean names (suc number) more (moment_after line moment) later rest
     × (all ≡ then_part part later) × (said ≡ said_after (text ++ concat part.heard) rest))
 
--- one run of the core over the events of the lines, from the start of a server with these settings, and what is printed of it
+-- one run of the core over the events of the lines, from the start of a server with these settings, and its text
 pub record IsOneRun (texts : Bool) (settings : ServerSettings) (number : ℕ) (lines : List (List ℕ)) (said : Said) : Type 0 where
   pub part : Part
   pub new : State

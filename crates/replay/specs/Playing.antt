@@ -1,4 +1,4 @@
--- What the lines of a trace do to a server, and what is printed of each.
+-- The actions of a server for the lines of a trace, and the printed text of each line.
 use Rattle.std.specs.Prelude.{ℕ, suc, ◌≡◌, ◌⊎◌, ◌<◌, not, Bool, true, false, All, List, [], ◌∷◌, ◌++◌, length, map, codes}
 use Rattle.std.specs.Option.{option_map_or}
 use Rattle.std.specs.Fmt.{decimal}
@@ -18,7 +18,7 @@ use Rattle.traces.specs.Printed.{reply_line}
 use Rattle.traces.specs.TraceLine.{IsLine}
 use Rattle.replay.specs.Wire.{PeersSee, any_stirs, all_turns}
 
--- how far a trace has come: the moment that it told last, its connections by their numbers, and their peers
+-- the progress of a trace: its current moment, its connections by their numbers, and their peers
 pub record Standing : Type 0 where
   pub moment : ℕ
   pub connections : List Connection
@@ -26,7 +26,7 @@ pub record Standing : Type 0 where
 
 -- ---- lines without a connection
 
--- a call between turns in which no growth is refused, and what it tells
+-- a call between turns in which no memory is refused, and the text of its notes
 pub record Calls (texts : Bool) (names : List (List ℕ)) (action : List Happening → Action) (actions : Trace) (text : List ℕ) : Type 0 where
   pub happenings : List Happening
   pub unrefused : has_refusal happenings ≡ false
@@ -39,7 +39,7 @@ IsReplyLine (Replied bytes) line = line ≡ reply_line bytes
 IsReplyLine BadRequest line = line ≡ codes "http 400\n"
 IsReplyLine OutOfMemory line = ⊥
 
--- a body is served: the line of its reply, and what that tells
+-- a body is served: the text is the line of its reply, and the text of the notes
 pub record Serves (texts : Bool) (names : List (List ℕ)) (moment : ℕ) (body : List ℕ) (actions : Trace) (text : List ℕ) : Type 0 where
   pub answer : Outcome
   pub line : List ℕ
@@ -53,7 +53,7 @@ pub record Serves (texts : Bool) (names : List (List ℕ)) (moment : ℕ) (body 
 abbrev pub most_turns : ℕ
 most_turns = 16777216
 
--- turns, of which each but the last has a poll that comes to something, up to so many
+-- at most `most_turns` turns, of which each but the last has a poll with an answer other than Waiting
 pub record AreTillQuiet (turns : List (List Happening)) : Type 0 where
   pub busy : List (List Happening)
   pub each : All (λ turn. any_stirs turn ≡ true) busy
@@ -61,7 +61,7 @@ pub record AreTillQuiet (turns : List (List Happening)) : Type 0 where
       ((quiet : List Happening) × (any_stirs quiet ≡ false) × (length busy < most_turns) × (turns ≡ busy ++ quiet ∷ []))
       ⊎ ((length busy ≡ most_turns) × (turns ≡ busy))
 
--- turns are taken until all is quiet: what they tell, and then what each peer got, and which connections were closed
+-- turns up to a quiet one; the text is that of the notes, and then that of the connections
 pub record Turns (texts : Bool) (names : List (List ℕ)) (old : Standing) (actions : Trace) (text : List ℕ) (new : Standing) : Type 0 where
   pub turns : List (List Happening)
   pub till : AreTillQuiet turns
@@ -71,7 +71,7 @@ pub record Turns (texts : Bool) (names : List (List ℕ)) (old : Standing) (acti
   pub printed : text ≡ happenings_text texts names (all_turns turns) ++ connections_text peers old.connections
   pub after : new ≡ record old { connections = map (seen peers) old.connections; peers = map emptied peers }
 
--- a connection comes in at a door
+-- a connection is opened at a door
 abbrev pub opened : ℕ → Door → Standing → Standing
 opened number door s =
     record s { connections = with_connection (record { number = number; place = length s.peers; gone = false }) s.connections; peers = s.peers ++ new_peer door ∷ [] }
@@ -82,7 +82,7 @@ on_peer number change s = record s { peers = option_map_or (λ c. changed_at c.p
 
 -- ---- a line
 
--- what a line does to the server, and what is printed of it
+-- the actions of a line, and its printed text
 abbrev pub Plays : Bool → List (List ℕ) → Line → Standing → Trace → List ℕ → Standing → Type 0
 Plays texts names (Form.At moment) old actions text new = (actions ≡ []) × (text ≡ []) × (new ≡ record old { moment = moment })
 Plays texts names (Form.Ipp body) old actions text new = Serves texts names old.moment body.items actions text × (new ≡ old)
@@ -92,7 +92,7 @@ Plays texts names (Form.Open opening) old actions text new = Turns texts names (
 Plays texts names (Form.In input) old actions text new = Turns texts names (on_peer input.number (sending input.bytes.items) old) actions text new
 Plays texts names (Form.End number) old actions text new = Turns texts names (on_peer number ending old) actions text new
 
--- a number is opened once, and nothing comes under it before that or after its end
+-- whether a connection of the number was opened
 abbrev pub is_opened : ℕ → Standing → Bool
 is_opened number s = option_map_or (λ c. true) (numbered number s.connections) false
 
@@ -110,11 +110,11 @@ may_come (Form.End number) s = is_open number s
 
 -- ---- all lines
 
--- bytes that are no line of a trace, or one that may not come now
+-- the bytes aren't a line of a trace, or are one that may not come now
 abbrev pub IsBad : List (List ℕ) → List ℕ → Standing → Type 0
 IsBad names bytes s = ((line : Line) → IsLine names bytes line → ⊥) ⊎ ((line : Line) × IsLine names bytes line × (may_come line s ≡ false))
 
--- each line in turn, the first of which has this number, up to a bad one
+-- the actions and the text of the lines, in order, of which the first has this number, up to a bad one
 abbrev pub LinesPlay : Bool → List (List ℕ) → ℕ → List (List ℕ) → Standing → Trace → Said → Type 0
 LinesPlay texts names number [] old actions said = (actions ≡ []) × (said ≡ record { text = []; status = Ends.Done })
 LinesPlay texts names number (bytes ∷ more) old actions said =

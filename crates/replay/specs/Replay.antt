@@ -1,4 +1,4 @@
--- What `printd replay` writes, and its exit status, for each trace: what a server does that is told its lines.
+-- The output and the exit status of `printd replay`, for each trace.
 use Rattle.std.specs.Prelude.{ℕ, suc, ◌≡◌, ◌⊎◌, Bool, List, [], ◌++◌, Option, Ok, MatchResult, codes, take}
 use Rattle.std.specs.Str.{IsUtf8}
 use Rattle.std.specs.Io.KnownBytes.{Appends}
@@ -23,7 +23,7 @@ use Rattle.replay.specs.Playing.{Standing, LinesPlay}
 abbrev pub start : Standing
 start = record { moment = 0; connections = []; peers = [] }
 
--- What some lines give, the first of which has this number: a server with these settings does what they say from its start on, and this is what is printed of that.
+-- The text and the status of lines, of which the first has this number: those of the actions that a server with these settings takes for them from its start on.
 pub record LinesGive (texts : Bool) (settings : ServerSettings) (number : ℕ) (lines : List (List ℕ)) (said : Said) : Type 0 where
   pub actions : Trace
   pub ledger : Ledger
@@ -32,7 +32,7 @@ pub record LinesGive (texts : Bool) (settings : ServerSettings) (number : ℕ) (
 
 -- ---- a trace
 
--- the settings, and the lines that come after so many
+-- the text and the status of settings, with the lines behind the first `count` lines
 abbrev pub SettingsGive : Bool → List ℕ → List ℕ → ℕ → Said → Type 0
 SettingsGive texts settings rest count said =
     (¬ (IsUtf8 settings) × (said ≡ settings_refused not_toml))
@@ -40,13 +40,13 @@ SettingsGive texts settings rest count said =
     (λ read. LinesGive texts read (suc count) (lines_of rest) said)
     (λ fault. said ≡ settings_refused fault))
 
--- a trace without the line that ends its settings has none
+-- the text and the status of a trace; without the line that ends the settings it is refused
 abbrev pub TraceGives : Bool → List ℕ → Said → Type 0
 TraceGives texts trace said =
     (HasNoStop trace × (said ≡ settings_refused not_toml))
     ⊎ ((settings : List ℕ) × (rest : List ℕ) × (count : ℕ) × IsSplit trace settings rest count × SettingsGive texts settings rest count said)
 
--- where memory was refused: nothing yet, or what the first of the lines give
+-- the text where memory was refused: that of a front of the lines
 pub record FirstGive (texts : Bool) (settings rest : List ℕ) (count : ℕ) (left : List ℕ) : Type 0 where
   pub read : ServerSettings
   pub reads : settings_of settings ≡ Ok read
@@ -65,21 +65,20 @@ TraceLeaves texts trace left =
 
 -- ---- the program
 
--- what an input gives: the trace that it is as a whole, or that it has too many bytes
+-- the text and the status of an input, which is a whole trace or has too many bytes
 abbrev pub InputGives : Bool → Option (List ℕ) → Option (List ℕ) → Said → Type 0
 InputGives texts before after said =
     ((trace : List ℕ) × IsWhole INPUT_BYTES before after trace × TraceGives texts trace said)
     ⊎ (GaveMore INPUT_BYTES before after × (said ≡ refused_as (codes "size")))
 
--- what is left to write where the program fails: nothing, what the first of the lines give, or all
+-- the text that is left to write if the program fails: none, that of a front of the lines, or all
 abbrev pub InputLeaves : Bool → Option (List ℕ) → Option (List ℕ) → List ℕ → Type 0
 InputLeaves texts before after left =
     (left ≡ [])
     ⊎ ((trace : List ℕ) × IsWhole INPUT_BYTES before after trace × TraceLeaves texts trace left)
     ⊎ ((said : Said) × InputGives texts before after said × (left ≡ said.text))
 
--- What the input gives was written as a whole; or memory, the reader or the writer failed, and a front
--- was written of what was due till then.
+-- The text of the input was written as a whole; or memory, the reader or the writer failed, and a front of the text so far was written.
 abbrev pub Replays : Bool → Option (List ℕ) → Option (List ℕ) → Option (List ℕ) → Option (List ℕ) → ExitStatus → Type 0
 Replays texts before after held holds status =
     ((said : Said) × InputGives texts before after said × Appends held holds said.text × (status ≡ said.status))

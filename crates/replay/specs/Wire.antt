@@ -1,4 +1,4 @@
--- The wire of a trace: a wire in memory that moves whatever there is to move.
+-- The wire of a trace: a wire in memory that moves all bytes that can be moved.
 use Rattle.std.specs.Prelude.{ℕ, ◌≡◌, ◌||◌, not, Bool, true, false, List, [], ◌∷◌, ◌++◌, slice_get}
 use Rattle.std.specs.Option.{option_map_or}
 use Rattle.wires.specs.declared.wire.Progress.{Progress}
@@ -9,7 +9,7 @@ use Rattle.server.specs.Polls.{Happening, Polled, Told, Chosen}
 use Rattle.wires.specs.MemoryWire.{PeersMove}
 use Rattle.replay.specs.declared.wire.TraceWire.{TraceWire}
 
--- whether a poll came to something
+-- whether the answer isn't Waiting
 abbrev pub is_something : {T : Type 0} → Progress T → Bool
 is_something (Done it) = true
 is_something Waiting = false
@@ -26,11 +26,11 @@ abbrev pub is_empty : List ℕ → Bool
 is_empty [] = true
 is_empty (byte ∷ bytes) = false
 
--- whether the peer of a number has sent what wasn't read yet
+-- whether the peer of a number has bytes that weren't read
 abbrev pub has_input : ℕ → List PeerState → Bool
 has_input id peers = option_map_or (λ p. not (is_empty p.input)) (slice_get peers id) false
 
--- no poll fails, a read waits only where nothing was sent, and no write waits
+-- no poll fails, a read waits only if no bytes are there, and no write waits
 abbrev pub IsPrompt : List PeerState → Poll → Type 0
 IsPrompt peers (Accepts door Fault) = ⊥
 IsPrompt peers (Reads id Fault) = ⊥
@@ -39,13 +39,13 @@ IsPrompt peers (Writes id offered Fault) = ⊥
 IsPrompt peers (Writes id offered Waiting) = ⊥
 IsPrompt peers _ = Unit {0}
 
--- what a call does: it is noted whether it came to something, and whether it wasn't prompt
+-- a call: the wire records whether the answer isn't Waiting, and whether it wasn't prompt
 pub record WirePolls (old : TraceWire) (poll : Poll) (new : TraceWire) : Type 0 where
   pub moves : PeersMove old.memory.peers.items poll new.memory.peers.items
   pub stirred : new.stirred ≡ (old.stirred || stirs poll)
   pub prompt : new.failed ≡ false → (old.failed ≡ false) × IsPrompt old.memory.peers.items poll
 
--- what happens leads the peers on: a poll by what it moves, promptly; of a note they know nothing
+-- the peers after a happening: a poll moves their bytes, promptly; a note leaves them unchanged
 abbrev pub PeersSee : List PeerState → Happening → List PeerState → Type 0
 PeersSee old (Polled poll) new = PeersMove old poll new × IsPrompt old poll
 PeersSee old (Told note) new = new ≡ old
@@ -56,12 +56,12 @@ happening_stirs (Polled poll) = stirs poll
 happening_stirs (Told note) = false
 happening_stirs (Chosen choice) = false
 
--- whether some poll came to something
+-- whether some poll has an answer other than Waiting
 abbrev pub any_stirs : List Happening → Bool
 any_stirs [] = false
 any_stirs (h ∷ hs) = happening_stirs h || any_stirs hs
 
--- what happened in some turns
+-- the happenings of turns, in order
 abbrev pub all_turns : List (List Happening) → List Happening
 all_turns [] = []
 all_turns (turn ∷ turns) = turn ++ all_turns turns

@@ -1,10 +1,11 @@
-//! A trace, played: a server is told its lines, and what it does is printed.
+//! The player of traces: a server acts on the lines of a trace, and the result is printed.
 //!
-//! The one call is [`run_replay`]: for every input it writes exactly what a server does that is told the
-//! lines, over a wire in memory whose peers send what the trace says, and gives the exit status; of a trace
-//! that is refused it tells why, in a sentence. Where no line speaks of a connection, that is one run of the core over the lines' events
-//! ([`lines_are_one_run`]). What a server does is `server`'s; no word of a command line is read here.
-//! Its rows are traces of `play_examples`.
+//! The main function is [`run_replay`]. For each input its contract determines the output and the exit
+//! status: those of a server that acts on the lines, over a wire in memory whose peers send the bytes of the
+//! trace. For a trace that is refused it returns the reason, which is printed as a sentence. If no line is
+//! about a connection, the output is that of one run of the core over the events of the lines
+//! ([`lines_are_one_run`]). The contract of the server is in `server`. The crate reads no command line. Its
+//! rows are traces of `play_examples`.
 #![tactic(auto)]
 
 mod law;

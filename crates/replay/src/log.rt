@@ -1,4 +1,4 @@
-//! What was printed of what an engine tells.
+//! The printed text of an engine's notes.
 ghost use Rattle.std.specs.Prelude.{◌≡◌, [], Some, IfOk};
 ghost use Rattle.dispatcher.specs.Dispatched.{plan_of, started_of};
 ghost use Rattle.dispatcher.specs.Notes.{Planned, Canceled};
@@ -12,8 +12,8 @@ use std::marker::Model;
 use traces::{put_cancel, put_dispatch};
 use wires::WireId;
 
-/// A listener that keeps what is printed of each dispatch and of each cancel. In clauses it is a record
-/// of whether the texts of plans are asked for, the names of the devices, and what was heard, unless
+/// A listener that stores the printed text of each dispatch and of each cancel. In clauses it is a record of
+/// whether the texts of plans are printed, the names of the devices, and the text so far, which is `None` if
 /// memory was refused.
 #[derive(Drop)]
 pub struct Log {
@@ -56,7 +56,7 @@ impl Listener for Log {
 }
 
 impl Log {
-    /// Nothing was heard yet.
+    /// Creates an empty log.
     pub fn new(alloc: Global, texts: bool, names: Vec<Text>) -> Log
         ensures { result ≡ record { texts = texts; names = names.items; heard = Some [] } }
     {
@@ -75,15 +75,14 @@ impl Log {
         &self.names
     }
 
-    /// What was heard, which is then heard no more. The error is that memory was refused for some of
-    /// it.
+    /// Removes and returns the text. The error is that memory for a part of it was refused.
     pub fn take(&mut self) -> Result<Vec<u8>, AllocError>
         ensures { IfOk result (λ text. (self.old.heard ≡ Some text.items) × (self.new ≡ record self.old { heard = Some [] })) }
     {
         self.heard.take()
     }
 
-    /// What is printed of a dispatch.
+    /// Returns the text of a dispatch. The only error is out of memory.
     fn dispatch_text(&self, made: &Dispatched<'_>) -> Result<Vec<u8>, AllocError>
         ensures { IfOk result (λ text. text.items ≡ note_text self.now.texts self.now.names (Planned (plan_of made.now) (started_of made.now))) }
     {
@@ -99,7 +98,7 @@ impl Log {
         Ok(text)
     }
 
-    /// What is printed of a cancel.
+    /// Returns the text of a cancel. The only error is out of memory.
     fn cancel_text(&self, cancel: Cancel) -> Result<Vec<u8>, AllocError>
         ensures { IfOk result (λ text. text.items ≡ note_text self.now.texts self.now.names (Canceled cancel)) }
     {

@@ -1,48 +1,48 @@
-//! What is wrong with a trace, in a sentence for its writer.
+//! The faults of a trace, in sentences for its writer.
 
 use settings_file::explain;
 use std::alloc::Global;
 use std::fmt;
 
-/// What the sentences name as the file of the settings.
+/// The name of the settings' file in the sentences.
 const INPUT: &str = "<standard input>";
 
-/// Why an input is no trace that is played to its end. Shown, it is a sentence without a line feed, which
-/// begins with the name of standard input.
+/// Why an input isn't a trace that can be played to its end. Displayed, it is a sentence without a line feed,
+/// which begins with the name of standard input.
 #[derive(Debug, Drop)]
 pub enum Objection {
-    /// It has more bytes than [`base_types::Limits::INPUT_BYTES`].
+    /// The input has more bytes than [`base_types::Limits::INPUT_BYTES`].
     Size,
-    /// No line is a point alone, as the one behind the settings is.
+    /// No line is only a point, as the line behind the settings has to be.
     NoPoint,
-    /// The settings are refused, for what this sentence says, unless memory was refused for it.
+    /// The settings are refused. The sentence has the reason, unless memory for it was refused.
     Settings(Option<String>),
     /// The line of this number, counted from 1, is bad.
     Line { number: usize, fault: LineFault },
 }
 
-/// What is wrong with a line behind the settings.
+/// The fault of a line behind the settings.
 #[derive(Clone, Copy, Debug, PartialEq, Eq)]
 pub enum LineFault {
-    /// It begins with no word of a line.
+    /// The line doesn't begin with a word of a trace.
     Word,
-    /// `at` is followed by no moment.
+    /// No moment follows `at`.
     Moment,
-    /// `ipp` is followed by no bytes.
+    /// No bytes follow `ipp`.
     Body,
-    /// `dev` is followed by no device of the settings, or by no line that it may write.
+    /// No device of the settings follows `dev`, or no line that the device may send.
     Device,
-    /// `open` is followed by no number, or by no door.
+    /// No number follows `open`, or no door.
     Opening,
-    /// `in` is followed by no number, or by no bytes.
+    /// No number follows `in`, or no bytes.
     Input,
-    /// `end` is followed by no number.
+    /// No number follows `end`.
     End,
-    /// It opens a connection under a number that was given.
+    /// The line opens a connection with a number that another connection has or had.
     Given,
-    /// No connection of its number is open.
+    /// No connection of the line's number is open.
     NotOpen,
-    /// Memory was refused for what it is.
+    /// Memory to find the fault was refused.
     Unknown,
 }
 
@@ -87,7 +87,7 @@ impl fmt::Display for Objection {
     }
 }
 
-/// What is wrong with the settings of a trace, whose bytes these are.
+/// The fault of the settings of a trace, with these bytes.
 pub(crate) fn about_settings(alloc: Global, settings: &[u8]) -> Objection {
     match explain(alloc, INPUT, settings) {
         Ok(sentence) => Objection::Settings(sentence),
@@ -95,7 +95,7 @@ pub(crate) fn about_settings(alloc: Global, settings: &[u8]) -> Objection {
     }
 }
 
-/// What is wrong with the form of bytes that are no line of a trace.
+/// The fault in the form of bytes that aren't a line of a trace.
 pub fn form_fault(line: &[u8]) -> LineFault {
     if line.starts_with(b"at ") {
         LineFault::Moment

@@ -1,4 +1,4 @@
-//! A server that is told the lines of a trace.
+//! A server that acts on the lines of a trace.
 ghost use Rattle.std.specs.Prelude.{◌≡◌, Ok, Some, IfOk, OnOk, OnErr};
 ghost use Rattle.base_types.specs.Report.{report_of};
 ghost use Rattle.settings_file.specs.Settings.{MeetsLimits};
@@ -23,10 +23,10 @@ use traces::{
 };
 use wires::{MemoryPeer, MemoryWire};
 
-/// After so many turns for one line no more are taken for it.
+/// The most turns that are taken for one line.
 const MOST_TURNS: usize = 16_777_216;
 
-/// A server, the wire of its connections, and what was printed of what it tells.
+/// A server, the wire of its connections, and the printed text of its notes.
 #[derive(Drop)]
 pub(crate) struct Play {
     alloc: Global,
@@ -37,7 +37,7 @@ pub(crate) struct Play {
     moment: Moment,
 }
 
-/// The line of a reply.
+/// The line of a reply. The only error is out of memory.
 fn reply_line(alloc: Global, served: &Served) -> Result<Vec<u8>, AllocError>
     ensures { IfOk result (λ line. IsReplyLine (said_of (Ok served.now)) line.items) }
 {
@@ -47,7 +47,7 @@ fn reply_line(alloc: Global, served: &Served) -> Result<Vec<u8>, AllocError>
     }
 }
 
-/// The line of a reply of these bytes.
+/// The line of a reply of these bytes. The only error is out of memory.
 fn line_of(alloc: Global, bytes: &[u8]) -> Result<Vec<u8>, AllocError>
     ensures { IfOk result (λ line. line.items ≡ reply_line bytes.now) }
 {
@@ -57,7 +57,7 @@ fn line_of(alloc: Global, bytes: &[u8]) -> Result<Vec<u8>, AllocError>
 }
 
 impl Play {
-    /// A server that starts with these settings.
+    /// Creates a server that starts with these settings. The only error is out of memory.
     pub(crate) fn new(alloc: Global, settings: Settings, texts: bool) -> Result<Play, AllocError>
         requires { MeetsLimits settings }
         ensures { IfOk result (IsStart texts settings) }
@@ -78,8 +78,8 @@ impl Play {
         })
     }
 
-    /// Acts on one line, if it is a line of a trace that may come now, and appends what it gives:
-    /// whether it is one.
+    /// Acts on a line, if it is a line of a trace that may come now, and appends its text. Returns whether it
+    /// is. The only error is out of memory.
     pub(crate) fn act(&mut self, bytes: &[u8], output: &mut Vec<u8>) -> Result<bool, AllocError>
         requires { IsReady self.old }
         ensures ok { IfOk result (λ is_line. Acts self.old bytes.now output.old.items is_line self.new output.new.items) }
@@ -96,7 +96,7 @@ impl Play {
         Ok(true)
     }
 
-    /// What is wrong with bytes that are no line of a trace, or one that may not come now.
+    /// The fault of bytes that aren't a line of a trace, or that are one that may not come now.
     pub(crate) fn line_fault(&self, bytes: &[u8]) -> LineFault {
         match read_line(self.alloc, bytes, self.log.names()) {
             Ok(None) => form_fault(bytes),
@@ -106,7 +106,7 @@ impl Play {
         }
     }
 
-    /// Whether a line may come now.
+    /// Returns whether a line may come now.
     fn may_come(&self, line: &Line) -> bool
         ensures { result ≡ may_come line.now (standing self.now) }
     {
@@ -118,7 +118,7 @@ impl Play {
         }
     }
 
-    /// Whether more may come on the connection of a number.
+    /// Returns whether the connection of a number may get more bytes.
     fn is_open(&self, number: u64) -> bool
         ensures { result ≡ is_open number (standing self.now) }
     {
@@ -128,7 +128,7 @@ impl Play {
         }
     }
 
-    /// Whether more may come of the peer of a place.
+    /// Returns whether the peer at a place may send more.
     fn may_send(&self, place: usize) -> bool
         ensures { result ≡ may_send place self.now.wire.memory.peers.items }
     {
@@ -138,7 +138,7 @@ impl Play {
         }
     }
 
-    /// What is printed of a line.
+    /// Acts on a line, and returns its text. The only error is out of memory.
     fn give(&mut self, line: Line) -> Result<Vec<u8>, AllocError>
         requires { IsReady self.old }
         ensures { IfOk result (λ text. Does self.old self.new (λ actions. Plays self.old.log.texts self.old.log.names line (standing self.old) actions text.items (standing self.new))) }
@@ -157,7 +157,7 @@ impl Play {
         }
     }
 
-    /// What is printed of a body.
+    /// Serves a body, and returns its text. The only error is out of memory.
     fn serve(&mut self, body: &[u8]) -> Result<Vec<u8>, AllocError>
         requires { IsReady self.old }
         ensures { IfOk result (λ text. Does self.old self.new (λ actions. Serves self.old.log.texts self.old.log.names self.old.moment body.now actions text.items × (standing self.new ≡ standing self.old))) }
@@ -169,7 +169,7 @@ impl Play {
         Ok(text)
     }
 
-    /// What is printed of what a device reports.
+    /// Acts on a device's report, and returns its text. The only error is out of memory.
     fn report(&mut self, device: DeviceId, report: Report) -> Result<Vec<u8>, AllocError>
         requires { IsReady self.old }
         ensures { IfOk result (λ text. Does self.old self.new (λ actions. Calls self.old.log.texts self.old.log.names (Reported self.old.moment device (report_of report)) actions text.items × (standing self.new ≡ standing self.old))) }
@@ -180,7 +180,7 @@ impl Play {
         Ok(heard)
     }
 
-    /// What is printed of a tick.
+    /// Acts on a tick, and returns its text. The only error is out of memory.
     fn tick(&mut self) -> Result<Vec<u8>, AllocError>
         requires { IsReady self.old }
         ensures { IfOk result (λ text. Does self.old self.new (λ actions. Calls self.old.log.texts self.old.log.names (Ticked self.old.moment) actions text.items × (standing self.new ≡ standing self.old))) }
@@ -190,7 +190,7 @@ impl Play {
         Ok(heard)
     }
 
-    /// What is printed of a connection that comes in.
+    /// Opens a connection, takes turns, and returns their text. The only error is out of memory.
     fn open(&mut self, opening: Opening) -> Result<Vec<u8>, AllocError>
         requires { IsReady self.old }
         ensures { IfOk result (λ text. Does self.old self.new (λ actions. Turns self.old.log.texts self.old.log.names (opened opening.number opening.door (standing self.old)) actions text.items (standing self.new))) }
@@ -199,7 +199,7 @@ impl Play {
         self.run()
     }
 
-    /// A connection comes in.
+    /// Opens a connection. The only error is out of memory.
     fn add(&mut self, opening: Opening) -> Result<(), AllocError>
         ensures { OnOk result (Becomes self.old self.new (opened opening.number opening.door (standing self.old))) }
     {
@@ -217,7 +217,7 @@ impl Play {
         )
     }
 
-    /// What is printed of bytes that come on a connection.
+    /// Brings bytes to a connection, takes turns, and returns their text. The only error is out of memory.
     fn bring(&mut self, input: &Input) -> Result<Vec<u8>, AllocError>
         requires { IsReady self.old }
         ensures { IfOk result (λ text. Does self.old self.new (λ actions. Turns self.old.log.texts self.old.log.names (on_peer input.now.number (sending input.now.bytes.items) (standing self.old)) actions text.items (standing self.new))) }
@@ -226,7 +226,7 @@ impl Play {
         self.run()
     }
 
-    /// The peer of a connection sends bytes too.
+    /// Appends bytes to those that the peer of a connection sends. The only error is out of memory.
     fn send(&mut self, input: &Input) -> Result<(), AllocError>
         ensures { OnOk result (Becomes self.old self.new (on_peer input.now.number (sending input.now.bytes.items) (standing self.old))) }
     {
@@ -236,7 +236,7 @@ impl Play {
         send_at(&mut self.wire.memory.peers, connection.place, &input.bytes)
     }
 
-    /// What is printed of the end of what comes on a connection.
+    /// Ends the input of a connection, takes turns, and returns their text. The only error is out of memory.
     fn end(&mut self, number: u64) -> Result<Vec<u8>, AllocError>
         requires { IsReady self.old }
         ensures { IfOk result (λ text. Does self.old self.new (λ actions. Turns self.old.log.texts self.old.log.names (on_peer number ending (standing self.old)) actions text.items (standing self.new))) }
@@ -245,7 +245,7 @@ impl Play {
         self.run()
     }
 
-    /// The peer of a connection sends nothing more.
+    /// Ends the stream of a connection's peer.
     fn finish(&mut self, number: u64)
         ensures { Becomes self.old self.new (on_peer number ending (standing self.old)) }
     {
@@ -254,7 +254,7 @@ impl Play {
         }
     }
 
-    /// What is printed of turns until all is quiet.
+    /// Takes turns up to a quiet one, and returns their text. The only error is out of memory.
     fn run(&mut self) -> Result<Vec<u8>, AllocError>
         requires { IsReady self.old }
         ensures { IfOk result (λ text. Does self.old self.new (λ actions. Turns self.old.log.texts self.old.log.names (standing self.old) actions text.items (standing self.new))) }
@@ -275,7 +275,7 @@ impl Play {
         Ok(text)
     }
 
-    /// Takes turns until one in which no poll came to something.
+    /// Takes turns up to one in which each poll has the answer `Waiting`.
     fn take_turns(&mut self)
         ensures { TakesTillQuiet self.old self.new }
     {
@@ -286,7 +286,7 @@ impl Play {
         }
     }
 
-    /// Takes a turn: whether a poll came to something.
+    /// Takes a turn. Returns whether a poll had an answer other than `Waiting`.
     fn take_turn(&mut self) -> bool
         ensures { TakesTurn self.old self.new result }
     {

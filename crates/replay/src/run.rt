@@ -1,4 +1,4 @@
-//! A trace, run.
+//! The run of a trace.
 ghost use Rattle.std.specs.Prelude.{◌≡◌, ◌≤◌, ◌+◌, ◌++◌, [], Ok, Some, IfOk, IfErr, IfSome, IsNone, OnErr, suc, length, codes};
 ghost use Rattle.std.specs.Option.{ForSome};
 ghost use Rattle.std.specs.Str.{IsUtf8};
@@ -23,21 +23,21 @@ use std::alloc::{AllocError, Global};
 use std::io::{Read, Write};
 use traces::{next_line, split_settings};
 
-/// How a replay ends.
+/// The end of a replay.
 #[derive(Debug, Drop)]
 pub struct Replayed {
     pub status: ExitStatus,
-    /// Why the trace is refused, where the status says that it is.
+    /// Why the trace is refused, if the status says that it is.
     pub objection: Option<Objection>,
 }
 
-/// Reads a trace to its end, runs it, writes what the server does, and gives the exit status, with the reason
-/// where the trace is refused.
+/// Reads a trace to its end, runs it, and writes the text of its lines. Returns the exit status, and the
+/// reason if the trace is refused.
 ///
-/// It writes what the lines give, in order: the replies, the cancels, the plans, with their texts
-/// where these are asked for, and the jobs that start; or why the settings, a line or the size is
-/// refused. The status says that it is done, that something is refused, or that memory or a stream
-/// failed. What is written is then a front of what some of the lines give.
+/// The text has, in order, the replies, the cancels, the plans, with their own texts if `texts` is true, and
+/// the jobs that start; or why the settings, a line or the size is refused. The status says that all is done,
+/// that something is refused, or that memory or a stream failed. In the last case a front of the text of some
+/// of the lines is written.
 pub fn run_replay<R: Read, W: Write>(
     alloc: Global,
     reader: &mut R,
@@ -51,7 +51,7 @@ pub fn run_replay<R: Read, W: Write>(
     Replayed { status, objection }
 }
 
-/// Reads a trace to its end, runs it, writes what the server does, and gives the exit status.
+/// Reads a trace to its end, runs it, and writes the text of its lines. Returns the exit status.
 fn play_input<R: Read, W: Write>(
     alloc: Global,
     reader: &mut R,
@@ -72,7 +72,7 @@ fn play_input<R: Read, W: Write>(
     }
 }
 
-/// Appends what an input gives, and gives the status; none where memory or the stream fails.
+/// Appends the text of an input. Returns the status, or none if memory or the stream fails.
 fn answer_input<R: Read>(
     alloc: Global,
     reader: &mut R,
@@ -94,7 +94,7 @@ fn answer_input<R: Read>(
     }
 }
 
-/// Appends the line of a refusal, and gives its status.
+/// Appends the line of a refusal. Returns its status.
 fn refuse(output: &mut Vec<u8>, line: &[u8]) -> Result<ExitStatus, AllocError>
     ensures ok { IfOk result (λ status. (status ≡ Ends.Refused) × (output.new.items ≡ output.old.items ++ line.now)) }
     ensures err { OnErr result (output.new.items ≡ output.old.items) }
@@ -103,7 +103,7 @@ fn refuse(output: &mut Vec<u8>, line: &[u8]) -> Result<ExitStatus, AllocError>
     Ok(ExitStatus::Refused)
 }
 
-/// Runs a trace, appends what it gives, and gives the status.
+/// Runs a trace and appends its text. Returns the status.
 fn replay(
     alloc: Global,
     trace: &[u8],
@@ -131,7 +131,7 @@ fn replay(
     )
 }
 
-/// Runs the lines after the settings, appends what they give, and gives the status.
+/// Runs the lines behind the settings and appends their text. Returns the status.
 fn run_lines(
     alloc: Global,
     settings: &[u8],
@@ -155,8 +155,8 @@ fn run_lines(
     }
 }
 
-/// Acts on the lines, which come after so many others, up to a bad one; appends what they give, and
-/// gives the status.
+/// Acts on lines up to a bad line, and appends their text. `before` lines are in front of the first of them.
+/// Returns the status.
 fn play_lines(
     alloc: Global,
     play: &mut Play,
@@ -183,8 +183,8 @@ fn play_lines(
     Ok(ExitStatus::Done)
 }
 
-/// Appends the line of refused settings, and gives its status. The error is out of memory, which the
-/// fault may be already.
+/// Appends the line of refused settings. Returns its status. The only error is out of memory, which may be
+/// the fault itself.
 fn refuse_settings(
     alloc: Global,
     fault: &SettingsFault,
@@ -197,7 +197,7 @@ fn refuse_settings(
     refuse(output, &line)
 }
 
-/// A server that starts, of the bytes of its settings.
+/// Creates a server that starts with the settings of these bytes.
 fn read_start(alloc: Global, settings: &[u8], texts: bool) -> Result<Play, SettingsFault>
     ensures ok { IfOk result (λ play. IsUtf8 settings.now × (read : ServerSettings) × (settings_of settings.now ≡ Ok read) × IsStart texts read play) }
     ensures err { IfErr result (λ e. ForSome (fault_of e) (IsFaultOf settings.now)) }
@@ -206,8 +206,8 @@ fn read_start(alloc: Global, settings: &[u8], texts: bool) -> Result<Play, Setti
     Play::new(alloc, settings, texts).map_err(|_| SettingsFault::OutOfMemory)
 }
 
-/// Appends the line of refused bytes that aren't a line of a trace, notes what is wrong with them, and
-/// gives the status.
+/// Appends the line of refused bytes that aren't a line of a trace, and records their fault. Returns the
+/// status.
 fn refuse_line(
     alloc: Global,
     number: usize,

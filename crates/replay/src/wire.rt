@@ -5,25 +5,25 @@ ghost use Rattle.replay.specs.Wire.{has_input};
 use std::io::IoSlice;
 use wires::{Door, MemoryWire, Progress, Wire, WireId};
 
-/// A wire in memory, of which is noted what its polls came to.
+/// A wire in memory that records the results of its polls.
 #[derive(Drop)]
 pub struct TraceWire {
     pub memory: MemoryWire,
-    /// A poll came to something since this was set back.
+    /// Whether a poll had an answer other than `Waiting` since the flag was last cleared.
     pub stirred: bool,
-    /// A poll failed, or waited though there was something to move.
+    /// Whether a poll failed, or waited although bytes could be moved.
     pub failed: bool,
 }
 
 impl TraceWire {
-    /// A poll came to something.
+    /// Records that a poll had an answer other than `Waiting`.
     fn stir(&mut self)
         ensures { self.new ≡ record self.old { stirred = true } }
     {
         self.stirred = true;
     }
 
-    /// A poll failed.
+    /// Records that a poll failed.
     fn fail(&mut self)
         ensures { self.new ≡ record self.old { stirred = true; failed = true } }
     {
@@ -31,7 +31,7 @@ impl TraceWire {
         self.failed = true;
     }
 
-    /// A poll waited.
+    /// Records that a poll waited. `wrongly` says whether bytes could be moved.
     fn wait(&mut self, wrongly: bool)
         ensures same { self.new.memory ≡ self.old.memory }
         ensures stirred { self.new.stirred ≡ self.old.stirred }
@@ -40,7 +40,7 @@ impl TraceWire {
         self.failed = self.failed || wrongly;
     }
 
-    /// Whether the peer of a number has sent what wasn't read yet.
+    /// Returns whether the peer of a number has bytes that weren't read.
     fn has_input(&self, id: WireId) -> bool
         ensures { result ≡ has_input id self.now.memory.peers.items }
     {

@@ -25,7 +25,7 @@ pub const RESERVED_BYTES: usize = 256;
 pub enum Offered {
     /// No bytes wait, or there is no connection.
     Nothing,
-    /// The wire took so many bytes.
+    /// The wire took this many bytes.
     Done(usize),
     Waiting,
     /// The wire had an end or a fault.
@@ -209,8 +209,8 @@ impl SendQueue {
         write_cancel(job, &mut self.text)
     }
 
-    /// Appends the line of a job of so many octets, and then its documents. The only error is out of memory,
-    /// and nothing is appended then.
+    /// Appends the line of a job of this many octets, and then its documents. The only error is out of
+    /// memory, and nothing is appended then.
     pub fn push_job(
         &mut self,
         job: JobId,

@@ -7,7 +7,7 @@ use settings_file::read_settings;
 use std::alloc::Global;
 use std::test::Fail;
 
-/// What a body is answered; then the device runs, and a tick comes.
+/// The answer to a body. After the body, the device runs and a tick comes.
 fn answered(
     engine: &mut Engine<AugmentingPaths>,
     body: &[u8],
@@ -24,7 +24,7 @@ fn answered(
     }
 }
 
-/// What a body is answered of a server that has just started; what is heard is left in the notes.
+/// The answer of a server that has just started to a body; its notes go to `notes`.
 fn served(alloc: Global, body: &[u8], notes: &mut NoteLog) -> Option<Served> {
     let Ok(settings) = read_settings(alloc, SETTINGS) else {
         return None;
@@ -35,7 +35,7 @@ fn served(alloc: Global, body: &[u8], notes: &mut NoteLog) -> Option<Served> {
     answered(&mut engine, body, notes)
 }
 
-/// Whether it is a reply of these bytes.
+/// Returns whether the answer is a reply of these bytes.
 fn is_reply(served: Option<Served>, wanted: &[u8]) -> bool {
     match &served {
         Some(Served::Reply(bytes)) => bytes.as_slice() == wanted,
@@ -43,7 +43,7 @@ fn is_reply(served: Option<Served>, wanted: &[u8]) -> bool {
     }
 }
 
-/// The job is stranded until the device runs, and then it begins.
+/// A job is stranded until the device runs, and begins then.
 #[test]
 fn body_then_report(rt: HostRuntime) -> Result<(), Fail> {
     let mut notes = NoteLog::new(rt.alloc());
@@ -57,7 +57,7 @@ fn body_then_report(rt: HostRuntime) -> Result<(), Fail> {
     Ok(())
 }
 
-/// A body without a whole header asks nothing.
+/// A body without a whole header gets a bad request, and no note.
 #[test]
 fn short_body(rt: HostRuntime) -> Result<(), Fail> {
     let mut notes = NoteLog::new(rt.alloc());

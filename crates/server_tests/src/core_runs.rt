@@ -1,4 +1,4 @@
-//! Lists of events, and who hears of their plans.
+//! Lists of events, and the notes of their plans.
 use base_types::{DeviceId, Moment, Report};
 use dispatcher::{AllocationSite, Core, DeviceRefusal, Dispatched, Listener, Outcome, Timed};
 use events::{Cancel, Event};
@@ -26,7 +26,7 @@ format_default = \"text/plain\"\n";
 const PRINT_JOB: &[u8] =
     b"\x01\x01\x00\x02\x00\x00\x00\x01\x01\x47\x00\x12attributes-charset\x00\x05utf-8\x48\x00\x1Battributes-natural-language\x00\x02en\x45\x00\x0Bprinter-uri\x00\x20ipp://localhost:631/printers/lab\x03hello";
 
-/// How many plans and starts were heard of.
+/// The number of plans and of starts that the listener was told.
 #[derive(Drop)]
 struct Counts {
     plans: u64,
@@ -50,7 +50,7 @@ impl Listener for Counts {
     fn refused(&mut self, _place: AllocationSite, _id: Option<WireId>) {}
 }
 
-/// The device runs, a job comes, and time goes on.
+/// The events of a day: the device runs, a job comes, and a tick.
 fn day(alloc: Global) -> Result<Vec<Timed>, Fail> {
     let ParsedRequest::Event(_, print) = ipp_event(alloc, PRINT_JOB)? else {
         return Err(Fail::from("no event"));
@@ -63,7 +63,7 @@ fn day(alloc: Global) -> Result<Vec<Timed>, Fail> {
     Ok(Vec::from_array(alloc, events)?)
 }
 
-/// How many of these events a core dispatches, and how many plans and starts are heard of.
+/// The number of these events that a core dispatches, and the numbers of plans and starts.
 fn heard_of(
     alloc: Global,
     core: &mut Core<AugmentingPaths>,
@@ -81,7 +81,7 @@ fn heard_of(
     Ok((dispatched, counts.plans, counts.starts))
 }
 
-/// The same of the day and a core that has just started.
+/// The numbers of [`heard_of`] for the day, on a core that has just started.
 fn heard(alloc: Global) -> Result<(usize, u64, u64), Fail> {
     let events = day(alloc)?;
     let settings = read_settings(alloc, ONE_DEVICE)?;
@@ -91,7 +91,7 @@ fn heard(alloc: Global) -> Result<(usize, u64, u64), Fail> {
     heard_of(alloc, &mut core, events)
 }
 
-/// One job comes to a device that runs: one plan, and one start.
+/// A job that comes to a running device makes one plan and one start.
 #[test]
 fn run_of_events(rt: HostRuntime) -> Result<(), Fail> {
     assert_eq!(rt; heard(rt.alloc())?, (3, 1, 1));

@@ -1,4 +1,4 @@
-//! Devices over a wire in memory: what they write, and what they get.
+//! Devices over a wire in memory: the octets they write, and the octets they get.
 use crate::exchanges::PLAIN;
 use crate::in_memory::{CUTS, TURNS, client, got, is_closed, serve};
 use server::NoteLog;
@@ -6,8 +6,8 @@ use std::alloc::{AllocError, Global};
 use std::test::Fail;
 use wires::{Door, MemoryWire};
 
-/// What a device writes to a server that has just started and to which a client prints, and what it
-/// gets.
+/// The octets that a device writes to a server that has just started, to which a client prints, and the
+/// octets that the device gets.
 #[derive(Clone, Copy)]
 struct Session {
     written: &'static [u8],
@@ -16,23 +16,23 @@ struct Session {
     closes: bool,
 }
 
-/// What a device writes that runs.
+/// The lines of a running device.
 const GREETING: &[u8] = b"HELLO A\nREADY\n";
 
-/// What one writes a turn later that is done early.
+/// The lines of a device that reports the end of its job early, a turn later.
 const EARLY: &[u8] = b"HELLO A\nREADY\nDONE 1\n";
 
 /// The bytes of the client's job.
 const JOB: &[u8] = b"JOB 1 5 1 1 iso_a4_210x297mm\nhello";
 
 const SESSIONS: [Session; 8] = [
-    // It runs, and gets the job.
+    // The device runs, and gets the job.
     Session {
         written: b"HELLO A\nREADY\n",
         got: JOB,
         closes: false,
     },
-    // It is done, or the job can't be printed, before all of it went out.
+    // The device reports the end of the job, or its failure, before all of the job went out.
     Session {
         written: b"HELLO A\r\nREADY\r\nPAGES 1 1\r\nDONE 1\r\n",
         got: JOB,
@@ -43,7 +43,7 @@ const SESSIONS: [Session; 8] = [
         got: JOB,
         closes: false,
     },
-    // It doesn't run, or has another medium than the job's.
+    // The device doesn't run, or has another medium than the job's.
     Session {
         written: b"HELLO A\n",
         got: b"",
@@ -60,7 +60,7 @@ const SESSIONS: [Session; 8] = [
         got: b"",
         closes: true,
     },
-    // Its name comes first, and once.
+    // The name has to come first, and once.
     Session {
         written: b"READY\n",
         got: b"",
@@ -73,7 +73,7 @@ const SESSIONS: [Session; 8] = [
     },
 ];
 
-/// A client that prints, and devices that write these.
+/// A wire with a client that prints, and devices that write these octets.
 fn print_room(
     alloc: Global,
     printed: &[u8],
@@ -88,7 +88,8 @@ fn print_room(
     Ok(MemoryWire::new(peers))
 }
 
-/// Whether a device gets just what it is to get, and is closed where it is to be.
+/// Returns whether a device gets exactly the octets it is to get, and whether it is closed exactly where it
+/// is to be.
 fn is_kept(alloc: Global, session: Session, cut: (usize, usize)) -> Result<bool, AllocError> {
     let mut wire = print_room(alloc, PLAIN.sent, &[session.written], cut)?;
     let mut notes = NoteLog::new(alloc);
@@ -100,7 +101,7 @@ fn is_kept(alloc: Global, session: Session, cut: (usize, usize)) -> Result<bool,
     )
 }
 
-/// However the bytes are cut.
+/// The octets of the sessions are cut in several ways.
 #[test]
 fn sessions_in_pieces(rt: HostRuntime) -> Result<(), Fail> {
     for session in SESSIONS {
@@ -112,8 +113,8 @@ fn sessions_in_pieces(rt: HostRuntime) -> Result<(), Fail> {
     Ok(())
 }
 
-/// A client that prints, and a device that writes these lines one after the other, one a turn, and takes
-/// three bytes of what is written to it a turn.
+/// A wire with a client that prints, and a device that writes these lines, one a turn, and takes three bytes
+/// a turn.
 fn slow_device(alloc: Global, lines: &[u8]) -> Result<MemoryWire, AllocError> {
     let mut wire = print_room(alloc, PLAIN.sent, &[lines], (4096, 4096))?;
     if let Some(device) = wire.peers.get_mut(1) {
@@ -123,8 +124,8 @@ fn slow_device(alloc: Global, lines: &[u8]) -> Result<MemoryWire, AllocError> {
     Ok(wire)
 }
 
-/// Whether a device that says that its job is done once it has taken three of the job's bytes gets the
-/// rest of them, once.
+/// Returns whether a device that reports the end of its job after three of the job's bytes gets the rest of
+/// the bytes, once.
 fn gets_the_rest(alloc: Global) -> Result<bool, AllocError> {
     let mut notes = NoteLog::new(alloc);
     let mut begun = slow_device(alloc, EARLY)?;
@@ -145,8 +146,8 @@ fn early_done(rt: HostRuntime) -> Result<(), Fail> {
     Ok(())
 }
 
-/// A slow device whose input ends behind its greeting, and one that says its name a turn later, when
-/// another client prints.
+/// A wire with a slow device whose input ends behind its greeting, a device that gives the same name a turn
+/// later, and another client that prints.
 fn newcomer(alloc: Global) -> Result<MemoryWire, AllocError> {
     let mut wire = slow_device(alloc, GREETING)?;
     if let Some(device) = wire.peers.get_mut(1) {
@@ -159,8 +160,8 @@ fn newcomer(alloc: Global) -> Result<MemoryWire, AllocError> {
     Ok(wire)
 }
 
-/// Whether a device whose input has ended while its job waits loses its name to one that says it: the job
-/// is given up, and the newcomer gets the next.
+/// Returns whether a device whose input has ended while its job waits loses its name to a device that gives
+/// the name: the connection of the first device is given up, and the second device gets the next job.
 fn comes_again(alloc: Global) -> Result<bool, AllocError> {
     let mut wire = newcomer(alloc)?;
     let mut notes = NoteLog::new(alloc);
@@ -179,7 +180,7 @@ fn name_taken_over(rt: HostRuntime) -> Result<(), Fail> {
     Ok(())
 }
 
-/// Whether a device got a front of the job where a poll faults, and all of it unless it is closed.
+/// Returns whether a device got a front of the job, and all of the job unless a connection is closed.
 fn is_front(wire: &MemoryWire) -> bool {
     match wire.peers.get(1) {
         Some(peer) => JOB.starts_with(peer.taken.as_slice())
@@ -196,7 +197,7 @@ fn is_cut_off(alloc: Global, fault_at: u64) -> Result<bool, AllocError> {
     Ok(serve(alloc, &mut wire, &mut notes, 60) && is_front(&wire))
 }
 
-/// A fault at any poll: what was taken is a front of what was due.
+/// A fault at any poll: the octets taken are a front of the octets due.
 #[test]
 fn fault_at_each_poll(rt: HostRuntime) -> Result<(), Fail> {
     for fault_at in 0..60 {

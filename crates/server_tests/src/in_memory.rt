@@ -20,13 +20,13 @@ const EXCHANGES: [Exchange; 7] = [
     SHORT_BODY,
 ];
 
-/// How many bytes a read brings, and how many a write takes.
+/// The sizes of the pieces: the bytes of a read, and the bytes of a write.
 pub(crate) const CUTS: [(usize, usize); 3] = [(4096, 4096), (7, 3), (1, 1)];
 
-/// Turns that serve any of the exchanges, a byte at a time.
+/// The turns that suffice for any of the exchanges, a byte at a time.
 pub(crate) const TURNS: usize = 1000;
 
-/// Turns of a server that has just started, over this wire; what is heard is left in the notes.
+/// Runs turns of a server that has just started, over this wire; its notes go to `notes`.
 pub(crate) fn serve(
     alloc: Global,
     wire: &mut MemoryWire,
@@ -45,7 +45,7 @@ pub(crate) fn serve(
     true
 }
 
-/// A client that sends this at a door, and whose input stays open.
+/// A client that sends these octets at a door, and whose input stays open.
 pub(crate) fn client(
     alloc: Global,
     door: Door,
@@ -56,7 +56,7 @@ pub(crate) fn client(
     Ok(MemoryPeer::new(alloc, door, input, cut.0, cut.1))
 }
 
-/// Clients of the IPP door that send these.
+/// A wire with clients of the IPP door that send these octets.
 fn clients(
     alloc: Global,
     streams: &[&[u8]],
@@ -69,7 +69,7 @@ fn clients(
     Ok(MemoryWire::new(peers))
 }
 
-/// Whether just these bytes were taken for a peer.
+/// Returns whether exactly these bytes were taken for a peer.
 pub(crate) fn got(wire: &MemoryWire, place: usize, bytes: &[u8]) -> bool {
     match wire.peers.get(place) {
         Some(peer) => peer.taken.as_slice() == bytes,
@@ -77,7 +77,7 @@ pub(crate) fn got(wire: &MemoryWire, place: usize, bytes: &[u8]) -> bool {
     }
 }
 
-/// Whether a peer was given up.
+/// Returns whether the connection of a peer was given up.
 pub(crate) fn is_closed(wire: &MemoryWire, place: usize) -> bool {
     match wire.peers.get(place) {
         Some(peer) => peer.closed,
@@ -85,8 +85,8 @@ pub(crate) fn is_closed(wire: &MemoryWire, place: usize) -> bool {
     }
 }
 
-/// Whether a client gets just its answer of a server that has just started, and is closed where it is
-/// to be.
+/// Returns whether a client gets exactly its answer from a server that has just started, and is closed
+/// exactly where it is to be.
 fn is_answered(alloc: Global, exchange: Exchange, cut: (usize, usize)) -> Result<bool, AllocError> {
     let mut wire = clients(alloc, &[exchange.sent], cut)?;
     let mut notes = NoteLog::new(alloc);
@@ -97,7 +97,7 @@ fn is_answered(alloc: Global, exchange: Exchange, cut: (usize, usize)) -> Result
     )
 }
 
-/// However the bytes are cut, each client gets its answer, and the connection closes where it is to.
+/// Each client gets its answer, and the connection closes where it is to close, for each size of the pieces.
 #[test]
 fn exchanges_in_pieces(rt: HostRuntime) -> Result<(), Fail> {
     for exchange in EXCHANGES {
@@ -109,7 +109,7 @@ fn exchanges_in_pieces(rt: HostRuntime) -> Result<(), Fail> {
     Ok(())
 }
 
-/// Whether a front of an answer was taken, and all of it unless the connection is closed.
+/// Returns whether a front of an answer was taken, and all of the answer unless the connection is closed.
 fn is_front(wire: &MemoryWire, answered: &[u8]) -> bool {
     match wire.peers.first() {
         Some(peer) => answered.starts_with(peer.taken.as_slice())
@@ -118,7 +118,8 @@ fn is_front(wire: &MemoryWire, answered: &[u8]) -> bool {
     }
 }
 
-/// Whether a client got a front of its answer where a poll faults, and was closed.
+/// Returns whether a client got a front of its answer where a poll faults, and was closed unless it got all
+/// of the answer.
 fn is_cut_off(alloc: Global, fault_at: u64) -> Result<bool, AllocError> {
     let mut wire = clients(alloc, &[PLAIN.sent], (64, 100))?;
     wire.fault_at = fault_at;
@@ -126,8 +127,8 @@ fn is_cut_off(alloc: Global, fault_at: u64) -> Result<bool, AllocError> {
     Ok(serve(alloc, &mut wire, &mut notes, 60) && is_front(&wire, PLAIN.answered))
 }
 
-/// A fault at any poll: what was taken is a front of what was due, and a connection at which it came
-/// is closed.
+/// A fault at any poll: the octets taken are a front of the octets due, and the connection with the fault is
+/// closed.
 #[test]
 fn fault_at_each_poll(rt: HostRuntime) -> Result<(), Fail> {
     for fault_at in 0..40 {
@@ -137,8 +138,8 @@ fn fault_at_each_poll(rt: HostRuntime) -> Result<(), Fail> {
     Ok(())
 }
 
-/// Whether of three clients, whose answers don't depend on one another, at most one isn't given all of
-/// its answer where a poll faults.
+/// Returns whether at most one of three clients, whose answers don't depend on one another, doesn't get its
+/// whole answer where a poll faults.
 fn others_are_whole(alloc: Global, fault_at: u64) -> Result<bool, AllocError> {
     let mut wire = clients(
         alloc,
@@ -154,7 +155,7 @@ fn others_are_whole(alloc: Global, fault_at: u64) -> Result<bool, AllocError> {
     Ok(served && (first || second) && (second || third) && (first || third))
 }
 
-/// A fault at any poll: every other connection is given all that was due.
+/// A fault at any poll: every other connection gets all octets due.
 #[test]
 fn others_at_a_fault(rt: HostRuntime) -> Result<(), Fail> {
     for fault_at in 0..60 {
@@ -164,8 +165,8 @@ fn others_at_a_fault(rt: HostRuntime) -> Result<(), Fail> {
     Ok(())
 }
 
-/// A client that sends more requests than there may be replies that wait, of which it takes none, and
-/// one that asks for no printing.
+/// A wire with a client that sends more requests than replies may wait and takes no reply, and a client with
+/// a request that is not for printing.
 fn slow_and_quick(alloc: Global) -> Result<MemoryWire, AllocError> {
     let mut sent = Vec::new(alloc);
     for _request in 0..400 {
@@ -178,7 +179,7 @@ fn slow_and_quick(alloc: Global) -> Result<MemoryWire, AllocError> {
     Ok(wire)
 }
 
-/// How much is left to be read of the slow client, if the quick one is answered.
+/// The number of octets of the slow client that are not read; `None` where the quick client has no answer.
 fn left_of_slow(alloc: Global) -> Result<Option<usize>, AllocError> {
     let mut wire = slow_and_quick(alloc)?;
     let mut notes = NoteLog::new(alloc);
@@ -188,7 +189,7 @@ fn left_of_slow(alloc: Global) -> Result<Option<usize>, AllocError> {
     Ok(wire.peers.first().map(|peer| peer.input.len()))
 }
 
-/// A client on which more than 65,536 bytes wait isn't read: of its 400 requests, some 280 are.
+/// A client for which more than 65,536 bytes wait isn't read: of its 400 requests, some 280 are read.
 #[test]
 fn slow_client_isnt_read(rt: HostRuntime) -> Result<(), Fail> {
     let left = left_of_slow(rt.alloc())?;

@@ -1,4 +1,4 @@
-//! LPD clients over a wire in memory: what they send, and what they are answered (RFC 1179, sections 5
+//! LPD clients over a wire in memory: the octets they send, and the answers they get (RFC 1179, sections 5
 //! and 6).
 use crate::in_memory::{CUTS, TURNS, client, got, is_closed, serve};
 use server::NoteLog;
@@ -6,7 +6,7 @@ use std::alloc::{AllocError, Global};
 use std::test::Fail;
 use wires::{Door, MemoryWire};
 
-/// What a client sends to a server that has just started.
+/// The octets that a client sends to a server that has just started, and the answers.
 #[derive(Clone, Copy)]
 pub struct Session {
     pub sent: &'static [u8],
@@ -24,19 +24,19 @@ pub const ONE_JOB: Session = Session {
 
 const SESSIONS: [Session; 12] = [
     ONE_JOB,
-    // The data file first.
+    // The data file comes first.
     Session {
         sent: b"\x02lab\n\x035 dfA001host\nhello\x00\x0223 cfA001host\nHhost\nPann\nfdfA001host\n\x00",
         answered: b"\x00\x00\x00\x00\x00",
         closes: false,
     },
-    // A control file without an owner isn't kept, and the session goes on; to give up isn't answered.
+    // A control file without an owner isn't kept, and the session goes on. An abort has no answer.
     Session {
         sent: b"\x02lab\n\x0218 cfA001host\nHhost\nfdfA001host\n\x00\x01\n\x035 dfA001host\nhello\x00",
         answered: b"\x00\x00\x01\x00\x00",
         closes: false,
     },
-    // An unknown command, an unknown queue, and one that there is nothing to do for.
+    // An unknown command, an unknown queue, and a command without anything to do.
     Session {
         sent: b"\x09lab\n",
         answered: b"\x01",
@@ -57,7 +57,7 @@ const SESSIONS: [Session; 12] = [
         answered: b"no queue\n",
         closes: true,
     },
-    // An empty file, a name of another kind, files that are too large, and one without its end.
+    // An empty file, a name of another kind, files that are too large, and a file without its end.
     Session {
         sent: b"\x02lab\n\x030 dfA001host\n",
         answered: b"\x00\x01",
@@ -85,7 +85,7 @@ const SESSIONS: [Session; 12] = [
     },
 ];
 
-/// Whether a client gets just its answers, and is closed where it is to be.
+/// Returns whether a client gets exactly its answers, and is closed exactly where it is to be.
 fn is_answered(alloc: Global, session: Session, cut: (usize, usize)) -> Result<bool, AllocError> {
     let mut peers = Vec::new(alloc);
     peers.push(client(alloc, Door::Lpd, session.sent, cut)?)?;
@@ -98,7 +98,7 @@ fn is_answered(alloc: Global, session: Session, cut: (usize, usize)) -> Result<b
     )
 }
 
-/// However the bytes are cut.
+/// The octets of the sessions are cut in several ways.
 #[test]
 fn lpd_sessions_in_pieces(rt: HostRuntime) -> Result<(), Fail> {
     for session in SESSIONS {
@@ -110,7 +110,8 @@ fn lpd_sessions_in_pieces(rt: HostRuntime) -> Result<(), Fail> {
     Ok(())
 }
 
-/// Whether a client got a front of its answers where a poll faults.
+/// Returns whether a client got a front of its answers where a poll faults, and was closed unless it got all
+/// answers.
 fn is_cut_off(alloc: Global, fault_at: u64) -> Result<bool, AllocError> {
     let mut peers = Vec::new(alloc);
     peers.push(client(alloc, Door::Lpd, ONE_JOB.sent, (16, 1))?)?;
@@ -128,7 +129,7 @@ fn is_cut_off(alloc: Global, fault_at: u64) -> Result<bool, AllocError> {
     }
 }
 
-/// A fault at any poll: what was taken is a front of what was due.
+/// A fault at any poll: the octets taken are a front of the octets due.
 #[test]
 fn lpd_fault_at_each_poll(rt: HostRuntime) -> Result<(), Fail> {
     for fault_at in 0..40 {

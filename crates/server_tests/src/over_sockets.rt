@@ -1,5 +1,5 @@
-//! Clients over the system's sockets, in one process: they connect and write, then turns are taken,
-//! then the replies are read.
+//! Clients over the system's sockets, in one process: the clients connect and write, the server runs turns,
+//! and the clients read the replies.
 ghost use Rattle.std.specs.Prelude.{IfOk};
 ghost use Rattle.settings_file.specs.Settings.{MeetsLimits};
 
@@ -16,15 +16,15 @@ use std::net::{IpAddr, Ipv4Addr, Shutdown, SocketAddr, TcpStream};
 use std::test::Fail;
 use wires::Door;
 
-/// This machine.
+/// The address of this machine.
 fn local() -> IpAddr {
     IpAddr::V4(Ipv4Addr::new(127, 0, 0, 1))
 }
 
-/// The doors of a server, each of which listens at any port that is free.
+/// The doors of a server. Each door listens at any free port.
 const DOORS: [Door; 3] = [Door::Ipp, Door::Lpd, Door::Devices];
 
-/// Turns that serve any of the exchanges.
+/// The turns that suffice for any of the exchanges.
 const TURNS: usize = 30;
 
 /// Sockets that listen at each door.
@@ -47,7 +47,7 @@ fn settings(rt: &HostRuntime) -> io::Result<Settings>
     }
 }
 
-/// Where a server's door listens.
+/// The address at which a server's door listens.
 fn address_of(server: &Server, door: Door) -> io::Result<SocketAddr> {
     let listening = server.listening()?;
     match listening.iter().find(|one| one.door == door) {
@@ -56,14 +56,14 @@ fn address_of(server: &Server, door: Door) -> io::Result<SocketAddr> {
     }
 }
 
-/// A peer that comes in at a server's door and sends this.
+/// A peer that connects at a server's door and sends these octets.
 fn peer(rt: &HostRuntime, server: &Server, door: Door, sent: &[u8]) -> io::Result<TcpStream> {
     let mut stream = TcpStream::connect(rt, address_of(server, door)?)?;
     stream.write_all(sent)?;
     Ok(stream)
 }
 
-/// A client of a server's.
+/// A client that connects at a server's IPP door.
 fn connect(rt: &HostRuntime, server: &Server) -> io::Result<TcpStream> {
     peer(rt, server, Door::Ipp, b"")
 }
@@ -76,7 +76,7 @@ fn turns(server: &mut Server, count: usize) -> io::Result<()> {
     Ok(())
 }
 
-/// What a client of a server gets that sends this and then nothing more.
+/// The answer to a client that sends these octets and then ends its stream.
 fn answered(rt: &HostRuntime, server: &mut Server, sent: &[u8]) -> io::Result<Vec<u8>> {
     let mut client = connect(rt, server)?;
     client.write_all(sent)?;
@@ -87,13 +87,13 @@ fn answered(rt: &HostRuntime, server: &mut Server, sent: &[u8]) -> io::Result<Ve
     Ok(bytes)
 }
 
-/// Whether a client gets just its answer.
+/// Returns whether a client gets exactly its answer.
 fn is_answered(rt: &HostRuntime, server: &mut Server, exchange: Exchange) -> io::Result<bool> {
     let bytes = answered(rt, server, exchange.sent)?;
     Ok(bytes.as_slice() == exchange.answered)
 }
 
-/// A client comes, and goes away in the middle of a body.
+/// A client connects, and leaves in the middle of a body.
 fn leave_midway(rt: &HostRuntime, server: &mut Server) -> io::Result<()> {
     let mut client = connect(rt, server)?;
     if let Some(front) = PLAIN.sent.get(..150) {
@@ -104,13 +104,13 @@ fn leave_midway(rt: &HostRuntime, server: &mut Server) -> io::Result<()> {
     turns(server, 5)
 }
 
-/// Whether a second client gets its answer, after a first that went away.
+/// Returns whether a second client gets its answer after the first client left.
 fn goes_on_after_one_gone(rt: &HostRuntime, server: &mut Server) -> io::Result<bool> {
     leave_midway(rt, server)?;
     is_answered(rt, server, PLAIN)
 }
 
-/// So many clients that say nothing.
+/// This number of clients that send nothing.
 fn crowd(rt: &HostRuntime, server: &Server, count: usize) -> io::Result<Vec<TcpStream>> {
     let mut idle = Vec::new(rt.alloc());
     for _client in 0..count {
@@ -119,7 +119,7 @@ fn crowd(rt: &HostRuntime, server: &Server, count: usize) -> io::Result<Vec<TcpS
     Ok(idle)
 }
 
-/// What a client gets in so many turns after it has sent a request, as far as it has come.
+/// The octets that a client has got after [`TURNS`] turns.
 fn got_so_far(
     rt: &HostRuntime,
     server: &mut Server,
@@ -132,8 +132,8 @@ fn got_so_far(
     Ok(bytes)
 }
 
-/// Whether the last of 65 clients, 64 of which say nothing, gets nothing before any of them has gone,
-/// and its answer once one has.
+/// Returns whether the last of 65 clients, 64 of which send nothing, gets no octet before one of them has
+/// left, and gets its answer then.
 fn one_waits_for_a_place(rt: &HostRuntime, server: &mut Server) -> io::Result<bool> {
     let mut idle = crowd(rt, server, 64)?;
     turns(server, 70)?;
@@ -145,7 +145,7 @@ fn one_waits_for_a_place(rt: &HostRuntime, server: &mut Server) -> io::Result<bo
     Ok(early.is_empty() && late.as_slice() == PLAIN.answered)
 }
 
-/// Turns at a moment so many ms after the start.
+/// Runs turns at this moment, in ms since the start.
 fn turns_at(server: &mut Server, millis: u64) -> io::Result<()> {
     for _turn in 0..3 {
         server.turn(Moment::new(millis).unwrap_or(Moment::start()));
@@ -154,7 +154,7 @@ fn turns_at(server: &mut Server, millis: u64) -> io::Result<()> {
     Ok(())
 }
 
-/// Whether a client is told that nothing more will come.
+/// Returns whether a client has read the end of its stream.
 fn has_ended(client: &mut TcpStream) -> bool {
     let mut piece = [0; 1];
     match client.read(&mut piece) {
@@ -163,8 +163,8 @@ fn has_ended(client: &mut TcpStream) -> bool {
     }
 }
 
-/// Whether a client that sends a part of a head, and then a byte at 30 s, is let go at 60,000 ms, and
-/// not at 59,999.
+/// Returns whether the server closes the connection of a client that sends a part of a head, and a further
+/// byte at 30 s, at 60,000 ms, and not yet at 59,999 ms.
 fn head_has_a_minute(rt: &HostRuntime, server: &mut Server) -> io::Result<bool> {
     let mut client = connect(rt, server)?;
     client.write_all(b"POST / HT")?;
@@ -178,7 +178,7 @@ fn head_has_a_minute(rt: &HostRuntime, server: &mut Server) -> io::Result<bool> 
     Ok(!early && has_ended(&mut client))
 }
 
-/// Whether what a peer gets in so many turns is just this, as far as it has come.
+/// Returns whether a peer has got exactly these octets after [`TURNS`] turns.
 fn gets(
     rt: &HostRuntime,
     server: &mut Server,
@@ -189,9 +189,9 @@ fn gets(
     Ok(bytes.as_slice() == wanted)
 }
 
-/// A device that runs, and a client of LPD that sends it a job: whether the client gets its
-/// acknowledgements, the device the job, and the next client an empty queue once the device has ended
-/// it.
+/// Plays a running device, and a client of LPD that sends it a job. Returns whether the client gets its
+/// acknowledgements, the device gets the job, and the next client gets an empty queue after the end of the
+/// job.
 fn lpd_job(rt: &HostRuntime, server: &mut Server) -> io::Result<bool> {
     let mut device = peer(rt, server, Door::Devices, b"HELLO A\nREADY\n")?;
     let mut client = peer(rt, server, Door::Lpd, ONE_JOB.sent)?;
@@ -208,7 +208,7 @@ fn lpd_job(rt: &HostRuntime, server: &mut Server) -> io::Result<bool> {
     Ok(acknowledged && printed && listed)
 }
 
-/// Adds what is logged in so many turns.
+/// Appends the log lines of [`TURNS`] turns.
 fn log_turns(server: &mut Server, log: &mut Vec<u8>) -> io::Result<()> {
     for _turn in 0..TURNS {
         let lines = server.turn_logged(Moment::start())?;
@@ -218,8 +218,8 @@ fn log_turns(server: &mut Server, log: &mut Vec<u8>) -> io::Result<()> {
     Ok(())
 }
 
-/// The log of a device that comes and runs, a client that sends it a job, the end of the job, and the
-/// client's going once it has its five acknowledgements; and the ports from which the two came.
+/// Appends the log of four happenings: a running device connects, a client sends a job, the job ends, and the
+/// client leaves after its five acknowledgements. Returns the ports of the device and of the client.
 fn log_of_job(rt: &HostRuntime, server: &mut Server, log: &mut Vec<u8>) -> io::Result<(u16, u16)> {
     let mut device = peer(rt, server, Door::Devices, b"HELLO A\nREADY\n")?;
     log_turns(server, log)?;
@@ -234,7 +234,7 @@ fn log_of_job(rt: &HostRuntime, server: &mut Server, log: &mut Vec<u8>) -> io::R
     Ok(places)
 }
 
-/// The lines that are wanted of it.
+/// The expected lines of that log.
 fn wanted_log(rt: &HostRuntime, ports: (u16, u16)) -> io::Result<String> {
     let (device, client) = ports;
     Ok(format!(in rt.alloc();
@@ -242,7 +242,7 @@ fn wanted_log(rt: &HostRuntime, ports: (u16, u16)) -> io::Result<String> {
     )?)
 }
 
-/// Whether a server logs just the lines that are wanted.
+/// Returns whether a server logs exactly the expected lines.
 fn logs_job(rt: &HostRuntime, server: &mut Server) -> io::Result<bool> {
     let mut log = Vec::new(rt.alloc());
     let ports = log_of_job(rt, server, &mut log)?;
@@ -250,7 +250,7 @@ fn logs_job(rt: &HostRuntime, server: &mut Server) -> io::Result<bool> {
     Ok(log.as_slice() == wanted.as_bytes())
 }
 
-/// What happens to a server that has just started.
+/// A scene on a server that has just started.
 #[derive(Clone, Copy)]
 enum Scene {
     Exchange(Exchange),
@@ -261,7 +261,7 @@ enum Scene {
     LoggedJob,
 }
 
-/// Whether it goes as it should, on this server.
+/// Plays a scene on this server, and returns whether it goes as expected.
 fn goes(rt: &HostRuntime, server: &mut Server, scene: Scene) -> io::Result<bool> {
     match scene {
         Scene::Exchange(exchange) => is_answered(rt, server, exchange),
@@ -273,7 +273,7 @@ fn goes(rt: &HostRuntime, server: &mut Server, scene: Scene) -> io::Result<bool>
     }
 }
 
-/// The same, on a server that starts with these settings over these sockets.
+/// Plays a scene as [`goes`] does, on a server that starts with these settings over these sockets.
 fn goes_over(
     rt: &HostRuntime,
     sockets: Sockets,
@@ -288,7 +288,7 @@ fn goes_over(
     goes(rt, &mut server, scene)
 }
 
-/// The same, on a server that has just started.
+/// Plays a scene as [`goes`] does, on a server that has just started.
 fn plays(rt: &HostRuntime, scene: Scene) -> io::Result<bool> {
     let sockets = listening(rt)?;
     goes_over(rt, sockets, settings(rt)?, scene)

@@ -1,4 +1,4 @@
--- What a table of the settings has at a key, or the fault there.
+-- The entries of a table of the settings, each by its key, or the fault there.
 use Rattle.std.specs.Prelude.{ℕ, ℤ, pos, negsuc, List, [], ◌∷◌, ◌++◌, Bool, true, ◌&&◌, ◌||◌, if◌then◌else◌, nat_le, Option, Some, None, option_map, option_and_then, Result, Ok, Err, length, codes}
 use Rattle.std.specs.List.{list_all, list_any}
 use Rattle.std.specs.Str.{bytes_eq}
@@ -14,12 +14,12 @@ use Rattle.settings_file.specs.Fault.{Fault, missing, wrong_kind, out_of_range, 
 abbrev pub value_at : Key → Members → Option Data
 value_at key table = get_member (key_name key) table
 
--- what must be there
+-- the value of a key that must be there
 abbrev pub required : {A : Type 0} → Key → Option A → Result A Fault
 required key None = Err (missing key)
 required key (Some a) = Ok a
 
--- a whole number in its range
+-- a whole number in a range
 abbrev pub number_in : Key → ℕ → ℕ → Option ℤ → Result ℕ Fault
 number_in key low high None = Err (wrong_kind key)
 number_in key low high (Some (pos n)) = if nat_le low n && nat_le n high then Ok n else Err (out_of_range key)
@@ -29,19 +29,19 @@ abbrev pub number_of : Key → ℕ → ℕ → Option Data → Result (Option �
 number_of key low high None = Ok None
 number_of key low high (Some value) = number_in key low high (as_integer value) >>= (λ n. Ok (Some n))
 
--- the whole number at a key that may be left out
+-- the whole number of a key that may be missing
 abbrev pub optional_number : Key → ℕ → ℕ → Members → Result (Option ℕ) Fault
 optional_number key low high table = number_of key low high (value_at key table)
 
--- the whole number at a key that must be there
+-- the whole number of a key that must be there
 abbrev pub number : Key → ℕ → ℕ → Members → Result ℕ Fault
 number key low high table = optional_number key low high table >>= required key
 
--- the text names a finishing
+-- whether the text names a finishing
 abbrev pub is_finishing : List ℕ → Bool
 is_finishing bytes = (bytes_eq bytes (codes "staple") || bytes_eq bytes (codes "punch")) || bytes_eq bytes (codes "bind")
 
--- the text is one that the key takes; an operator, and a printer's device, may be any text
+-- whether the key takes the text; an operator, and a device of a printer, may be any text
 abbrev pub takes : Key → List ℕ → Bool
 takes UriBase bytes = is_uri_base bytes
 takes Name bytes = is_name bytes
@@ -60,7 +60,7 @@ abbrev pub text_of : Key → Option Data → Result (List ℕ) Fault
 text_of key None = Err (missing key)
 text_of key (Some value) = text_in key (as_str value)
 
--- the text at a key
+-- the text of a key
 abbrev pub text : Key → Members → Result (List ℕ) Fault
 text key table = text_of key (value_at key table)
 
@@ -68,26 +68,26 @@ abbrev pub in_front : {A : Type 0} → Option A → Option (List A) → Option (
 in_front None rest = None
 in_front (Some first) rest = option_map (λ others. first ∷ others) rest
 
--- the texts of an array that holds texts alone
+-- the texts of an array, if it has only texts
 abbrev pub item_texts : Items → Option (List (List ℕ))
 item_texts no_items = Some []
 item_texts (item d ds) = in_front (as_str d) (item_texts ds)
 
--- the tables of an array that holds tables alone
+-- the tables of an array, if it has only tables
 abbrev pub item_tables : Items → Option (List Members)
 item_tables no_items = Some []
 item_tables (item d ds) = in_front (as_table d) (item_tables ds)
 
--- the text is among those found
+-- whether the text is among those found
 unfoldable pub is_among : List (List ℕ) → List ℕ → Bool
 is_among found t = list_any (λ f. bytes_eq f t) found
 
--- the texts that aren't among those found before, each once
+-- the texts that aren't among those found, each once
 abbrev pub new_texts : List (List ℕ) → List (List ℕ) → List (List ℕ)
 new_texts found [] = []
 new_texts found (t ∷ ts) = if is_among found t then new_texts found ts else (t ∷ new_texts (found ++ t ∷ []) ts)
 
--- how many entries a list may have: a printer may have each device, other lists are shorter
+-- the most entries of a list: a printer may have all devices, other lists are shorter
 abbrev pub most_entries : Key → ℕ
 most_entries Devices = DEVICES
 most_entries _ = LIST_ENTRIES
@@ -103,15 +103,15 @@ abbrev pub list_of : Key → Option Data → Result (Option (List (List ℕ))) F
 list_of key None = Ok None
 list_of key (Some value) = list_in key (option_and_then item_texts (as_array value)) >>= (λ entries. Ok (Some entries))
 
--- the list of texts at a key that may be left out
+-- the list of texts of a key that may be missing
 abbrev pub optional_list : Key → Members → Result (Option (List (List ℕ))) Fault
 optional_list key table = list_of key (value_at key table)
 
--- the list of texts at a key that must be there
+-- the list of texts of a key that must be there
 abbrev pub list : Key → Members → Result (List (List ℕ)) Fault
 list key table = optional_list key table >>= required key
 
--- one to so many tables
+-- the tables, if they are 1 to `most`
 abbrev pub tables_in : Key → ℕ → Option (List Members) → Result (List Members) Fault
 tables_in key most None = Err (wrong_kind key)
 tables_in key most (Some ts) = if nat_le 1 (length ts) && nat_le (length ts) most then Ok ts else Err (out_of_range key)
@@ -120,15 +120,15 @@ abbrev pub tables_of : Key → ℕ → Option Data → Result (List Members) Fau
 tables_of key most None = Err (missing key)
 tables_of key most (Some value) = tables_in key most (option_and_then item_tables (as_array value))
 
--- the tables at a key
+-- the tables of a key
 abbrev pub tables : Key → ℕ → Members → Result (List Members) Fault
 tables key most table = tables_of key most (value_at key table)
 
--- the key is one of these
+-- whether the key is one of these
 unfoldable pub is_one_of : List Key → List ℕ → Bool
 is_one_of keys k = list_any (λ key. bytes_eq (key_name key) k) keys
 
--- the first key, by bytes, that is none of these
+-- the first key of the table, by bytes, that isn't one of these
 abbrev pub other_key : List Key → Members → Option (List ℕ)
 other_key keys no_members = None
 other_key keys (member k d ms) = if is_one_of keys k then other_key keys ms else Some k
@@ -138,6 +138,6 @@ abbrev pub unless_unknown : {A : Type 0} → Option (List ℕ) → Result A Faul
 unless_unknown None rest = rest
 unless_unknown (Some key) rest = Err (unknown key)
 
--- a name that is taken is a fault
+-- a name that an earlier table has is a fault
 abbrev pub unless_twice : {A : Type 0} → Bool → List ℕ → Result A Fault → Result A Fault
 unless_twice is_taken name rest = if is_taken then Err (twice name) else rest

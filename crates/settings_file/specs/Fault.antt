@@ -1,4 +1,4 @@
--- Why settings are refused, and the words that say so.
+-- The faults of settings, and their words.
 use Rattle.std.specs.Prelude.{◌≡◌, ℕ, List, ◌++◌, Option, Some, None, IfSome, Result, Ok, Err, codes}
 use Rattle.settings_file.specs.declared.key.Key.{Key}
 use Rattle.settings_file.specs.declared.key.Key.TheVariants.{Version, UriBase, Operators, Device, Printer, Name, RateOne, RateTwo, Setup, Media, Formats, Finishings, Devices, MediaDefault, FormatDefault}
@@ -14,7 +14,7 @@ pub data Fault : Type 0 where
   unknown : List ℕ → Fault
   twice : List ℕ → Fault
 
--- the key as it stands in a text
+-- the key as a text writes it
 abbrev pub key_name : Key → List ℕ
 key_name Version = codes "version"
 key_name UriBase = codes "uri_base"
@@ -32,7 +32,7 @@ key_name Devices = codes "devices"
 key_name MediaDefault = codes "media_default"
 key_name FormatDefault = codes "format_default"
 
--- the fault that the code names, which is none where it is out of memory
+-- the fault of a value of the code, None for out of memory
 abbrev pub fault_of : SettingsFault → Option Fault
 fault_of code.NotToml = Some not_toml
 fault_of (code.Missing key) = Some (missing key)
@@ -42,11 +42,11 @@ fault_of (code.Unknown name) = Some (unknown name)
 fault_of (code.Twice name) = Some (twice name)
 fault_of code.OutOfMemory = None
 
--- a fault that is about a key or a name
+-- the words of a fault at a key or a name
 abbrev pub words_about : List ℕ → List ℕ → List ℕ
 words_about kind name = ((codes "settings " ++ kind) ++ codes " ") ++ name
 
--- a fault in words
+-- the words of a fault
 abbrev pub fault_words : Fault → List ℕ
 fault_words not_toml = codes "settings NotToml"
 fault_words (missing key) = words_about (codes "Missing") (key_name key)
@@ -55,7 +55,7 @@ fault_words (out_of_range key) = words_about (codes "OutOfRange") (key_name key)
 fault_words (unknown name) = words_about (codes "Unknown") name
 fault_words (twice name) = words_about (codes "Twice") name
 
--- what the code gives is what the definition says: its value or its fault, where it names one
+-- the code's result is the value or the fault of the definition, unless memory ran out
 abbrev pub Gives : {A B : Type 0} → (A → B) → Result A SettingsFault → Result B Fault → Type 0
 Gives seen (Ok a) expected = expected ≡ Ok (seen a)
 Gives seen (Err e) expected = IfSome (fault_of e) (λ fault. expected ≡ Err fault)

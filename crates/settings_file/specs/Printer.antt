@@ -14,23 +14,23 @@ use Rattle.settings_file.specs.Device.{place_of}
 abbrev pub printer_keys : List Key
 printer_keys = Name ∷ Devices ∷ MediaDefault ∷ FormatDefault ∷ []
 
--- a printer has the name
+-- whether a printer has the name
 unfoldable pub has_printer : List PrinterEntry → List ℕ → Bool
 has_printer printers name = list_any (λ p. bytes_eq p.name name) printers
 
--- a device that isn't there is a fault
+-- a name that no device has is a fault
 abbrev pub known_place : List ℕ → Option ℕ → Result ℕ Fault
 known_place name None = Err (unknown name)
 known_place name (Some place) = Ok place
 
--- the places of the devices of these names
+-- the places of the devices with these names
 abbrev pub places_of : List DeviceEntry → List (List ℕ) → Result (List ℕ) Fault
 places_of devices [] = Ok []
 places_of devices (n ∷ ns) =
     known_place n (place_of devices n) >>= (λ place.
     places_of devices ns >>= (λ places. Ok (place ∷ places)))
 
--- the printer of a table, after those of earlier tables
+-- the printer of a table, where the earlier tables have these printers
 abbrev pub printer_of : List DeviceEntry → List PrinterEntry → Members → Result PrinterEntry Fault
 printer_of devices earlier table =
     text Name table >>= (λ name.
@@ -42,7 +42,7 @@ printer_of devices earlier table =
     places_of devices names >>= (λ places.
     Ok (record { name = name; devices = places; media_default = media_default; format_default = format_default }))))))))
 
--- the printers of earlier tables, and then of these
+-- the printers of the earlier tables, and of these tables
 abbrev pub printers_of : List DeviceEntry → List PrinterEntry → List Members → Result (List PrinterEntry) Fault
 printers_of devices earlier [] = Ok earlier
 printers_of devices earlier (t ∷ ts) =

@@ -1,6 +1,4 @@
--- The settings of a text, or its first fault: the root's keys, then each device's table, then each
--- printer's. In a table come the keys in their order, then a key that it doesn't have, then a name
--- that an earlier table of its kind has, then the devices that a printer names.
+-- The settings of a text, or its first fault, in this order: the keys of the root, then the tables of the devices, then those of the printers. In a table: its keys in order, then an unknown key, then a name that an earlier table of its kind has, then the devices that a printer names.
 use Rattle.std.specs.Prelude.{ℕ, ◌≡◌, ◌⊎◌, List, [], ◌∷◌, Option, Some, None, unwrap_or, Result, Ok, Err}
 use Rattle.std.specs.Str.{IsUtf8}
 use Rattle.toml.specs.Data.{Members}
@@ -39,6 +37,6 @@ settings_read (Some root) = settings_in root
 unfoldable pub settings_of : List ℕ → Result ServerSettings Fault
 settings_of text = settings_read (parse_document text)
 
--- the first fault of a file's bytes: where they aren't UTF-8 they are no TOML
+-- the first fault of a file's bytes; bytes that aren't UTF-8 aren't TOML
 abbrev pub IsFaultOf : List ℕ → Fault → Type 0
 IsFaultOf bytes fault = (¬ (IsUtf8 bytes) × (fault ≡ not_toml)) ⊎ (IsUtf8 bytes × (settings_of bytes ≡ Err fault))

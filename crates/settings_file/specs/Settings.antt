@@ -1,4 +1,4 @@
--- The settings of a server, and the limits that they keep.
+-- The settings of a server, and their limits.
 use Rattle.std.specs.Prelude.{ℕ, List, Option, ◌≤◌, ◌<◌, ◌≢◌, All, AllPairs, length, map, position}
 use Rattle.std.specs.Str.{bytes_eq}
 use Rattle.std.specs.Option.{ForSome}
@@ -7,7 +7,7 @@ use Rattle.base_types.specs.declared.finishings.Finishings.{Finishings}
 use Rattle.base_types.specs.declared.limits.TheConstants.Limits.{DEVICES, PRINTERS, LIST_ENTRIES}
 use Rattle.base_types.specs.Forms.{IsName, IsMedia, IsFormat, IsUriBase}
 
--- what the settings say of a device
+-- the settings of a device
 pub record DeviceEntry : Type 0 where
   pub name : List ℕ
   pub rate_one : ℕ
@@ -17,7 +17,7 @@ pub record DeviceEntry : Type 0 where
   pub formats : List (List ℕ)
   pub finishings : Finishings
 
--- what the settings say of a printer; its devices are places in the list of devices
+-- the settings of a printer; its devices are places in the list of devices
 pub record PrinterEntry : Type 0 where
   pub name : List ℕ
   pub devices : List ℕ
@@ -30,18 +30,18 @@ pub record ServerSettings : Type 0 where
   pub devices : List DeviceEntry
   pub printers : List PrinterEntry
 
--- the names of the devices, in their order
+-- the names of the devices, in order
 abbrev pub device_names : ServerSettings → List (List ℕ)
 device_names settings = map (λ device. device.name) settings.devices
 
--- the place of the device of this name, and that of the printer
+-- the place of the device with a name, and that of the printer with a name
 abbrev pub device_named : ServerSettings → List ℕ → Option ℕ
 device_named settings name = position (λ device. bytes_eq name device.name) settings.devices
 
 abbrev pub printer_named : ServerSettings → List ℕ → Option ℕ
 printer_named settings name = position (λ printer. bytes_eq name printer.name) settings.printers
 
--- a list within the bound on lists but that of a printer's devices
+-- the list is within the bound of all lists except a printer's list of devices
 abbrev pub IsShort : {A : Type 0} → List A → Type 0
 IsShort entries = length entries ≤ LIST_ENTRIES
 
@@ -56,7 +56,7 @@ pub record IsDeviceEntry (device : DeviceEntry) : Type 0 where
   pub few_formats : IsShort device.formats
   pub each_format : All IsFormat device.formats
 
--- a printer's entry is within the limits, and names devices among so many
+-- a printer's entry is within the limits, and its devices are among the first `devices` devices
 pub record IsPrinterEntry (devices : ℕ) (printer : PrinterEntry) : Type 0 where
   pub name : IsName printer.name
   pub few_devices : length printer.devices ≤ DEVICES

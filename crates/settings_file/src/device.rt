@@ -24,7 +24,7 @@ const FIRST_DEVICE_KEYS: [Key; 6] = [
     Key::Formats,
 ];
 
-// Those in settings of version 2.
+// The keys of a device in settings of version 2.
 const DEVICE_KEYS: [Key; 7] = [
     Key::Name,
     Key::RateOne,
@@ -35,14 +35,14 @@ const DEVICE_KEYS: [Key; 7] = [
     Key::Finishings,
 ];
 
-// Whether the device has the name.
+// Returns whether the device has the name.
 fn is_named(device: &DeviceSettings, name: &[u8]) -> bool
     ensures { result ≡ bytes_eq device.now.name name.now }
 {
     device.name.as_bytes() == name
 }
 
-// Whether a device has the name.
+// Returns whether a device has the name.
 #[tactic(auto, unfolding(crate::specs::Device::has_device))]
 fn has_device(devices: &[DeviceSettings], name: &[u8]) -> bool
     ensures { result ≡ has_device devices.now name.now }
@@ -50,7 +50,7 @@ fn has_device(devices: &[DeviceSettings], name: &[u8]) -> bool
     devices.iter().any(|device| is_named(device, name))
 }
 
-/// The place of the device of this name.
+/// The place of the device with a name.
 #[tactic(auto, unfolding(crate::specs::Device::place_of))]
 pub(crate) fn place_of(devices: &[DeviceSettings], name: &[u8]) -> Option<usize>
     ensures { result ≡ place_of devices.now name.now }
@@ -81,7 +81,7 @@ fn read_finishings(alloc: Global, version: u32, table: &Table) -> Result<Finishi
     Ok(finishings_named(&entries))
 }
 
-// The keys of a device.
+// The keys of a device, by the version of the settings.
 fn device_keys(version: u32) -> &'static [Key]
     ensures { result.now ≡ device_keys version }
 {
@@ -92,7 +92,7 @@ fn device_keys(version: u32) -> &'static [Key]
     }
 }
 
-// The device of a table, after those of earlier tables.
+// Reads the device of a table, where the earlier tables have these devices.
 fn read_device(
     alloc: Global,
     version: u32,
@@ -123,7 +123,7 @@ fn read_device(
     })
 }
 
-/// The devices of these tables, in settings of a version; `last` is told of each table that is read.
+/// Reads the devices of the tables, in settings of a version. `last` is set to each table that is read.
 pub(crate) fn read_devices(
     alloc: Global,
     version: u32,

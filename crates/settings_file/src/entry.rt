@@ -1,4 +1,4 @@
-//! The entries of any table, by their keys.
+//! The entries of a table, by their keys.
 ghost use Rattle.std.specs.Prelude.{◌≡◌, ◌≤◌, ◌<◌, [], vec_len, IfOk, IfErr, IfSome, IfNone, OnOk, None, Some, map, option_map, option_and_then, length};
 ghost use Rattle.std.specs.List.{list_all};
 ghost use Rattle.toml.specs.View.{view, array_view, table_view};
@@ -19,7 +19,7 @@ fn value_at<'a>(table: &'a Table, key: Key) -> Option<&'a Value>
     table.get(key.name())
 }
 
-// A whole number in its range.
+// A whole number in a range.
 fn number_in(key: Key, low: u32, high: u32, value: Option<i64>) -> Result<u32, SettingsFault>
     ensures exact { Gives (λ n. n) result (number_in key low high value) }
     ensures above { IfOk result (λ n. low ≤ n) }
@@ -34,7 +34,7 @@ fn number_in(key: Key, low: u32, high: u32, value: Option<i64>) -> Result<u32, S
     }
 }
 
-/// The whole number at a key that may be left out.
+/// Reads the whole number of a key that may be missing.
 pub(crate) fn optional_number(
     table: &Table,
     key: Key,
@@ -54,7 +54,7 @@ pub(crate) fn optional_number(
     }
 }
 
-/// The whole number at a key that must be there.
+/// Reads the whole number of a key that must be there.
 pub(crate) fn number(table: &Table, key: Key, low: u32, high: u32) -> Result<u32, SettingsFault>
     ensures exact { Gives (λ n. n) result (number key low high (table_view table.now)) }
     ensures above { IfOk result (λ n. low ≤ n) }
@@ -64,14 +64,14 @@ pub(crate) fn number(table: &Table, key: Key, low: u32, high: u32) -> Result<u32
     number.ok_or(SettingsFault::Missing(key))
 }
 
-// Whether a text names a finishing.
+// Returns whether a text names a finishing.
 fn is_finishing(text: &[u8]) -> bool
     ensures { result ≡ is_finishing text.now }
 {
     text == b"staple".as_slice() || text == b"punch".as_slice() || text == b"bind".as_slice()
 }
 
-// Whether a text is one that the key takes.
+// Returns whether the key takes the text.
 fn takes(key: Key, text: &[u8]) -> bool
     ensures { result ≡ takes key text.now }
 {
@@ -85,7 +85,7 @@ fn takes(key: Key, text: &[u8]) -> bool
     }
 }
 
-/// The text at a key.
+/// Reads the text of a key that must be there.
 pub(crate) fn text(alloc: Global, table: &Table, key: Key) -> Result<Text, SettingsFault>
     ensures { Gives (λ t. t) result (text key (table_view table.now)) }
 {
@@ -102,7 +102,7 @@ pub(crate) fn text(alloc: Global, table: &Table, key: Key) -> Result<Text, Setti
     Ok(text)
 }
 
-// The texts of an array, if it holds texts alone.
+// The texts of an array, if it has only texts.
 fn item_texts<'a>(alloc: Global, array: &'a Array) -> Result<Option<Vec<&'a str>>, AllocError>
     ensures { IfOk result (λ r. option_map (λ v. map (λ t. t.now) v.items) r ≡ item_texts (array_view array.now)) }
 {
@@ -116,7 +116,7 @@ fn item_texts<'a>(alloc: Global, array: &'a Array) -> Result<Option<Vec<&'a str>
     Ok(Some(texts))
 }
 
-// The tables of an array, if it holds tables alone.
+// The tables of an array, if it has only tables.
 fn item_tables<'a>(alloc: Global, array: &'a Array) -> Result<Option<Vec<&'a Table>>, AllocError>
     ensures { IfOk result (λ r. option_map (λ v. map (λ t. table_view t.now) v.items) r ≡ item_tables (array_view array.now)) }
 {
@@ -130,7 +130,7 @@ fn item_tables<'a>(alloc: Global, array: &'a Array) -> Result<Option<Vec<&'a Tab
     Ok(Some(tables))
 }
 
-/// Whether a text is among those found.
+/// Returns whether a text is among those found.
 #[tactic(auto, unfolding(crate::specs::Entry::is_among))]
 pub(crate) fn is_among(found: &[Text], text: &[u8]) -> bool
     ensures { result ≡ is_among found.now text.now }
@@ -138,14 +138,14 @@ pub(crate) fn is_among(found: &[Text], text: &[u8]) -> bool
     found.iter().any(|entry| entry.as_bytes() == text)
 }
 
-// Whether the key takes each of the texts.
+// Returns whether the key takes each of the texts.
 fn takes_all(key: Key, texts: &[Text]) -> bool
     ensures { result ≡ list_all (takes key) texts.now }
 {
     texts.iter().all(|text| takes(key, text.as_bytes()))
 }
 
-// How many entries a list may have.
+// The most entries of a list.
 fn most_entries(key: Key) -> usize
     ensures { result ≡ most_entries key }
 {
@@ -155,7 +155,7 @@ fn most_entries(key: Key) -> usize
     }
 }
 
-// Each of the texts once, if they are at most so many.
+// Each of the texts once, if they are at most `most`.
 fn new_texts(alloc: Global, most: usize, texts: &[&str]) -> Result<Option<Vec<Text>>, AllocError>
     ensures each_once { IfOk result (λ r. IfSome r (λ v. v.items ≡ new_texts [] (map (λ t. t.now) texts.now))) }
     ensures few { IfOk result (λ r. IfSome r (λ v. vec_len v ≤ most)) }
@@ -190,7 +190,7 @@ fn list_in(alloc: Global, key: Key, array: Option<&Array>) -> Result<Vec<Text>, 
     }
 }
 
-/// The list of texts at a key that may be left out, each once.
+/// Reads the list of texts of a key that may be missing, each once.
 pub(crate) fn optional_list(
     alloc: Global,
     table: &Table,
@@ -207,7 +207,7 @@ pub(crate) fn optional_list(
     }
 }
 
-/// The list of texts at a key that must be there, each once.
+/// Reads the list of texts of a key that must be there, each once.
 pub(crate) fn list(alloc: Global, table: &Table, key: Key) -> Result<Vec<Text>, SettingsFault>
     ensures { Gives (λ v. v.items) result (list key (table_view table.now)) }
 {
@@ -215,7 +215,7 @@ pub(crate) fn list(alloc: Global, table: &Table, key: Key) -> Result<Vec<Text>, 
     entries.ok_or(SettingsFault::Missing(key))
 }
 
-/// The tables at a key that must be there: 1 to `most`.
+/// The tables of a key that must be there, 1 to `most`.
 pub(crate) fn tables<'a>(
     alloc: Global,
     table: &'a Table,
@@ -240,7 +240,7 @@ pub(crate) fn tables<'a>(
     }
 }
 
-// Whether a name is that of one of the keys.
+// Returns whether a name is that of one of the keys.
 #[tactic(auto, unfolding(crate::specs::Entry::is_one_of))]
 fn is_one_of(keys: &[Key], name: &str) -> bool
     ensures { result ≡ is_one_of keys.now name.now }
@@ -248,7 +248,7 @@ fn is_one_of(keys: &[Key], name: &str) -> bool
     keys.iter().any(|key| key.name() == name)
 }
 
-// The first key of a table, by its bytes, that is none of these.
+// The first key of a table, by its bytes, that isn't one of these.
 fn other_key<'a>(table: &'a Table, keys: &[Key]) -> Option<&'a str>
     ensures { option_map (λ k. k.now) result ≡ other_key keys.now (table_view table.now) }
 {
@@ -260,7 +260,7 @@ fn other_key<'a>(table: &'a Table, keys: &[Key]) -> Option<&'a str>
     None
 }
 
-/// Whether a table has no key but these; else the first other one is its fault.
+/// Checks that a table has only these keys. The first other key is its fault.
 pub(crate) fn know_keys(alloc: Global, table: &Table, keys: &[Key]) -> Result<(), SettingsFault>
     ensures known { OnOk result (other_key keys.now (table_view table.now) ≡ None) }
     ensures refused { IfErr result (λ e. IfSome (fault_of e) (λ f. option_map unknown (other_key keys.now (table_view table.now)) ≡ Some f)) }

@@ -1,4 +1,4 @@
-//! What may be wrong with settings, and its line.
+//! The faults of settings.
 ghost use Rattle.std.specs.Prelude.{◌≡◌, ◌++◌, IfOk, OnOk, OnErr, Some};
 ghost use Rattle.settings_file.specs.Fault.{Fault, fault_of, fault_words, words_about};
 
@@ -10,19 +10,19 @@ use thiserror::Error;
 /// Why settings are refused: the first fault of a text, or out of memory.
 #[derive(Debug, Drop, Error)]
 pub enum SettingsFault {
-    /// The text is no TOML.
+    /// The text isn't TOML.
     #[error("the settings are no TOML")]
     NotToml,
-    /// A key that must be there isn't.
+    /// A key that must be there is missing.
     #[error("the key {} is missing", .0.name())]
     Missing(Key),
-    /// The value of a key is of another kind.
+    /// The value of a key is of a wrong kind.
     #[error("the value of {} is of a wrong kind", .0.name())]
     WrongKind(Key),
-    /// The value of a key is of the right kind and out of its range.
+    /// The value of a key is of the right kind, but out of range.
     #[error("the value of {} is out of range", .0.name())]
     OutOfRange(Key),
-    /// A key that is none of its table's, or a device that isn't in the settings.
+    /// A key that its table may not have, or a device that isn't in the settings.
     #[error("an unknown name: {0:?}")]
     Unknown(Text),
     /// A name that two devices or two printers have.
@@ -52,12 +52,12 @@ impl<T: Drop> From<AllocFailed<T>> for SettingsFault {
     }
 }
 
-/// Writes a fault in words at the end of `output`, as `settings Missing name`. Out of memory isn't a
-/// fault of the settings: it has no words, and is the error.
+/// Appends the words of a fault, such as `settings Missing name`.
 ///
 /// # Errors
 ///
-/// Where memory is wanting nothing is written.
+/// The only error is out of memory: for the words, or as `fault` itself, which is not a fault of the settings
+/// and has no words. Nothing is appended then.
 pub fn write_fault(fault: &SettingsFault, output: &mut Vec<u8>) -> Result<(), AllocError>
     ensures ok { OnOk result ((named : Fault) × (fault_of fault.now ≡ Some named) × (output.new.items ≡ output.old.items ++ fault_words named)) }
     ensures err { OnErr result (output.new.items ≡ output.old.items) }
@@ -66,7 +66,7 @@ pub fn write_fault(fault: &SettingsFault, output: &mut Vec<u8>) -> Result<(), Al
     output.extend_from_slice(&words)
 }
 
-// A fault in words.
+// The words of a fault.
 fn fault_words(alloc: Global, fault: &SettingsFault) -> Result<Vec<u8>, AllocError>
     ensures { IfOk result (λ words. (named : Fault) × (fault_of fault.now ≡ Some named) × (words.items ≡ fault_words named)) }
 {
@@ -81,7 +81,7 @@ fn fault_words(alloc: Global, fault: &SettingsFault) -> Result<Vec<u8>, AllocErr
     }
 }
 
-// A fault that is about a key or a name.
+// The words of a fault at a key or a name.
 fn words_about(alloc: Global, kind: &str, name: &[u8]) -> Result<Vec<u8>, AllocError>
     ensures { IfOk result (λ words. words.items ≡ words_about kind.now name.now) }
 {

@@ -23,7 +23,7 @@ pub enum Key {
 }
 
 impl Key {
-    /// The key as it stands in a text.
+    /// The key as a text writes it.
     pub fn name(self) -> &'static str
         ensures { result.now ≡ key_name self }
     {

@@ -1,18 +1,18 @@
-//! How far a text of settings was read.
+//! The progress of reading a text of settings.
 
-/// The table of a text of settings that was read last. Where the text is refused, its fault stands there.
+/// The table of a text of settings that was read last. The fault of a refused text is in that table.
 #[derive(Clone, Copy, Debug, PartialEq, Eq)]
 pub enum LastTable {
-    /// The root, whose keys come first.
+    /// The root table, which is read first.
     Root,
-    /// The device's of this place.
+    /// The table of the device at a place.
     Device(usize),
-    /// The printer's of this place.
+    /// The table of the printer at a place.
     Printer(usize),
 }
 
 impl LastTable {
-    /// The next device's.
+    /// Goes on to the table of the next device.
     pub(crate) fn next_device(&mut self) {
         *self = match *self {
             LastTable::Device(place) => LastTable::Device(place.saturating_add(1)),
@@ -20,7 +20,7 @@ impl LastTable {
         };
     }
 
-    /// The next printer's.
+    /// Goes on to the table of the next printer.
     pub(crate) fn next_printer(&mut self) {
         *self = match *self {
             LastTable::Printer(place) => LastTable::Printer(place.saturating_add(1)),

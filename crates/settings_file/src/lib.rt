@@ -1,16 +1,16 @@
-//! The settings of a server, read from a text of TOML, and what is wrong with such a text.
+//! The settings of a server, read from a text of TOML, and the faults of such a text.
 //!
-//! It promises that what [`read_settings`] gives is what the text says, within the limits of
-//! [`base_types::Limits`], and that a text that is refused is refused for its first fault, in the
-//! order of `docs/SETTINGS.md`. It opens no file and prints nothing: [`write_fault`] writes a
-//! fault in words into bytes of the caller's, and [`explain`] tells it in a sentence for the writer of the
-//! file: its line, the device or the printer in whose table it stands, the value that is there, and what
-//! may be there. Of the sentence it promises only that it is safe and ends.
+//! [`read_settings`] returns exactly the settings of the text, within the limits of [`base_types::Limits`],
+//! and a refused text is refused for its first fault, in the order of `docs/SETTINGS.md`. The crate opens no
+//! file and prints nothing: [`write_fault`] appends the words of a fault, and [`explain`] makes a sentence
+//! for the writer of the file. The sentence has the line, the device or the printer whose table it is, the
+//! value that is there, and the values that may be there. Nothing is proved of the sentence, except that
+//! making it is safe and ends.
 //!
-//! A text is read by the crate `toml`, so a key that is written twice is no TOML, and the order
-//! of the keys in a table is not looked at.
+//! The crate `toml` reads the text, so a key that is written twice isn't TOML, and the order of the keys in a
+//! table makes no difference.
 //!
-//! Its rows are traces of `play_examples`; tests of the sentences stand in `unit_tests`.
+//! Its rows are traces of `play_examples`. The tests of the sentences are in `unit_tests`.
 #![tactic(auto)]
 
 mod device;

@@ -1,22 +1,22 @@
-//! Where a fault stands in a text.
+//! The place of a fault in a text.
 use crate::last_table::LastTable;
 use crate::statement::{Said, Statement, Statements};
 use std::alloc::Global;
 
-/// What a text says of one table and one of its keys, as far as it is found.
+/// The places in a text of one table and one of its keys, as far as they are found.
 #[derive(Clone, Copy)]
 pub(crate) struct Place<'a> {
-    /// The line of the key; where it has none, of the table's header.
+    /// The line of the key; if the table hasn't the key, that of the table's header.
     pub(crate) line: Option<usize>,
-    /// The value of the key, as it is written.
+    /// The value of the key, as the text writes it.
     pub(crate) value: Option<&'a str>,
-    /// The table's name, as it is written.
+    /// The name of the table, as the text writes it.
     pub(crate) name: Option<&'a str>,
-    /// The key has a line.
+    /// Whether `line` is that of the key.
     has_key: bool,
 }
 
-/// The table in which statements stand, and how many tables of devices and printers began.
+/// The table of the current statement, and the numbers of tables of devices and printers so far.
 #[derive(Clone, Copy)]
 struct Position {
     table: Option<LastTable>,
@@ -25,7 +25,7 @@ struct Position {
 }
 
 impl Position {
-    /// A table of this name begins.
+    /// Enters the table of a name.
     fn enter(&mut self, name: &str) {
         self.table = None;
         if name == "device" {
@@ -39,7 +39,7 @@ impl Position {
 }
 
 impl<'a> Place<'a> {
-    /// Nothing is found yet.
+    /// Creates a place with nothing found.
     fn new() -> Place<'a> {
         Place {
             line: None,
@@ -49,7 +49,7 @@ impl<'a> Place<'a> {
         }
     }
 
-    /// The key has this line.
+    /// Sets the line of the key.
     fn has_line(&mut self, line: usize) {
         if !self.has_key {
             self.line = Some(line);
@@ -57,7 +57,7 @@ impl<'a> Place<'a> {
         }
     }
 
-    /// Heeds an entry of the table.
+    /// Takes an entry of the table into account.
     fn add_entry(&mut self, line: usize, is_wanted: bool, is_name: bool, value: &'a str) {
         if is_wanted {
             self.has_line(line);
@@ -68,7 +68,7 @@ impl<'a> Place<'a> {
         }
     }
 
-    /// Heeds a statement.
+    /// Takes a statement into account.
     fn add(&mut self, at: &mut Position, table: LastTable, key: &str, statement: Statement<'a>) {
         let line = statement.line;
         match statement.said {
@@ -93,7 +93,7 @@ impl<'a> Place<'a> {
     }
 }
 
-/// What a text says of a table and one of its keys.
+/// Finds the places in a text of a table and one of its keys.
 pub(crate) fn place_of<'a>(alloc: Global, text: &'a str, table: LastTable, key: &str) -> Place<'a> {
     let mut place = Place::new();
     let mut statements = Statements::of(alloc, text);

@@ -22,14 +22,14 @@ const PRINTER_KEYS: [Key; 4] = [
     Key::FormatDefault,
 ];
 
-// Whether the printer has the name.
+// Returns whether the printer has the name.
 fn is_named(printer: &PrinterSettings, name: &[u8]) -> bool
     ensures { result ≡ bytes_eq printer.now.name name.now }
 {
     printer.name.as_bytes() == name
 }
 
-// Whether a printer has the name.
+// Returns whether a printer has the name.
 #[tactic(auto, unfolding(crate::specs::Printer::has_printer))]
 fn has_printer(printers: &[PrinterSettings], name: &[u8]) -> bool
     ensures { result ≡ has_printer printers.now name.now }
@@ -37,7 +37,7 @@ fn has_printer(printers: &[PrinterSettings], name: &[u8]) -> bool
     printers.iter().any(|printer| is_named(printer, name))
 }
 
-// The devices of these names.
+// Finds the devices with these names.
 fn find_devices(
     alloc: Global,
     devices: &[DeviceSettings],
@@ -55,7 +55,7 @@ fn find_devices(
     Ok(places)
 }
 
-// The printer of a table, after those of earlier tables.
+// Reads the printer of a table, where the earlier tables have these printers.
 fn read_printer(
     alloc: Global,
     devices: &[DeviceSettings],
@@ -81,7 +81,8 @@ fn read_printer(
     })
 }
 
-/// The printers of these tables, which name these devices; `last` is told of each table that is read.
+/// Reads the printers of the tables, whose devices are among `devices`. `last` is set to each table that is
+/// read.
 pub(crate) fn read_printers(
     alloc: Global,
     devices: &[DeviceSettings],

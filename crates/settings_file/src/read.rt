@@ -1,4 +1,4 @@
-//! The settings of a text, or their first fault.
+//! The settings of a text, or its first fault.
 ghost use Rattle.std.specs.Prelude.{◌≡◌, IfOk, IfErr, IsErrOf, None};
 ghost use Rattle.std.specs.Option.{ForSome};
 ghost use Rattle.std.specs.Str.{IsUtf8};
@@ -27,12 +27,12 @@ const ROOT_KEYS: [Key; 5] = [
     Key::Printer,
 ];
 
-/// The settings of a text of TOML.
+/// Reads the settings of a text of TOML.
 ///
 /// # Errors
 ///
-/// The first fault of the text, in the order of `docs/SETTINGS.md`, or
-/// [`SettingsFault::OutOfMemory`], which says nothing of the text.
+/// The first fault of the text, in the order of `docs/SETTINGS.md`, or [`SettingsFault::OutOfMemory`], which
+/// isn't a fault of the text.
 pub fn read_settings(alloc: Global, text: &str) -> Result<Settings, SettingsFault>
     ensures ok { IfOk result (λ settings. settings_of text.now ≡ Ok settings) }
     ensures within_limits { IfOk result MeetsLimits }
@@ -42,8 +42,8 @@ pub fn read_settings(alloc: Global, text: &str) -> Result<Settings, SettingsFaul
     read_settings_telling(alloc, text, &mut LastTable::Root)
 }
 
-/// The same; `last` is the table that was read last, and so, where the text is refused, the one in which
-/// its first fault stands. A text that is no TOML has no table.
+/// Reads the settings of a text of TOML. `last` is set to the table that was read last; the first fault of a
+/// refused text is in that table. A text that isn't TOML has no table.
 ///
 /// # Errors
 ///
@@ -62,7 +62,7 @@ pub fn read_settings_telling(
     read_text(alloc, text, last)
 }
 
-/// The settings of a file's bytes: bytes that aren't UTF-8 are no TOML.
+/// Reads the settings of a file's bytes. Bytes that aren't UTF-8 aren't TOML.
 ///
 /// # Errors
 ///
@@ -78,7 +78,7 @@ pub fn read_settings_bytes(alloc: Global, bytes: &[u8]) -> Result<Settings, Sett
     read_settings(alloc, text)
 }
 
-// The settings of a text.
+// Reads the settings of a text.
 #[tactic(auto, unfolding(crate::specs::Reading::settings_of))]
 fn read_text(alloc: Global, text: &str, last: &mut LastTable) -> Result<Settings, SettingsFault>
     ensures { Gives (λ s. s) result (settings_of text.now) }
@@ -90,7 +90,7 @@ fn read_text(alloc: Global, text: &str, last: &mut LastTable) -> Result<Settings
     }
 }
 
-// The settings of the root table.
+// Reads the settings of the root table.
 fn read_root(alloc: Global, root: &Table, last: &mut LastTable) -> Result<Settings, SettingsFault>
     ensures { Gives (λ s. s) result (settings_in (table_view root.now)) }
 {

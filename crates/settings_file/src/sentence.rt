@@ -8,15 +8,15 @@ use crate::wanted::wanted;
 use std::alloc::{AllocError, Global};
 use std::str;
 
-/// The longest value that is shown whole, in bytes.
+/// The most bytes of a value that a sentence shows.
 const MOST_SHOWN: usize = 60;
 
-/// The sentence about the first fault of a settings file, if it has one; it has no line feed. The file is
-/// named as it is given.
+/// Returns the sentence about the first fault of a settings file, if it has one, without a line feed. The
+/// sentence names the file as `file`.
 ///
 /// # Errors
 ///
-/// Out of memory.
+/// The only error is out of memory.
 pub fn explain(alloc: Global, file: &str, bytes: &[u8]) -> Result<Option<String>, AllocError> {
     let text = match str::from_utf8(bytes) {
         Ok(text) => text,
@@ -32,7 +32,7 @@ pub fn explain(alloc: Global, file: &str, bytes: &[u8]) -> Result<Option<String>
     }
 }
 
-/// The line, from 1 on, behind so many bytes.
+/// The line, counted from 1, of the byte at `count`.
 fn line_after(bytes: &[u8], count: usize) -> usize {
     let front = bytes.get(..count).unwrap_or(bytes);
     1 + front.iter().filter(|byte| **byte == b'\n').count()
@@ -77,7 +77,7 @@ fn sentence(
     }
 }
 
-/// The sentence about a text that is no TOML.
+/// The sentence about a text that isn't TOML.
 fn no_toml(alloc: Global, file: &str, text: &str) -> Result<String, AllocError> {
     match toml::table_from_str(alloc, text) {
         Ok(_) => format!(in alloc; "{file}: this is no TOML"),
@@ -95,7 +95,7 @@ fn no_toml(alloc: Global, file: &str, text: &str) -> Result<String, AllocError> 
     }
 }
 
-/// The column, from 1 on and in bytes, behind so many bytes.
+/// The column, counted from 1 and in bytes, of the byte at `count`.
 fn column_after(bytes: &[u8], count: usize) -> usize {
     let front = bytes.get(..count).unwrap_or(bytes);
     let mut column: usize = 1;
@@ -109,12 +109,12 @@ fn column_after(bytes: &[u8], count: usize) -> usize {
     column
 }
 
-/// A name that a fault speaks of, as text; without it, where it is none.
+/// The name in a fault as text; empty if it isn't UTF-8.
 fn name_of(name: &[u8]) -> &str {
     str::from_utf8(name).unwrap_or("")
 }
 
-/// What a table describes.
+/// The word for the kind of a table.
 fn kind_of(table: LastTable) -> &'static str {
     match table {
         LastTable::Root => "root",
@@ -123,7 +123,7 @@ fn kind_of(table: LastTable) -> &'static str {
     }
 }
 
-/// The file, and in it the line and the table, as far as they are found.
+/// The file with the line and the table, as far as they are found.
 fn at(
     alloc: Global,
     file: &str,
@@ -147,7 +147,7 @@ fn at(
     Ok(at)
 }
 
-/// A value as it is written, if it isn't too long for a line.
+/// A value as the text writes it, if it is short enough for a line and has no line feed.
 fn shown(value: Option<&str>) -> Option<&str> {
     let value = value?;
     if value.len() <= MOST_SHOWN && !value.contains('\n') {
@@ -164,7 +164,7 @@ fn about_missing(alloc: Global, at: &str, key: Key) -> Result<String, AllocError
     format!(in alloc; "{at}: {key} is missing; it is {wanted}")
 }
 
-/// The sentence about a value that may not be.
+/// The sentence about a value that the key may not have.
 fn about_value(
     alloc: Global,
     at: &str,
@@ -179,7 +179,7 @@ fn about_value(
     }
 }
 
-/// The sentence about a name that is not known: of a key of the table, or else of a device.
+/// The sentence about an unknown name: that of a key of the table, or else that of a device.
 fn about_unknown(
     alloc: Global,
     at: &str,

@@ -8,14 +8,14 @@ use std::marker::Model;
 /// The settings of a server. In clauses they are a record of the same fields.
 #[derive(Debug, Drop)]
 pub struct Settings {
-    /// What the URIs of printers and jobs begin with: 1 to [`base_types::Limits::URI_BASE_BYTES`]
-    /// bytes that print, without space.
+    /// The front of the URIs of printers and jobs: 1 to [`base_types::Limits::URI_BASE_BYTES`] bytes that
+    /// print, without spaces.
     pub uri_base: Text,
-    /// The names of users who may do what an owner may do, to every job and printer.
+    /// The names of the operators: users who may do all that an owner may do, with each job and printer.
     pub operators: Vec<Text>,
-    /// 1 to [`base_types::Limits::DEVICES`].
+    /// The devices, 1 to [`base_types::Limits::DEVICES`].
     pub devices: Vec<DeviceSettings>,
-    /// 1 to [`base_types::Limits::PRINTERS`].
+    /// The printers, 1 to [`base_types::Limits::PRINTERS`].
     pub printers: Vec<PrinterSettings>,
 }
 
@@ -33,7 +33,7 @@ impl Model for Settings {
 }
 
 impl Settings {
-    /// The names of the devices, in their order; out of memory is the only refusal.
+    /// The names of the devices, in order. The only error is out of memory.
     pub fn device_names(&self, alloc: Global) -> Result<Vec<Text>, AllocError>
         ensures { IfOk result (λ names. names.items ≡ device_names self.now) }
     {
@@ -44,7 +44,7 @@ impl Settings {
         Ok(names)
     }
 
-    /// The device of this name, if there is one.
+    /// The device with a name, if there is one.
     pub fn device_named(&self, name: &[u8]) -> Option<DeviceId>
         ensures { result ≡ device_named self.now name.now }
     {
@@ -54,7 +54,7 @@ impl Settings {
         }
     }
 
-    /// The printer of this name, if there is one.
+    /// The printer with a name, if there is one.
     pub fn printer_named(&self, name: &[u8]) -> Option<PrinterId>
         ensures { result ≡ printer_named self.now name.now }
     {
@@ -64,7 +64,7 @@ impl Settings {
         }
     }
 
-    /// Where the device of this name stands.
+    /// The place of the device with a name.
     fn device_place(&self, name: &[u8]) -> Option<usize>
         ensures { result ≡ device_named self.now name.now }
     {
@@ -73,7 +73,7 @@ impl Settings {
             .position(|device| name == device.name.as_bytes())
     }
 
-    /// Where the printer of this name stands.
+    /// The place of the printer with a name.
     fn printer_place(&self, name: &[u8]) -> Option<usize>
         ensures { result ≡ printer_named self.now name.now }
     {
@@ -83,21 +83,21 @@ impl Settings {
     }
 }
 
-/// What the settings say of a device. In clauses it is a record of the same fields.
+/// The settings of a device. In clauses it is a record of the same fields.
 #[derive(Debug, Drop)]
 pub struct DeviceSettings {
     pub name: Text,
-    /// Time for an impression on one side, in ms: 1 to [`base_types::Limits::RATE`].
+    /// The time for an impression in a one-sided job, in ms: 1 to [`base_types::Limits::RATE`].
     pub rate_one: u32,
-    /// The same on two sides, where the device prints them.
+    /// The time for an impression in a two-sided job, if the device prints two-sided.
     pub rate_two: Option<u32>,
-    /// Time before a job's first impression, in ms, at most [`base_types::Limits::SETUP`].
+    /// The time before a job's first impression, in ms, at most [`base_types::Limits::SETUP`].
     pub setup: u32,
     /// The media that can be loaded.
     pub media: Vec<Text>,
-    /// The document formats that it prints.
+    /// The document formats that the device prints.
     pub formats: Vec<Text>,
-    /// The finishings that it has.
+    /// The finishings that the device has.
     pub finishings: Finishings,
 }
 
@@ -121,15 +121,15 @@ impl Model for DeviceSettings {
     ghost invariant = { λ d. IsRate d.rate_one × ForSome d.rate_two IsRate × IsSetup d.setup };
 }
 
-/// What the settings say of a printer. In clauses it is a record of the same fields.
+/// The settings of a printer. In clauses it is a record of the same fields.
 #[derive(Debug, Drop)]
 pub struct PrinterSettings {
     pub name: Text,
-    /// Its devices, in the order in which it names them: at most [`base_types::Limits::DEVICES`].
+    /// The printer's devices, in the order of the settings' list: at most [`base_types::Limits::DEVICES`].
     pub devices: PrinterSet,
-    /// The medium of a job that names none.
+    /// The medium of a job without media.
     pub media_default: Text,
-    /// The format of a document that names none.
+    /// The format of a document without document-format.
     pub format_default: Text,
 }
 

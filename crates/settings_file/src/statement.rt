@@ -1,25 +1,25 @@
-//! The statements of a text of TOML: headers of tables and entries, each with the text of its value.
+//! The statements of a text of TOML: headers of tables, and entries with the text of the value.
 use std::alloc::Global;
 use toml_parser::text::{first, skip_blank, skip_ws};
 use toml_parser::{dotted_key, quoted, starts_string};
 
-/// What a statement says.
+/// The content of a statement.
 #[derive(Drop)]
 pub(crate) enum Said<'a> {
-    /// A table of this name begins; of no name, where the name has dots.
+    /// The header of the table of a name; `None` if the name has dots.
     Header(Option<String>),
-    /// A key without dots, or none, and its value as it is written.
+    /// A key (`None` if it has dots), and its value as the text writes it.
     Entry { key: Option<String>, value: &'a str },
 }
 
-/// A statement, and its line, from 1 on.
+/// A statement, and its line, counted from 1.
 #[derive(Drop)]
 pub(crate) struct Statement<'a> {
     pub(crate) line: usize,
     pub(crate) said: Said<'a>,
 }
 
-/// A text, and how much of it is read.
+/// A text, with the rest that isn't read.
 #[derive(Drop)]
 pub(crate) struct Statements<'a> {
     alloc: Global,
@@ -28,7 +28,7 @@ pub(crate) struct Statements<'a> {
 }
 
 impl<'a> Statements<'a> {
-    /// The statements of a text.
+    /// Creates the iterator over the statements of a text.
     pub(crate) fn of(alloc: Global, text: &'a str) -> Statements<'a> {
         Statements {
             alloc,
@@ -37,7 +37,8 @@ impl<'a> Statements<'a> {
         }
     }
 
-    /// The next statement; none at the end, where memory is refused, or where the text is read no further.
+    /// Returns the next statement. `None` at the end, if memory is refused, or if the text can't be read
+    /// further.
     pub(crate) fn next(&mut self) -> Option<Statement<'a>> {
         let start = skip_blank(self.rest, true);
         let line = line_at(self.text, start);
@@ -50,14 +51,14 @@ impl<'a> Statements<'a> {
     }
 }
 
-/// The line, from 1 on, at which this rest of a text begins.
+/// The line, counted from 1, at which this rest of a text begins.
 fn line_at(text: &str, rest: &str) -> usize {
     let count = text.len().saturating_sub(rest.len());
     let front = text.as_bytes().get(..count).unwrap_or(&[]);
     1 + front.iter().filter(|byte| **byte == b'\n').count()
 }
 
-/// A key without dots.
+/// The key, if it has no dots.
 fn simple_key(key: toml_parser::Key) -> Option<String> {
     if key.path.is_empty() {
         Some(key.last)
@@ -66,7 +67,7 @@ fn simple_key(key: toml_parser::Key) -> Option<String> {
     }
 }
 
-/// A header, of which the first bracket is read, and what follows.
+/// Reads a header behind its first bracket. Returns it and the rest behind it.
 fn header<'a>(alloc: Global, inner: &'a str) -> Option<(Said<'a>, &'a str)> {
     let inner = inner.strip_prefix("[").unwrap_or(inner);
     let (key, after) = dotted_key(alloc, skip_ws(inner)).ok()?;
@@ -75,7 +76,7 @@ fn header<'a>(alloc: Global, inner: &'a str) -> Option<(Said<'a>, &'a str)> {
     Some((Said::Header(simple_key(key)), after))
 }
 
-/// An entry, and what follows.
+/// Reads an entry. Returns it and the rest behind it.
 fn entry<'a>(alloc: Global, start: &'a str) -> Option<(Said<'a>, &'a str)> {
     let (key, after) = dotted_key(alloc, start).ok()?;
     let value = skip_ws(after.strip_prefix("=")?);
@@ -91,7 +92,7 @@ fn entry<'a>(alloc: Global, start: &'a str) -> Option<(Said<'a>, &'a str)> {
     ))
 }
 
-/// What follows a value: a list or a table with all that is in it, a string, or a word.
+/// The rest behind a value: a list or a table as a whole, a string, or a word.
 fn after_value<'a>(alloc: Global, value: &'a str) -> Option<&'a str> {
     let mut rest = value;
     let mut depth = 0;
@@ -105,7 +106,8 @@ fn after_value<'a>(alloc: Global, value: &'a str) -> Option<&'a str> {
     None
 }
 
-/// What follows a bracket, a separator, a string or a word; so many brackets are open before and then.
+/// The rest behind a bracket, a separator, a string or a word. `depth` is the number of open brackets, before
+/// and after it.
 fn after_piece<'a>(alloc: Global, rest: &'a str, depth: &mut usize) -> Option<&'a str> {
     if starts_string(rest) {
         return Some(quoted(alloc, rest).ok()?.1);
@@ -119,7 +121,7 @@ fn after_piece<'a>(alloc: Global, rest: &'a str, depth: &mut usize) -> Option<&'
     rest.get(1..)
 }
 
-/// What follows a word: all up to a separator, a bracket, a blank or a comment.
+/// The rest behind a word, which ends at a separator, a bracket, a blank or a comment.
 fn after_word(rest: &str) -> Option<&str> {
     let count = rest
         .bytes()

@@ -1,4 +1,4 @@
-//! What may stand at each key.
+//! The values that each key may have, in words.
 use crate::key::Key;
 use base_types::Limits;
 use std::alloc::{AllocError, Global};
@@ -15,19 +15,19 @@ fn grouped(alloc: Global, number: u32) -> Result<String, AllocError> {
     }
 }
 
-/// A whole number of ms up to this.
+/// The words for a whole number of ms from `least` to `most`.
 fn millis(alloc: Global, least: u32, most: u32) -> Result<String, AllocError> {
     let most = grouped(alloc, most)?;
     format!(in alloc; "{least} to {most}, in ms")
 }
 
-/// A name, of a device or a printer.
+/// The words for the name of a device or a printer.
 fn name(alloc: Global) -> Result<String, AllocError> {
     let most = Limits::NAME_BYTES;
     format!(in alloc; "1 to {most} letters, digits, '_' and '-'")
 }
 
-/// A medium.
+/// The words for the name of a medium.
 fn medium(alloc: Global) -> Result<String, AllocError> {
     let most = Limits::MEDIA_BYTES;
     format!(in alloc;
@@ -35,7 +35,7 @@ fn medium(alloc: Global) -> Result<String, AllocError> {
     )
 }
 
-/// A document format.
+/// The words for a document format.
 fn format(alloc: Global) -> Result<String, AllocError> {
     let most = Limits::FORMAT_BYTES;
     format!(in alloc;
@@ -43,18 +43,18 @@ fn format(alloc: Global) -> Result<String, AllocError> {
     )
 }
 
-/// A list of so many texts, each of which is this.
+/// The words for a list of at most `most` texts, each as `each` says.
 fn list(alloc: Global, most: usize, each: &str) -> Result<String, AllocError> {
     format!(in alloc; "a list of at most {most} texts, each {each}")
 }
 
-/// So many tables.
+/// The words for 1 to `most` tables.
 fn tables(alloc: Global, most: usize, key: Key) -> Result<String, AllocError> {
     let name = key.name();
     format!(in alloc; "1 to {most} tables, each written [[{name}]]")
 }
 
-/// What may stand at a key.
+/// The words for the values that a key may have.
 pub(crate) fn wanted(alloc: Global, key: Key) -> Result<String, AllocError> {
     match key {
         Key::Version => format!(in alloc; "1 or 2"),

@@ -1,11 +1,11 @@
-//! Bytes under way.
+//! A buffer of bytes.
 
 use gantt_chart::Page;
 use std::alloc::{AllocError, Global};
 
-/// Bytes under way, which remember that memory was refused: nothing is appended from then on.
+/// A buffer of bytes that remembers whether memory was refused: nothing is appended from then on.
 ///
-/// What appends to them takes them and gives them back, so that calls stand behind one another.
+/// The functions that append take the buffer and return it, so that calls can be chained.
 #[derive(Drop)]
 pub(crate) struct Bytes {
     alloc: Global,
@@ -14,7 +14,7 @@ pub(crate) struct Bytes {
 }
 
 impl Bytes {
-    /// No bytes yet.
+    /// Creates an empty buffer.
     pub(crate) fn new(alloc: Global) -> Bytes {
         Bytes {
             alloc,
@@ -43,14 +43,14 @@ impl Bytes {
         }
     }
 
-    /// The bytes to which nothing more is appended, as memory was refused.
+    /// Marks the buffer as refused, since memory was refused.
     fn refused(self) -> Bytes {
         let mut all = self;
         all.is_refused = true;
         all
     }
 
-    /// The bytes. The only error is out of memory.
+    /// Returns the bytes. The only error is out of memory.
     pub(crate) fn finish(self) -> Result<Vec<u8>, AllocError> {
         if self.is_refused {
             Err(AllocError)

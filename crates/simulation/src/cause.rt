@@ -1,4 +1,4 @@
-//! Why no device of a core can print a job.
+//! The cause that no device of a core can print a job.
 ghost use Rattle.std.specs.Prelude.{◌<◌, length};
 
 use base_types::{Cause, DeviceId, DeviceNow, Needs, PrinterSet};
@@ -15,12 +15,12 @@ fn first_alone(alloc: Global) -> Result<PrinterSet, AllocError> {
     Ok(PrinterSet::new(devices))
 }
 
-/// Why a device can't print a job; none where it can.
+/// The cause that a device can't print a job. `None` if it can.
 fn obstacle(needs: &Needs, now: &DeviceNow, alone: &PrinterSet) -> Option<Cause> {
     stranded_cause(needs, alone, slice::from_ref(now))
 }
 
-/// The later one of two tests, by the causes.
+/// The later of two tests, by their causes.
 fn later(one: Cause, other: Cause) -> Cause {
     if (one as u8) < (other as u8) {
         other
@@ -29,7 +29,8 @@ fn later(one: Cause, other: Cause) -> Cause {
     }
 }
 
-/// Why no device of its printer can print a job: the first of the tests that leaves none.
+/// The cause that no device of its printer can print a job: the first of the tests that leaves none. The only
+/// error is out of memory.
 pub(crate) fn cause_of(
     alloc: Global,
     core: &Core<AugmentingPaths>,

@@ -1,4 +1,4 @@
-//! The jobs of a day, with how long each takes on each device of its printer.
+//! The jobs of a day, with their times on each device of their printers.
 
 use crate::cause::cause_of;
 use crate::day_job::{DayJob, Member};
@@ -12,23 +12,23 @@ use rand_pcg::Pcg32;
 use std::alloc::{AllocError, Global};
 use std::num::{nearest_u64_to_f64, saturating_f64_to_u64};
 
-/// By how much devices miss their estimates, at most, in per cent; and the seed of chance.
+/// The greatest error of the estimates, in per cent, and the seed of the random numbers.
 #[derive(Clone, Copy)]
 pub struct Noise {
     pub percent: u8,
     pub seed: u64,
 }
 
-/// The jobs of a day by their estimates, and how much longer or shorter each is than estimated.
+/// The jobs of a day with their estimated times, and the ratio of each job's real time to its estimate.
 #[derive(Drop)]
 pub(crate) struct Day {
     pub(crate) jobs: Vec<DayJob>,
-    /// The jobs that no device can print, by their places, counted from 1.
+    /// The jobs that no device can print, by their places in the list, counted from 1.
     pub(crate) stranded: Vec<Stranded>,
     parts: Vec<f64>,
 }
 
-/// How long a job takes on a device as it is, by the estimate of the server.
+/// The time of a job on a device in its present state, as the server estimates it.
 fn estimate(needs: &Needs, device: DeviceId, now: &DeviceNow, printer: &PrinterSet) -> Option<u64> {
     if able(needs, device, now, printer) {
         Some(time(needs, now))
@@ -37,16 +37,16 @@ fn estimate(needs: &Needs, device: DeviceId, now: &DeviceNow, printer: &PrinterS
     }
 }
 
-/// The part of an estimate that a job really takes: 1, or a random one that differs by so many per cent at
-/// most.
+/// The ratio of a job's real time to its estimate: a random number that differs from 1 by at most `percent`
+/// per cent.
 fn part_of(percent: u8, chance: &mut Pcg32) -> f64 {
     let word = chance.next_word();
-    // from -1 to 1
+    // a number from -1 to 1
     let swing = f64::from(word) / 2_147_483_648.0 - 1.0;
     1.0 + swing * f64::from(percent) / 100.0
 }
 
-/// How long a job takes on a device of a core.
+/// The time of a job on a device of a core.
 fn time_at(
     core: &Core<AugmentingPaths>,
     device: DeviceId,
@@ -57,7 +57,7 @@ fn time_at(
     estimate(needs, device, now, printer)
 }
 
-/// How long a job takes on each device of its printer.
+/// The time of a job on each device of its printer. The only error is out of memory.
 fn members_of(
     alloc: Global,
     core: &Core<AugmentingPaths>,
@@ -74,7 +74,7 @@ fn members_of(
     Ok(members)
 }
 
-/// The job of a list as the policies see it. One whose printer isn't there has no device.
+/// The job of a list as the policies use it. A job whose printer isn't there has no device.
 fn day_job(
     alloc: Global,
     core: &Core<AugmentingPaths>,
@@ -93,7 +93,7 @@ fn day_job(
     })
 }
 
-/// Notes a job that no device can print, whose place in the list this is.
+/// Adds a job that no device can print, by its place in the list.
 fn note_stranded(
     alloc: Global,
     stranded: &mut Vec<Stranded>,
@@ -110,7 +110,7 @@ fn note_stranded(
 }
 
 impl Day {
-    /// The day of a list of jobs, by what the devices of a core are.
+    /// The day of a list of jobs, by the present state of a core's devices. The only error is out of memory.
     pub(crate) fn new(
         alloc: Global,
         core: &Core<AugmentingPaths>,
@@ -158,7 +158,7 @@ impl Day {
         Ok(())
     }
 
-    /// When the job at a place comes.
+    /// The moment at which the job at a place comes.
     pub(crate) fn moment_of(&self, place: usize) -> u64 {
         match self.jobs.get(place) {
             Some(job) => job.moment,
@@ -166,7 +166,7 @@ impl Day {
         }
     }
 
-    /// Whether some device can print the job at a place.
+    /// Returns whether some device can print the job at a place.
     pub(crate) fn is_printable(&self, place: usize) -> bool {
         match self.jobs.get(place) {
             Some(job) => job.is_printable(),
@@ -174,7 +174,7 @@ impl Day {
         }
     }
 
-    /// How long the job at a place really takes on a device: at least 1 ms.
+    /// The real time of the job at a place on a device, at least 1 ms.
     pub(crate) fn real_time(&self, job: usize, device: usize) -> u64 {
         let estimate = match self.jobs.get(job) {
             Some(job) => job.time_on(device).unwrap_or(0),

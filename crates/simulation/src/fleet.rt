@@ -1,4 +1,5 @@
-//! The devices of a day: those of the settings, without some that are away, and with some more.
+//! The devices of a day: the devices of the settings, without those that are away, and with additional
+//! devices.
 ghost use Rattle.std.specs.Prelude.{IfOk};
 ghost use Rattle.settings_file.specs.Settings.{MeetsLimits};
 
@@ -11,26 +12,26 @@ use settings_file::{Settings, SettingsFault, read_settings_bytes};
 use std::alloc::{AllocError, AllocFailed, Global};
 use thiserror::Error;
 
-/// A device that there is one more of.
+/// A further device.
 #[derive(Clone, Copy)]
 pub struct Added<'a> {
     pub name: &'a str,
-    /// The name of the device that it is like.
+    /// The name of the device whose settings it has.
     pub like: &'a str,
 }
 
-/// What is wrong with the name of a device.
+/// The fault of a device's name.
 #[derive(Clone, Copy, Debug)]
 pub enum NameFault {
     /// The settings have no device of this name.
     Unknown,
-    /// They have one already.
+    /// The settings have a device of this name already.
     Taken,
-    /// With this device more they are no settings.
+    /// The settings with this device aren't valid.
     Refused,
 }
 
-/// Why there is no such fleet.
+/// Why the devices of a day can't be made.
 #[derive(Debug, Drop, Error)]
 pub enum FleetFault {
     #[error("the settings {} \"{name}\"{}", .fault.before(), .fault.behind())]
@@ -40,7 +41,7 @@ pub enum FleetFault {
 }
 
 impl NameFault {
-    /// What is said in front of the name.
+    /// The words before the name.
     fn before(self) -> &'static str {
         match self {
             NameFault::Unknown => "have no device",
@@ -49,7 +50,7 @@ impl NameFault {
         }
     }
 
-    /// What is said behind it.
+    /// The words behind the name.
     fn behind(self) -> &'static str {
         match self {
             NameFault::Unknown => "",
@@ -72,7 +73,7 @@ impl<T: Drop> From<AllocFailed<T>> for FleetFault {
     }
 }
 
-/// The fault of a name, unless there is no memory for it.
+/// The fault of a name, unless memory is refused.
 fn fault_of(alloc: Global, name: &str, fault: NameFault) -> FleetFault {
     match String::from_str(alloc, name) {
         Ok(name) => FleetFault::Device { name, fault },
@@ -80,7 +81,7 @@ fn fault_of(alloc: Global, name: &str, fault: NameFault) -> FleetFault {
     }
 }
 
-/// The place of the device of a name, or the fault that there is none.
+/// The place of the device with a name, or the fault that there is none.
 fn known(alloc: Global, settings: &Settings, name: &str) -> Result<usize, FleetFault> {
     match settings.device_named(name.as_bytes()) {
         Some(device) => Ok(device.place()),
@@ -88,7 +89,7 @@ fn known(alloc: Global, settings: &Settings, name: &str) -> Result<usize, FleetF
     }
 }
 
-/// The settings of a text, which have a device of a name more.
+/// Reads the settings of a text that has a further device of a name.
 fn settings_in(alloc: Global, text: &[u8], name: &str) -> Result<Settings, FleetFault>
     ensures { IfOk result MeetsLimits }
 {
@@ -99,8 +100,8 @@ fn settings_in(alloc: Global, text: &[u8], name: &str) -> Result<Settings, Fleet
     }
 }
 
-/// Settings with one more device: it stands behind all others, and is one of each printer that has the
-/// device that it is like.
+/// Settings with a further device. It is behind all others, and belongs to each printer that has the device
+/// whose settings it has.
 fn with_device(alloc: Global, settings: &Settings, added: Added<'_>) -> Result<Settings, FleetFault>
     ensures { IfOk result MeetsLimits }
 {
@@ -112,7 +113,7 @@ fn with_device(alloc: Global, settings: &Settings, added: Added<'_>) -> Result<S
     settings_in(alloc, &text, added.name)
 }
 
-/// Settings with some more devices.
+/// Settings with further devices.
 pub(crate) fn with_devices(
     alloc: Global,
     settings: Settings,
@@ -128,7 +129,7 @@ pub(crate) fn with_devices(
     Ok(all)
 }
 
-/// Has all devices of a core say that they are ready, but for those at some places.
+/// Makes all devices of a core ready, except those at some places.
 fn make_all_ready(core: &mut Core<AugmentingPaths>, away: &[usize]) -> Result<(), AllocError> {
     for place in 0..core.settings().devices.len() {
         if !away.contains(&place) {
@@ -138,7 +139,7 @@ fn make_all_ready(core: &mut Core<AugmentingPaths>, away: &[usize]) -> Result<()
     Ok(())
 }
 
-/// The places of the devices of these names.
+/// The places of the devices with these names.
 fn places_of(alloc: Global, settings: &Settings, names: &[&str]) -> Result<Vec<usize>, FleetFault> {
     let mut places = Vec::new(alloc);
     for name in names {
@@ -147,7 +148,7 @@ fn places_of(alloc: Global, settings: &Settings, names: &[&str]) -> Result<Vec<u
     Ok(places)
 }
 
-/// Has all devices of a core say that they are ready, but for those of some names, which are away.
+/// Makes all devices of a core ready, except those with some names, which are away.
 pub(crate) fn make_ready(
     alloc: Global,
     core: &mut Core<AugmentingPaths>,

@@ -1,11 +1,11 @@
-//! The devices of a day, and what happens on them.
+//! The devices of a day, and the events on them.
 
 use crate::day::Day;
 use crate::queue::Start;
 use crate::room::Room;
 use std::alloc::{AllocError, Global};
 
-/// A job that was printed: on which device, and from when to when, in ms from the beginning of the day.
+/// A job that was printed: its device, and its start and end, in ms from the beginning of the day.
 #[derive(Clone, Copy)]
 pub(crate) struct Print {
     pub(crate) job: usize,
@@ -14,7 +14,7 @@ pub(crate) struct Print {
     pub(crate) end: u64,
 }
 
-/// What happens next, and when.
+/// The next event, with its moment.
 #[derive(Clone, Copy)]
 enum Happening {
     /// The job at a place of the day comes.
@@ -28,13 +28,13 @@ enum Happening {
 pub(crate) struct Floor<'a> {
     day: &'a Day,
     running: Vec<Option<Print>>,
-    /// How many jobs have come.
+    /// The number of jobs that have come.
     come: usize,
-    /// The jobs that began, in this order.
+    /// The jobs that began, in order.
     pub(crate) prints: Vec<Print>,
 }
 
-/// The one of two prints that ends first.
+/// The print that ends first.
 fn first_of(one: Option<Print>, other: Option<Print>) -> Option<Print> {
     match (one, other) {
         (Some(one), Some(other)) if other.end < one.end => Some(other),
@@ -44,7 +44,7 @@ fn first_of(one: Option<Print>, other: Option<Print>) -> Option<Print> {
 }
 
 impl<'a> Floor<'a> {
-    /// The beginning of a day on so many devices.
+    /// The beginning of a day with this many devices. The only error is out of memory.
     fn new(alloc: Global, day: &'a Day, devices: usize) -> Result<Floor<'a>, AllocError> {
         let mut running = Vec::with_capacity(alloc, devices)?;
         for _ in 0..devices {
@@ -58,7 +58,7 @@ impl<'a> Floor<'a> {
         })
     }
 
-    /// The job that ends first of those that are printed, the first of several.
+    /// The current print that ends first; of several the first.
     fn next_end(&self) -> Option<Print> {
         let mut found = None;
         for print in &self.running {
@@ -67,7 +67,7 @@ impl<'a> Floor<'a> {
         found
     }
 
-    /// What happens next: where a job ends at the moment at which another comes, it ends first.
+    /// The next event. If a job ends at the moment at which another comes, the end is first.
     fn next(&self) -> Option<Happening> {
         let ends = self.next_end();
         let Some(job) = self.day.jobs.get(self.come) else {
@@ -82,14 +82,14 @@ impl<'a> Floor<'a> {
         }
     }
 
-    /// Sets what a device prints.
+    /// Sets the print of a device.
     fn set(&mut self, device: usize, print: Option<Print>) {
         if let Some(running) = self.running.get_mut(device) {
             *running = print;
         }
     }
 
-    /// Has a device begin a job.
+    /// Begins a job on a device. The only error is out of memory.
     fn begin(&mut self, start: Start, now: u64) -> Result<(), AllocError> {
         let Start { job, device } = start;
         let print = Print {
@@ -103,7 +103,7 @@ impl<'a> Floor<'a> {
         Ok(())
     }
 
-    /// Begins the jobs that the room says, at most one on each device.
+    /// Begins the jobs that the room returns, at most one on each device. The only error is out of memory.
     fn begin_all<R: Room>(&mut self, room: &mut R, now: u64) -> Result<(), AllocError> {
         for _ in 0..self.running.len() {
             let Some(start) = room.start() else {
@@ -114,7 +114,7 @@ impl<'a> Floor<'a> {
         Ok(())
     }
 
-    /// Tells the room what happens, and begins what it says.
+    /// Gives the room an event, and begins the jobs that it returns. The only error is out of memory.
     fn go_on<R: Room>(&mut self, room: &mut R, happening: Happening) -> Result<(), AllocError> {
         match happening {
             Happening::Comes { job, moment } => {
@@ -139,14 +139,14 @@ impl<'a> Floor<'a> {
     }
 }
 
-/// Who is told how far a day has been played.
+/// The observer of a day's progress.
 pub trait Watch {
-    /// So many of these jobs have come, in the day of this name.
+    /// Tells that `come` of the `jobs` jobs have come, in the day of this name.
     fn come(&mut self, name: &str, come: usize, jobs: usize);
 }
 
 impl Floor<'_> {
-    /// Plays the day until nothing happens any more.
+    /// Plays the day up to its last event. The only error is out of memory.
     fn play<R: Room, W: Watch>(
         &mut self,
         room: &mut R,
@@ -165,7 +165,8 @@ impl Floor<'_> {
     }
 }
 
-/// Plays a day on so many devices: the jobs that were printed, in the order in which they began.
+/// Plays a day on this many devices. Returns the jobs that were printed, in the order in which they began.
+/// The only error is out of memory.
 pub(crate) fn play<R: Room, W: Watch>(
     alloc: Global,
     day: &Day,

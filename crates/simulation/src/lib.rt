@@ -1,13 +1,13 @@
-//! A day of a print room, played: once as the server would plan it, and once for each [`Policy`] by which
+//! The simulation of a print room's day: once as the server plans it, and once for each [`Policy`] by which
 //! print systems without plans choose a device for each job.
 //!
-//! [`run_simulation`] plays the jobs of a list on the devices of some settings, which keep their estimates
-//! or miss them by a random part, and writes what came of it: how long people waited for their paper, how
-//! long each device printed and stood idle, and which jobs no device can print; or it draws two of the
-//! days. The plans are those of the real core, `dispatcher::Core`, which is sent requests and reports. A
-//! `Queue` stands beside it: it has the jobs that wait, in the order of their priorities and then of their
-//! coming. It promises nothing else than that it is safe and ends. No clock is read and no word of a
-//! command line.
+//! [`run_simulation`] plays the jobs of a list on the devices of some settings, whose real times are the
+//! estimates or differ from them by a random part. It writes the times from the jobs' moments until they were
+//! printed, the time for which each device printed and was idle, and the jobs that no device can print; or it
+//! draws two of the days. The plans are those of the real core, `dispatcher::Core`, which gets requests and
+//! reports. A `Queue` is used for the policies: it has the waiting jobs, in the order of their priorities and
+//! then of their moments. Nothing is proved of the simulation, except that it is safe and ends. It reads no
+//! clock and no command line.
 //!
 //! Its rows are days of `play_examples`.
 #![tactic(auto)]

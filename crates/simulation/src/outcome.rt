@@ -1,4 +1,4 @@
-//! What a day came to.
+//! The outcomes of a day.
 
 use crate::day::Day;
 use crate::floor::{Print, Watch, play};
@@ -13,15 +13,15 @@ use std::alloc::{AllocError, Global};
 /// The name of the day that the server plans.
 pub(crate) const PLANNED: &str = "planned";
 
-/// A day as it was played: by whom, and what was printed when.
+/// The outcome of a day: the name of its play, and the jobs that were printed.
 #[derive(Drop)]
 pub(crate) struct Outcome {
     pub(crate) name: &'static str,
-    /// In the order in which the jobs began.
+    /// The prints, in the order in which the jobs began.
     pub(crate) prints: Vec<Print>,
 }
 
-/// Plays a day with the real core.
+/// Plays a day with the real core. The only error is out of memory.
 fn play_planned<W: Watch>(
     alloc: Global,
     core: &mut Core<AugmentingPaths>,
@@ -37,7 +37,7 @@ fn play_planned<W: Watch>(
     })
 }
 
-/// Plays a day by a policy, with so many printers and devices.
+/// Plays a day by a policy, with this many printers and devices. The only error is out of memory.
 fn play_policy<W: Watch>(
     alloc: Global,
     policy: Policy,
@@ -54,7 +54,7 @@ fn play_policy<W: Watch>(
     })
 }
 
-/// Plays a day with the real core, and then once for each policy.
+/// Plays a day with the real core, and then once for each policy. The only error is out of memory.
 pub(crate) fn play_all<W: Watch>(
     alloc: Global,
     core: &mut Core<AugmentingPaths>,

@@ -8,17 +8,18 @@ use base_types::Text;
 use gantt_chart::{Arrival, Chart, Ending, Form, Page, chart_of_day, draw_charts};
 use std::alloc::{AllocError, Global};
 
-/// What is drawn of a simulation: the planned day, and below it that of a policy.
+/// The picture of a simulation: the planned day, and below it the day of a policy.
 #[derive(Clone, Copy)]
 pub struct Drawn {
     pub policy: Policy,
     pub form: Form,
 }
 
-/// How many jobs that no device can print stand below a chart.
+/// The most jobs without a device that are listed below a chart.
 const STRANDED: usize = 10;
 
-/// The jobs of a day, each with its place in the list, counted from 1, as its number.
+/// The jobs of a day, each with its place in the list, counted from 1, as its number. The only error is out
+/// of memory.
 fn arrivals_of(alloc: Global, day: &Day) -> Result<Vec<Arrival>, AllocError> {
     let mut arrivals = Vec::with_capacity(alloc, day.jobs.len())?;
     for (place, job) in day.jobs.iter().enumerate() {
@@ -31,7 +32,7 @@ fn arrivals_of(alloc: Global, day: &Day) -> Result<Vec<Arrival>, AllocError> {
     Ok(arrivals)
 }
 
-/// What devices printed, as it is drawn.
+/// The prints of devices, as they are drawn. The only error is out of memory.
 fn prints_of(alloc: Global, prints: &[Print]) -> Result<Vec<gantt_chart::Print>, AllocError> {
     let mut drawn = Vec::with_capacity(alloc, prints.len())?;
     for print in prints {
@@ -46,7 +47,7 @@ fn prints_of(alloc: Global, prints: &[Print]) -> Result<Vec<gantt_chart::Print>,
     Ok(drawn)
 }
 
-/// The line about so many jobs that no device can print either.
+/// The line with the number of the jobs without a device that aren't listed. The only error is out of memory.
 fn note_of(alloc: Global, more: usize) -> Result<String, AllocError> {
     Page::new(alloc)
         .put("Nor does any print ")
@@ -55,7 +56,8 @@ fn note_of(alloc: Global, more: usize) -> Result<String, AllocError> {
         .finish()
 }
 
-/// A line about the jobs that no device can print, where there are more than stand below a chart.
+/// The line about the jobs without a device, if more of them exist than are listed below a chart. The only
+/// error is out of memory.
 fn notes_of(alloc: Global, day: &Day) -> Result<Vec<String>, AllocError> {
     let mut notes = Vec::new(alloc);
     let more = day.stranded.len().saturating_sub(STRANDED);
@@ -65,7 +67,7 @@ fn notes_of(alloc: Global, day: &Day) -> Result<Vec<String>, AllocError> {
     Ok(notes)
 }
 
-/// The chart of a day, of these jobs and prints, under a title.
+/// The chart of a day with these jobs and prints, under a title. The only error is out of memory.
 fn chart_with(
     alloc: Global,
     names: &[Text],
@@ -88,7 +90,7 @@ fn chart_with(
     )
 }
 
-/// The chart of a day as it was played.
+/// The chart of a day as it was played. The only error is out of memory.
 fn chart_of(
     alloc: Global,
     names: &[Text],
@@ -100,7 +102,8 @@ fn chart_of(
     chart_with(alloc, names, day, outcome.name, &arrivals, &prints)
 }
 
-/// A picture of a day as it was played in two ways: planned, and below it by a policy.
+/// A picture of a day as it was played in two ways: planned, and below it by a policy. The only error is out
+/// of memory.
 pub(crate) fn picture_of(
     alloc: Global,
     names: &[Text],

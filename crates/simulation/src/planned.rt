@@ -1,4 +1,4 @@
-//! The jobs of a day, given to the real core.
+//! The real core, which gets the jobs of a day.
 
 use crate::queue::Start;
 use crate::request::print_job;
@@ -12,11 +12,11 @@ use plan_solver::AugmentingPaths;
 use print_room::Started;
 use std::alloc::{AllocError, Global};
 
-/// What became of a job that was sent to the core.
+/// The result of a job that was sent to the core.
 #[derive(Clone, Copy)]
 pub(crate) enum Sent {
     Taken,
-    /// There are as many jobs as there can be.
+    /// The core has as many jobs as it may have.
     Busy,
     Refused,
 }
@@ -27,22 +27,23 @@ pub(crate) struct Planned<'a> {
     alloc: Global,
     core: &'a mut Core<AugmentingPaths>,
     listed: &'a [ListedJob],
-    /// The places of the jobs that were taken, in the order of their ids, from 1 on, which is that of the list.
+    /// The places of the jobs that were taken, in the order of their ids from 1 on, which is the order of the
+    /// list.
     taken: Vec<usize>,
-    /// The jobs that the core had no room for when they came, in this order.
+    /// The jobs for which the core had no room when they came, in order.
     door: Vec<usize>,
-    /// How many of these it was sent since.
+    /// The number of these jobs that were sent since.
     let_in: usize,
-    /// The jobs that a dispatch began and that aren't told yet.
+    /// The jobs that a dispatch began and that weren't returned yet.
     begun: Vec<Start>,
 }
 
-/// The moment of a number of ms; the last one that there is, where it is later.
+/// The moment of a number of ms, at most the last moment.
 fn moment_at(millis: u64) -> Moment {
     Moment::new(millis.min(Limits::LAST_MOMENT)).unwrap_or(Moment::start())
 }
 
-/// What an answer says became of a job.
+/// The result of a job by the core's response.
 fn sent_by(reply: &Effects) -> Sent {
     match &reply.answer {
         Response::Ipp(answer) => match answer.status {
@@ -54,7 +55,7 @@ fn sent_by(reply: &Effects) -> Sent {
     }
 }
 
-/// Has a core act on an event: what its answer says became of a job.
+/// Takes the step of an event, and returns the result of a job by the response.
 fn apply_to(
     core: &mut Core<AugmentingPaths>,
     event: Event,
@@ -64,7 +65,7 @@ fn apply_to(
     Ok(sent_by(&reply))
 }
 
-/// Tells a core what the device at a place says.
+/// Takes the step of a report of the device at a place.
 pub(crate) fn report_to(
     core: &mut Core<AugmentingPaths>,
     device: usize,
@@ -76,7 +77,7 @@ pub(crate) fn report_to(
 }
 
 impl<'a> Planned<'a> {
-    /// A core whose devices are ready, but for those that are away, before the first job of a list.
+    /// Creates a core before the first job of a list. Its devices are ready, except those that are away.
     pub(crate) fn new(
         alloc: Global,
         core: &'a mut Core<AugmentingPaths>,
@@ -93,7 +94,7 @@ impl<'a> Planned<'a> {
         }
     }
 
-    /// Sends the job at a place of the list: whether the core had room for it.
+    /// Sends the job at a place of the list. Returns whether the core had room for it.
     fn send(&mut self, place: usize, now: u64) -> Result<bool, AllocError> {
         let Some(job) = self.listed.get(place) else {
             return Ok(true);
@@ -120,7 +121,7 @@ impl<'a> Planned<'a> {
         }
     }
 
-    /// Sends the first job of those that the core had no room for, and has it planned where it is taken.
+    /// Sends the first job of those for which the core had no room, and has the core plan if it is taken.
     fn send_waiting(&mut self, now: u64) -> Result<(), AllocError> {
         let Some(place) = self.door.get(self.let_in).copied() else {
             return Ok(());
@@ -138,7 +139,7 @@ impl<'a> Planned<'a> {
         self.taken.get(before).copied()
     }
 
-    /// Notes a job that began.
+    /// Adds a job that began.
     fn note(&mut self, started: &Started) -> Result<(), AllocError> {
         if let Some(job) = self.place_of(started.job) {
             self.begun.push(Start {
@@ -149,7 +150,7 @@ impl<'a> Planned<'a> {
         Ok(())
     }
 
-    /// Notes jobs that began.
+    /// Adds jobs that began.
     fn note_all(&mut self, begun: &[Started]) -> Result<(), AllocError> {
         for started in begun {
             self.note(started)?;
@@ -157,14 +158,14 @@ impl<'a> Planned<'a> {
         Ok(())
     }
 
-    /// Has the core plan, and notes what begins.
+    /// Has the core plan, and adds the jobs that begin.
     fn dispatch(&mut self, now: u64) -> Result<(), AllocError> {
         let planned = self.core.dispatch(moment_at(now))?;
         let begun = Vec::from_slice(self.alloc, self.core.dispatched(planned).started())?;
         self.note_all(&begun)
     }
 
-    /// The id of the job at a place of the list, where it was taken.
+    /// The id of the job at a place of the list, if it was taken.
     fn id_of(&self, place: usize) -> Option<u32> {
         let before = self.taken.binary_search(&place).ok()?;
         u32::try_from(before.saturating_add(1)).ok()

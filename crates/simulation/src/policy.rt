@@ -1,23 +1,24 @@
 //! The policies.
 
-/// How a device is chosen, among those of the job's printer that can print it.
+/// A policy, which chooses a device of the job's printer that can print the job.
 #[derive(Clone, Copy)]
 pub enum Policy {
-    /// The next one that is free, counted on from the one that a job of the printer was given last, and
-    /// before the first job from the first one: a class of CUPS (`cupsdFindAvailablePrinter` of its
+    /// The next free device, counted from the device behind the device that got the last job of the printer;
+    /// for the first job, from the first device. It is a class of CUPS (`cupsdFindAvailablePrinter` of its
     /// scheduler).
     RoundRobin,
-    /// The first one that is free, in the order of the printer.
+    /// The first free device, in the order of the printer.
     FirstFree,
-    /// The one for which the fewest jobs wait or print when the job comes; it waits for that one, free or not.
+    /// The device for which the fewest jobs wait or print when the job comes. The job waits for that device,
+    /// even if it isn't free.
     ShortestQueue,
 }
 
 impl Policy {
-    /// All of them.
+    /// All policies.
     pub const ALL: [Policy; 3] = [Policy::RoundRobin, Policy::FirstFree, Policy::ShortestQueue];
 
-    /// Its name, as it is shown.
+    /// The name of the policy, as it is printed.
     pub fn name(self) -> &'static str {
         match self {
             Policy::RoundRobin => "round-robin",

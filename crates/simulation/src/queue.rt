@@ -1,4 +1,4 @@
-//! The jobs that wait, and the devices that are free.
+//! The waiting jobs and the free devices.
 
 use crate::day_job::{DayJob, Member};
 use crate::policy::Policy;
@@ -7,41 +7,41 @@ use std::alloc::{AllocError, Global};
 /// A job that begins.
 #[derive(Clone, Copy)]
 pub struct Start {
-    /// Its place among the jobs of the day.
+    /// The place of the job among the jobs of the day.
     pub job: usize,
     /// The place of its device.
     pub device: usize,
 }
 
-/// A job that waits.
+/// A waiting job.
 #[derive(Clone, Copy)]
 struct Waiting {
     job: usize,
     priority: u8,
-    /// The place of the device that it waits for, where it waits for one alone.
+    /// The place of the device that the job waits for, if it waits for one alone.
     device: Option<usize>,
 }
 
-/// A device: whether it is free, and how many jobs wait for it alone or print on it.
+/// A device: whether it is free, and the number of jobs that wait for it alone or print on it.
 #[derive(Clone, Copy)]
 struct Device {
     is_free: bool,
     jobs: usize,
 }
 
-/// The jobs that wait for devices, and how each is given one.
+/// The waiting jobs, and the choice of a device for each.
 #[derive(Drop)]
 pub struct Queue<'a> {
     policy: Policy,
     jobs: &'a [DayJob],
-    /// By falling priority, and then in the order in which they came.
+    /// The waiting jobs, by falling priority, and then in the order in which they came.
     waiting: Vec<Waiting>,
     devices: Vec<Device>,
-    /// For each printer, the place among its devices of the one that a job was given last.
+    /// For each printer, the place among its devices of the device that got the last job.
     last: Vec<usize>,
 }
 
-/// So many devices, all of which are free.
+/// A list of this many free devices. The only error is out of memory.
 fn free_devices(alloc: Global, count: usize) -> Result<Vec<Device>, AllocError> {
     let mut devices = Vec::with_capacity(alloc, count)?;
     for _ in 0..count {
@@ -53,7 +53,7 @@ fn free_devices(alloc: Global, count: usize) -> Result<Vec<Device>, AllocError> 
     Ok(devices)
 }
 
-/// For each of so many printers the first place.
+/// The first place for each of `printers` printers. The only error is out of memory.
 fn first_places(alloc: Global, printers: usize) -> Result<Vec<usize>, AllocError> {
     let mut places = Vec::with_capacity(alloc, printers)?;
     for _ in 0..printers {
@@ -63,8 +63,8 @@ fn first_places(alloc: Global, printers: usize) -> Result<Vec<usize>, AllocError
 }
 
 impl<'a> Queue<'a> {
-    /// A queue without jobs, for the jobs of a day, so many printers, and so many devices, all of which are
-    /// free.
+    /// Creates a queue without jobs, for the jobs of a day, this many printers, and this many free devices.
+    /// The only error is out of memory.
     pub fn new(
         alloc: Global,
         policy: Policy,
@@ -82,7 +82,7 @@ impl<'a> Queue<'a> {
         })
     }
 
-    /// How many jobs wait for the device at a place alone or print on it.
+    /// The number of jobs that wait for the device at a place alone or print on it.
     fn jobs_of(&self, device: usize) -> usize {
         match self.devices.get(device) {
             Some(device) => device.jobs,
@@ -90,7 +90,7 @@ impl<'a> Queue<'a> {
         }
     }
 
-    /// The device that can print a job and has the fewest, the first of several.
+    /// The device that can print a job and has the fewest jobs; of several the first.
     fn shortest(&self, job: &DayJob) -> Option<usize> {
         let mut found: Option<usize> = None;
         for member in &job.members {
@@ -105,7 +105,7 @@ impl<'a> Queue<'a> {
         found
     }
 
-    /// The device that a job is to wait for alone, by the policy.
+    /// The device that a job has to wait for alone, by the policy.
     fn device_for(&self, job: &DayJob) -> Option<usize> {
         match self.policy {
             Policy::RoundRobin | Policy::FirstFree => None,
@@ -113,7 +113,7 @@ impl<'a> Queue<'a> {
         }
     }
 
-    /// The place behind the last job that waits with at least this priority.
+    /// The place behind the last waiting job of at least this priority.
     fn place_behind(&self, priority: u8) -> usize {
         for (place, waiting) in self.waiting.iter().enumerate() {
             if waiting.priority < priority {
@@ -123,7 +123,7 @@ impl<'a> Queue<'a> {
         self.waiting.len()
     }
 
-    /// Takes the job at a place of the day, which comes now.
+    /// Takes the job at a place of the day, which comes now. The only error is out of memory.
     pub fn take(&mut self, place: usize) -> Result<(), AllocError> {
         let Some(job) = self.jobs.get(place) else {
             return Ok(());
@@ -141,14 +141,14 @@ impl<'a> Queue<'a> {
         Ok(())
     }
 
-    /// Notes that one more job waits for a device alone.
+    /// Counts one more job that waits for a device alone.
     fn count(&mut self, place: usize) {
         if let Some(device) = self.devices.get_mut(place) {
             device.jobs = device.jobs.saturating_add(1);
         }
     }
 
-    /// Notes that the device at a place is free again.
+    /// Records that the device at a place is free again.
     pub fn free(&mut self, place: usize) {
         if let Some(device) = self.devices.get_mut(place) {
             device.is_free = true;
@@ -156,7 +156,7 @@ impl<'a> Queue<'a> {
         }
     }
 
-    /// Whether a device is free and can print the job of which it is told.
+    /// Returns whether a device is free and can print the job of the member.
     fn can_begin(&self, member: Member) -> bool {
         match self.devices.get(member.device) {
             Some(device) => device.is_free && member.time.is_some(),
@@ -164,7 +164,7 @@ impl<'a> Queue<'a> {
         }
     }
 
-    /// The place among a printer's devices of the one that a job was given last.
+    /// The place among a printer's devices of the device that got the last job.
     fn last_of(&self, printer: usize) -> usize {
         match self.last.get(printer) {
             Some(place) => *place,
@@ -172,8 +172,8 @@ impl<'a> Queue<'a> {
         }
     }
 
-    /// The first device of a printer that can begin a job, from the one behind the last one round to the
-    /// last one itself.
+    /// The first device of a printer that can begin a job, from the device behind the last used device,
+    /// around to the last used device itself.
     fn next_free(&self, job: &DayJob) -> Option<usize> {
         let count = job.members.len();
         let behind = self.last_of(job.printer).saturating_add(1);
@@ -197,7 +197,7 @@ impl<'a> Queue<'a> {
         None
     }
 
-    /// The device that a job waits for alone, if it can begin.
+    /// The device that a job waits for alone, if that can begin the job.
     fn own_free(&self, waiting: Waiting, job: &DayJob) -> Option<usize> {
         let device = waiting.device?;
         let member = job.members.get(job.place_of(device)?)?;
@@ -208,7 +208,7 @@ impl<'a> Queue<'a> {
         }
     }
 
-    /// The device that is to begin a job that waits, by the policy.
+    /// The device that has to begin a waiting job, by the policy.
     fn choose(&self, waiting: Waiting) -> Option<usize> {
         let job = self.jobs.get(waiting.job)?;
         match self.policy {
@@ -218,7 +218,7 @@ impl<'a> Queue<'a> {
         }
     }
 
-    /// Notes which device of its printer a job was given.
+    /// Records the device of its printer that a job got.
     fn note_last(&mut self, start: Start) {
         let Some(job) = self.jobs.get(start.job) else {
             return;
@@ -228,7 +228,7 @@ impl<'a> Queue<'a> {
         }
     }
 
-    /// Has a device begin the job that waits at a place.
+    /// Begins the job that waits at a place.
     fn begin(&mut self, place: usize, start: Start) {
         if place < self.waiting.len() {
             self.waiting.remove(place);
@@ -239,7 +239,7 @@ impl<'a> Queue<'a> {
         self.note_last(start);
     }
 
-    /// The first of the jobs that wait which a free device can begin, and the place at which it waits.
+    /// The first waiting job that a free device can begin, with the place at which it waits.
     fn first_start(&self) -> Option<(usize, Start)> {
         for (place, waiting) in self.waiting.iter().enumerate() {
             if let Some(device) = self.choose(*waiting) {
@@ -250,7 +250,7 @@ impl<'a> Queue<'a> {
         None
     }
 
-    /// Whether any device is free.
+    /// Returns whether any device is free.
     fn has_free(&self) -> bool {
         for device in &self.devices {
             if device.is_free {
@@ -260,7 +260,7 @@ impl<'a> Queue<'a> {
         false
     }
 
-    /// Begins a job, if a free device can: from then on it waits no more, and the device isn't free.
+    /// Begins a job, if a free device can. The job doesn't wait any more then, and the device isn't free.
     pub fn start(&mut self) -> Option<Start> {
         if !self.has_free() {
             return None;

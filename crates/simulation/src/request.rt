@@ -23,21 +23,21 @@ const NATURAL_LANGUAGE: u8 = 0x48;
 
 const MIME_MEDIA_TYPE: u8 = 0x49;
 
-/// The begin of a body: version 1.1, Print-Job, request-id 1, and the tag of the operation's attributes.
+/// The front of a body: version 1.1, Print-Job, request-id 1, and the tag of the operation attributes.
 const BEGIN: [u8; 9] = [1, 1, 0, 2, 0, 0, 0, 1, 1];
 
-/// The tags of the job's attributes, and of their end.
+/// The tags of the job attributes, and of the end of the attributes.
 const JOB_ATTRIBUTES: u8 = 2;
 
 const END_OF_ATTRIBUTES: u8 = 3;
 
-/// Appends bytes behind their number.
+/// Appends bytes behind their length.
 fn put_counted(body: Bytes, bytes: &[u8]) -> Bytes {
     let count = u16::try_from(bytes.len()).unwrap_or(u16::MAX);
     body.put(&count.to_be_bytes()).put(bytes)
 }
 
-/// Appends a value under a name; without one it is one more of the attribute before.
+/// Appends a value with a name; without a name it is a further value of the attribute before.
 fn put_value(body: Bytes, tag: u8, name: &str, value: &[u8]) -> Bytes {
     let body = put_counted(body.put(&[tag]), name.as_bytes());
     put_counted(body, value)
@@ -47,7 +47,7 @@ fn put_number(body: Bytes, tag: u8, name: &str, value: u32) -> Bytes {
     put_value(body, tag, name, &value.to_be_bytes())
 }
 
-/// Appends a finishing that is wanted.
+/// Appends a finishing, if it is wanted.
 fn put_finishing(body: Bytes, is_wanted: bool, name: &str, number: u32) -> Bytes {
     if is_wanted {
         put_number(body, ENUM, name, number)
@@ -56,12 +56,12 @@ fn put_finishing(body: Bytes, is_wanted: bool, name: &str, number: u32) -> Bytes
     }
 }
 
-/// The name of the attribute, unless a value of it is there.
+/// The name of the attribute; empty if it has a value already.
 fn finishings_name(is_there: bool) -> &'static str {
     if is_there { "" } else { "finishings" }
 }
 
-/// Appends the finishings, where there are any (RFC 8011, section 5.2.6).
+/// Appends the finishings, if there are any (RFC 8011, section 5.2.6).
 fn put_finishings(body: Bytes, finishings: Finishings) -> Bytes {
     let stapled = finishings.staple;
     let body = put_finishing(body, stapled, finishings_name(false), 4);
@@ -70,7 +70,7 @@ fn put_finishings(body: Bytes, finishings: Finishings) -> Bytes {
     put_finishing(body, finishings.bind, finishings_name(is_there), 7)
 }
 
-/// Appends the format of the document, where it has one.
+/// Appends the format of the document, if it has one.
 fn put_format(body: Bytes, format: Option<&Text>) -> Bytes {
     match format {
         Some(format) => put_value(body, MIME_MEDIA_TYPE, "document-format", format.as_bytes()),
@@ -78,7 +78,7 @@ fn put_format(body: Bytes, format: Option<&Text>) -> Bytes {
     }
 }
 
-/// Appends the attributes of the operation.
+/// Appends the operation attributes.
 fn put_operation(body: Bytes, uri: &[u8], format: Option<&Text>, impressions: u32) -> Bytes {
     let body = put_value(body, CHARSET, "attributes-charset", b"utf-8");
     let body = put_value(body, NATURAL_LANGUAGE, "attributes-natural-language", b"en");
@@ -92,7 +92,7 @@ fn put_operation(body: Bytes, uri: &[u8], format: Option<&Text>, impressions: u3
     )
 }
 
-/// Appends the attributes of the job.
+/// Appends the job attributes.
 fn put_job(body: Bytes, job: &ListedJob) -> Bytes {
     let needs = &job.needs;
     let body = put_number(body, INTEGER, "copies", needs.copies);
@@ -102,7 +102,8 @@ fn put_job(body: Bytes, job: &ListedJob) -> Bytes {
     put_finishings(body, needs.finishings)
 }
 
-/// The URI of the printer at a place of the settings; an empty one where there is none.
+/// The URI of the printer at a place of the settings; empty if there is none. The only error is out of
+/// memory.
 fn printer_uri(alloc: Global, settings: &Settings, place: usize) -> Result<Vec<u8>, AllocError> {
     let uri = Bytes::new(alloc);
     match settings.printers.get(place) {
@@ -127,7 +128,8 @@ fn put_request(body: Bytes, uri: &[u8], job: &ListedJob) -> Bytes {
     put_job(body.put(&[JOB_ATTRIBUTES]), job).put(&[END_OF_ATTRIBUTES])
 }
 
-/// The body of a Print-Job for a job of a list, without octets of its document.
+/// The body of a Print-Job for a job of a list, without octets of its document. The only error is out of
+/// memory.
 pub(crate) fn print_job(
     alloc: Global,
     settings: &Settings,

@@ -1,17 +1,17 @@
-//! What gives jobs to devices: a core, or a policy.
+//! The room, which assigns jobs to devices: a core, or a policy.
 
 use crate::queue::{Queue, Start};
 use std::alloc::AllocError;
 
-/// What decides which job a device begins, and is told what comes and what ends.
+/// A room decides which job a device begins. It is told of the jobs that come and end.
 pub(crate) trait Room {
-    /// The job at a place of the day comes.
+    /// Takes the job at a place of the day, which comes now.
     fn take(&mut self, job: usize, now: u64) -> Result<(), AllocError>;
 
-    /// A job ends on its device.
+    /// Records that a job ends on its device.
     fn end(&mut self, ended: Start, now: u64) -> Result<(), AllocError>;
 
-    /// A job that begins now, if another one does.
+    /// Returns the next job that begins now, if there is one.
     fn start(&mut self) -> Option<Start>;
 }
 

@@ -14,14 +14,14 @@ use plan_solver::AugmentingPaths;
 use settings_file::Settings;
 use std::alloc::{AllocError, Global};
 
-/// What is asked of a simulation.
+/// The options of a simulation.
 #[derive(Clone, Copy)]
 pub struct Question<'a> {
     pub noise: Noise,
-    /// The names of devices that are away all day.
+    /// The names of the devices that are away all day.
     pub away: &'a [&'a str],
     pub added: &'a [Added<'a>],
-    /// What is drawn; a table is written where that is nothing.
+    /// The picture to draw. If it is `None`, a table is written.
     pub drawn: Option<Drawn>,
 }
 
@@ -32,7 +32,8 @@ struct Stage {
     day: Day,
 }
 
-/// The names of the devices of a core, and the day of a list, by what these devices are.
+/// The names of a core's devices, and the day of a list by the present state of these devices. The only error
+/// is out of memory.
 fn stage_of(
     alloc: Global,
     core: &Core<AugmentingPaths>,
@@ -44,8 +45,8 @@ fn stage_of(
     Ok(Stage { names, day })
 }
 
-/// Plays a day with a core whose devices say that they are ready, but for those that are away: the table of
-/// what came of it, or a picture.
+/// Plays a day with a core whose devices are ready, except those that are away. Returns the table of the
+/// outcomes, or a picture.
 fn play_with<W: Watch>(
     alloc: Global,
     core: &mut Core<AugmentingPaths>,
@@ -58,7 +59,7 @@ fn play_with<W: Watch>(
     Ok(play_on(alloc, core, listed, &stage, question.drawn, watch)?)
 }
 
-/// Plays a day: the table of what came of it, or a picture.
+/// Plays a day. Returns the table of the outcomes, or a picture.
 fn play_on<W: Watch>(
     alloc: Global,
     core: &mut Core<AugmentingPaths>,
@@ -75,7 +76,7 @@ fn play_on<W: Watch>(
     }
 }
 
-/// Plays the jobs of a list on the devices of some settings: the table of what came of it, or a picture.
+/// Plays the jobs of a list on the devices of some settings. Returns the table of the outcomes, or a picture.
 fn play_settings<W: Watch>(
     alloc: Global,
     settings: Settings,
@@ -89,12 +90,12 @@ fn play_settings<W: Watch>(
     play_with(alloc, &mut core, listed, question, watch)
 }
 
-/// Plays the jobs of a list, which is one for these settings, on their devices, once as the core plans it and
-/// once for each policy: the table of what came of it, or a picture.
+/// Plays the jobs of a list, which is one for these settings, on their devices: once as the core plans it,
+/// and once for each policy. Returns the table of the outcomes, or a picture.
 ///
 /// # Errors
 ///
-/// A device isn't there, a device more can't be, or there is no memory.
+/// A device isn't there, a further device can't be made, or memory was refused.
 pub fn run_simulation<W: Watch>(
     alloc: Global,
     settings: Settings,

@@ -1,4 +1,4 @@
-//! The text of settings (`docs/SETTINGS.md`), with one more device.
+//! The text of settings (`docs/SETTINGS.md`), with a further device.
 
 use crate::bytes::Bytes;
 use base_types::{Finishings, Text};
@@ -52,7 +52,7 @@ fn put_texts(output: Bytes, key: &str, texts: &[Text]) -> Bytes {
     output.put(b"]\n")
 }
 
-/// Appends a word of a list where it is there.
+/// Appends a word of a list, if it is in the list.
 fn put_where(output: Bytes, is_there: bool, word: &[u8]) -> Bytes {
     if is_there {
         put_listed(output, word)
@@ -61,14 +61,14 @@ fn put_where(output: Bytes, is_there: bool, word: &[u8]) -> Bytes {
     }
 }
 
-/// Appends the finishings that a device has.
+/// Appends the finishings of a device.
 fn put_finishings(output: Bytes, finishings: Finishings) -> Bytes {
     let output = put_where(output.put(b"finishings = ["), finishings.staple, b"staple");
     let output = put_where(output, finishings.punch, b"punch");
     put_where(output, finishings.bind, b"bind").put(b"]\n")
 }
 
-/// Appends the rate for two sides, where there is one.
+/// Appends the rate for two-sided jobs, if there is one.
 fn put_rate_two(output: Bytes, rate: Option<u32>) -> Bytes {
     match rate {
         Some(rate) => put_number(output, "rate_two", rate),
@@ -96,16 +96,17 @@ fn put_devices(output: Bytes, devices: &[DeviceSettings]) -> Bytes {
     output
 }
 
-/// A device that there is one more of: the one that it is like, and that one's place.
+/// A further device: the device whose settings it has, and that device's place.
 #[derive(Clone, Copy)]
 struct Like<'a> {
     place: usize,
     device: &'a DeviceSettings,
-    /// Its own name.
+    /// The name of the further device.
     name: &'a [u8],
 }
 
-/// Appends the name of a printer's device, and behind that to which one more is alike the name of this.
+/// Appends the name of a printer's device, and behind the device whose settings the further one has, the name
+/// of the further one.
 fn put_member(output: Bytes, settings: &Settings, place: usize, like: Like<'_>) -> Bytes {
     let output = match settings.devices.get(place) {
         Some(device) => put_listed(output, device.name.as_bytes()),
@@ -118,8 +119,8 @@ fn put_member(output: Bytes, settings: &Settings, place: usize, like: Like<'_>) 
     }
 }
 
-/// Appends the names of a printer's devices, and that of the one more where it has the device that this is
-/// like.
+/// Appends the names of a printer's devices, with that of the further one if the printer has the device whose
+/// settings that has.
 fn put_members(
     output: Bytes,
     settings: &Settings,
@@ -159,7 +160,7 @@ fn put_printers(output: Bytes, settings: &Settings, like: Like<'_>) -> Bytes {
     output
 }
 
-/// Appends what stands in front of the tables.
+/// Appends the entries before the tables.
 fn put_head(output: Bytes, settings: &Settings) -> Bytes {
     let output = put_named(
         output.put(b"version = 2\n"),
@@ -169,14 +170,15 @@ fn put_head(output: Bytes, settings: &Settings) -> Bytes {
     put_texts(output, "operators", &settings.operators)
 }
 
-/// Appends all of the settings, with the device more.
+/// Appends the settings with the further device.
 fn put_settings(output: Bytes, settings: &Settings, like: Like<'_>) -> Bytes {
     let output = put_devices(put_head(output, settings), &settings.devices);
     let output = put_device(output, like.name, like.device);
     put_printers(output, settings, like)
 }
 
-/// The text of settings with one more device, like the one at a place; without it where there is none.
+/// The text of settings with a further device, with the settings of the device at a place; without it if
+/// there is no such device. The only error is out of memory.
 pub(crate) fn text_with(
     alloc: Global,
     settings: &Settings,

@@ -1,24 +1,25 @@
-//! The numbers of a day.
+//! The figures of a day.
 
 use crate::day::Day;
 use crate::floor::Print;
 use std::alloc::{AllocError, Global};
 
-/// How long people waited for their paper, from when a job came to when it was printed, in ms.
+/// The times from the jobs' moments until they were printed, in ms.
 #[derive(Clone, Copy)]
 pub(crate) struct Waits {
-    /// How many jobs were printed.
+    /// The number of printed jobs.
     pub(crate) jobs: usize,
-    /// Cut off.
+    /// The mean, rounded down.
     pub(crate) mean: u64,
-    /// The least time that half of the jobs took at most.
+    /// The least time within which half of the jobs were printed.
     pub(crate) median: u64,
-    /// The least time that 95 of 100 jobs took at most.
+    /// The least time within which 95 of 100 jobs were printed.
     pub(crate) late: u64,
     pub(crate) worst: u64,
 }
 
-/// How long each job of a day took to paper, the shortest first.
+/// The time of each job from its moment until it was printed, the shortest first. The only error is out of
+/// memory.
 fn times_to_paper(alloc: Global, day: &Day, prints: &[Print]) -> Result<Vec<u64>, AllocError> {
     let mut times = Vec::with_capacity(alloc, prints.len())?;
     for print in prints {
@@ -28,7 +29,7 @@ fn times_to_paper(alloc: Global, day: &Day, prints: &[Print]) -> Result<Vec<u64>
     Ok(times)
 }
 
-/// The least of these rising times that so many of 100 are at most; 0 where there is none.
+/// The least of these rising times that `percent` of 100 times don't exceed; 0 if there are no times.
 fn rank(times: &[u64], percent: usize) -> u64 {
     let count = times.len().saturating_mul(percent).div_ceil(100);
     times.get(count.saturating_sub(1)).copied().unwrap_or(0)
@@ -43,13 +44,13 @@ fn sum_of(times: &[u64]) -> u128 {
     sum
 }
 
-/// The mean of times, cut off; 0 where there is none.
+/// The mean of times, rounded down; 0 if there are none.
 fn mean_of(times: &[u64]) -> u64 {
     let mean = sum_of(times).checked_div(times.len() as u128).unwrap_or(0);
     u64::try_from(mean).unwrap_or(u64::MAX)
 }
 
-/// How long people waited.
+/// The times of a day's jobs. The only error is out of memory.
 pub(crate) fn waits_of(alloc: Global, day: &Day, prints: &[Print]) -> Result<Waits, AllocError> {
     let times = times_to_paper(alloc, day, prints)?;
     Ok(Waits {
@@ -61,7 +62,7 @@ pub(crate) fn waits_of(alloc: Global, day: &Day, prints: &[Print]) -> Result<Wai
     })
 }
 
-/// How long a device printed in all, in ms.
+/// The time for which a device printed, in ms.
 pub(crate) fn printed_on(prints: &[Print], device: usize) -> u64 {
     let mut sum = 0u64;
     for print in prints {
@@ -72,7 +73,7 @@ pub(crate) fn printed_on(prints: &[Print], device: usize) -> u64 {
     sum
 }
 
-/// When the last job ended, in ms from the beginning of the day.
+/// The end of the last job, in ms from the beginning of the day.
 pub(crate) fn last_end(prints: &[Print]) -> u64 {
     let mut last = 0;
     for print in prints {

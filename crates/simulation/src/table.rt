@@ -1,4 +1,4 @@
-//! The numbers of days, in rows.
+//! The table of the figures of days.
 
 use crate::day::Day;
 use crate::outcome::Outcome;
@@ -8,10 +8,10 @@ use gantt_chart::{Page, ShortTime, digits_of};
 use plan_text::cause_word;
 use std::alloc::{AllocError, Global};
 
-/// The columns of a name at the beginning of a row, so that no row is longer than 80.
+/// The width of the name at the beginning of a row. No row is wider than 80 columns.
 const NAME: usize = 16;
 
-/// The columns of the numbers of a day.
+/// The widths of the figures of a day.
 const JOBS: usize = 7;
 
 const TIME: usize = 9;
@@ -20,13 +20,13 @@ const PERCENT: usize = 13;
 
 const LATE: usize = 11;
 
-/// The columns of a device's times.
+/// The width of a device's times.
 const PAIR: usize = 16;
 
-/// How many jobs that no device can print are told by their numbers.
+/// The most jobs without a device whose numbers are listed.
 const STRANDED: usize = 10;
 
-/// Appends so many spaces.
+/// Appends this many spaces.
 fn put_spaces(page: Page, count: usize) -> Page {
     let mut page = page;
     for _ in 0..count {
@@ -35,17 +35,17 @@ fn put_spaces(page: Page, count: usize) -> Page {
     page
 }
 
-/// Appends a text that ends behind so many columns.
+/// Appends a text, right-aligned to a width.
 fn put_right(page: Page, text: &str, columns: usize) -> Page {
     put_spaces(page, columns.saturating_sub(text.len())).put(text)
 }
 
-/// Appends a text, filled up to so many columns.
+/// Appends a text, left-aligned to a width.
 fn put_left(page: Page, text: &str, columns: usize) -> Page {
     put_spaces(page.put(text), columns.saturating_sub(text.len()))
 }
 
-/// Appends the head of the rows of waits.
+/// Appends the head of the rows of times.
 fn put_waits_head(page: Page) -> Page {
     let page = put_right(put_left(page, "time to paper", NAME), "jobs", JOBS);
     let page = put_right(put_right(page, "mean", TIME), "of planned", PERCENT);
@@ -53,19 +53,19 @@ fn put_waits_head(page: Page) -> Page {
     put_right(page, "worst", TIME).put_letter('\n')
 }
 
-/// Appends a time that ends behind so many columns.
+/// Appends a time, right-aligned to a width.
 fn put_time(page: Page, millis: u64, columns: usize) -> Page {
     let time = ShortTime(millis);
     put_spaces(page, columns.saturating_sub(time.letters())).put_shown(time)
 }
 
-/// Appends a number of things that ends behind so many columns.
+/// Appends a count, right-aligned to a width.
 fn put_count(page: Page, count: usize, columns: usize) -> Page {
     let digits = digits_of(count as u64);
     put_spaces(page, columns.saturating_sub(digits)).put_shown(count)
 }
 
-/// A part of a whole in per cent, cut off.
+/// A part of a whole in per cent, rounded down.
 fn percent_of(part: u64, whole: u64) -> u128 {
     u128::from(part)
         .saturating_mul(100)
@@ -73,7 +73,7 @@ fn percent_of(part: u64, whole: u64) -> u128 {
         .unwrap_or(100)
 }
 
-/// Appends a part of a whole in per cent, which ends behind so many columns.
+/// Appends a part of a whole in per cent, right-aligned to a width.
 fn put_percent(page: Page, part: u64, whole: u64, columns: usize) -> Page {
     let percent = percent_of(part, whole);
     let digits = digits_of(u64::try_from(percent).unwrap_or(u64::MAX));
@@ -82,7 +82,7 @@ fn put_percent(page: Page, part: u64, whole: u64, columns: usize) -> Page {
         .put(" %")
 }
 
-/// Appends the row of a day; its mean is compared with another.
+/// Appends the row of a day, whose mean is compared with that of the planned day.
 fn put_waits(page: Page, name: &str, waits: Waits, planned: u64) -> Page {
     let page = put_count(put_left(page, name, NAME), waits.jobs, JOBS);
     let page = put_time(page, waits.mean, TIME);
@@ -92,7 +92,7 @@ fn put_waits(page: Page, name: &str, waits: Waits, planned: u64) -> Page {
     put_time(page, waits.worst, TIME).put_letter('\n')
 }
 
-/// Appends the rows of all days; the first is what they are compared with.
+/// Appends the rows of all days. The means are compared with that of the first.
 fn put_all_waits(alloc: Global, page: Page, day: &Day, outcomes: &[Outcome]) -> Page {
     let mut page = put_waits_head(page);
     let mut planned = None;
@@ -107,7 +107,8 @@ fn put_all_waits(alloc: Global, page: Page, day: &Day, outcomes: &[Outcome]) -> 
     page
 }
 
-/// Appends how long a device printed and how long it stood idle until the last job of the day ended.
+/// Appends the time for which a device printed, and the time for which it was idle until the end of the last
+/// job of the day.
 fn put_use(page: Page, outcome: &Outcome, device: usize) -> Page {
     let printed = printed_on(&outcome.prints, device);
     let idle = last_end(&outcome.prints).saturating_sub(printed);
@@ -119,7 +120,7 @@ fn put_use(page: Page, outcome: &Outcome, device: usize) -> Page {
         .put_shown(idle)
 }
 
-/// Appends the name of a device, filled up to the columns of a name.
+/// Appends the name of a device, filled up to the width of a name.
 fn put_name(page: Page, name: &[u8]) -> Page {
     let mut page = page;
     for byte in name {
@@ -163,7 +164,8 @@ fn put_stranded_job(page: Page, place: usize, stranded: &Stranded) -> Page {
         .put(cause_word(stranded.cause))
 }
 
-/// Appends how many jobs no device can print, and the numbers of the first of them, each with its cause.
+/// Appends the number of jobs that no device can print, and the places of the first of them, each with its
+/// cause.
 fn put_stranded(page: Page, stranded: &[Stranded]) -> Page {
     let mut page = page
         .put("\nno device can print ")
@@ -176,7 +178,8 @@ fn put_stranded(page: Page, stranded: &[Stranded]) -> Page {
     page.put_letter('\n')
 }
 
-/// The numbers of a day, as it was played in several ways: whole lines.
+/// The table of a day's figures, as it was played in several ways, in whole lines. The only error is out of
+/// memory.
 pub(crate) fn table_of(
     alloc: Global,
     names: &[Text],

@@ -6,11 +6,11 @@ use wires::{Door, WireId};
 /// Why a connection is closed.
 #[derive(Clone, Copy, Debug, PartialEq, Eq)]
 pub enum CloseReason {
-    /// The server is done with it.
+    /// The server is done with the connection.
     Served,
-    /// Its peer ended it.
+    /// The peer ended the connection.
     Left,
-    /// Its peer was silent for too long.
+    /// The peer was silent for too long.
     Silent,
     /// The system reported it as broken.
     Broken,

@@ -20,9 +20,9 @@ use wires::{Door, Progress, Wire, WireId};
 /// The most sockets that a wait reports: all sockets that there are.
 const EVENTS: usize = 128;
 
-/// The token of the first listener at the poll. Each further listener has the token below that of the one
-/// before. A connection has its own number as its token; the tokens of lingering connections are between
-/// both.
+/// The token of the first listener at the poll. Each further listener has the token below the token of the
+/// listener before. A connection has its own number as its token; the tokens of lingering connections are
+/// between both.
 const FIRST_LISTENER: usize = usize::MAX;
 
 /// Listeners at the three doors, and the connections that they accepted.

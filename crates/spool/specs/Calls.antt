@@ -80,22 +80,22 @@ cancel_of name found = Change.Cancel (option_map_or (λ s. canceler_of name s.jo
 
 -- ---- a further document
 
--- whether a document of so many octets is added: an empty last document isn't
+-- whether a document of this many octets is added: an empty last document isn't
 abbrev pub adds : ℕ → Bool → Bool
 adds octets last = not last || nat_lt 0 octets
 
--- whether one more document with so many octets exceeds a limit of the job
+-- whether one more document with this many octets exceeds a limit of the job
 abbrev pub is_too_large : ℕ → JobRecord → Bool
 is_too_large octets job = nat_le JOB_DOCUMENTS job.documents || nat_lt JOB_OCTETS (job.octets + octets)
 
--- why a job doesn't take a document of so many octets; `added` says whether the document is added
+-- why a job doesn't take a document of this many octets; `added` says whether the document is added
 abbrev pub taking_refusal : ℕ → Bool → Option SpooledRecord → Option SpoolRefusal
 taking_refusal octets added found =
     option_map_or (λ s. if not s.job.incoming then Some Why.NotPossible
     else if added && is_too_large octets s.job then Some Why.TooLarge
     else None) found None
 
--- why a document of so many octets by an asker isn't taken, if there is a cause other than out of memory
+-- why a document of this many octets by an asker isn't taken, if there is a cause other than out of memory
 abbrev pub document_refusal : AskerRecord → ℕ → Bool → Option SpooledRecord → Option SpoolRefusal
 document_refusal asker octets last found =
     or_else (asking_refusal asker found) (taking_refusal octets (adds octets last) found)

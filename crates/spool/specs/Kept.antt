@@ -14,7 +14,7 @@ end_of spooled = unwrap_or spooled.job.finished 0
 abbrev pub is_later : SpooledRecord → SpooledRecord → Bool
 is_later first second = nat_lt (end_of second) (end_of first) || ((end_of first == end_of second) && nat_lt second.job.id first.job.id)
 
--- the number of settled jobs that were finished later than this one
+-- the number of settled jobs that were finished later than this job
 abbrev pub later_jobs : List SpooledRecord → SpooledRecord → ℕ
 later_jobs jobs spooled = count_by (λ other. is_settled other && is_later other spooled) jobs
 

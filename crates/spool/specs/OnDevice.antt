@@ -22,6 +22,6 @@ pub record Stays (id : ℕ) (old new : List SpooledRecord) : Type 0 where
 abbrev pub AllStay : List SpooledRecord → List SpooledRecord → Type 0
 AllStay old new = (id : ℕ) → is_on_device id old ≡ true → Stays id old new
 
--- each job that a device has, except this one, stays with it
+-- each job that a device has, except this job, stays with the device
 abbrev pub OthersStay : ℕ → List SpooledRecord → List SpooledRecord → Type 0
 OthersStay one old new = (id : ℕ) → ¬ (id ≡ one) → is_on_device id old ≡ true → Stays id old new

@@ -51,7 +51,7 @@ told says now spooled = if is_end says then let_go (change_of says) now spooled 
 abbrev pub handed_out : DeviceSays → SpooledRecord → List DocumentRecord
 handed_out says spooled = if is_end says then (if spooled.on_device then spooled.documents else []) else []
 
--- the job with one more document, of this format and so many octets
+-- the job with one more document, of this format and this many octets
 abbrev pub counted : List ℕ → ℕ → JobRecord → JobRecord
 counted format octets job = record job {
   needs = record job.needs {

@@ -50,7 +50,7 @@ impl Spool {
             .count()
     }
 
-    /// Returns the number of finished jobs that no device has and that were finished later than this one.
+    /// Returns the number of finished jobs that no device has and that were finished later than this job.
     fn later_jobs(&self, spooled: &SpooledJob) -> usize
         ensures { result ≡ later_jobs self.now.jobs spooled.now }
     {

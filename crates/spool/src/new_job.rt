@@ -23,7 +23,7 @@ pub struct NewJob {
     pub media: Text,
     /// 1 to [`base_types::Limits::COPIES`].
     pub copies: u32,
-    /// Whether its job-hold-until is indefinite.
+    /// Whether the job's job-hold-until is indefinite.
     pub held: bool,
     /// job-impressions, if the request has it and it isn't negative.
     pub impressions: Option<u32>,

@@ -13,14 +13,14 @@ use base_types::{JobId, Limits, Moment};
 use job_objects::{Job, JobChange};
 use octets::Document;
 
-/// Returns whether a document of so many octets is added to its job: an empty last document isn't.
+/// Returns whether a document of this number of octets is added to its job: an empty last document isn't.
 fn adds(octets: usize, last: bool) -> bool
     ensures { result ≡ adds octets last }
 {
     !last || octets > 0
 }
 
-/// Returns whether one more document with so many octets exceeds a limit of the job.
+/// Returns whether one more document with this many octets exceeds a limit of the job.
 fn is_too_large(job: &Job, octets: usize) -> bool
     ensures { result ≡ is_too_large octets job.now }
 {
@@ -61,7 +61,7 @@ impl Spool {
         Ok(())
     }
 
-    /// Returns why a document of so many octets isn't taken, if there is a cause other than out of memory.
+    /// Returns why a document of this many octets isn't taken, if there is a cause other than out of memory.
     pub fn admits_document(
         &self,
         id: JobId,
@@ -77,7 +77,7 @@ impl Spool {
         self.may_take(id, octets, adds(octets, last))
     }
 
-    /// Checks that a job takes a document of so many octets. `added` says whether the document is added.
+    /// Checks that a job takes a document of this many octets. `added` says whether the document is added.
     fn may_take(&self, id: JobId, octets: usize, added: bool) -> Result<(), SpoolRefusal>
         ensures ok { OnOk result (taking_refusal octets added (spooled_at id self.now.jobs) ≡ None) }
         ensures off { OnOk result (is_on_device id self.now.jobs ≡ false) }

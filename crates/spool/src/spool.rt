@@ -75,7 +75,7 @@ impl Spool {
         self.alloc
     }
 
-    /// Returns the number of jobs, with the finished ones.
+    /// Returns the number of jobs, with the finished jobs.
     pub fn len(&self) -> usize
         ensures { result ≡ length self.now.jobs }
     {

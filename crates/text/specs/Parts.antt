@@ -2,7 +2,7 @@
 use Rattle.std.specs.Prelude.{ℕ, ◌≡◌, ◌==◌, All, false, List, ◌∷◌, ◌++◌}
 use Rattle.std.specs.List.{slice_split}
 
--- what stands between these bytes: one part at least
+-- the parts between the separators, at least one
 abbrev pub parts_at : ℕ → List ℕ → List (List ℕ)
 parts_at separator text = slice_split (λ byte. byte == separator) text
 
@@ -10,15 +10,15 @@ parts_at separator text = slice_split (λ byte. byte == separator) text
 abbrev pub words_of : List ℕ → List (List ℕ)
 words_of text = parts_at 32 text
 
--- the texts between line feeds, the last of which is no whole line
+-- the texts between line feeds; the last isn't a whole line
 abbrev pub texts_of : List ℕ → List (List ℕ)
 texts_of text = parts_at 10 text
 
--- this byte stands nowhere among the bytes
+-- the byte isn't among the bytes
 abbrev pub Lacks : ℕ → List ℕ → Type 0
 Lacks absent bytes = All (λ byte. (byte == absent) ≡ false) bytes
 
--- a text is cut at the first of these bytes
+-- the text is cut at its first separator
 pub record IsCut (separator : ℕ) (text before after : List ℕ) : Type 0 where
   pub lacks : Lacks separator before
   pub joined : text ≡ before ++ (separator ∷ after)

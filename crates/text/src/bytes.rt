@@ -1,14 +1,14 @@
-//! Searches in bytes, and bytes taken from the front.
+//! Searches for a byte, and removal from the front.
 ghost use Rattle.std.specs.Prelude.{◌≡◌, ◌==◌, ◌≤◌, ◌-◌, drop, length, position};
 
-/// The first place at which a byte stands.
+/// The first place of a byte.
 pub fn find_byte(bytes: &[u8], wanted: u8) -> Option<usize>
     ensures { result ≡ position (λ byte. byte == wanted) bytes.now }
 {
     bytes.iter().position(|byte| *byte == wanted)
 }
 
-/// Removes so many bytes from the front.
+/// Removes `count` bytes from the front.
 pub fn drop_front(bytes: &mut Vec<u8>, count: usize)
     requires { count ≤ length bytes.old.items }
     ensures { bytes.new.items ≡ drop count bytes.old.items }

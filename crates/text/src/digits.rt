@@ -4,8 +4,8 @@ ghost use Rattle.std.specs.Str.{all_ascii_digits};
 ghost use Rattle.std.specs.Str.Parse.{digits_value};
 ghost use Rattle.text.specs.Digits.{is_decimal, decimal_in, number_up_to, is_number};
 
-/// The number that a word is in decimal digits, which may begin with zeros; none where it is no
-/// such word. A number that doesn't fit is the greatest.
+/// The number of a word of decimal digits, which may have leading zeros; `None` if the word isn't such. A
+/// number above 32 bits is `u32::MAX`.
 #[tactic(auto, unfolding(crate::specs::Digits::decimal_in))]
 pub fn decimal(word: &[u8]) -> Option<u32>
     ensures { result ≡ decimal_in word.now }
@@ -16,8 +16,8 @@ pub fn decimal(word: &[u8]) -> Option<u32>
     Some(capped_value(word, u64::from(u32::MAX)) as u32)
 }
 
-/// The number that a word is in decimal digits, which may begin with zeros; none where it is no
-/// such word, or its number is above `most`.
+/// The number of a word of decimal digits, which may have leading zeros; `None` if the word isn't such, or
+/// its number is above `most`.
 #[tactic(auto, unfolding(crate::specs::Digits::number_up_to))]
 pub fn number_up_to(word: &[u8], most: u64) -> Option<u64>
     requires { most < 2 ^ 64 - 1 }
@@ -34,8 +34,8 @@ pub fn number_up_to(word: &[u8], most: u64) -> Option<u64>
     Some(number)
 }
 
-/// Whether a word is a number as it is written once: decimal digits, of any length, without zeros
-/// in front.
+/// Returns whether a word is a number in its one spelling: decimal digits, of any number, without leading
+/// zeros.
 #[tactic(auto, unfolding(crate::specs::Digits::is_number))]
 pub fn is_number(word: &[u8]) -> bool
     ensures test { result ≡ is_number word.now }
@@ -44,7 +44,7 @@ pub fn is_number(word: &[u8]) -> bool
     is_decimal(word) && (word[0] != b'0' || word.len() == 1)
 }
 
-// Decimal digits, one at least.
+// Returns whether a word is decimal digits, at least one.
 fn is_decimal(word: &[u8]) -> bool
     ensures test { result ≡ is_decimal word.now }
     ensures digits { IsTrue result → IsTrue (all_ascii_digits word.now) }
@@ -52,7 +52,7 @@ fn is_decimal(word: &[u8]) -> bool
     !word.is_empty() && all_digits(word)
 }
 
-// Whether each byte is a decimal digit.
+// Returns whether each byte is a decimal digit.
 fn all_digits(word: &[u8]) -> bool
     ensures { result ≡ all_ascii_digits word.now }
 {
@@ -64,7 +64,7 @@ fn all_digits(word: &[u8]) -> bool
     true
 }
 
-/// The number of decimal digits, of which there may be none for 0; the cap where it is above that.
+/// The number of decimal digits, at most `cap`. It is 0 without digits.
 pub fn capped_value(word: &[u8], cap: u64) -> u64
     requires { IsTrue (all_ascii_digits word.now) }
     ensures { result ≡ min (digits_value 10 word.now) cap }

@@ -1,14 +1,13 @@
-//! Bytes of text: what every reader asks of bytes that come from outside.
+//! Bytes of text, for the readers of input.
 //!
-//! Here live questions about bytes alone: where a byte stands, what the first line is, what stands
-//! between separators, which number digits are, what a word is without the blanks around it. Each
-//! answer is its definition in `specs/`, over the list of the bytes, where the chain of a reader's
-//! steps stands too. [`Unread`] keeps what a reader was given and hasn't read, and is the list of
-//! those bytes. The words of the server may not live here: names and other forms with their limits
-//! stand in `base_types`, and what a line says stands with its reader.
+//! The functions find bytes, the first line, the parts between separators, the number of digits, and a word
+//! without the blanks around it. Each result is its definition in `specs/`, over the list of the bytes.
+//! `specs/Steps.antt` has the chain of a reader's steps. [`Unread`] keeps the bytes that a reader was given
+//! and hasn't read, and is the list of them. The crate has no words of the server: the forms of names, with
+//! their limits, are in `base_types`, and the content of a line is with its reader.
 //!
-//! The call that each reader makes is [`first_line`]: a line of at most `most` bytes, whole only once
-//! its line feed is there. The tests are in `unit_tests` (`text_bytes`, and each reader's rows).
+//! The main function is [`first_line`]: a line of at most `most` bytes, whole only once its line feed is
+//! there. The tests are in `unit_tests` (`text_bytes`, and the rows of each reader).
 #![tactic(auto)]
 
 mod bytes;

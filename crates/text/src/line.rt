@@ -4,18 +4,18 @@ ghost use Rattle.text.specs.FirstLine.{first_line_of};
 
 use crate::bytes::find_byte;
 
-/// What stands at the front of bytes that are read line by line.
+/// The front of bytes that are read line by line.
 #[derive(Clone, Copy, Debug, PartialEq, Eq)]
 pub enum FirstLine {
-    /// A line of so many bytes, and its line feed.
+    /// A line of this many bytes, and its line feed.
     Whole(usize),
     /// More bytes than a line may have, and no line feed among them.
     TooLong,
-    /// The beginning of a line.
+    /// A front of a line: its line feed hasn't come.
     Unfinished,
 }
 
-/// The first line of the bytes, where a line has at most `most` bytes, its line feed counted.
+/// The first line of the bytes, which has at most `most` bytes with its line feed.
 pub fn first_line(bytes: &[u8], most: usize) -> FirstLine
     ensures { result ≡ first_line_of most bytes.now }
 {

@@ -5,7 +5,7 @@ ghost use Rattle.text.specs.Parts.{parts_at, words_of, Lacks, IsCut};
 use crate::bytes::find_byte;
 use std::alloc::{AllocError, Global};
 
-/// What stands before and behind the first byte of this value; nothing where there is none.
+/// The text before and behind the first separator; `None` if there is none.
 pub fn cut_at(text: &[u8], separator: u8) -> Option<(&[u8], &[u8])>
     ensures some { IfSome result (λ cut. IsCut separator text.now cut.0.now cut.1.now) }
     ensures none { result ≡ None → Lacks separator text.now }
@@ -16,14 +16,16 @@ pub fn cut_at(text: &[u8], separator: u8) -> Option<(&[u8], &[u8])>
     }
 }
 
-/// The parts of a text between the bytes of this value: one more than there are such bytes.
+/// The parts of a text between the separators: one more than there are separators. The only error is out of
+/// memory.
 pub fn parts<'a>(alloc: Global, text: &'a [u8], separator: u8) -> Result<Vec<&'a [u8]>, AllocError>
     ensures { IfOk result (λ parts. map (λ part. part.now) parts.items ≡ parts_at separator text.now) }
 {
     text.split(|byte| *byte == separator).collect(alloc)
 }
 
-/// The words of a text, which stand between single spaces: between two spaces stands an empty one.
+/// The words of a text between single spaces. Between two adjacent spaces is an empty word. The only error is
+/// out of memory.
 pub fn words<'a>(alloc: Global, text: &'a [u8]) -> Result<Vec<&'a [u8]>, AllocError>
     ensures { IfOk result (λ words. map (λ word. word.now) words.items ≡ words_of text.now) }
 {

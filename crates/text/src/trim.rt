@@ -12,7 +12,7 @@ pub fn trimmed(bytes: &[u8]) -> &[u8]
     up_to_word(from_word(bytes))
 }
 
-/// A value without its parameters, as a media type's (RFC 9110, section 8.3.1): up to the first `;`,
+/// A value without its parameters, such as a media type's (RFC 9110, section 8.3.1): up to the first `;`,
 /// trimmed.
 #[tactic(auto, unfolding(crate::specs::Trimmed::without_parameters))]
 pub fn without_parameters(value: &[u8]) -> &[u8]
@@ -24,7 +24,7 @@ pub fn without_parameters(value: &[u8]) -> &[u8]
     }
 }
 
-/// The bytes from the first that is no space or tab.
+/// The bytes from the first that isn't a space or a tab.
 fn from_word(bytes: &[u8]) -> &[u8]
     ensures { result.now ≡ from_word bytes.now }
 {
@@ -34,7 +34,7 @@ fn from_word(bytes: &[u8]) -> &[u8]
     }
 }
 
-/// The bytes up to the last that is no space or tab.
+/// The bytes up to the last that isn't a space or a tab.
 fn up_to_word(bytes: &[u8]) -> &[u8]
     ensures { result.now ≡ reverse (from_word (reverse bytes.now)) }
 {

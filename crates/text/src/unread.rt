@@ -1,4 +1,4 @@
-//! What a reader was given and hasn't read.
+//! The bytes that a reader was given and hasn't read.
 ghost use Rattle.std.specs.Prelude.{◌≡◌, ◌<◌, ◌≤◌, ◌+◌, ◌++◌, [], IfOk, OnOk, OnErr, take, drop, length};
 
 use crate::bytes::drop_front;
@@ -6,12 +6,12 @@ use std::alloc::{AllocError, Global};
 use std::marker::Model;
 use std::mem;
 
-/// The bytes that a reader was given, in pieces of any length, and hasn't read yet. In clauses it is
-/// the list of them.
+/// The bytes that a reader was given, in pieces of any length, and hasn't read yet. In clauses they are their
+/// list.
 #[derive(Debug, Drop)]
 pub struct Unread {
     buffer: Vec<u8>,
-    /// How many bytes of the buffer are read.
+    /// The number of bytes at the front of the buffer that are read.
     start: usize,
 }
 
@@ -26,7 +26,7 @@ impl Model for Unread {
 }
 
 impl Unread {
-    /// No bytes yet.
+    /// Creates an empty list.
     pub fn new(alloc: Global) -> Unread
         ensures { result ≡ [] }
     {
@@ -43,7 +43,7 @@ impl Unread {
         &self.buffer[self.start..]
     }
 
-    /// Adds bytes behind those that are there. Where there is no memory, nothing is added.
+    /// Appends bytes. The only error is out of memory, and nothing is appended then.
     #[tactic(auto, using(crate::proofs::Rests::rest_with))]
     pub fn append(&mut self, piece: &[u8]) -> Result<(), AllocError>
         ensures ok { OnOk result (self.new ≡ self.old ++ piece.now) }
@@ -53,7 +53,7 @@ impl Unread {
         self.buffer.extend_from_slice(piece)
     }
 
-    /// Goes past so many bytes.
+    /// Passes over `count` bytes.
     pub fn pass(&mut self, count: usize)
         requires { count ≤ length self.old }
         ensures { self.new ≡ drop count self.old }
@@ -61,7 +61,7 @@ impl Unread {
         self.start = self.start + count;
     }
 
-    /// Goes past a line of so many bytes, and its line feed.
+    /// Passes over a line of `count` bytes and its line feed.
     pub fn pass_line(&mut self, count: usize)
         requires { count < length self.old }
         ensures { self.new ≡ drop (count + 1) self.old }
@@ -69,8 +69,8 @@ impl Unread {
         self.start = self.start + count + 1;
     }
 
-    /// Takes the first bytes away, without a copy of them. Where there is no memory for the rest,
-    /// nothing is taken.
+    /// Removes and returns the first `count` bytes, without a copy of them. The only error is out of memory,
+    /// for the rest of the bytes; nothing is removed then.
     pub fn take_front(&mut self, count: usize) -> Result<Vec<u8>, AllocError>
         requires { count ≤ length self.old }
         ensures taken { IfOk result (λ front. front.items ≡ take count self.old) }
@@ -82,7 +82,7 @@ impl Unread {
         split_front(&mut self.buffer, count)
     }
 
-    /// Gives the room of what is read to what comes.
+    /// Removes the bytes that are read from the buffer.
     fn forget_read(&mut self)
         ensures { self.new ≡ self.old }
     {
@@ -91,7 +91,7 @@ impl Unread {
     }
 }
 
-/// Splits off the first bytes.
+/// Splits the first `count` bytes off.
 fn split_front(buffer: &mut Vec<u8>, count: usize) -> Result<Vec<u8>, AllocError>
     requires { count ≤ length buffer.old.items }
     ensures front { IfOk result (λ front. front.items ≡ take count buffer.old.items) }

@@ -1,20 +1,20 @@
--- The lines of some bytes. A line ends in a line feed, which the last may lack.
+-- The lines of bytes. A line ends in a line feed, which the last line may lack.
 use Rattle.std.specs.Prelude.{ℕ, ◌≡◌, ◌⊎◌, not, Bool, true, List, [], ◌∷◌, ◌++◌, length, codes, suc}
 use Rattle.std.specs.List.{list_all}
 use Rattle.std.specs.Str.{bytes_eq}
 use Rattle.text.specs.Parts.{texts_of, Lacks}
 
--- without an empty text at the end
+-- the list without an empty text at its end
 unfoldable pub without_end : List (List ℕ) → List (List ℕ)
 without_end [] = []
 without_end ([] ∷ []) = []
 without_end (text ∷ more) = text ∷ without_end more
 
--- what stands between line feeds, but for nothing after the last of them
+-- the texts between line feeds, without an empty one behind the last line feed
 abbrev pub lines_of : List ℕ → List (List ℕ)
 lines_of bytes = without_end (texts_of bytes)
 
--- there is no line feed in it
+-- the line has no line feed
 abbrev pub IsOneLine : List ℕ → Type 0
 IsOneLine line = Lacks 10 line
 
@@ -22,18 +22,18 @@ IsOneLine line = Lacks 10 line
 abbrev pub IsFirst : List ℕ → List ℕ → List ℕ → Type 0
 IsFirst bytes line rest = (bytes ≡ line ++ (codes "\n" ++ rest)) ⊎ ((bytes ≡ line) × (rest ≡ []))
 
--- its last line has its line feed
+-- the last line has its line feed
 abbrev pub IsEnded : List ℕ → Type 0
 IsEnded bytes = (bytes ≡ []) ⊎ ((front : List ℕ) × (bytes ≡ front ++ codes "\n"))
 
 abbrev pub is_stop : List ℕ → Bool
 is_stop line = bytes_eq line (codes ".")
 
--- no line of these bytes is the stop
+-- no line of the bytes is the stop
 abbrev pub HasNoStop : List ℕ → Type 0
 HasNoStop bytes = list_all (λ line. not (is_stop line)) (lines_of bytes) ≡ true
 
--- A trace begins with settings, of whole lines none of which is the stop; then come the stop, which is the line of this number, and the rest.
+-- A trace begins with settings: whole lines, none of which is the stop. Behind them are the stop, which is the line of this number, and the rest.
 pub record IsSplit (trace settings rest : List ℕ) (count : ℕ) : Type 0 where
   pub lines : lines_of trace ≡ lines_of settings ++ (codes "." ∷ lines_of rest)
   pub none : HasNoStop settings

@@ -1,4 +1,4 @@
--- The lines that a played trace prints of an event: its reply, the cancels, the plan and the starts.
+-- The lines that a played trace prints for an event: its reply, the cancels, the plan and the starts.
 use Rattle.std.specs.Prelude.{ℕ, Bool, List, [], ◌∷◌, ◌++◌, Option, Some, None, codes, if◌then◌else◌}
 use Rattle.hex.specs.Hex.{encode_lower}
 use Rattle.base_types.specs.declared.needs.Stranded.{Stranded}
@@ -13,25 +13,25 @@ use Rattle.print_room.specs.declared.started.Started.{Started}
 abbrev pub reply_line : List ℕ → List ℕ
 reply_line bytes = codes "reply " ++ (encode_lower bytes ++ codes "\n")
 
--- a cancel that is sent to a device
+-- the line of a cancel for a device
 abbrev pub cancel_line : List (List ℕ) → Cancel → List ℕ
 cancel_line names cancel = job_words (codes "cancel") names cancel.job cancel.device ++ codes "\n"
 
--- the classes, the highest first, each with its total
+-- the words of the classes, from the highest down, each with its total
 abbrev pub class_words : List PlannedClass → List ℕ
 class_words [] = []
 class_words (class ∷ classes) = class_word class.priority class.priced.total ++ class_words classes
 
--- the jobs that no device can print, each with its cause
+-- the words of the jobs that no device can print, each with its cause
 abbrev pub stranded_words : List Stranded → List ℕ
 stranded_words [] = []
 stranded_words (job ∷ stranded) = stranded_word job ++ stranded_words stranded
 
--- a plan: its classes, the highest first, then the stranded jobs
+-- the line of a plan: its classes, from the highest down, and then the stranded jobs
 abbrev pub plan_line : PlanRecord → List ℕ
 plan_line plan = codes "plan" ++ (class_words plan.classes ++ (stranded_words plan.stranded ++ codes "\n"))
 
--- a job that a device starts
+-- the line of a job that a device starts
 abbrev pub start_line : List (List ℕ) → Started → List ℕ
 start_line names started = job_words (codes "start") names started.job started.device ++ codes "\n"
 
@@ -39,11 +39,11 @@ abbrev pub start_lines : List (List ℕ) → List Started → List ℕ
 start_lines names [] = []
 start_lines names (started ∷ starts) = start_line names started ++ start_lines names starts
 
--- the plan that was made, if one was: its line, and where texts are asked for its text
+-- the lines of a plan, if one was made: its line, and its text if `texts` is true
 abbrev pub plan_lines : Bool → List (List ℕ) → Option PlanRecord → List ℕ
 plan_lines texts names None = []
 plan_lines texts names (Some plan) = plan_line plan ++ (if texts then plan_text (record { devices = names; plan = plan }) else [])
 
--- a dispatch
+-- the lines of a dispatch
 abbrev pub dispatch_lines : Bool → List (List ℕ) → Option PlanRecord → List Started → List ℕ
 dispatch_lines texts names plan started = plan_lines texts names plan ++ start_lines names started

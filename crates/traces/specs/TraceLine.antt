@@ -1,4 +1,4 @@
--- What a line of a trace says, after the settings.
+-- The content of a trace's line behind the settings.
 use Rattle.std.specs.Prelude.{ℕ, ◌≡◌, ◌≢◌, ◌^◌, ◌-◌, List, [], ◌++◌, codes, position, Option, Some, None}
 use Rattle.std.specs.Str.{bytes_eq}
 use Rattle.hex.specs.Hex.{encode_lower, IsBytes}
@@ -13,21 +13,21 @@ use Rattle.wires.specs.declared.wire.Door.{Door}
 use Rattle.wires.specs.Door.{IsWordOf}
 use Rattle.traces.specs.declared.line.Line.TheVariants.{At, Ipp, Device, Tick, Open, In, End}
 
--- decimal digits of a moment up to the last
+-- the digits are a moment up to LAST_MOMENT in decimal
 abbrev pub IsMomentIn : List ℕ → ℕ → Type 0
 IsMomentIn digits moment = number_up_to LAST_MOMENT digits ≡ Some moment
 
--- the lower-case hexadecimal digits of a body, which isn't empty
+-- the digits are a body that isn't empty, in lower-case hexadecimal
 pub record IsBodyIn (digits body : List ℕ) : Type 0 where
   pub some : body ≢ []
   pub bytes : IsBytes body
   pub written : digits ≡ encode_lower body
 
--- a line that a device may write once it has said its name, and what it reports
+-- the line is a report that a device may send once it has given its name
 abbrev pub IsReportIn : List ℕ → Report → Type 0
 IsReportIn line report = reported_by line ≡ Some (report_of report)
 
--- the name of the device at this place, and of none before it, and such a line
+-- the text is the name of the device at this place, and of none before it, a space and such a line
 pub record IsDeviceIn (names : List (List ℕ)) (text : List ℕ) (place : ℕ) (report : Report) : Type 0 where
   pub name : List ℕ
   pub line : List ℕ
@@ -35,11 +35,11 @@ pub record IsDeviceIn (names : List (List ℕ)) (text : List ℕ) (place : ℕ) 
   pub known : position (λ device. bytes_eq device name) names ≡ Some place
   pub heard : IsReportIn line report
 
--- decimal digits of a connection's number, which is below 2^31
+-- the digits are the number of a connection, below 2^31, in decimal
 abbrev pub IsNumberIn : List ℕ → ℕ → Type 0
 IsNumberIn digits number = number_up_to (2 ^ 31 - 1) digits ≡ Some number
 
--- a number, and the door at which the connection comes in
+-- the text is a number, a space and the word of a door
 pub record IsOpeningIn (text : List ℕ) (number : ℕ) (door : Door) : Type 0 where
   pub digits : List ℕ
   pub word : List ℕ
@@ -47,7 +47,7 @@ pub record IsOpeningIn (text : List ℕ) (number : ℕ) (door : Door) : Type 0 w
   pub numbered : IsNumberIn digits number
   pub named : IsWordOf word door
 
--- a number, and the bytes that come
+-- the text is a number, a space and bytes
 pub record IsInputIn (text : List ℕ) (number : ℕ) (bytes : List ℕ) : Type 0 where
   pub digits : List ℕ
   pub written : List ℕ
@@ -55,7 +55,7 @@ pub record IsInputIn (text : List ℕ) (number : ℕ) (bytes : List ℕ) : Type 
   pub numbered : IsNumberIn digits number
   pub body : IsBodyIn written bytes
 
--- what a line says, where the devices have these names
+-- the text is a line with this content, where the devices have these names
 abbrev pub IsLine : List (List ℕ) → List ℕ → Line → Type 0
 IsLine names text (At moment) = (digits : List ℕ) × (text ≡ codes "at " ++ digits) × IsMomentIn digits moment
 IsLine names text (Ipp body) = (digits : List ℕ) × (text ≡ codes "ipp " ++ digits) × IsBodyIn digits body.items
@@ -65,7 +65,7 @@ IsLine names text (Open opening) = (said : List ℕ) × (text ≡ codes "open " 
 IsLine names text (In input) = (said : List ℕ) × (text ≡ codes "in " ++ said) × IsInputIn said input.number input.bytes.items
 IsLine names text (End number) = (digits : List ℕ) × (text ≡ codes "end " ++ digits) × IsNumberIn digits number
 
--- what is found is such, and where nothing is found, nothing is such
+-- the result has the property; without a result nothing has it
 abbrev pub Finds : {A : Type 0} → (A → Type 0) → Option A → Type 0
 Finds Is (Some it) = Is it
 Finds Is None = (it : _) → Is it → ⊥

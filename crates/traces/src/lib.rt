@@ -1,13 +1,13 @@
-//! The text of a trace: its settings, its lines, what each of them says, and what is printed of it once it
-//! is played.
+//! The text of a trace: its settings, its lines and their content, and the lines that are printed when it is
+//! played.
 //!
-//! [`split_settings`] cuts a trace at its line `.`, [`next_line`] takes a line off, and [`read_line`] says
-//! what it is: a moment, a body of IPP, a device's report, a tick, or what a connection brings. What is
-//! printed is the replies, the cancels, the plans and what starts, and what the peer of each connection
-//! got. The connections of a trace have numbers of its own ([`Connection`]), and their peers stand in memory
-//! ([`wires::MemoryWire`]): they send what the trace says. `docs/TRACES.md` has each line.
+//! [`split_settings`] cuts a trace at its line `.`, [`next_line`] takes one line, and [`read_line`] reads it:
+//! a moment, a body of IPP, a device's report, a tick, or the bytes of a connection. The printed lines are
+//! the replies, the cancels, the plans and the starts, and the bytes that the peer of each connection got.
+//! The connections of a trace have numbers of the trace's own ([`Connection`]). Their peers are in memory
+//! ([`wires::MemoryWire`]), and send the bytes of the trace. `docs/TRACES.md` describes each line.
 //!
-//! What a server does that is told it, and so which lines come when, stands above. Its rows are traces of
+//! The playing of a trace, and so the order of the printed lines, is in other crates. Its rows are traces of
 //! `play_examples`.
 #![tactic(auto)]
 

@@ -1,4 +1,4 @@
-//! What a line of a trace says.
+//! The content of a trace's line.
 ghost use Rattle.std.specs.Prelude.{◌≡◌, ◌++◌, ◌-◌, IfOk, codes, position};
 ghost use Rattle.std.specs.Char.{is_ascii_uppercase};
 ghost use Rattle.std.specs.List.{list_any};
@@ -12,29 +12,29 @@ use std::alloc::{AllocError, Global};
 use text::{cut_at, number_up_to};
 use wires::Door;
 
-/// A line of a trace, after the settings.
+/// The content of a trace's line behind the settings.
 #[derive(Drop)]
 pub enum Line {
-    /// From now on it is this moment.
+    /// Sets the moment of the following lines.
     At(Moment),
     /// An IPP body comes.
     Ipp(Vec<u8>),
-    /// A device reports.
+    /// A report of a device.
     Device(DeviceId, Report),
-    /// Time goes on.
+    /// The time went on.
     Tick,
-    /// A connection comes in.
+    /// A connection is opened.
     Open(Opening),
     /// Bytes come on a connection.
     In(Input),
-    /// Nothing more comes on the connection of a number.
+    /// The input of the connection of a number ends.
     End(u64),
 }
 
-/// A connection that comes in.
+/// A connection that is opened.
 #[derive(Clone, Copy, Debug)]
 pub struct Opening {
-    /// Its number from now on.
+    /// The number of the connection from now on.
     pub number: u64,
     pub door: Door,
 }
@@ -42,7 +42,7 @@ pub struct Opening {
 /// Bytes that come on a connection.
 #[derive(Drop)]
 pub struct Input {
-    /// The connection's number.
+    /// The number of the connection.
     pub number: u64,
     pub bytes: Vec<u8>,
 }
@@ -50,10 +50,9 @@ pub struct Input {
 /// The greatest number of a connection.
 const LAST_NUMBER: u64 = Limits::LAST_INTEGER as u64;
 
-/// What a line of a trace says, where the devices have these names; nothing where it is no such
-/// line.
+/// Reads a line of a trace, where the devices have these names. Returns `None` if it isn't such a line.
 ///
-/// The error is out of memory.
+/// The only error is out of memory.
 pub fn read_line(alloc: Global, text: &[u8], devices: &[Text]) -> Result<Option<Line>, AllocError>
     ensures { IfOk result (λ line. Finds (IsLine devices.now text.now) line) }
 {
@@ -81,14 +80,14 @@ pub fn read_line(alloc: Global, text: &[u8], devices: &[Text]) -> Result<Option<
     }
 }
 
-/// The number of a connection, in decimal digits.
+/// Reads the number of a connection, in decimal digits.
 fn read_number(digits: &[u8]) -> Option<u64>
     ensures { Finds (IsNumberIn digits.now) result }
 {
     number_up_to(digits, LAST_NUMBER)
 }
 
-/// A number, a space and the word for a door.
+/// Reads a number, a space and the word of a door.
 fn read_opening(said: &[u8]) -> Option<Opening>
     ensures { Finds (λ opening. IsOpeningIn said.now opening.number opening.door) result }
 {
@@ -104,7 +103,7 @@ fn read_opening(said: &[u8]) -> Option<Opening>
     Some(Opening { number, door })
 }
 
-/// A number, a space and bytes in hexadecimal digits.
+/// Reads a number, a space and bytes in hexadecimal digits.
 fn read_input(alloc: Global, said: &[u8]) -> Result<Option<Input>, AllocError>
     ensures { IfOk result (Finds (λ input. IsInputIn said.now input.number input.bytes.items)) }
 {
@@ -118,7 +117,7 @@ fn read_input(alloc: Global, said: &[u8]) -> Result<Option<Input>, AllocError>
     Ok(bytes.map(|bytes| Input { number, bytes }))
 }
 
-/// A moment in decimal digits.
+/// Reads a moment in decimal digits.
 fn read_moment(digits: &[u8]) -> Option<Moment>
     ensures { Finds (IsMomentIn digits.now) result }
 {
@@ -126,7 +125,7 @@ fn read_moment(digits: &[u8]) -> Option<Moment>
     Moment::new(number)
 }
 
-/// Bytes in lower-case hexadecimal digits, at least one byte.
+/// Reads bytes in lower-case hexadecimal digits, at least one byte.
 fn read_body(alloc: Global, digits: &[u8]) -> Result<Option<Vec<u8>>, AllocError>
     ensures { IfOk result (λ body. Finds (λ body. IsBodyIn digits.now body.items) body) }
 {
@@ -142,14 +141,14 @@ fn read_body(alloc: Global, digits: &[u8]) -> Result<Option<Vec<u8>>, AllocError
     }
 }
 
-/// Whether an upper-case letter is among the digits.
+/// Returns whether an upper-case letter is among the digits.
 fn has_capital(digits: &[u8]) -> bool
     ensures { result ≡ list_any is_ascii_uppercase digits.now }
 {
     digits.iter().any(|byte| byte.is_ascii_uppercase())
 }
 
-/// A device's name, a space and a line that it writes.
+/// Reads a device's name, a space and a line that the device sends.
 fn read_device_line(
     alloc: Global,
     said: &[u8],
@@ -168,7 +167,7 @@ fn read_device_line(
     Ok(report.map(|report| Line::Device(device, report)))
 }
 
-/// The place of the first device of this name.
+/// The place of the first device with a name.
 fn place_of(devices: &[Text], name: &[u8]) -> Option<usize>
     ensures { result ≡ position (λ device. bytes_eq device name.now) devices.now }
 {

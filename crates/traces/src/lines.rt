@@ -5,7 +5,7 @@ ghost use Rattle.traces.specs.Lines.{lines_of, IsOneLine, IsFirst, HasNoStop, Is
 
 use text::cut_at;
 
-/// A line, without its line feed, and what follows it.
+/// A line, without its line feed, and the bytes behind it.
 #[derive(Clone, Copy)]
 pub struct CutLine<'a> {
     pub line: &'a [u8],
@@ -15,15 +15,15 @@ pub struct CutLine<'a> {
 /// A trace, cut at the line `.`.
 #[derive(Clone, Copy)]
 pub struct CutTrace<'a> {
-    /// The lines before it.
+    /// The lines before the line `.`.
     pub settings: &'a [u8],
-    /// The lines behind it.
+    /// The lines behind the line `.`.
     pub lines: &'a [u8],
-    /// Its number, from 1.
+    /// The number of the line `.`, counted from 1.
     pub stop: usize,
 }
 
-/// The first line of the bytes, and what follows; the last line may lack its line feed. Nothing where
+/// The first line of the bytes, and the bytes behind it. The last line may lack its line feed. `None` if
 /// there are no bytes.
 pub fn next_line(bytes: &[u8]) -> Option<CutLine<'_>>
     ensures lines { lines_of bytes.now ≡ option_map_or (λ cut. cut.line.now ∷ lines_of cut.later.now) result [] }
@@ -46,7 +46,7 @@ pub fn next_line(bytes: &[u8]) -> Option<CutLine<'_>>
     }
 }
 
-/// The settings and the other lines of a trace; nothing without a line `.`.
+/// Cuts a trace into its settings and its other lines. `None` if it has no line `.`.
 pub fn split_settings(trace: &[u8]) -> Option<CutTrace<'_>>
     ensures some { IfSome result (λ cut. IsSplit trace.now cut.settings.now cut.lines.now cut.stop) }
     ensures bound { IfSome result (λ cut. cut.stop + length cut.lines.now ≤ length trace.now) }

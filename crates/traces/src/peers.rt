@@ -10,11 +10,11 @@ use wires::MemoryPeer;
 /// A connection of a trace.
 #[derive(Clone, Copy, Debug)]
 pub struct Connection {
-    /// The trace's number for it.
+    /// The number of the connection in the trace.
     pub number: u64,
-    /// The place of its peer on the wire.
+    /// The place of the connection's peer on the wire.
     pub place: usize,
-    /// That it was closed is printed already.
+    /// Whether the close of the connection is printed already.
     pub gone: bool,
 }
 
@@ -27,7 +27,7 @@ pub fn numbered(connections: &[Connection], number: u64) -> Option<&Connection>
         .find(|connection| connection.number == number)
 }
 
-/// Puts a connection in front of the first of a greater number. The error is out of memory.
+/// Inserts a connection in front of the first of a greater number. The only error is out of memory.
 pub fn put_connection(
     connections: &mut Vec<Connection>,
     added: Connection,
@@ -39,7 +39,7 @@ pub fn put_connection(
     Ok(())
 }
 
-/// The place of the first of a greater number, or past the last where there is none.
+/// The place of the first connection of a greater number, or the length of the list if there is none.
 fn place_of(connections: &[Connection], number: u64) -> usize
     ensures place { result ≡ position_or_len (λ c. nat_lt number c.number) connections.now }
     ensures inside { result ≤ length connections.now }
@@ -47,7 +47,7 @@ fn place_of(connections: &[Connection], number: u64) -> usize
     first_above(connections, number).unwrap_or(connections.len())
 }
 
-/// The place of the first of a greater number.
+/// The place of the first connection of a greater number.
 fn first_above(connections: &[Connection], number: u64) -> Option<usize>
     ensures { result ≡ position (λ c. nat_lt number c.number) connections.now }
 {
@@ -56,7 +56,7 @@ fn first_above(connections: &[Connection], number: u64) -> Option<usize>
         .position(|connection| number < connection.number)
 }
 
-/// Notes which of them were closed.
+/// Records which connections were closed.
 pub fn mark_closed(connections: &mut [Connection], peers: &[MemoryPeer])
     ensures { connections.new ≡ map (seen peers.now) connections.old }
 {
@@ -65,14 +65,14 @@ pub fn mark_closed(connections: &mut [Connection], peers: &[MemoryPeer])
     }
 }
 
-/// Notes whether it was closed.
+/// Records whether a connection was closed.
 fn mark(connection: &mut Connection, peers: &[MemoryPeer])
     ensures { connection.new ≡ seen peers.now connection.old }
 {
     connection.gone = connection.gone || is_closed(peers, connection.place);
 }
 
-/// Whether the peer of a place was given up.
+/// Returns whether the peer at a place was closed.
 fn is_closed(peers: &[MemoryPeer], place: usize) -> bool
     ensures { result ≡ is_closed peers.now place }
 {
@@ -82,7 +82,7 @@ fn is_closed(peers: &[MemoryPeer], place: usize) -> bool
     }
 }
 
-/// Forgets what the peers got.
+/// Removes the bytes that the peers got.
 pub fn empty_all(peers: &mut [MemoryPeer])
     ensures { peers.new ≡ map emptied peers.old }
 {
@@ -91,14 +91,14 @@ pub fn empty_all(peers: &mut [MemoryPeer])
     }
 }
 
-/// Forgets what a peer got.
+/// Removes the bytes that a peer got.
 fn empty(peer: &mut MemoryPeer)
     ensures { peer.new ≡ emptied peer.old }
 {
     peer.taken.clear();
 }
 
-/// The peer of a place sends these bytes too. The error is out of memory.
+/// The peer at a place sends these bytes too. The only error is out of memory.
 pub fn send_at(peers: &mut [MemoryPeer], place: usize, bytes: &[u8]) -> Result<(), AllocError>
     ensures { OnOk result (peers.new ≡ changed_at place (sending bytes.now) peers.old) }
 {
@@ -114,7 +114,7 @@ fn send(peer: &mut MemoryPeer, bytes: &[u8]) -> Result<(), AllocError>
     peer.input.extend_from_slice(bytes)
 }
 
-/// The peer of a place sends nothing more.
+/// The peer at a place sends nothing more.
 pub fn end_at(peers: &mut [MemoryPeer], place: usize)
     ensures { peers.new ≡ changed_at place ending peers.old }
 {

@@ -1,4 +1,4 @@
-//! These functions append the lines that a played trace prints of an event and of connections.
+//! The writers of the lines that a played trace prints for an event and for connections.
 ghost use Rattle.std.specs.Prelude.{◌≡◌, ◌++◌, OnOk, Option, codes};
 ghost use Rattle.std.specs.Option.{option_copied};
 ghost use Rattle.std.specs.Fmt.{decimal};
@@ -15,7 +15,7 @@ use print_room::Started;
 use std::alloc::{AllocError, Global};
 use wires::MemoryPeer;
 
-/// Appends the line of a reply of these bytes.
+/// Appends the line of a reply with these bytes.
 pub fn put_reply(alloc: Global, output: &mut Vec<u8>, bytes: &[u8]) -> Result<(), AllocError>
     ensures { OnOk result (output.new.items ≡ output.old.items ++ reply_line bytes.now) }
 {
@@ -26,7 +26,7 @@ pub fn put_reply(alloc: Global, output: &mut Vec<u8>, bytes: &[u8]) -> Result<()
     Ok(())
 }
 
-/// Appends the line of a cancel that is sent.
+/// Appends the line of a cancel.
 pub fn put_cancel(
     alloc: Global,
     output: &mut Vec<u8>,
@@ -40,8 +40,8 @@ pub fn put_cancel(
     Ok(())
 }
 
-/// Appends what is printed of a dispatch: the plan's line, its text where texts are asked for, and a
-/// line for each job that starts.
+/// Appends the lines of a dispatch: the plan's line, its text if `texts` is true, and a line for each job
+/// that starts.
 pub fn put_dispatch(
     alloc: Global,
     output: &mut Vec<u8>,
@@ -140,8 +140,7 @@ fn put_start(
     Ok(())
 }
 
-/// Appends what is printed of connections, in their order: what each peer got, if anything, and that
-/// it was closed.
+/// Appends the lines of connections, in order: the bytes that each peer got, if any, and its close.
 pub fn put_connections(
     alloc: Global,
     output: &mut Vec<u8>,

@@ -1,4 +1,4 @@
-//! How a printer is announced: the port of a base of URIs, and the file that Avahi reads.
+//! The announcement of a printer: the port of a base of URIs, and the file that Avahi reads.
 use announcements::{Ports, ipp_port, only_printer, printer_named, write_service};
 use settings_file::read_settings_bytes;
 use std::alloc::Global;
@@ -16,8 +16,8 @@ const BASES: [(&[u8], u16); 9] = [
     (b"print.example:8631", 631),
 ];
 
-/// Two printers, the first of them over two devices. Its formats have characters of XML's among them, and are too
-/// long for one string of TXT together.
+/// Two printers, the first of them with two devices. Some of its formats have special characters of XML, and
+/// together they are too long for one string of TXT.
 const SETTINGS: &str = r#"version = 2
 uri_base = "ipp://localhost:8631"
 
@@ -102,7 +102,7 @@ fn ports_of_bases(rt: HostRuntime) {
     }
 }
 
-/// Whether the service of a printer of the settings is this text.
+/// Returns whether the service of a printer of the settings is this text.
 fn announces(alloc: Global, name: &[u8], text: &[u8]) -> bool {
     let Ok(settings) = read_settings_bytes(alloc, SETTINGS.as_bytes()) else {
         return false;
@@ -121,7 +121,7 @@ fn announces(alloc: Global, name: &[u8], text: &[u8]) -> bool {
     }
 }
 
-/// Whether the settings have one printer alone.
+/// Returns whether the settings have exactly one printer.
 fn has_only_printer(alloc: Global) -> bool {
     match read_settings_bytes(alloc, SETTINGS.as_bytes()) {
         Ok(settings) => only_printer(&settings).is_some(),

@@ -1,4 +1,5 @@
-//! What a device hears of the server, what an attachment says, and what a printer tells by PJL.
+//! The orders from the server to a device, the reports of an attachment, and the status messages of a printer
+//! in PJL.
 use attach_orders::{Order, OrderError, OrderItem, OrderReader, write_report};
 use attach_pjl::{Status, StatusReader};
 use attachment::Attachment;
@@ -9,14 +10,14 @@ use std::test::Fail;
 /// A job of five octets, a cancel, and a line that the server never writes.
 const STREAM: &[u8] = b"JOB 7 5 2 L iso_a4_210x297mm SB\nhelloCANCEL 7\nPRINT 8\n";
 
-/// What is heard of it: each order in its words, each octet, and the fault.
+/// The items of the stream: each order in words, each octet, and the fault.
 const HEARD: &str = "job 7 5 2 true false true;hello cancel 7;fault";
 
 /// A page, the end of a job, a jam, and a message of another kind.
 const STATUSES: &[u8] =
     b"@PJL USTATUS PAGE\r\n3\r\n\x0c@PJL USTATUS JOB\r\nEND\r\nPAGES=3\r\n\x0c@PJL USTATUS DEVICE\r\nCODE=42000\r\n\x0cnonsense\x0c";
 
-/// Adds what an order says.
+/// Appends the text of an order. The only error is out of memory.
 fn add_order(alloc: Global, order: &Order, text: &mut String) -> Result<(), AllocError> {
     let line = match order {
         Order::Job(job) => {
@@ -37,7 +38,7 @@ fn add_order(alloc: Global, order: &Order, text: &mut String) -> Result<(), Allo
     text.push_str(&line)
 }
 
-/// Adds what a reader gives for now.
+/// Appends the items that the reader has for now. The only error is out of memory.
 fn add_items(alloc: Global, reader: &mut OrderReader, text: &mut String) -> Result<(), AllocError> {
     for _ in 0..4 {
         match reader.next_item() {
@@ -55,7 +56,7 @@ fn add_items(alloc: Global, reader: &mut OrderReader, text: &mut String) -> Resu
     Ok(())
 }
 
-/// What is heard of a stream that comes in two pieces.
+/// The items of a stream that comes in two pieces, as a text. The only error is out of memory.
 fn heard(alloc: Global, first: &[u8], second: &[u8]) -> Result<String, AllocError> {
     let mut text = String::new(alloc);
     let mut reader = OrderReader::new(alloc);
@@ -76,8 +77,8 @@ fn orders_in_two_pieces(rt: HostRuntime) -> Result<(), Fail> {
     Ok(())
 }
 
-/// What an attachment sends of a job of two copies that comes whole, where the printer takes two octets
-/// at a time, and whether it then says that the job is done.
+/// The octets that an attachment sends for a job of two copies, whose octets have all come, to a printer that
+/// takes two octets at a time; and whether the attachment then reports the job as done.
 fn printed(alloc: Global, job: JobId, cancels: bool) -> Result<(Vec<u8>, bool), AllocError> {
     let mut sent = Vec::new(alloc);
     let mut attachment = Attachment::new(alloc);
@@ -98,7 +99,7 @@ fn printed(alloc: Global, job: JobId, cancels: bool) -> Result<(Vec<u8>, bool), 
     Ok((sent, done))
 }
 
-/// Sends two octets at most, and ends a copy.
+/// Sends at most two octets, and ends the copy if all of it is sent.
 fn send_two(attachment: &mut Attachment, sent: &mut Vec<u8>) -> Result<(), AllocError> {
     let due = attachment.due();
     let count = due.len().min(2);

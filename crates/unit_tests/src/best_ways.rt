@@ -13,17 +13,17 @@ const THREE: &[&[Option<u64>]] = &[
     &[Some(30), Some(15)],
 ];
 
-/// The times of the first two of them.
+/// The times of the first two jobs of [`THREE`].
 const TWO: &[&[Option<u64>]] = &[&[Some(10), Some(20)], &[Some(10), Some(12)]];
 
-/// The times of the longest job there is: 10,000 impressions and 999 copies at a minute each, and an
-/// hour before.
+/// The times of the longest possible job: 10,000 impressions and 999 copies at a minute each, after an hour
+/// of setup.
 const LONGEST: &[Option<u64>] = &[Some(599_403_600_000)];
 
 /// The times of three jobs on one device.
 const ALONE: &[&[Option<u64>]] = &[&[Some(5)], &[Some(3)], &[Some(4)]];
 
-/// The class of jobs with these times, numbered from 1, and the waits, if each job has a device.
+/// The class of jobs with these times, numbered from 1, and with these waits.
 fn class_of(alloc: Global, times: &[&[Option<u64>]], waits: &[u64]) -> Result<ClassProblem, Fail> {
     let mut ids = Vec::new(alloc);
     let mut rows = Vec::new(alloc);
@@ -38,7 +38,7 @@ fn class_of(alloc: Global, times: &[&[Option<u64>]], waits: &[u64]) -> Result<Cl
     Ok(ClassProblem::from_rows(ids, rows, waits))
 }
 
-/// The total that a planner finds.
+/// The total of a planner's way; an error where a job has no device.
 fn planned(planner: &mut impl Planner, class: &ClassProblem) -> Result<u64, Fail> {
     if !each_able(class) {
         return Err(Fail::from("a job without a device"));
@@ -46,7 +46,7 @@ fn planned(planner: &mut impl Planner, class: &ClassProblem) -> Result<u64, Fail
     Ok(planner.plan_class(class)?.total)
 }
 
-/// The best way is found, and each time looked at no more often than promised.
+/// The planner finds the best way, and looks at each time at most as often as promised.
 #[test]
 fn best_of_three(rt: HostRuntime) -> Result<(), Fail> {
     let alloc = rt.alloc();
@@ -61,8 +61,8 @@ fn best_of_three(rt: HostRuntime) -> Result<(), Fail> {
     Ok(())
 }
 
-/// Each job goes where it is short, a device that is free late prints nothing, the shortest job goes
-/// first, and waits count.
+/// Each job goes to the device on which it is short, a device that is free late prints no job, the shortest
+/// job goes first, and waits count.
 #[test]
 fn known_totals(rt: HostRuntime) -> Result<(), Fail> {
     let alloc = rt.alloc();
@@ -82,8 +82,8 @@ fn known_totals(rt: HostRuntime) -> Result<(), Fail> {
     Ok(())
 }
 
-/// Both planners find the total of 127 of the longest jobs behind another: 2 + 3 + .. + 128 times as
-/// long.
+/// Both planners find the total of 127 of the longest jobs on one device, which waits for one more of them: 2
+/// + 3 + .. + 128 times its length.
 #[test]
 fn largest_totals(rt: HostRuntime) -> Result<(), Fail> {
     let alloc = rt.alloc();

@@ -4,7 +4,7 @@ use program::ExitStatus;
 use std::alloc::{AllocError, Global};
 use std::test::Fail;
 
-/// Lines of words that are read, and what they ask for.
+/// Lines of words that are read, and the subcommand of each.
 const READ: [(&str, &str); 24] = [
     (
         "printd replay",
@@ -86,8 +86,8 @@ const READ: [(&str, &str); 24] = [
     ),
 ];
 
-/// Lines of words that are refused: one that isn't known, a word without the one that it needs, a port
-/// and an address that are none, and turns out of range.
+/// Lines of words that are refused: an unknown word, a word without the word that it needs, an invalid port,
+/// an invalid address, and turns out of their range.
 const REFUSED: [&str; 12] = [
     "printd",
     "printd reply",
@@ -106,7 +106,7 @@ const REFUSED: [&str; 12] = [
 /// Lines of words that ask for a text.
 const TOLD: [&str; 3] = ["printd --version", "printd --help", "printd serve --help"];
 
-/// How the program ends where it tells this text.
+/// The exit status for this text: `status` if the text ends with a line feed, else that of a failure.
 fn ends_with(text: &str, status: ExitStatus) -> ExitStatus {
     if text.ends_with('\n') {
         status
@@ -115,7 +115,7 @@ fn ends_with(text: &str, status: ExitStatus) -> ExitStatus {
     }
 }
 
-/// What became of a line of words: what it asks for, as it is shown, or how the program ends.
+/// The outcome of a line of words: its subcommand, as `Debug` writes it, or the exit status.
 fn outcome(alloc: Global, line: &str) -> Result<Result<String, ExitStatus>, AllocError> {
     let words: Vec<&str> = line.split(' ').collect(alloc)?;
     match read_words(alloc, &words) {
@@ -126,7 +126,7 @@ fn outcome(alloc: Global, line: &str) -> Result<Result<String, ExitStatus>, Allo
     }
 }
 
-/// Whether a line of words asks for this.
+/// Returns whether a line of words asks for this subcommand.
 fn is_read(alloc: Global, line: &str, wanted: &str) -> Result<bool, AllocError> {
     Ok(match outcome(alloc, line)? {
         Ok(asked) => asked.as_str() == wanted,
@@ -134,7 +134,7 @@ fn is_read(alloc: Global, line: &str, wanted: &str) -> Result<bool, AllocError> 
     })
 }
 
-/// Whether a line of words ends so.
+/// Returns whether a line of words gives a text with this exit status.
 fn ends(alloc: Global, line: &str, wanted: ExitStatus) -> Result<bool, AllocError> {
     Ok(match outcome(alloc, line)? {
         Ok(_) => false,

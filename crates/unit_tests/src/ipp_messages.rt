@@ -87,8 +87,8 @@ fn malformed_messages(rt: HostRuntime) -> Result<(), Fail> {
     Ok(())
 }
 
-/// Of a first attribute that is a collection: how many bytes of its own it has, how many values its
-/// first member, and the number in the only member of its second and last one.
+/// For a first attribute that is a collection: the number of its own bytes, the number of values of its first
+/// member, and the number in the only member of its second and last member.
 fn collection_of(bytes: &[u8]) -> Option<(usize, usize, i32)> {
     let (message, _) = decode(bytes).ok()?;
     let value = message.groups().next()?.attributes().next()?.first();
@@ -162,7 +162,7 @@ fn job_group(rt: &HostRuntime) -> Result<Group, AllocError> {
 const MADE: &[u8] =
     b"before\x01\x01\x00\x02\x00\x00\x00\x01\x02\x44\x00\x05media\x00\x02a4\x44\x00\x00\x00\x02a5\x34\x00\x01c\x00\x00\x4A\x00\x00\x00\x01x\x23\x00\x00\x00\x04\xFF\xFF\xFF\xFF\x37\x00\x00\x00\x00\x03";
 
-/// What the message of this one group appends to `before`.
+/// The bytes after `before` and the message of this group.
 fn appended(rt: &HostRuntime, group: Group) -> Result<Vec<u8>, Fail> {
     let mut message = Message::new(rt.alloc(), Version { major: 1, minor: 1 }, 2, 1);
     message.push(group)?;
@@ -178,7 +178,8 @@ fn values_that_are_made(rt: HostRuntime) -> Result<(), Fail> {
     Ok(())
 }
 
-/// What a message of one attribute appends to `before`, and why it has no spelling.
+/// The reason why a message of one attribute has no spelling, and the bytes after the attempt to append it to
+/// `before`.
 fn refused(rt: &HostRuntime, attribute: Attribute) -> Result<(Option<EncodeFault>, Vec<u8>), Fail> {
     let mut group = Group::new(rt.alloc(), GroupTag::OPERATION);
     group.push(attribute)?;
@@ -189,7 +190,7 @@ fn refused(rt: &HostRuntime, attribute: Attribute) -> Result<(Option<EncodeFault
     Ok((fault, out))
 }
 
-/// A name of 32,768 bytes and a boolean that is neither 0 nor 1 have no spelling; nothing is appended.
+/// A name of 32,768 bytes and a Boolean that is neither 0 nor 1 have no spelling; nothing is appended.
 #[test]
 fn unspellable_messages(rt: HostRuntime) -> Result<(), Fail> {
     let mut name = Vec::new(rt.alloc());

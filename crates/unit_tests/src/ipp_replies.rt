@@ -1,11 +1,12 @@
-//! What replies of HTTP say, requests to a printer of IPP, and what is found in its replies.
+//! Replies of HTTP, requests to a printer of IPP, and the facts in its replies.
 use attach_http::ReplyReader;
 use attach_ipp::{cancel_job, copies_up_to, is_stopped, lists, loaded_media, reply_in};
 use ipp_codec::GroupTag;
 use std::alloc::{AllocError, Global};
 use std::test::Fail;
 
-/// The bytes of a connection that then ends, and what is read: the status, the body, and the fault.
+/// The bytes of a connection that then ends, and the text of the reader's results: the status, the body, and
+/// the fault.
 const REPLIES: [(&[u8], &str); 12] = [
     (
         b"HTTP/1.1 200 OK\r\nContent-Length: 5\r\n\r\nhello, and more",
@@ -45,7 +46,7 @@ const REPLIES: [(&[u8], &str); 12] = [
     (b"220 mail\r\n", "0  no reply of HTTP"),
 ];
 
-/// What is read of a connection.
+/// The results of a reader for the bytes of a connection, as a text. The only error is out of memory.
 fn read(alloc: Global, bytes: &[u8]) -> Result<String, AllocError> {
     let mut reader = ReplyReader::new(alloc);
     for byte in bytes {
@@ -61,7 +62,7 @@ fn read(alloc: Global, bytes: &[u8]) -> Result<String, AllocError> {
     Ok(text)
 }
 
-/// Adds what is wrong with a reply.
+/// Appends the fault of a reply, if it has a fault. The only error is out of memory.
 fn add_fault(alloc: Global, reader: &ReplyReader, text: &mut String) -> Result<(), AllocError> {
     if let Some(fault) = reader.fault() {
         let said = format!(in alloc; " {fault}")?;
@@ -70,7 +71,7 @@ fn add_fault(alloc: Global, reader: &ReplyReader, text: &mut String) -> Result<(
     Ok(())
 }
 
-/// The first row of which something else is read.
+/// The place of the first row with other results; `None` where all rows have theirs.
 fn first_missed(alloc: Global) -> Result<Option<usize>, AllocError> {
     for (place, (bytes, wanted)) in REPLIES.iter().enumerate() {
         if read(alloc, bytes)?.as_str() != *wanted {
@@ -109,7 +110,8 @@ const JAMMED: &[u8] =
 const STOPPED: &[u8] =
     b"\x01\x01\x00\x00\x00\x00\x00\x01\x04\x23\x00\x0dprinter-state\x00\x04\x00\x00\x00\x05\x03";
 
-/// Whether a printer is stopped, and the most copies that it makes.
+/// Returns whether a printer is stopped, and the most copies that it makes; `None` where the body is no
+/// reply.
 fn state_of(body: &[u8]) -> Option<(bool, u32)> {
     let reply = reply_in(body)?;
     Some((is_stopped(&reply), copies_up_to(&reply)))
@@ -124,7 +126,7 @@ fn states_of_printers(rt: HostRuntime) -> Result<(), Fail> {
     Ok(())
 }
 
-/// Whether a reply's only loaded medium is this one, and it is listed as ready.
+/// Returns whether the reply's only loaded medium is this medium, and the medium is listed as ready.
 fn has_one_medium(alloc: Global, body: &[u8], name: &[u8]) -> Result<bool, AllocError> {
     let Some(reply) = reply_in(body) else {
         return Ok(false);

@@ -22,7 +22,7 @@ fn new_job(alloc: Global) -> Result<NewJob, AllocError> {
     })
 }
 
-/// The last id is given once, and no other job is taken after it.
+/// The last id is given once, and no job is taken after it.
 #[test]
 fn last_job_id(rt: HostRuntime) -> Result<(), Fail> {
     let last = JobId::new(2_147_483_647).ok_or("it is an id")?;

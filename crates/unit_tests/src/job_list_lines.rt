@@ -1,4 +1,4 @@
-//! Lists of jobs, and the sentence about the first fault of one.
+//! Lists of jobs, and the sentences about their first faults.
 use job_lists::read_list;
 use settings_file::{Settings, read_settings};
 use std::alloc::{AllocError, Global};
@@ -8,7 +8,7 @@ use std::test::Fail;
 const SETTINGS: &str =
     "version = 1\nuri_base = \"ipp://localhost:631\"\n[[device]]\nname = \"window\"\nrate_one = 10\nmedia = [\"iso_a4_210x297mm\"]\nformats = [\"text/plain\"]\n[[printer]]\nname = \"lab\"\ndevices = [\"window\"]\nmedia_default = \"iso_a4_210x297mm\"\nformat_default = \"text/plain\"\n";
 
-/// A list, and how many jobs it has, or what is wrong with it.
+/// A list, and the number of its jobs or the sentence about its first fault.
 const ROWS: [(&str, &str); 18] = [
     ("", "0 jobs"),
     ("moment,impressions\n", "0 jobs"),
@@ -66,7 +66,7 @@ const ROWS: [(&str, &str); 18] = [
     ),
 ];
 
-/// What is read of a list, in words.
+/// The number of jobs of a list, or the sentence about its first fault. The only error is out of memory.
 fn told(alloc: Global, list: &str, settings: &Settings) -> Result<String, AllocError> {
     match read_list(alloc, list.as_bytes(), settings) {
         Ok(jobs) => {
@@ -77,7 +77,7 @@ fn told(alloc: Global, list: &str, settings: &Settings) -> Result<String, AllocE
     }
 }
 
-/// The first row of which something else is told.
+/// The place of the first row with another result; `None` where all rows have theirs.
 fn first_other(alloc: Global, settings: &Settings) -> Result<Option<usize>, AllocError> {
     for (place, row) in ROWS.iter().enumerate() {
         let (list, wanted) = row;

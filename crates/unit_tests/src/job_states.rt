@@ -51,7 +51,7 @@ const FROM: [(JobState, bool, bool); 9] = [
     (JobState::Completed, false, false),
 ];
 
-/// The codes of job-state after each change; 0 where it isn't possible.
+/// The codes of job-state after each change; 0 where the change is not possible.
 const TABLE: [(JobChange, [u32; 9]); 10] = [
     (JobChange::Close, [0, 3, 0, 4, 0, 0, 0, 0, 0]),
     (JobChange::Hold, [4, 4, 4, 4, 0, 0, 0, 0, 0]),
@@ -71,7 +71,7 @@ const TABLE: [(JobChange, [u32; 9]); 10] = [
     (JobChange::Fail, [0, 8, 0, 8, 8, 8, 0, 0, 0]),
 ];
 
-/// What a change makes of a job in a state: its code of job-state, whether the change is possible, and
+/// The result of a change of a job in a state: the code of its job-state, whether the change is possible, and
 /// whether the job is finished, and stranded.
 fn stepped(
     alloc: Global,
@@ -90,7 +90,7 @@ fn stepped(
     ))
 }
 
-/// What the table says of a job in a state.
+/// The values of [`stepped`] by the table, where `code` is the entry of the table.
 fn tabled(state: JobState, code: u32) -> (u32, bool, bool, bool) {
     let is_possible = code != 0;
     let after = if is_possible { code } else { state.code() };

@@ -1,4 +1,4 @@
-//! Tests over public calls that make no server: of what reads bytes and words, of plans, and of jobs.
+//! Tests over public calls that make no server: the readers of bytes and words, plans, and jobs.
 #![tactic(auto)]
 
 #[cfg(test)]

@@ -1,23 +1,24 @@
-//! The rates and the setup that are measured of jobs: rows that were computed by hand.
+//! The rates and the setup time measured from jobs: the expected values were computed by hand.
 use attachment::Measurement;
 use base_types::Sides;
 use std::alloc::{AllocError, Global};
 use std::test::Fail;
 
-/// A job that is done: on how many sides, the estimate of its impressions, how many of them the printer
-/// told and how many ms after the job began (0 where it told none), and how many ms it took.
+/// A job that is done: its sides, the estimate of its impressions, the number of impressions that the printer
+/// reported with the time of the report in ms since the start of the job (0 without a report), and the length
+/// of the print in ms.
 type Job = (Sides, u32, (u32, u64), u64);
 
-/// No job; one; and two on a line.
+/// No job; then one job, and two jobs on a line.
 const NONE: [Job; 0] = [];
 
 const ONE: [Job; 1] = [(Sides::One, 3, (0, 0), 2600)];
 
 const ON_A_LINE: [Job; 2] = [(Sides::One, 1, (0, 0), 1200), (Sides::One, 3, (0, 0), 2600)];
 
-/// The sums over those on one side are 7 impressions, 7,100 ms, 21 and 19,900, so the setup is
-/// (7,100 * 21 - 7 * 19,900) / (3 * 21 - 7 * 7) = 700, and the rate (19,900 - 700 * 7) / 21 = 714.3. With
-/// that setup the rate of the two others is (24,000 - 700 * 8) / 34 = 541.2.
+/// The sums over the jobs on one side are 7 impressions, 7,100 ms, 21 and 19,900. The setup is (7,100 * 21 -
+/// 7 * 19,900) / (3 * 21 - 7 * 7) = 700, and the rate is (19,900 - 700 * 7) / 21 = 714.3. With that setup,
+/// the rate of the two other jobs is (24,000 - 700 * 8) / 34 = 541.2.
 const ON_BOTH: [Job; 5] = [
     (Sides::One, 1, (0, 0), 1500),
     (Sides::LongEdge, 3, (0, 0), 2500),
@@ -26,14 +27,14 @@ const ON_BOTH: [Job; 5] = [
     (Sides::One, 4, (0, 0), 3600),
 ];
 
-/// The line of least squares begins at -100, so the setup is 0, and the rate 14,100 / 14 = 1,007.1.
+/// The line of least squares begins at -100: the setup is 0, and the rate is 14,100 / 14 = 1,007.1.
 const BELOW_NOTHING: [Job; 3] = [
     (Sides::One, 1, (0, 0), 1000),
     (Sides::One, 2, (0, 0), 1900),
     (Sides::One, 3, (0, 0), 3100),
 ];
 
-/// A printer that tells its pages: the estimates are far off, and don't count.
+/// A printer that reports its pages: the estimates are far off, and don't count.
 const TOLD: [Job; 2] = [
     (Sides::One, 74, (1, 1200), 1200),
     (Sides::One, 80, (2, 1900), 1900),
@@ -47,7 +48,7 @@ const ON_TWO_SIDES: [Job; 2] = [
     (Sides::LongEdge, 2, (0, 0), 1300),
 ];
 
-/// Jobs, and what is measured of them.
+/// Jobs, and the text of the measurement.
 const ROWS: [(&[Job], &str); 8] = [
     (
         &NONE,
@@ -83,7 +84,7 @@ const ROWS: [(&[Job], &str); 8] = [
     ),
 ];
 
-/// What is measured of jobs, one after the other.
+/// The text of the measurement of jobs, one after the other. The only error is out of memory.
 fn measured(alloc: Global, jobs: &[Job]) -> Result<String, AllocError> {
     let mut measurement = Measurement::new();
     let mut now = 0u64;

@@ -1,9 +1,9 @@
-//! What is objected to in the text of a plan, as it is said.
+//! The sentences about the objections to the text of a plan.
 use plan_audit::run_check;
 use std::alloc::{AllocError, Global};
 use std::test::Fail;
 
-/// Inputs, and what is said of each; nothing of one that is proved best.
+/// Inputs, and the sentence about each; empty for an input that is proved best.
 const SAID: [(&str, &str); 8] = [
     ("plan\nend\n", ""),
     (
@@ -36,7 +36,7 @@ const SAID: [(&str, &str); 8] = [
     ),
 ];
 
-/// What is said of an input.
+/// The sentence about an input. The only error is out of memory.
 fn said_of(alloc: Global, text: &str) -> Result<String, AllocError> {
     let mut input = text.as_bytes();
     let mut output = Vec::new(alloc);

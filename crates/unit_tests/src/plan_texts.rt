@@ -3,7 +3,7 @@ use plan_text::{ReadError, TextFault, read_plan_text};
 use std::alloc::Global;
 use std::test::Fail;
 
-/// The fault of a text, if it has one.
+/// The fault of a text; `None` for a plan.
 fn fault_of(alloc: Global, text: &str) -> Result<Option<TextFault>, Fail> {
     match read_plan_text(alloc, text.as_bytes()) {
         Ok(_) => Ok(None),
@@ -12,7 +12,7 @@ fn fault_of(alloc: Global, text: &str) -> Result<Option<TextFault>, Fail> {
     }
 }
 
-/// Texts that are no plan, each for one reason, and the shortest that is one.
+/// Texts that are no plan, each for one reason, and the shortest text that is a plan.
 const TEXTS: [(&str, Option<TextFault>); 11] = [
     ("", Some(TextFault::NoEnd)),
     ("plan\nend", Some(TextFault::NoEnd)),

@@ -7,7 +7,7 @@ use std::test::Fail;
 const WHOLE: &str =
     "version = 1\nuri_base = \"ipp://localhost:631\"\n[[device]]\nname = \"window\"\nrate_one = 10\nmedia = [\"iso_a4_210x297mm\"]\nformats = [\"text/plain\"]\n[[printer]]\nname = \"lab\"\ndevices = [\"window\"]\nmedia_default = \"iso_a4_210x297mm\"\nformat_default = \"text/plain\"\n";
 
-/// What stands in the whole file, what stands there instead, and the sentence about it.
+/// A text in the whole file, the text in its place, and the sentence about the changed file.
 const ROWS: [(&str, &str, &str); 12] = [
     (
         "rate_one = 10",
@@ -63,7 +63,8 @@ const ROWS: [(&str, &str, &str); 12] = [
     ),
 ];
 
-/// The sentence about the whole file with a text of it changed; empty, where it has no fault.
+/// The sentence about the whole file with a text replaced; empty where the file has no fault. The only error
+/// is out of memory.
 fn told(alloc: Global, old: &str, new: &str) -> Result<String, AllocError> {
     let text = WHOLE.replace(alloc, old, new)?;
     let told = explain(alloc, "f", text.as_bytes())?;

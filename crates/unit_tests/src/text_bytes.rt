@@ -1,7 +1,7 @@
-//! What is said of bytes of text alone.
+//! Functions over the bytes of a text.
 use text::{is_number, number_up_to, trimmed, without_parameters};
 
-/// A value, and the same without its parameters: the media types of RFC 9110, section 8.3.1.
+/// A value, and the value without its parameters: the media types of RFC 9110, section 8.3.1.
 const VALUES: [(&[u8], &[u8]); 5] = [
     (b"text/html;charset=utf-8", b"text/html"),
     (b"Text/HTML;Charset=\"utf-8\"", b"Text/HTML"),

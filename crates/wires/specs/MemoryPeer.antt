@@ -1,4 +1,4 @@
--- What a peer of a wire in memory sends, and has got.
+-- The state of a peer of a wire in memory: the bytes that it sends, and those that it has got.
 use Rattle.std.specs.Prelude.{ℕ, Bool, List}
 use Rattle.wires.specs.declared.wire.Door.{Door}
 

@@ -1,4 +1,4 @@
--- What a call of a wire in memory does.
+-- The change that each call makes of a wire in memory.
 use Rattle.std.specs.Prelude.{ℕ, ◌≡◌, ◌^◌, nat_le, ◌⊎◌, ◌&&◌, ◌||◌, not, Bool, true, false, List, ◌++◌, take, position, Option, Some, None, slice_get, slice_set}
 use Rattle.std.specs.Option.{option_map_or}
 use Rattle.wires.specs.declared.wire.Door.{Door}
@@ -14,42 +14,42 @@ is_same_door Lpd Lpd = true
 is_same_door Devices Devices = true
 is_same_door one other = false
 
--- whether it comes in at a door, and isn't accepted yet
+-- whether the peer comes in at a door, and isn't accepted yet
 abbrev pub comes : Door → PeerState → Bool
 comes door peer = not peer.accepted && is_same_door peer.door door
 
--- the place of the first peer that does
+-- the place of the first peer that comes in at a door
 abbrev pub next_at : Door → List PeerState → Option ℕ
 next_at door peers = position (comes door) peers
 
--- none does, or the first has no number that can be given
+-- no peer comes in at the door, or the first has a place above the numbers of 32 bits
 abbrev pub none_comes : Door → List PeerState → Bool
 none_comes door peers = option_map_or (λ place. nat_le (2 ^ 32) place) (next_at door peers) true
 
--- whether nothing more is read of the peer of a number, once its input is: it ends, was given up, or there is none
+-- whether the peer of a number sends nothing more behind its input: its stream ends, or it was closed, or there is no such peer
 abbrev pub ends_reading : ℕ → List PeerState → Bool
 ends_reading id peers = option_map_or (λ p. p.ended || p.closed) (slice_get peers id) true
 
--- whether the peer of a number takes nothing more: it was given up, or there is none
+-- whether the peer of a number takes no bytes: it was closed, or there is no such peer
 abbrev pub ends_writing : ℕ → List PeerState → Bool
 ends_writing id peers = option_map_or (λ p. p.closed) (slice_get peers id) true
 
--- it was accepted, and not given up
+-- the peer was accepted and not closed
 abbrev pub is_open : PeerState → Bool
 is_open p = p.accepted && not p.closed
 
--- these bytes come off the front of what an open peer sends
+-- an open peer sends these bytes, which are removed from the front of its input
 pub record Sends (bytes : List ℕ) (p q : PeerState) : Type 0 where
   pub counts : is_open p ≡ true
   pub input : p.input ≡ bytes ++ q.input
   pub rest : q ≡ record p { input = q.input }
 
--- an open peer has got these bytes too
+-- an open peer has got these bytes
 pub record Gets (bytes : List ℕ) (p q : PeerState) : Type 0 where
   pub counts : is_open p ≡ true
   pub taken : q ≡ record p { taken = p.taken ++ bytes }
 
--- one peer changes
+-- the peer of a number changes, and no other
 pub record OnPeer (id : ℕ) (change : PeerState → PeerState → Type 0) (old new : List PeerState) : Type 0 where
   pub before : PeerState
   pub after : PeerState
@@ -60,11 +60,11 @@ pub record OnPeer (id : ℕ) (change : PeerState → PeerState → Type 0) (old 
 abbrev pub IsAccepted : PeerState → PeerState → Type 0
 IsAccepted p q = q ≡ record p { accepted = true }
 
--- a peer is given up; there may be none of the number
+-- the peer of a number is closed, if there is one
 abbrev pub IsGivenUp : ℕ → List PeerState → List PeerState → Type 0
 IsGivenUp id old new = OnPeer id (λ p q. q ≡ record p { closed = true }) old new ⊎ ((slice_get old id ≡ None) × (new ≡ old))
 
--- what each call does to the peers, and answers
+-- a call with its answer, and the peers before and after it
 abbrev pub PeersMove : List PeerState → Poll → List PeerState → Type 0
 PeersMove old (Accepts door (Done id)) new = (next_at door old ≡ Some id) × OnPeer id IsAccepted old new
 PeersMove old (Accepts door Waiting) new = (new ≡ old) × (none_comes door old ≡ true)
@@ -80,6 +80,6 @@ PeersMove old (Writes id offered End) new = (new ≡ old) × (ends_writing id ol
 PeersMove old (Writes id offered Fault) new = new ≡ old
 PeersMove old (Closes id) new = IsGivenUp id old new
 
--- the same of the wire, whose peers they are
+-- a call with its answer, and the wire before and after it
 abbrev pub MemoryPolls : MemoryWire → Poll → MemoryWire → Type 0
 MemoryPolls old poll new = PeersMove old.peers.items poll new.peers.items

@@ -1,4 +1,4 @@
--- What a call of a wire was and answered.
+-- The calls of a wire, with their answers.
 use Rattle.std.specs.Prelude.{ℕ, ◌<◌, ◌≤◌, List, take}
 use Rattle.wires.specs.declared.wire.Door.{Door}
 use Rattle.wires.specs.declared.wire.Progress.{Progress}
@@ -11,21 +11,21 @@ pub data Poll : Type 0 where
   Writes : (id : ℕ) (offered : List ℕ) (answer : Progress ℕ) → Poll
   Closes : (id : ℕ) → Poll
 
--- the bytes that a read brought, which are the buffer's front
+-- the bytes of a read, which are a front of the buffer
 abbrev pub bytes_read : Progress ℕ → List ℕ → Progress (List ℕ)
 bytes_read (Done n) buffer = Done (take n buffer)
 bytes_read Waiting buffer = Waiting
 bytes_read End buffer = End
 bytes_read Fault buffer = Fault
 
--- a read or a write moves at least one byte, and at most as many as there is room for
+-- a read or a write moves at least one byte, and at most `room` bytes
 abbrev pub IsCount : Progress ℕ → ℕ → Type 0
 IsCount (Done n) room = (0 < n) × (n ≤ room)
 IsCount Waiting room = Unit {0}
 IsCount End room = Unit {0}
 IsCount Fault room = Unit {0}
 
--- a fault is answered only where the wire has failed during the call
+-- a fault is answered only if a failure was counted during the call
 abbrev pub HasCause : {T : Type 0} → ℕ → ℕ → Progress T → Type 0
 HasCause before now Fault = before < now
 HasCause before now (Done x) = before ≤ now

@@ -1,8 +1,8 @@
-//! What carries bytes between a server and its peers, and a wire in memory.
+//! A wire between a server and its peers, and a wire in memory.
 //!
-//! A [`Wire`] is polled: each call is answered at once. [`MemoryWire`] is one whose peers stand in memory,
-//! with all that they send; a crate above is one of sockets. What an engine does over any wire is a
-//! contract above.
+//! A [`Wire`] is polled: each call is answered at once. [`MemoryWire`] has its peers in memory, with all
+//! bytes that they send. The crate `sockets` has a wire of the system's sockets. The contracts of an engine
+//! over any wire are in `server`.
 //!
 //! Tests stand in `server_tests`.
 #![tactic(auto)]

@@ -1,5 +1,5 @@
-//! A wire in memory: what its peers send is there from the start, and what they get is kept. It
-//! stands in for sockets where a run is to be the same each time.
+//! A wire in memory: all bytes that its peers send are there from the start, and the bytes that they get are
+//! kept. It replaces sockets in runs that have to be reproducible.
 ghost use Rattle.std.specs.Prelude.{◌≡◌, ◌<◌, ◌≤◌, ℕ, List, ◌++◌, length, take, IsTrue, IsFalse, IfSome, IfNone, IfOk, OnErr, Some, true, false, []};
 ghost use Rattle.std.specs.Io.Slices.{io_slices_bytes};
 ghost use Rattle.wires.specs.MemoryWire.{Sends, Gets, comes, next_at, is_open, ends_reading, ends_writing};
@@ -11,24 +11,24 @@ use std::io::IoSlice;
 use std::marker::Model;
 use text::drop_front;
 
-/// What a peer sends, and has got.
+/// A peer: the bytes that it sends, and those that it has got.
 #[derive(Drop)]
 pub struct MemoryPeer {
-    /// Where it comes in.
+    /// The door at which the peer comes in.
     pub door: Door,
-    /// It was accepted.
+    /// Whether the peer was accepted.
     pub accepted: bool,
-    /// It was given up: nothing is read of it or taken of what is written to it any more.
+    /// Whether the peer was closed: it sends no more bytes, and takes none.
     pub closed: bool,
-    /// What is still to be read.
+    /// The bytes that are still to be read.
     pub input: Vec<u8>,
-    /// How many bytes a read brings at most.
+    /// The most bytes of one read.
     pub piece: usize,
-    /// Nothing follows the input.
+    /// Whether the stream ends behind the input.
     pub ended: bool,
-    /// What was taken of it.
+    /// The bytes that the peer took.
     pub taken: Vec<u8>,
-    /// How many bytes a write takes at most.
+    /// The most bytes that one write takes.
     pub most: usize,
 }
 
@@ -49,20 +49,20 @@ impl Model for MemoryPeer {
     } };
 }
 
-/// A wire of peers, whose place is their number. One poll faults, by its number.
+/// A wire of peers. The number of a peer is its place. One poll, by its number, faults.
 #[derive(Drop)]
 pub struct MemoryWire {
     pub peers: Vec<MemoryPeer>,
-    /// How many polls there were.
+    /// The number of polls so far.
     pub polls: u64,
     /// The number of the poll that faults.
     pub fault_at: u64,
-    /// How often it has failed.
+    /// The number of faults so far.
     pub faults: u64,
 }
 
 impl MemoryWire {
-    /// A wire of these peers, none of whose polls faults but for lack of memory.
+    /// Creates a wire of peers. No poll faults, except for refused memory.
     pub fn new(peers: Vec<MemoryPeer>) -> MemoryWire
         ensures { result.peers.items ≡ peers.items }
     {
@@ -74,7 +74,7 @@ impl MemoryWire {
         }
     }
 
-    /// Counts a poll, and says whether it is the one that faults.
+    /// Counts a poll. Returns whether it is the poll that faults, and was counted as a fault.
     fn fails(&mut self) -> bool
         ensures same { self.new.peers ≡ self.old.peers }
         ensures yes { IsTrue result → self.old.faults < self.new.faults }
@@ -85,7 +85,7 @@ impl MemoryWire {
         polls == self.fault_at && self.counts_fault()
     }
 
-    /// Counts a fault, unless the count is full.
+    /// Counts a fault, unless the count is full. Returns whether it was counted.
     fn counts_fault(&mut self) -> bool
         ensures same { self.new.peers ≡ self.old.peers }
         ensures yes { IsTrue result → self.old.faults < self.new.faults }
@@ -98,14 +98,14 @@ impl MemoryWire {
         true
     }
 
-    /// The place of the first peer of a door that isn't accepted yet.
+    /// The place of the first peer that comes in at a door and isn't accepted yet.
     fn next_peer(&self, door: Door) -> Option<usize>
         ensures { result ≡ next_at door self.now.peers.items }
     {
         self.peers.iter().position(|peer| peer.comes(door))
     }
 
-    /// Whether nothing more is read of a peer, once its input is.
+    /// Returns whether a peer sends nothing more behind its input.
     fn ends_reading(&self, id: WireId) -> bool
         ensures { result ≡ ends_reading id self.now.peers.items }
     {
@@ -115,7 +115,7 @@ impl MemoryWire {
         }
     }
 
-    /// Whether a peer takes nothing more.
+    /// Returns whether a peer takes no more bytes.
     fn ends_writing(&self, id: WireId) -> bool
         ensures { result ≡ ends_writing id self.now.peers.items }
     {
@@ -127,8 +127,8 @@ impl MemoryWire {
 }
 
 impl MemoryPeer {
-    /// A peer that isn't accepted yet, sends this in pieces of so many bytes, and takes so many at a
-    /// time.
+    /// Creates a peer that isn't accepted yet. A read brings at most `piece` bytes of its input, and a write
+    /// takes at most `most` bytes.
     pub fn new(alloc: Global, door: Door, input: Vec<u8>, piece: usize, most: usize) -> MemoryPeer
         ensures { result ≡ record {
           door = door;
@@ -153,7 +153,7 @@ impl MemoryPeer {
         }
     }
 
-    /// Whether it comes in at a door.
+    /// Returns whether the peer comes in at a door, and isn't accepted yet.
     fn comes(&self, door: Door) -> bool
         ensures { result ≡ comes door self.now }
     {
@@ -167,14 +167,15 @@ impl MemoryPeer {
         }
     }
 
-    /// Whether it was accepted and not given up.
+    /// Returns whether the peer was accepted and not closed.
     fn is_open(&self) -> bool
         ensures { result ≡ is_open self.now }
     {
         self.accepted && !self.closed
     }
 
-    /// A piece of what is sent goes to the front of the buffer.
+    /// Moves a piece of the input to the front of the buffer. Returns its length, or `None` if there is
+    /// nothing to send.
     fn send(&mut self, buffer: &mut [u8]) -> Option<usize>
         ensures sent { IfSome result (λ n. Sends (take n buffer.new) self.old self.new) }
         ensures count { IfSome result (λ n. (0 < n) × (n ≤ length buffer.old)) }
@@ -189,7 +190,8 @@ impl MemoryPeer {
         Some(n)
     }
 
-    /// A front of the bytes is taken. The error is out of memory.
+    /// Takes a front of the bytes. Returns its length, or `None` if nothing is taken. The only error is out
+    /// of memory.
     fn get(&mut self, bytes: &[u8]) -> Result<Option<usize>, AllocError>
         ensures got { IfOk result (λ taken. IfSome taken (λ n. Gets (take n bytes.now) self.old self.new)) }
         ensures count { IfOk result (λ taken. IfSome taken (λ n. (0 < n) × (n ≤ length bytes.now))) }
@@ -204,7 +206,7 @@ impl MemoryPeer {
         Ok(Some(n))
     }
 
-    /// It is given up.
+    /// Closes the peer.
     fn leave(&mut self)
         ensures { self.new ≡ record self.old { closed = true } }
     {
