@@ -31,7 +31,7 @@ heard_append place (byte ∷ bytes) more =
     let here = heard_from next.place bytes in
     ap (λ (h : Heard). with_front next.said h) (heard_append next.place bytes more) ∙ sym (front_twice next.said here.said (heard_from here.place more))
 
--- from a place on more is heard behind what was heard
+-- from a place on, the items of further bytes follow the items of the bytes before
 pub heard_then : (place : Place) (bytes more : List ℕ) (heard : Heard) → heard_from place bytes ≡ heard → heard_from place (bytes ++ more) ≡ with_front heard.said (heard_from heard.place more)
 heard_then place bytes more heard is = subst (λ (h : Heard). heard_from place (bytes ++ more) ≡ with_front h.said (heard_from h.place more)) is (heard_append place bytes more)
 

@@ -53,7 +53,7 @@ use Rattle.dispatcher.specs.RemoveJobs.{cancels_of_each, told_of, RemovesJobs}
 use Rattle.dispatcher.specs.Step.{Step, StepAt, TakesNoMemory, TakesNoMemoryAt}
 use Rattle.dispatcher.specs.OneStep.{SameLpdAnswer, SameAnswer, SameReply, SameEnd}
 
--- ---- what is answered
+-- ---- answers
 
 same_answers : (status : Status) (unsupported : List IppAttribute) (groups : List IppGroup) (one other : Response) → IsResponse status unsupported groups one → IsResponse status unsupported groups other → SameAnswer one other
 same_answers status unsupported groups (Ipp one) (Ipp other) a b = record { status = a.0 ∙ sym b.0; unsupported = a.1 ∙ sym b.1; groups = a.2 ∙ sym b.2 }
@@ -91,7 +91,7 @@ lpd_replies said one other a b = record { answer = same_as (Lpd said) one.answer
 
 -- ---- judgments
 
--- what is judged leads to one end, where what it comes to does
+-- a judged request leads to one end, if each result of the judgement does
 judged : {T : Type 0} (r : Result T Rejection) (Comes : T → Effects → State → Type 0) (now : ℕ) (old : State) (one : Effects) (new : State) (other : Effects) (new' : State)
     → MatchResult r (λ x. Comes x one new) (λ refusal. Refuses now old refusal one new)
     → MatchResult r (λ x. Comes x other new') (λ refusal. Refuses now old refusal other new')
@@ -291,7 +291,7 @@ each_end = record {
 pub same_end : (old : State) (one other : Event) (moment : ℕ) (reply : Effects) (new : State) (said : Effects) (after : State) → SameEvent one other → Step old one moment reply new → Step old other moment said after → SameEnd reply new said after
 same_end old one other moment reply new said after same = by_same EndsAs each_end one other same (max moment old.last) old reply new said after
 
--- what only asks, and what is acted on without memory
+-- queries, and events that are acted on without memory
 
 pub same_query : (one other : Event) → SameEvent one other → is_query one ≡ is_query other
 same_query one other same =

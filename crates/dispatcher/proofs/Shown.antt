@@ -1,4 +1,4 @@
--- What a Send-Document is answered is the group of its job as it is after it.
+-- The answer to a Send-Document is the group of its job in the state after it.
 use Rattle.std.proofs.Common.{◌≡◌, ◌==◌, ◌&&◌, ◌∙◌, ℕ, Bool, true, false, cond, List, [], ◌∷◌, length, Option, Some, None, Result, Ok, Err, refl, sym, ap, subst, true≢false}
 use Rattle.std.specs.Prelude.{All, IfSome, not, option_map, MatchResult}
 use Rattle.std.specs.Option.{option_and_then, option_map_or}
@@ -125,7 +125,7 @@ comes_in asker octets last jobs job sound in_jobs free =
       alike = λ old last. ap (λ (j : JobRecord). sent_group old j last) in_jobs.job_is;
     }
 
--- ---- what it is shown as
+-- ---- the group of the job
 
 -- the group of a job as it is
 abbrev group_now : State → JobRecord → IppGroup
@@ -166,7 +166,7 @@ once_closed true old now jobs job comes =
 once_closed false old now jobs job comes =
     record { spooled = comes.spooled; there = comes.there; shown = coming_shown old comes.spooled.job comes.state comes.incoming ∙ comes.alike old false }
 
--- ---- what it is answered
+-- ---- the answer
 
 job_shown : (request : SendDocument) (now : ℕ) (document : DocumentRecord) (old : State) (sent : Sent) → IsSpool old.spool → IsSent request old sent → IsShown sent.job sent.groups (sending now sent.job document request.last old)
 job_shown request now document old sent spool is =

@@ -1,4 +1,4 @@
--- Where a reader stands after a piece, and what it will hear.
+-- The place of a reader in its stream after a piece, and the elements that it will give.
 use Rattle.std.specs.Prelude.{ℕ, suc, zero, ◌≡◌, ◌⊎◌, List, [], ◌++◌, Result, Ok, Err, OnOk}
 use Rattle.std.proofs.Common.{refl, subst, sym, ap, inl, inr}
 use Rattle.std.specs.declared.alloc.AllocError.{AllocError}
@@ -32,7 +32,7 @@ pub fed_by : (old new : HttpState) (piece : List ℕ) (answer : Result (Unit {0}
 fed_by old new piece (Ok done) is = λ stream given stands. subst (λ n. Stands (stream ++ piece) given n) (sym is) (stands_fed stream given piece old stands)
 fed_by old new piece (Err error) is = tt
 
--- laws of what was given
+-- laws of the elements that were given
 
 nothing_in : (steps : ℕ) (bytes other : List ℕ) (said : List Said) → SaysIn steps Nothing bytes said → SaysIn steps Nothing other said
 nothing_in zero bytes other said says = says

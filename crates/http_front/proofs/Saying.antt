@@ -1,4 +1,4 @@
--- What a request says, told from what was written.
+-- The elements of a request, from its written form.
 use Rattle.std.proofs.Common.{◌≡◌, ◌<◌, ◌≤◌, ◌+◌, ◌-◌, arith, ℕ, zero, suc, Bool, true, false, List, [], ◌∷◌, ◌++◌, length, take, drop, refl, sym, ◌∙◌, ap, subst, append_assoc, length-append, Option, Some, None, Ok}
 use Rattle.std.specs.Prelude.{◌==◌, ◌&&◌, not, nat_lt, nat_le, cond, if◌then◌else◌, map, position, MatchBool}
 use Rattle.std.specs.List.{flat_map, prefix_len}
@@ -212,7 +212,7 @@ at_size line more size room closes is =
     subst (λ (l : FirstLine). SizeIn (line ++ more) room closes l (sized (Some size) room closes more)) (sym (line_more HTTP_CHUNK_LINE_BYTES is.place line more is.whole))
     (Some size, subst (λ (bytes : List ℕ). IsSizeOf bytes (Some size)) (sym (take_line line more is.place is.ends)) is.is, ap (sized (Some size) room closes) (sym (drop_line line more is.place is.ends)))
 
--- a piece is so many bytes
+-- the size line of a piece leads to a body of its size
 at_piece : (size room : ℕ) (closes : Bool) (more : List ℕ) → 0 < size → size ≤ room → sized (Some size) room closes more ≡ Goes [] more (Body size (Chunk (room - size) closes))
 at_piece size room closes more some fits =
     ap (λ (t : Bool). if t then Goes [] more (Trailer (is_last closes (HTTP_BODY_BYTES - room))) else if nat_le size room then Goes [] more (Body size (Chunk (room - size) closes)) else refused ContentTooLarge more) (is_some size some)
@@ -235,7 +235,7 @@ says_piece line octets more room closes later is some fits it =
 piece_joined : (piece : Piece) (rest : List ℕ) → piece_bytes piece ++ rest ≡ piece.line ++ (piece.octets ++ 13 ∷ 10 ∷ rest)
 piece_joined piece rest = append_assoc piece.line (piece.octets ++ 13 ∷ 10 ∷ []) rest ∙ ap (λ (bytes : List ℕ). piece.line ++ bytes) (append_assoc piece.octets (13 ∷ 10 ∷ []) rest)
 
--- all pieces, and then what is awaited with the room that is left
+-- all pieces, and then the part that is awaited with the room that is left
 says_pieces : (pieces : List Piece) (rest : List ℕ) (room : ℕ) (closes : Bool) (later : List Said) → ArePieces room pieces → Says (Size (room - length (octets_of pieces)) closes) rest later → Says (Size room closes) (flat_map piece_bytes pieces ++ rest) (map HasByte (octets_of pieces) ++ later)
 says_pieces [] rest room closes later are it = subst (λ (n : ℕ). Says (Size n closes) rest later) (none room) it
   where

@@ -1,4 +1,4 @@
--- What the first empty line tells, also where more bytes follow.
+-- The result for the first empty line stays the same if more bytes follow.
 use Rattle.std.specs.Prelude.{ℕ, suc, zero, ◌==◌, ◌&&◌, ◌≡◌, ◌++◌, ◌+◌, ◌<◌, ◌≤◌, Bool, true, false, nat_lt, if◌then◌else◌, List, [], ◌∷◌, length, take, Option, Some, None}
 use Rattle.std.proofs.Common.{arith, refl, ap, ◌∙◌}
 use Rattle.std.proofs.lemmas.List.{take-append-le, length-append, length-take}

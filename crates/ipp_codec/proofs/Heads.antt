@@ -80,7 +80,7 @@ split_header bytes code id fits long code-is id-is = absurd (omega (arith, long)
 pub behind : (bytes : List ℕ) → take (length bytes - 8) (drop 8 bytes) ≡ drop 8 bytes
 behind bytes = take_rest bytes 8
 
--- what a walk behind the header comes to
+-- the result of a walk behind the header
 pub lengths : (bytes : List ℕ) (len : ℕ) → IsBytes bytes → 8 ≤ length bytes → Walks (drop 8 bytes) (Ok len) → Lengths bytes (Ok (8 + len + 1))
 lengths bytes len fits long walks =
     let split = split_header bytes _ _ fits long refl refl in

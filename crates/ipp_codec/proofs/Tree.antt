@@ -56,7 +56,7 @@ mutual
       ∙ ap (λ (ls : List Level). add_to [] v ls) (read_values vs (members_then ms (finish ∷ es)) ∙ ap (λ (ls : List Level). add_values vs ls) (read_members ms es) ∙ add_values-inside vs ms (levels_of es)))
       ∙ ap (λ (ws : IppValues). inside [] (member_and name v ws ms) ∷ levels_of es) (values_again vs)
 
--- what attributes and groups make at the outermost depth
+-- the level of attributes and groups at the outermost depth
 abbrev outer : List IppValue → List IppAttribute → List IppGroup → Level
 outer vs xs gs = record { values = vs; members = no_member; attributes = xs; groups = gs }
 
@@ -151,7 +151,7 @@ groups_follow (g ∷ gs) place d fits = ((d, fits.0.tag), attributes_follow g.at
 
 -- ---- elements to groups
 
--- the elements of levels, so many of which lie inside collections
+-- the elements of levels, of which this number lie inside collections
 unfoldable pub spelled : ℕ → List Level → List Element
 spelled zero ls = values_then (values_of (top ls).values) (attributes_then (top ls).attributes (elements (top ls).groups))
 spelled (suc d) ls = values_then (values_of (top ls).values) (members_then (top ls).members (finish ∷ spelled d (below ls)))
@@ -180,7 +180,7 @@ abbrev pub IsSome : List IppValue → Type 0
 IsSome [] = ⊥
 IsSome (v ∷ vs) = Unit {0}
 
--- what stands first behind a place
+-- the condition of a place on the level behind it
 abbrev pub TopIs : Place → Level → Type 0
 TopIs Outside l = (l.values ≡ []) × (l.attributes ≡ [])
 TopIs Opened l = l.values ≡ []
@@ -193,7 +193,7 @@ named_top : (name : List ℕ) (v : IppValue) (l : Level) → name ≢ [] → (ad
 named_top [] v l some = absurd (some refl)
 named_top (c ∷ name) v l some = refl
 
--- a value leaves what its place asks of what stands first
+-- a value, added at a place that takes it, makes a level that meets the condition of the place
 value_top : (place : Place) (name : List ℕ) (v : IppValue) (l : Level) → TakesValue place name → TopIs place (add name v l)
 value_top Outside name v l takes = absurd takes
 value_top Opened name v l takes = named_top name v l takes

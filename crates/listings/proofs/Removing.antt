@@ -37,7 +37,7 @@ rises : (ns : List ℕ) → AllPairs (λ a b. a < b) ns → Rises ns
 rises [] pairs = tt
 rises (n ∷ ns) pairs = ((λ k d inside. pairs zero (suc k) d (omega arith) (omega arith)), rises ns (λ i j d before inside. pairs (suc i) (suc j) d (omega arith) (omega arith)))
 
--- ---- what a search finds
+-- ---- the result of a search
 
 found_is : {X : Type 0} (f : X → ℕ) (P : ℕ → Type 0) (test : X → Bool) (xs : List X) (y : X) → All P (map f xs) → find test xs ≡ Some y → P (f y)
 found_is f P test [] y all is = absurd (cc)
@@ -63,7 +63,7 @@ none_found {X} test (x ∷ xs) is = step (test x) is (none_found test xs)
     step true here rest = absurd (cc)
     step false there rest = rest there
 
--- what passes the first test is left by a filter of the second, where it passes that too
+-- a filter by `kept` in front of a filter by `test` makes no difference, if each element that passes `test` passes `kept`
 filter_within : {X : Type 0} (test kept : X → Bool) → ((x : X) → test x ≡ true → kept x ≡ true) → (xs : List X) → filter test (filter kept xs) ≡ filter test xs
 filter_within test kept both [] = refl
 filter_within {X} test kept both (x ∷ xs) = step (test x) refl (kept x) refl (filter_within test kept both xs)
@@ -184,7 +184,7 @@ finished_unnamed place request job finished = at (is_named place request job) re
 spool_rises : (state : State) → IsSpool state.spool → Rises (map (λ s. s.job.id) state.spool.jobs)
 spool_rises state spool = rises (map (λ s. s.job.id) state.spool.jobs) (AllPairs-from_increasing (map (λ s. s.job.id) state.spool.jobs) spool.rising)
 
--- what is known of the first that is named: nothing stands against its cancel, after which the others are named
+-- the first named job: no check refuses its cancel, and the other jobs are named after it
 pub record Next (now place : ℕ) (request : RemoveJobs) (state : State) (id : ℕ) : Type 0 where
   pub is_free : cancel_refusal (remover request.agent) (spooled_at id state.spool.jobs) ≡ None
   pub others : named_jobs place request state ≡ id ∷ named_jobs place request (canceling now id request.agent state)

@@ -55,16 +55,16 @@ stands_still stream given piece reader over stands = record {
   kept = left_still reader.fault reader.awaited reader.rest stands.left piece over stands.kept;
 }
 
--- ---- what stands at the front
+-- ---- the front of the bytes
 
--- what a line means where one is awaited
+-- the front by the meaning of a line, where a line is awaited
 front_by_line : (awaited : Awaited) (bytes : List ℕ) → awaits_line awaited ≡ true → front_of awaited bytes ≡ by_line (meaning_of awaited) bytes (first_line_of LPD_LINE_BYTES bytes)
 front_by_line Command bytes is = refl
 front_by_line Subcommand bytes is = refl
 front_by_line (File length) bytes is = absurd (search (rules, is))
 front_by_line Nothing bytes is = absurd (search (rules, is))
 
--- a reader without a fault that something counts for stands at what it hasn't read
+-- a reader without a fault that still awaits a part is at its unread bytes
 at_front : (awaited : Awaited) (rest left : List ℕ) (front : Front) → IsLeft None awaited rest left → front_of awaited rest ≡ front → (front ≡ Waits → ⊥) → left ≡ rest
 at_front awaited rest left front (inl over) is some = absurd (some (sym is ∙ ap (λ (a : Awaited). front_of a rest) over))
 at_front awaited rest left front (inr same) is some = same

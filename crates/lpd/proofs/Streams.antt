@@ -1,4 +1,4 @@
--- What stands at the front of bytes stays there where more comes, and so does what they say.
+-- The front of bytes stays the same if more bytes come, and so do their items.
 use Rattle.std.specs.Prelude.{ℕ, suc, zero, ◌==◌, ◌≡◌, ◌⊎◌, ◌++◌, ◌+◌, ◌<◌, ◌≤◌, nat_le, if◌then◌else◌, Bool, true, false, List, [], ◌∷◌, length, take, drop, slice_index_or, Result, Ok, Err}
 use Rattle.std.proofs.Common.{rules, arith, refl, subst, sym, ap, ◌∙◌, inl, inr}
 use Rattle.std.proofs.lemmas.List.{append_assoc, drop-append-le, take-append-le, length-append, length-drop, get_or_append_left}
@@ -143,7 +143,7 @@ pub leads_more : (a : Awaited) (bytes more : List ℕ) (items : List ItemRecord)
 leads_more a bytes more [] b left x = (x.0, ap (λ l. l ++ more) x.1)
 leads_more a bytes more (said ∷ items) b left x = (x.0 ++ more, gives_more a bytes more said x.0 x.1, leads_more (awaited_after said) x.0 more items b left x.2)
 
--- what all of the bytes say they say first
+-- the items that all of the bytes say are said first
 pub hears_first : (a : Awaited) (bytes : List ℕ) (items : List ItemRecord) (ending : Ending) → Hears a bytes items ending → (next : Awaited) × (left : List ℕ) × Leads a bytes items next left × EndsAs (front_of next left) ending
 hears_first a bytes [] ending x = (a, bytes, (refl, refl), x)
 hears_first a bytes (said ∷ items) ending x =

@@ -10,7 +10,7 @@ use Rattle.plan_problem.proofs.Places.{place_below, at_place}
 use Rattle.plan_prices.specs.Way.{IsWay, times_named, NamesKnown, NoneTwice, AllNamed, AllAble}
 use Rattle.plan_prices.proofs.Sums.{count_of, count_of-no}
 
--- what holds in each list holds of all names
+-- a property of the names of each list is a property of all names
 pub all_concat : (P : ℕ → Type 0) (w : List (List ℕ)) → All (λ q. All P q) w → All P (concat w)
 all_concat P [] h = All-nil P
 all_concat P (q ∷ qs) h = All-append P q (concat qs) (All-head (λ x. All P x) q qs h) (all_concat P qs (All-tail (λ x. All P x) q qs h))
@@ -39,7 +39,7 @@ each_list_more P w i l here before k d h = elim (cases_lt k i) [
 pub none_named : (w : List (List ℕ)) (job : ℕ) → All (λ q. All (λ id. ¬ (id ≡ job)) q) w → ¬ Contains (concat w) job
 none_named w job none named = all_concat (λ id. ¬ (id ≡ job)) w none named.0 job named.1 named.2
 
--- what holds of all names holds of one that is counted
+-- a property of all names is a property of a name that is counted
 pub of_counted : (P : ℕ → Type 0) (names : List ℕ) (job n : ℕ) → count_of names job ≡ suc n → All P names → P job
 of_counted P [] job n e h = absurd (let z : 0 ≡ suc n = e in omega arith)
 of_counted P (x ∷ xs) job n e h = elim (cases_eq x job) [

@@ -41,7 +41,7 @@ contains_right xs ys s h = (length xs + h.0, omega (arith, h.1, length-append xs
 contains_later : (x : Slot) (xs : List Slot) (s : Slot) → Contains xs s → Contains (x ∷ xs) s
 contains_later x xs s h = (suc h.0, omega (arith, h.1), h.2)
 
--- the slot of the job that has so many before it
+-- the slot of the job that has this number of jobs before it
 slot_in_list : (c : Class) (d free : ℕ) (jobs : List ℕ) (i : ℕ) → i < length jobs → Contains (slots_of_list c d free jobs) (record { job = get_or jobs i 0; device = d; start = free + busy_time c d (take i jobs) })
 slot_in_list c d free [] i l = absurd (omega arith)
 slot_in_list c d free (j ∷ js) zero l = (0, omega arith, rw add-zero refl)

@@ -17,7 +17,7 @@ Rises (x ∷ xs) = All (λ y. x < y) xs × Rises xs
 abbrev pub count_of : List ℕ → ℕ → ℕ
 count_of names job = count_by (λ x. x == job) names
 
--- a price so many times
+-- a price, this number of times
 abbrev pub times : ℕ → ℤ → ℤ
 times zero p = pos 0
 times (suc n) p = p +ℤ times n p

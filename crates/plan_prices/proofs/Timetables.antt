@@ -37,7 +37,7 @@ Apart_all c (s ∷ ss) = All (λ x. Apart c s x) ss × Apart_all c ss
 abbrev pub jobs_of : List Slot → List ℕ
 jobs_of slots = map (λ s. s.job) slots
 
--- what put keeps of each element
+-- a property of each element that `put` keeps
 put_all : (c : Class) (P : Slot → Type 0) (s : Slot) (xs : List Slot) → P s → All P xs → All P (put c s xs)
 put_all c P s [] h k = All-cons P s [] h k
 put_all c P s (x ∷ xs) h k =

@@ -142,7 +142,7 @@ abbrev pub stage_with : List Filter → Option Device → ℕ → ℕ
 stage_with filters None stage = stage
 stage_with filters (Some device) stage = max (passed_by filters device) stage
 
--- what such a device adds
+-- the stage with the first found device added
 pub stage_of-cons_option : (filters : List Filter) (found : Option Device) (devices : List Device) → stage_of filters (cons_option found devices) ≡ stage_with filters found (stage_of filters devices)
 stage_of-cons_option filters None devices = refl
 stage_of-cons_option filters (Some device) devices = stage_of-cons filters device devices

@@ -1,4 +1,4 @@
--- What a place costs a job.
+-- The cost of a place for a job.
 use Rattle.std.proofs.Common.{◌≡◌, ℕ, ◌+◌, ◌*◌, ◌≤◌, suc, mul_comm, List, Option, Some, None, min, get_or, arith}
 use Rattle.std.proofs.Math.Nat.{suc-mul}
 use Rattle.plan_solver.specs.declared.costs.Costs.{Costs}

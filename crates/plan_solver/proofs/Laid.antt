@@ -144,7 +144,7 @@ matched_none costs s free es ej ls lj lp lr = record {
   tight = record { at = λ k lk. absurd (omega (arith, lk, ap length es)) };
 }
 
--- what a place shows can go up by one
+-- the number that a place shows can go up by one
 pub shown_low : (devices f : ℕ) (columns free : List Place) → ShowsNext devices columns free → f < devices → length columns < 2 ^ 63 → (get_or free f nowhere).after < 2 ^ 63
 shown_low devices f columns free show lt small = rw (show.next f lt) (omega (arith, taken-le f columns))
 

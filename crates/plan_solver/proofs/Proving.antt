@@ -39,7 +39,7 @@ queue-length d ids columns jobs (suc m) le = elim (cases_eq (get_or columns m no
   | inr ne ↦ omega (arith, ap (λ (l : List ℕ). length l) (queue-other d ids columns jobs m ne), taken-other d m columns (omega arith) ne, queue-length d ids columns jobs m (omega arith))
 ]
 
--- what holds of the job of each column on the device holds of its queue
+-- a property of the job of each column of the device is a property of its queue
 queue-all : (P : ℕ → Type 0) (d : ℕ) (ids : List ℕ) (columns : List Place) (jobs : List ℕ) (m : ℕ) → ((k : ℕ) → k < m → (get_or columns k nowhere).device ≡ d → P (get_or ids (get_or jobs k 0) 0)) → All P (queue_of_columns d ids columns jobs m)
 queue-all P d ids columns jobs zero h = All-nil P
 queue-all P d ids columns jobs (suc m) h = elim (cases_eq (get_or columns m nowhere).device d) [

@@ -1,4 +1,4 @@
--- What a good plan lets devices begin, they can begin: each job waits, and begins on one device alone.
+-- Devices can begin the jobs that a good plan lets them begin: each job waits, and begins on one device alone.
 use Rattle.std.proofs.Common.{◌≡◌, ◌⊎◌, ◌∙◌, ◌==◌, ◌+◌, ◌<◌, ◌≤◌, ◌&&◌, ℕ, zero, suc, Bool, true, false, cond, not, if◌then◌else◌, List, [], ◌∷◌, ◌++◌, length, map, filter, count_by, sum_by, Contains, All, get_or, drop, Option, Some, None, option_to_list, refl, sym, ap, subst, arith, inl, inr, true≢false}
 use Rattle.std.specs.Prelude.{slice_get, option_map, IfSome}
 use Rattle.std.specs.List.{concat, list_any}
@@ -146,7 +146,7 @@ has_at [] job has = absurd has
 has_at (class ∷ classes) job (inl here) = (0, omega arith, λ d. here)
 has_at (class ∷ classes) job (inr later) = let rest = has_at classes job later in (suc rest.0, omega (arith, rest.1), rest.2)
 
--- from what is known of the classes by their places
+-- from the properties of the classes by their places
 pub apart_from : (classes : List PlannedClass) → ((k : ℕ) (d : PlannedClass) → k < length classes → IsWay (get_or classes k d).problem (get_or classes k d).priced.way)
     → ((i k : ℕ) (d : PlannedClass) → i < k → k < length classes → (job : ℕ) → Contains (ids_of (get_or classes k d)) job → Contains (ids_of (get_or classes i d)) job → ⊥) → AllApart classes
 apart_from [] ways apart = tt
@@ -209,7 +209,7 @@ marked_waits paused stranded jobs id =
     each None = refl
     each (Some s) = either_state (is_ready paused s.job) (marked (list_any (λ e. e.job == s.job.id) stranded) s) s refl
 
--- ---- what begins, device by device
+-- ---- the starts, device by device
 
 idle_job : (activity : Activity) → runs_idle activity ≡ true → job_on activity ≡ None
 idle_job (Running None) free = refl
@@ -287,7 +287,7 @@ module _ (s : State) (plan : PlanRecord) (now : ℕ) (good : IsGoodPlan now s pl
       let below : at.0 < length plan.classes = subst (λ (cs : List PlannedClass). at.0 < length cs) (sym is) at.1 in
       class_waits at.0 class below job (subst (λ (cs : List PlannedClass). Contains (ids_of (get_or cs at.0 class)) job) (sym is) (at.2 class))
 
-  -- what begins under a good plan can begin
+  -- the starts under a good plan can begin
   pub plan_can_begin : AllCanBegin now (starts_of now s plan) (marked_state now plan s)
   plan_can_begin = starts_can now plan.classes apart 0 s.devices (marked_state now plan s) (record {
     same = devices_same s.devices;

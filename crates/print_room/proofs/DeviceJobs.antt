@@ -123,7 +123,7 @@ agree_begins place id change devices jobs d found begins on free agree = record 
 
 -- ---- a report
 
--- what a device says of its job, and the job that it has after it
+-- the report of a device about its job, and the device's job after the report
 abbrev pub Leaves : Option DeviceSays → Option ℕ → Option ℕ → Type 0
 Leaves None old new = new ≡ old
 Leaves (Some Stop) old new = new ≡ old
@@ -198,7 +198,7 @@ same_or_none (Some Continue) old new is = inl is
 same_or_none (Some Done) old new is = inr is
 same_or_none (Some Fail) old new is = inr is
 
--- the jobs of devices are on them, once the device at a place said this of its job and has what that leaves
+-- the jobs of devices are on them, once the device at a place has reported about its job and has the job that this report leaves
 pub agree_told : (now place : ℕ) (change : Device → Device) (devices : List Device) (jobs : List SpooledRecord) (d : Device) (said : Option DeviceSays) → slice_get devices place ≡ Some d → Leaves said (job_on d.activity) (job_on (change d).activity) → Agree devices jobs → Agree (with_device place change devices) (jobs_after now (job_on d.activity) said jobs)
 agree_told now place change devices jobs d said found leaves agree = told (job_on d.activity) refl said leaves
   where

@@ -1,4 +1,4 @@
--- What becomes of the documents of the jobs that devices have.
+-- The documents of the jobs that devices have, after each call.
 use Rattle.std.proofs.Common.{◌≡◌, ◌⊎◌, ◌∙◌, ℕ, Bool, true, false, cond, List, [], ◌∷◌, map, Option, Some, None, refl, sym, ap, subst, inl, inr, true≢false}
 use Rattle.std.specs.Prelude.{slice_get, MatchOption, IfSome, All, not, ◌&&◌, length}
 use Rattle.std.proofs.lemmas.Bool.{cases_eq}
@@ -116,7 +116,7 @@ submits_keep now job incoming old agree = keep_from old (with_job_taken now job 
 pub changes_keep : (now id : ℕ) (change : JobChange) (old : State) → Agree old.devices old.spool.jobs → AllKeep old (changing now id change old)
 changes_keep now id change old agree = keep_from old (changing now id change old) (λ place one has. has) (stay_with id (changed change now) (changed_on change now) old.spool.jobs) agree
 
--- a cancel leaves what devices have
+-- a cancel leaves the jobs of devices
 cancels_stay : (now id : ℕ) (name : List ℕ) (old : State) → AllStay old.spool.jobs (canceling now id name old).spool.jobs
 cancels_stay now id name old =
     let change = cancel_by id name old in

@@ -1,4 +1,4 @@
--- Connections are closed, and what they ask comes about, in one way.
+-- Connections are closed, and their asks come about, in one way.
 use Rattle.std.proofs.Common.{◌≡◌, ◌<◌, arith, ℕ, zero, suc, Bool, true, false, List, [], ◌∷◌, ◌++◌, refl, sym, ◌∙◌, ap, subst, Option, Some, None, inl, inr}
 use Rattle.base_types.specs.declared.report.Report.{Report}
 use Rattle.base_types.specs.declared.report.Report.TheVariants as report
@@ -131,7 +131,7 @@ module _ (steps : StepsOnce) (queries : SameQueries) (asks : AsksOne) where
   pub fixed_reports : (moment device : ℕ) (said : ReportRecord) → Fixed (Tells moment device said)
   fixed_reports moment device said = record { one = λ l hs rest a ks more b e (one, is, p) (other, its, q). (same_report moment device device one other refl (is ∙ sym its)).one l hs rest a ks more b e p q }
 
-  -- ---- what a connection asks
+  -- ---- the asks of a connection
 
   same_events : (moment key id : ℕ) (who other : Client) (event said : Event) → who ≡ other → SameEvent event said → Alike (ActsOn moment key id (ask.Event who event)) (ActsOn moment key id (ask.Event other said))
   same_events moment key id who other event said same says =
@@ -178,7 +178,7 @@ module _ (steps : StepsOnce) (queries : SameQueries) (asks : AsksOne) where
   same_does moment key id (ask.Report device one) (ask.Stranger name) same = cc
   same_does moment key id (ask.Report device one) (ask.Fault other) same = cc
 
-  -- what one entry asks is one, where the choices are
+  -- two asks of one entry are the same if their choices are
   asked_one : (settings : ServerSettings) (o : Option Entry) (e d : Entry) (what said : Ask) (new after : Entry) → o ≡ Some e → o ≡ Some d → (one : AsksNext settings what e new) (other : AsksNext settings said d after)
       → part_of one ≡ part_of other → lost_of what ≡ lost_of said → SameAsk what said × (new ≡ after)
   asked_one settings o e d what said new after there is one other part lost =

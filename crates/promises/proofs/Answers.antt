@@ -1,4 +1,4 @@
--- What clients are answered becomes due in one way.
+-- The answers to clients become due in one way.
 use Rattle.std.proofs.Common.{◌≡◌, ℕ, Bool, true, false, List, [], ◌∷◌, ◌++◌, refl, sym, ◌∙◌, ap, subst, Some, None, inl, inr}
 use Rattle.std.specs.Prelude.{codes}
 use Rattle.ipp_codec.specs.Message.{IppAttribute, IppGroup}

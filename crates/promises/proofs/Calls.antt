@@ -11,7 +11,7 @@ use Rattle.server.specs.Refinement.{StandsAt}
 use Rattle.server.proofs.Steps.{leads_append, leads_with}
 use Rattle.promises.specs.Calls.{Call, TakesTurn, Serves, Reports, Ticks, ByContract, AreMade, IsOf, AreOf, IsAccounted}
 
--- what one call leads to
+-- the result of one call
 record Made {W N : Type 0} (polled : W → Poll → W → Type 0) (told : N → Note → N → Type 0) (call : Call) (u v : W × N) (old new : EngineState) : Type 0 where
   action : Action
   is_of : IsOf call action
@@ -28,7 +28,7 @@ made polled told (Serves moment body) u v old new (answer, same, it) = record { 
 made polled told (Reports moment device said) u v old new (result, same, it) = record { action = Reported moment device said it.happenings; is_of = (refl, refl, refl); leads = beside polled told u v it.happenings same it.leads; stands = it.stands }
 made polled told (Ticks moment) u v old new (result, same, it) = record { action = Ticked moment it.happenings; is_of = refl; leads = beside polled told u v it.happenings same it.leads; stands = it.stands }
 
--- what all lead to
+-- the result of all calls
 record AllMade {W N : Type 0} (polled : W → Poll → W → Type 0) (told : N → Note → N → Type 0) (calls : List Call) (u v : W × N) (old new : EngineState) : Type 0 where
   actions : Trace
   are_of : AreOf calls actions

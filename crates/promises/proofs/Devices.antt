@@ -1,4 +1,4 @@
--- What the next of a stream comes to, for the core: a device says its name, or reports; or neither.
+-- The next item of a stream, for the core: a device gives its name, or sends a report; or neither.
 use Rattle.std.proofs.Common.{◌≡◌, ℕ, false, List, [], ◌∷◌, ◌++◌, refl, sym, ◌∙◌, ap, subst, Option, Some, None, ◌⊎◌, inl, inr}
 use Rattle.base_types.specs.declared.report.Report.{Report}
 use Rattle.base_types.specs.Report.{ReportRecord, SaysHello, SaysMedia, SaysReady, SaysStop, SaysBusy, SaysPages, SaysDone, SaysFail, IsGone as SaysGone, report_of}
@@ -25,7 +25,7 @@ use Rattle.promises.proofs.Sending.{no_true}
 use Rattle.promises.proofs.Stepping.{IsClientAsk, IsClientStep}
 use Rattle.promises.proofs.Speaking.{Grows, grows_as, first_read, none_read, no_both}
 
--- ---- what a connection asks
+-- ---- the asks of a connection
 
 -- it isn't that a device says its name, or reports
 abbrev pub IsFine : Ask → Type 0

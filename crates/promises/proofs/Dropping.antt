@@ -71,7 +71,7 @@ use Rattle.server.proofs.Speaking.{notes_append, never, none_before, none_after}
 use Rattle.promises.specs.Dropped.{brings_event, event_note, event_notes, begins_event, events_told, IsToldOf, AreToldOf, TellsDropped}
 use Rattle.promises.proofs.Combining.{or_within, if_within, many_within, each_within}
 
--- ---- what is told of events
+-- ---- the notes of events
 
 -- whether an event may come behind these, where it may or may not before
 abbrev after : Bool → List Happening → Bool
@@ -95,7 +95,7 @@ notes_before : (came : Bool) (hs ks : List Happening) (notes : List Note) → ev
 notes_before came hs ks notes is silent =
     notes_then came hs ks ∙ (ap (λ (ns : List Note). event_notes came hs ++ ns) (silent (after came hs)) ∙ (append-nil (event_notes came hs) ∙ is))
 
--- ---- what leaves the core as it is
+-- ---- parts that don't change the core
 
 record Quiet (l : Ledger) (hs : List Happening) (l' : Ledger) : Type 0 where
   core : l'.core ≡ l.core
@@ -175,7 +175,7 @@ quiet_reply key bytes l hs l' it = reply_at (λ closes. http_reply closes bytes)
 quiet_status : (key : ℕ) (status : Status) (request : ℕ) → Quietly (EnqueuesStatus key status request)
 quiet_status key status request l hs l' it = reply_at (λ closes. http_status closes status request) key (l.entries key) l hs l' it
 
--- ---- what devices are told
+-- ---- the notes about devices
 
 each_sent : (cancels : List Cancel) → Quietly (EachOf cancels Sends)
 each_sent [] = quiet_nothing
@@ -276,7 +276,7 @@ run_then old mid new (timed ∷ events) later [] others told more none q = absur
 one_told : (timed : Timed) (outcome : Outcome) (told : List Note) (old new : State) → IsToldOf timed old outcome told new → AreToldOf old (timed ∷ []) (outcome ∷ []) told new
 one_told timed outcome told old new it = (new, told, [], sym (append-nil told), it, (refl, refl))
 
--- what happens is a run of events at one moment, of which this is told where an event may come before or not
+-- the happenings are a run of events at one moment, with these notes; `came` says whether an event came before
 record ToldFrom (came : Bool) (moment : ℕ) (l : Ledger) (hs : List Happening) (l' : Ledger) : Type 0 where
   events : List Timed
   outcomes : List Outcome
@@ -348,7 +348,7 @@ kept_told timed old (Undispatched reply) notes new kept it = it
 kept_told timed old (Idle reply) notes new kept it = it
 kept_told timed old (Dispatched reply) notes new kept it = it
 
--- one that wasn't dropped, with what comes behind it
+-- an event that wasn't dropped, and the part behind it
 kept_then : (came : Bool) (moment : ℕ) (event : Event) (outcome : Outcome) (Q : Rel) → IsKept outcome → Quietly Q → (l : Ledger) (hs : List Happening) (l' : Ledger) → Then (Happens moment event outcome) Q l hs l' → ToldFrom came moment l hs l'
 kept_then came moment event outcome Q kept quiet l hs l' it =
     let made = it.first.first in
@@ -504,9 +504,9 @@ module _ (moment : ℕ) where
   greets_in key id device name l hs l' (inr (inl (other, ended, it))) = then_in (chooses_in (On other)) (then_in (gives_way_in other) (then_in (gone_in (Some device)) (reported_in device (reported.Hello name)))) l hs l' it
   greets_in key id device name l hs l' (inr (inr (other, is, it))) = then_in (gives_way_in key) (turned_away_in id (why.Connected device)) l hs l' it
 
-  -- ---- what a connection asks
+  -- ---- the asks of a connection
 
-  -- no event came of what could not be read, though its refusal is told as an event's is
+  -- a request that could not be read is no event, though its refusal is told as an event's refusal is
   unread_from : (l : Ledger) (hs : List Happening) (l' : Ledger) → Refuses l hs l' → ToldFrom false moment l hs l'
   unread_from l hs l' it = no_event false moment l hs l' it.core (ap (event_notes false) it.whole ∙ it.silent true)
 
@@ -667,7 +667,7 @@ trace_told (action ∷ actions) old new (mid, does, runs) =
 
 -- ---- that is the one run of the core
 
--- what the core tells of a happening is told of events
+-- the core's note of a happening is a note of an event
 note_core : (came : Bool) (h : Happening) → core_notes (map Told (event_note came h)) ≡ core_note h
 note_core came (Told (Planned plan started)) = refl
 note_core came (Told (Canceled cancel)) = refl

@@ -100,7 +100,7 @@ module _ (moment : ℕ) where
   ends_settles : Ends (Settles moment)
   ends_settles l hs l' it = ends_many (ClosesFirst moment) (λ a ks b first. ends_closes Broken first.key first.entry (broken_heard first.entry first.is_broken) a ks b first.closes) l hs l' it.0
 
-  -- ---- what a connection asks
+  -- ---- the asks of a connection
 
   way_at : (key : ℕ) (o : Option Entry) → Ends (GivesWayAt key o)
   way_at key None = calmly calms_nothing

@@ -1,4 +1,4 @@
--- What is due on a client's connection by what it is answered.
+-- The bytes that are due on a client's connection by an answer.
 use Rattle.std.proofs.Common.{◌≡◌, ◌≢◌, ℕ, Bool, true, false, List, [], ◌∷◌, ◌++◌, refl, sym, ◌∙◌, ap, subst, append-nil, Option, Some, None, ◌⊎◌, inl, inr}
 use Rattle.std.specs.Prelude.{if◌then◌else◌}
 use Rattle.events.specs.declared.effects.Response.{Response}
@@ -187,7 +187,7 @@ gives_at refusable key bytes (Some d) l hs l' there it = gives_if d.broken (refu
 pub gives_enqueues : (key : ℕ) (bytes : List ℕ) → Gives key (Just_these bytes) (Enqueues key bytes)
 gives_enqueues key bytes l hs l' it = gives_at (needs_memory bytes) key bytes (l.entries key) l hs l' refl it
 
--- by what its request said of closing
+-- by the request's word about closing
 abbrev pub By_closing : (Bool → List ℕ) → Bool → List ℕ → Type 0
 By_closing bytes closes given = given ≡ bytes closes
 
@@ -204,7 +204,7 @@ gives_status key status request l hs l' it = gives_reply_at (λ closes. http_sta
 
 -- ---- answers
 
--- what becomes due by an answer of any kind
+-- the bytes that become due by an answer of any kind
 abbrev pub LooseIpp : Bool → ℕ → Response → List ℕ → Type 0
 LooseIpp closes request (answered.Ipp answer) bytes = ((spelt : List ℕ) × IsReply answer request spelt × (bytes ≡ http_reply closes spelt)) ⊎ (bytes ≡ http_status closes TemporaryError request)
 LooseIpp closes request (answered.Lpd answer) bytes = bytes ≡ []

@@ -1,4 +1,4 @@
--- What the core handles between one ledger and the next, and what is due on devices' connections by it.
+-- The events that the core handles between one ledger and the next, and the bytes that are due on devices' connections by them.
 use Rattle.std.proofs.Common.{◌≡◌, ◌≢◌, ◌<◌, ◌+◌, arith, ℕ, zero, suc, Bool, true, false, List, [], ◌∷◌, ◌++◌, refl, sym, ◌∙◌, ap, subst, append-nil, Option, Some, None, ◌⊎◌, inl, inr, append_assoc, All}
 use Rattle.std.specs.Prelude.{◌==◌, ◌||◌, if◌then◌else◌, map, max, slice_get, option_to_list, MatchOption}
 use Rattle.std.specs.List.{flat_map}
@@ -34,7 +34,7 @@ use Rattle.promises.specs.Answers.{Act, ClientTalk, AreActs, IsStateOf, is_asked
 use Rattle.promises.specs.Orders.{Handled, AreHandled, AreAt, cancel_for, start_for, orders_of, names, due_by}
 use Rattle.promises.proofs.Sending.{Counts, due_at, IsFresh, counts_device, same_key, not_key, Ordered, Calm, Good, good_sent, notes_append, sent_by, orders, Stays, IsLost, BreaksAs, lost_device}
 
--- ---- what is told of an event
+-- ---- the notes of an event
 
 told_cancels : (cancels : List Cancel) → core_notes (map Told (map Canceled cancels)) ≡ map Canceled cancels
 told_cancels [] = refl
@@ -99,14 +99,14 @@ abbrev pub has_named : ℕ → List Handled → Bool
 has_named device [] = false
 has_named device (it ∷ later) = names device it.named || has_named device later
 
--- on a device's connection is due what was due, and what was sent since; or all since its name
+-- the bytes due on a device's connection: the earlier bytes and the bytes sent since; or all bytes sent since its name
 abbrev pub CameWith : ℕ → List Handled → Option Entry → List ℕ → Type 0
 CameWith device handled x due = (Counts device x × (due ≡ due_by device (due_at x) handled)) ⊎ ((has_named device handled ≡ true) × (due ≡ due_by device [] handled))
 
 abbrev pub CameAs : ℕ → List Handled → Option Entry → Option Entry → Type 0
 CameAs device handled x y = CameWith device handled x (due_at y)
 
--- it broke at one of these: what is due on it is a front of what would be by then
+-- the connection broke at one of these events: the bytes due on it are a front of the bytes that would be due by then
 pub record Halted (device : ℕ) (handled : List Handled) (x : Option Entry) (due : List ℕ) : Type 0 where
   pub before : List Handled
   pub behind : List Handled
@@ -129,7 +129,7 @@ lost_by device handled sent x y sends (inr (counts, rest, due)) = inr (record {
   came = inl (counts, due ∙ sym sends);
 })
 
--- ---- what clients are answered by them
+-- ---- the answers to clients by these events
 
 -- a client's connection went on from another by these acts
 pub record Went (core : State) (key : ℕ) (handled : List Handled) (x : Option Entry) (e : Entry) : Type 0 where
@@ -336,7 +336,7 @@ stops_still core key handled x y stays none e is client broken =
       },
     ))
 
--- it is what it was, where these events weren't asked on it
+-- the connection is unchanged if these events weren't asked on it
 pub talked_still : (core : State) (key : ℕ) (handled : List Handled) (x y : Option Entry) → Stays x y → asked_by key handled ≡ [] → (e : Entry) → y ≡ Some e → ClientTalk e.talk → e.broken ≡ false → TalkedAs core key handled x e
 talked_still core key handled x y stays none e is client sound =
     let d = stays e is client in
@@ -354,7 +354,7 @@ talked_still core key handled x y stays none e is client sound =
 
 -- ---- connections that were closed
 
--- what was due on a connection when it was closed, unless it broke: by the events until then
+-- the bytes due on a connection when it was closed, unless it broke: by the events until then
 pub record ClosedAs (l : Ledger) (handled : List Handled) (e : Entry) : Type 0 where
   pub key : ℕ
   pub before : List Handled
@@ -399,7 +399,7 @@ named_append device (it ∷ first) later = ap (λ (t : Bool). names device it.na
     or_assoc true y z = refl
     or_assoc false y z = refl
 
--- where a device said its name, what was due before doesn't count
+-- once a device gave its name, the bytes due before don't count
 pub due_named : (device : ℕ) (before other : List ℕ) (handled : List Handled) → has_named device handled ≡ true → due_by device before handled ≡ due_by device other handled
 due_named device before other [] is = cc
 due_named device before other (it ∷ later) is = by_name (names device it.named) (λ rest. due_named device (before ++ orders_of device it) (other ++ orders_of device it) later rest) is

@@ -20,7 +20,7 @@ use Rattle.promises.proofs.Giving.{at_here}
 
 -- ---- a device says its name
 
--- what is under a key, where another connection is there, and elsewhere
+-- the connection under a key once another connection is set there, and under each other key
 pub at_cases : (key : ℕ) (new : Entry) (entries : ℕ → Option Entry) (k : ℕ) → ((k ≡ key) × (at_key key (Some new) entries k ≡ Some new)) ⊎ ((k ≢ key) × (at_key key (Some new) entries k ≡ entries k))
 at_cases key new entries k = by (k == key) refl
   where

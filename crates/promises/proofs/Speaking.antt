@@ -1,4 +1,4 @@
--- What becomes of a connection between one ledger and the next, and what the core was told of a device by then.
+-- The changes of a connection between one ledger and the next, and the reports of a device that the core was told by then.
 use Rattle.std.proofs.Common.{◌≡◌, ◌≢◌, ℕ, Bool, true, false, List, [], ◌∷◌, ◌++◌, map, filter, cond, refl, sym, ◌∙◌, ap, subst, append_assoc, append-nil, Option, Some, None, ◌⊎◌, inl, inr, All}
 use Rattle.std.specs.Prelude.{◌==◌, if◌then◌else◌}
 use Rattle.std.specs.List.{flat_map}
@@ -28,7 +28,7 @@ pub record Unnamed (d e : Entry) : Type 0 where
   pub after : device_of e.talk ≡ None
   pub fresh : FreshOf e
 
--- what becomes of it, but for what a device says on it
+-- the changes of a connection, except for the reports of a device on it
 pub record Grows (d e : Entry) : Type 0 where
   pub talk : (e.talk ≡ d.talk) ⊎ Unnamed d e
   pub broken : d.broken ≡ true → e.broken ≡ true
@@ -152,7 +152,7 @@ passes_named device d x y there named e is nameless broken =
 pub passes_sound : (d : Entry) (x y : Option Entry) → x ≡ Some d → d.broken ≡ false → Passes x y
 passes_sound d x y there sound e is nameless broken = absurd (no_true d.broken (ap (λ (z : Entry). z.broken) (one_entry d e (sym there ∙ is)) ∙ broken) sound)
 
--- what a device said on its connection stands
+-- the reports of a device on its connection stay
 pub record Keeps (device : ℕ) (x y : Option Entry) : Type 0 where
   pub named : (now : List ReportRecord) (e : Entry) → x ≡ Some e → e.talk ≡ Link now (Some device) → (f : Entry) × (y ≡ Some f) × (f.talk ≡ Link now (Some device))
   pub was : IsDevice device y → IsDevice device x
@@ -260,7 +260,7 @@ given_left device key e fate past l there all =
     All-weaker (λ (talk : PeerRecord). is_of device talk ≡ false → IsGivenUp talk l) (λ (talk : PeerRecord). is_of device talk ≡ false → IsGivenUp talk (without key e fate l))
     (λ talk up isnt. let it = up isnt in (it.0, broken_left talk key e fate l there it.1)) past all
 
--- what the core is told as a connection ends
+-- the reports that the core is told as a connection ends
 abbrev pub gone_told : ℕ → Option ℕ → List ReportRecord
 gone_told device None = []
 gone_told device (Some other) = if other == device then SaysGone ∷ [] else []
@@ -333,7 +333,7 @@ reported_left device key (Some other) e fate told l there is r = by (other == de
     by true same = left_named device key e fate told l there (is ∙ ap (λ (d : ℕ). Some d) (same_key other device same)) r
     by false apart = reported_as device told (told ++ []) (without key e fate l) (sym (append-nil told)) (left_other device key e fate told l there (ap (names device) is ∙ apart) r)
 
--- it is closed, and then nothing more changes of what devices say
+-- the connection is closed, and then no report of a device changes any more
 pub reported_closed : (device key : ℕ) (e : Entry) (fate : Fate) (told : List ReportRecord) (l m l' : Ledger) → l.entries key ≡ Some e → m ≡ without key e fate l → KeptAll m l' → IsReported device told l → IsReported device (told ++ gone_told device (device_of e.talk)) l'
 reported_closed device key e fate told l m l' there after kept r =
     reported_kept device (told ++ gone_told device (device_of e.talk)) m l' kept
@@ -531,7 +531,7 @@ reported_over device dev key other name told l l' m v r = by (dev == device) ref
         (nameless_none device (l'.entries k) v.g (ap l'.entries at ∙ v.now) nameless) (passes k))
         (λ far. kept_keeps device (l.entries k) (l'.entries k) (v.others k away far)))) r)
 
--- ---- what was read
+-- ---- the bytes that were read
 
 abbrev pub SoundAt : Option Entry → Type 0
 SoundAt None = Unit {0}

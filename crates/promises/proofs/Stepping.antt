@@ -1,4 +1,4 @@
--- What the next of a client's stream, and of a device's, comes to.
+-- The steps for the next item of a client's stream, and of a device's stream.
 use Rattle.std.proofs.Common.{◌≡◌, ℕ, Bool, false, List, [], ◌∷◌, ◌++◌, refl, sym, ◌∙◌, ap, subst, append-nil, Option, Some, None, ◌⊎◌, inl, inr}
 use Rattle.base_types.specs.Report.{ReportRecord, SaysHello, SaysMedia, SaysReady, SaysStop, SaysBusy, SaysPages, SaysDone, SaysFail, IsGone as SaysGone}
 use Rattle.settings_file.specs.Settings.{ServerSettings, device_named}
@@ -37,9 +37,9 @@ use Rattle.promises.proofs.Handling.{Goes, goes_calm}
 use Rattle.promises.proofs.Giving.{Calms, calms_refusal}
 use Rattle.promises.proofs.Moving.{moves_unanswered}
 
--- ---- what a connection asks
+-- ---- the asks of a connection
 
--- what a client asks of the server
+-- the asks of a client to the server
 abbrev pub IsClientAsk : Ask → Type 0
 IsClientAsk ask.Nothing = ⊥
 IsClientAsk (ask.Broke growth) = ⊥
@@ -189,7 +189,7 @@ pub record Names (what : Ask) (e new : Entry) : Type 0 where
   pub open_talk : FreshTalk new.talk new
   pub link : ClientTalk e.talk → ⊥
 
--- what a device's connection asks: it says its name, or it has, or it breaks
+-- the asks of a device's connection: an ask of a connection with a device, whose due bytes don't change, or the ask that gives the device's name
 abbrev pub DeviceAsks : Ask → Entry → Entry → Type 0
 DeviceAsks what e new = (IsDeviceAsk what × Ordered (λ device. []) (Some e) (Some new)) ⊎ Names what e new
 

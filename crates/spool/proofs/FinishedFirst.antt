@@ -1,4 +1,4 @@
--- What each call does leaves the jobs at the front finished.
+-- Each call leaves the jobs at the front finished.
 use Rattle.std.proofs.Common.{◌≡◌, ◌∙◌, ◌==◌, inl, inr, ℕ, zero, suc, ◌+◌, ◌<◌, ◌≤◌, Bool, true, false, cond, eqb, not, ◌&&◌, List, [], ◌∷◌, ◌++◌, length, map, take, drop, get_or, Some, refl, sym, ap, subst, arith, add-one, remove, slice_get, true≢false}
 use Rattle.std.specs.Prelude.{nat_eq}
 use Rattle.std.specs.List.{list_any}
@@ -87,7 +87,7 @@ pub first_at : (f : SpooledRecord → SpooledRecord) → KeepsFinished f → (co
 first_at f keeps count place es s w is written first =
     rw (written, jobs_at place es s f is) (first_map_at place f keeps count (jobs_of es) first)
 
--- what stays finished at the front once the job at a place is gone
+-- the jobs at the front that stay finished once the job at a place is gone
 pub first_removed : (count now place : ℕ) (es : List (ℕ × SpooledRecord)) → (place < count → suc now ≡ count) → (count ≤ place → now ≡ count) → AllFinished count (jobs_of es) → AllFinished now (jobs_of (remove es place))
 first_removed count now place es among behind first = rw (jobs_remove place es) (elim (cases_lt place count) [
   | inl lt ↦ first_among place now (jobs_of es) (omega (arith, lt, among lt)) (subst (λ (n : ℕ). AllFinished n (jobs_of es)) (sym (among lt)) first)

@@ -1,4 +1,4 @@
--- The text before the first byte that passes, and what the rest is cut into.
+-- The text before the first byte that passes, and the texts into which the rest is cut.
 use Rattle.std.specs.Prelude.{ℕ, ◌≡◌, ◌++◌, ◌+◌, ◌<◌, ◌≤◌, Bool, false, List, [], ◌∷◌, length, take, drop, Option, Some, None, position, slice_index_or}
 use Rattle.std.specs.List.{slice_split}
 use Rattle.std.proofs.Common.{rules, arith, refl}
