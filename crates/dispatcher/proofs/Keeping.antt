@@ -56,7 +56,7 @@ pub record RoomKeeps (old : State) : Type 0 where
   pub expires : (now : ℕ) → AllKeep old (expiring now old)
   pub reports : (now place : ℕ) (report : Report) (documents : List DocumentRecord) (new : State) → Reports now place report old documents new → KeepsOrEnds place old documents new
 
--- ---- a document is sent only where nothing stands against it
+-- ---- a document is sent only if no check refuses it
 
 -- the result of two checks is the result of the second check on the value of the first
 behind : {A B : Type 0} (first : Result A Rejection) (second : A → Result B Rejection) (made : B) → (first >>= second) ≡ Ok made → (a : A) × (first ≡ Ok a) × (second a ≡ Ok made)

@@ -1,4 +1,4 @@
--- An event leads to one state and one reply, and so do two events that say the same.
+-- An event leads to one state and one reply, and so do two events with the same content.
 use Rattle.std.proofs.Common.{◌≡◌, ℕ, true, false, List, [], Option, None, Some, Result, Ok, Err, refl, sym, subst, ◌∙◌, max, slice_get, ap}
 use Rattle.std.specs.Prelude.{MatchOption, MatchResult}
 use Rattle.std.specs.Global.{Vec}
@@ -69,7 +69,7 @@ same_replies status unsupported groups one other a b = record {
   documents = a.documents ∙ sym b.documents;
 }
 
--- equal answers say the same
+-- equal answers have the same content
 
 same_lpd_self : (one : LpdResponse) → SameLpdAnswer one one
 same_lpd_self (Taken taken) = refl
@@ -200,7 +200,7 @@ at_once Is.Tick now old one new other new' a b = record {
   reply_is = record { answer = same_as Nothing one.answer other.answer a.unanswered b.unanswered; cancels = a.cancels ∙ sym b.cancels; documents = a.documents ∙ sym b.documents };
 }
 
--- ---- two events that say the same
+-- ---- two events with the same content
 
 -- a job of files
 filed_same : (one other : SubmitFiles) → SameFiles one other → (now : ℕ) (old : State) → filed_of one now old ≡ filed_of other now old
@@ -270,7 +270,7 @@ media_as now place old one other same documents new b = at_device (slice_get old
 reports_as : (now place : ℕ) (old : State) (one other : Report) → report_of one ≡ report_of other → ReportsAs now place old one other
 reports_as now place old one other same = by_report (ReportsAs now place old) (λ report documents new b. b) (media_as now place old) one other same
 
--- ---- whatever says the same
+-- ---- all events with the same content
 
 abbrev EndsAs : Event → Event → Type 0
 EndsAs one other = (now : ℕ) (old : State) (reply : Effects) (new : State) (said : Effects) (after : State) → StepAt one now old reply new → StepAt other now old said after → SameEnd reply new said after

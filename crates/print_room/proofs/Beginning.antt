@@ -46,7 +46,7 @@ use Rattle.print_room.proofs.Keeping.{keep_from, keep_then}
 
 -- ---- the first job of a device's list is a job of its class, and of no other device
 
--- how often a job stands among names
+-- the number of times that a job is among names
 abbrev times : List ℕ → ℕ → ℕ
 times names job = count_by (λ id. id == job) names
 
@@ -65,7 +65,7 @@ named_once [] k job rest is = absurd (cc)
 named_once (q ∷ qs) zero job rest is = omega (arith, counts_queue q (concat qs) job, subst (λ (names : List ℕ). 1 ≤ times names job) (sym is) (first_counts job rest))
 named_once (q ∷ qs) (suc k) job rest is = omega (arith, counts_queue q (concat qs) job, named_once qs k job rest is)
 
--- one that stands first in two is named twice
+-- a job that stands first in two queues is named twice
 named_twice : (way : List (List ℕ)) (k l job : ℕ) (rest more : List ℕ) → k < l → queue_of way k ≡ job ∷ rest → queue_of way l ≡ job ∷ more → 2 ≤ times (concat way) job
 named_twice [] k l job rest more before is too = absurd (cc)
 named_twice (q ∷ qs) k zero job rest more before is too = absurd (omega (arith, before))
@@ -115,7 +115,7 @@ abbrev pub AllApart : List PlannedClass → Type 0
 AllApart [] = Unit {0}
 AllApart (class ∷ classes) = IsWay class.problem class.priced.way × ((job : ℕ) → Contains (ids_of class) job → SomeHas classes job → ⊥) × AllApart classes
 
--- where the first job of a device's list comes from
+-- the class from which the first job of a device's list comes
 or_from : (first next : Option Started) (start : Started) → or_next first next ≡ Some start → (first ≡ Some start) ⊎ ((first ≡ None) × (next ≡ Some start))
 or_from None next start is = inr (refl, is)
 or_from (Some first) next start is = inl is
@@ -140,7 +140,7 @@ begin_apart (class ∷ classes) apart k l a b before one other same =
     from (inr x) (inl y) rest = apart.1 b.job (class_has class apart.0 l b y) (subst (λ (job : ℕ). SomeHas classes job) same (some_has classes apart.2 k a x.1))
     from (inr x) (inr y) rest = rest x.1 y.1
 
--- a job of some class is one of the class at a place
+-- a job of some class is a job of the class at a place
 has_at : (classes : List PlannedClass) (job : ℕ) → SomeHas classes job → (k : ℕ) × (k < length classes) × ((d : PlannedClass) → Contains (ids_of (get_or classes k d)) job)
 has_at [] job has = absurd has
 has_at (class ∷ classes) job (inl here) = (0, omega arith, λ d. here)
@@ -235,7 +235,7 @@ next_place classes place d devices state can = record {
   waits = λ k start le is. can.waits k start (omega (arith, le)) is;
 }
 
--- after one began
+-- the same after one job began
 next_begun : (now : ℕ) (classes : List PlannedClass) → AllApart classes → (place : ℕ) (d : Device) (devices : List Device) (start : Started) (state : State) → first_of classes place ≡ Some start → CanFrom classes place (d ∷ devices) state → CanFrom classes (suc place) devices (beginning now start state)
 next_begun now classes apart place d devices start state is can =
     let next = next_place classes place d devices state can in
@@ -363,13 +363,13 @@ all_begin_keep now (start ∷ starts) state inside can agree =
     (All-weaker (λ s. s.device < length state.devices) (λ s. s.device < length next.devices) (λ s below. omega (arith, below, begins_devices now start state)) starts (All-tail (λ s. s.device < length state.devices) start starts inside))
     can.1 (begin_agrees now (now + start.time) start.device start.job state.devices state.spool.jobs (All-head (λ s. s.device < length state.devices) start starts inside) can.0.waits agree))
 
--- the next can begin, and those behind it once it has
+-- the next start can begin, and the starts behind it can begin after it
 pub can_next : (now i : ℕ) (starts : List Started) (start : Started) (s : State) → i < length starts → start ≡ get_or starts i start → AllCanBegin now (drop i starts) s → CanBegin start s × AllCanBegin now (drop (i + 1) starts) (beginning now start s)
 can_next now i starts start s inside is can = subst (λ (ss : List Started). AllCanBegin now ss s) (split_at starts i start inside is) can
 
 -- ---- a dispatch
 
--- devices keep their jobs over it
+-- devices keep their jobs over a dispatch
 pub dispatch_keeps : (s : State) (plan : PlanRecord) (now : ℕ) → IsGoodPlan now s plan → IsSpool s.spool → Agree s.devices s.spool.jobs → AllKeep s (beginning_all now (starts_of now s plan) (marked_state now plan s))
 dispatch_keeps s plan now good spool agree =
     let marked_s = marked_state now plan s in

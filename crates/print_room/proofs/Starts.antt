@@ -30,7 +30,7 @@ pub first_found : (classes : List PlannedClass) (i place : ℕ) (class : Planned
 first_found classes i place class first inside is found some =
     rw (split_at classes i class inside is, ← found) (or_some first (first_of (drop (i + 1) classes) place) some)
 
--- one that has none
+-- a class that has no job for the device
 pub first_later : (classes : List PlannedClass) (i place : ℕ) (class : PlannedClass) (first : Option Started) → i < length classes → class ≡ get_or classes i class → first ≡ first_of_queue class place (queue_of class.priced.way place) → is_some first ≡ false → first_of (drop i classes) place ≡ first_of (drop (i + 1) classes) place
 first_later classes i place class first inside is found none =
     rw (split_at classes i class inside is, ← found) (or_none first (first_of (drop (i + 1) classes) place) none)
