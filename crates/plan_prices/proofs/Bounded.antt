@@ -67,7 +67,7 @@ module _ (c : Class) (way : List (List ℕ)) (p : PriceLists) (f : AreFair c way
       let t : list_total c d (wait_in c d) jobs ≡ list_cost c d (wait_in c d) jobs = list_cost_is c d (wait_in c d) jobs in
       omega (arith, ints, a, b, t)
 
-  -- and so are those of all lists
+  -- the same for the prices of all lists
   lists_slack : (d : ℕ) (qs : List (List ℕ)) → AbleFrom c d qs → (n i after : ℕ) → n < length qs → i + suc after ≡ length (get_or qs n [])
       → ((prices_of c.ids p.jobs (concat qs) +ℤ sum_devices p.places d (length qs)) +ℤ pos (cost_at (d + n) (get_or qs n []) i after)) ≤ℤ (pos (total_from c d qs) +ℤ price_at (d + n) (get_or qs n []) i after)
   lists_slack d [] h n i after l e = absurd (omega arith)

@@ -180,7 +180,7 @@ way_total_at_most c d (suc n) ss w a =
     let y : total_from c (suc d) (way_from c (suc d) n ss) ≤ weight_from c (end_of c) (suc d) n ss = way_total_at_most c (suc d) n ss w a in
     omega (arith, x, y, slots_total_is c (slots_on c d ss))
 
--- how often jobs are named, in a way and in slots
+-- the number of times that jobs are named, in a way and in slots
 abbrev pub one_if : ℕ → Slot → ℕ
 one_if job s = cond (s.job == job) 1 0
 

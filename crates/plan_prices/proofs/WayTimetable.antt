@@ -107,7 +107,7 @@ own_timetable c w h =
       apart = all_pairs c slots (from_apart c 0 w);
     }
 
--- and their total is the way's
+-- the total of the slots is the total of the way
 pub own_total : (c : Class) → IsClass c → (w : List (List ℕ)) → IsWay c w → slots_total c (own_slots c w) ≡ total_of c w
 own_total c ok w h = slots_from_total c 0 w ∙ sym (total_is c ok w h)
 

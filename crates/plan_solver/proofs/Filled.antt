@@ -49,7 +49,7 @@ devices_len c e s h = omega (arith, ap length h.read.waits, e.costs.waits.ok.0)
 pub job_in : (c : Class) (e : Entries) (s : Matching) → Solves c e s → (m : ℕ) → m < vec_len s.columns → get_or s.jobs.items m 0 < length c.ids
 job_in c e s h m lt = omega (arith, jobs-below (vec_len e.costs.rows) s.jobs.items h.all m (omega (arith, lt, h.filled.matched.jobs, s.jobs.ok.0)), h.read.rows)
 
--- each job sits somewhere
+-- each job has a column
 pub column_of_job : (c : Class) (e : Entries) (s : Matching) → Solves c e s → (j : ℕ) → j < length c.ids → (q : ℕ) × (q < vec_len s.columns) × (get_or s.jobs.items q 0 ≡ j)
 column_of_job c e s h j lt =
     let jobs = s.jobs.items in

@@ -91,7 +91,7 @@ count_once (i ∷ is) r = All-cons (λ j. count_of (i ∷ is) j ≡ 1) i is
     (omega (arith, count_of-yes i is i refl, count_none i is r.0))
     (λ k d lt. let above : i < get_or is k d = r.0 k d lt in count_of-no i is (get_or is k d) (λ e. omega arith) ∙ count_once is r.1 k d lt)
 
--- how often one name is another
+-- 1 if two names are equal, else 0
 abbrev is_name : ℕ → ℕ → ℕ
 is_name job id = cond (id == job) 1 0
 

@@ -227,7 +227,7 @@ searched_now h root = record {
   exit_edge = (exit_now h).3;
 }
 
--- and so are the free places' distances kept
+-- the distances of the free places are kept
 pub nears_now : {cost : ℕ → Place → ℕ} {jobs prices : List ℕ} {columns : List Place} {duals : List ℕ} {free : List Place} {L F R L' F' R' : List ℕ} {E E' : Exit} {top s n : ℕ} → Settles cost jobs prices columns duals free L F R L' F' R' E E' top s n → (N N' : List ℕ) → AreNears cost jobs prices free L R N n → length N' ≡ length free
     → ((f : ℕ) → f < length free → get_or N' f 0 ≤ get_or N f 0)
     → ((f : ℕ) → f < length free → get_or N' f 0 ≤ get_or L s 0 + (cost (get_or jobs s 0) (get_or free f nowhere) - get_or prices s 0))

@@ -47,7 +47,7 @@ fixed_leaves fate key e = record { one = λ l hs rest a ks more b same p q. (p.0
 broken_there : (l : Ledger) (key : ℕ) (e : Entry) → l.entries key ≡ Some e → e.broken ≡ true → IsBroken (l.entries key)
 broken_there l key e there is = subst (λ (o : Option Entry). IsBroken o) (sym there) is
 
--- an event says the same as itself
+-- an event has the same content as itself
 pub same_self : (event : Event) → SameEvent event event
 same_self (Is.SubmitFiles request) = record { queue = refl; owner = refl; name = refl; documents = refl }
 same_self (Is.ListQueue request) = record { queue = refl; form = refl; operands = refl }
@@ -188,7 +188,7 @@ module _ (steps : StepsOnce) (queries : SameQueries) (asks : AsksOne) where
   same_asked : (part other : Option ℕ) (loss lost : Option Loss) → As.Asked part loss ≡ As.Asked other lost → (part ≡ other) × (loss ≡ lost)
   same_asked part other loss lost same = (cc, cc)
 
-  -- one ask, of one number
+  -- two asks are one ask of one connection's number
   record OneAsk (id : ℕ) (what : Ask) (other : ℕ) (said : Ask) : Type 0 where
     ids : id ≡ other
     says : SameAsk what said

@@ -201,7 +201,7 @@ many_first kind R S br m l ks b q =
 none_first : (kind : Happening → Bool) (S : Rel) → Begins kind false S → (l : Ledger) (hs : List Happening) (a : Ledger) → Then Nothing S l hs a → BeginsAs kind false hs
 none_first kind S bs l hs a p = subst (BeginsAs kind false) (sym (p.whole ∙ ap (λ (z : List Happening). z ++ p.back) p.first.0)) (bs.begins p.mid p.back a p.second)
 
--- and then something else, which begins apart
+-- a relation taken again and again, and then another relation whose beginnings differ
 behind_one : (kind : Happening → Bool) (R S : Rel) → Begins kind true R → Begins kind false S → Fixed R → Fixed S → (n m : ℕ) → (l : Ledger) (hs rest : List Happening) (a : Ledger) (ks more : List Happening) (b : Ledger) → hs ++ rest ≡ ks ++ more → Then (Times n R) S l hs a → Then (Times m R) S l ks b → (hs ≡ ks) × (a ≡ b)
 behind_one kind R S br bs r s zero zero l hs rest a ks more b e p q = (alike_then fixed_nothing s).one l hs rest a ks more b e p q
 behind_one kind R S br bs r s zero (suc m) l hs rest a ks more b e p q = apart kind ks more hs rest (sym e) (many_first kind R S br m l ks b q) (none_first kind S bs l hs a p)

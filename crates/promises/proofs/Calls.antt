@@ -18,7 +18,7 @@ record Made {W N : Type 0} (polled : W → Poll → W → Type 0) (told : N → 
   leads : Leads (both polled told) u (happenings_of action) v
   stands : (opening : State) (trace : Trace) → StandsAt opening trace old → StandsAt opening (trace ++ action ∷ []) new
 
--- where the wire stays the listener is led on beside it
+-- if the wire stays, the happenings lead the listener on beside it
 beside : {W N : Type 0} (polled : W → Poll → W → Type 0) (told : N → Note → N → Type 0) (u v : W × N) (hs : List Happening) → v.0 ≡ u.0 → Leads (alone told) u.1 hs v.1 → Leads (both polled told) u hs v
 beside polled told u v hs same leads = subst (λ w. Leads (both polled told) u hs (w, v.1)) (sym same) (leads_with polled told u.0 u.1 v.1 hs leads)
 

@@ -680,7 +680,7 @@ carries_ends moment key c l hs l' a new it = ends_at moment key (l.entries key) 
 
 -- ---- accepts
 
--- of an open connection the number isn't one that no open one has
+-- the number of an open connection differs from a number that no open connection has
 not_new : (c : Carried) (id number : ℕ) → c.open_now number ≡ true → c.open_now id ≡ false → number ≢ id
 not_new c id number is none = λ same. untrue (c.open_now id) (ap c.open_now (sym same) ∙ is) none
   where
@@ -747,7 +747,7 @@ opened key id door c l l' a none after = record {
     read_at k e is draining sound (inl (same, its)) = subst (λ (x : Entry). x.read ≡ (carry c (Accepts door (wire.Done id))).read x.id) (is_new k e is its) (sym (at_this id [] c.read))
     read_at k e is draining sound (inr (apart, its)) = before.read k e (is_old k e is its) draining sound
 
--- it was closed at once
+-- the connection was closed at once
 refused : (id : ℕ) (door : Door) (c : Carried) (l : Ledger) → Agrees c l → c.open_now id ≡ false → Agrees (carry (carry c (Accepts door (wire.Done id))) (Closes id)) l
 refused id door c l a none =
     let before = given c l door id a none in

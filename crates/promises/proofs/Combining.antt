@@ -5,7 +5,7 @@ use Rattle.server.specs.Polls.{Happening}
 use Rattle.server.specs.Rel.{Rel, Nothing, Then, If, Or, Times, Many, Each}
 
 module _ {ℓ} (P : Ledger → List Happening → Ledger → Type ℓ) where
-  -- it holds of each step that a relation allows
+  -- the property holds of each step that a relation allows
   abbrev pub Within : Rel → Type ℓ
   Within R = (l : Ledger) (hs : List Happening) (l' : Ledger) → R l hs l' → P l hs l'
 

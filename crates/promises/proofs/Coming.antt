@@ -43,7 +43,7 @@ pub not_broken : (draining is : Bool) → (draining || is) ≡ false → is ≡ 
 not_broken true is none = cc
 not_broken false is none = none
 
--- where it broke nothing is due by it, or all of it
+-- if the connection broke, none of the step's bytes are due, or all of them
 abbrev pub HaltsAs : Step → Entry → List ℕ → List Handled → Entry → Type 0
 HaltsAs comes new base asked e = (e.due ≡ base) ⊎ ((bytes : List ℕ) × IsOwed (closes_of new.talk) comes asked bytes × (e.due ≡ base ++ bytes))
 
@@ -67,7 +67,7 @@ halts_due : (comes : Step) (new d e : Entry) (base : List ℕ) (asked : List Han
 halts_due comes new d e base asked same (inl is) = inl (sym same ∙ is)
 halts_due comes new d e base asked same (inr (bytes, owed, is)) = inr (bytes, owed, sym same ∙ is)
 
--- where the core handles nothing
+-- the core handles no event
 pub acted_calm : (moment key : ℕ) (comes : Step) (new : Entry) (base : List ℕ) (Q : Bool → List ℕ → Type 0) (l : Ledger) (hs : List Happening) (l' : Ledger) → l.entries key ≡ Some new → ClientTalk new.talk
     → ((bytes : List ℕ) → new.broken ≡ false → Q (closes_of new.talk) bytes → (given : List ℕ) × IsOwed (closes_of new.talk) comes [] given × (new.due ++ bytes ≡ base ++ given)) → HaltsAs comes new base [] new → Gave key Q l hs l' → Acted moment key comes new base l hs l'
 acted_calm moment key comes new base Q l hs l' there client owed halted g = record {
@@ -93,7 +93,7 @@ acted_calm moment key comes new base Q l hs l' there client owed halted g = reco
       (sym it.2 ∙ ap (λ (x : Entry). x.talk) (sym this), halts_due comes new new e base [] (ap (λ (x : Entry). x.due) this ∙ it.3) halted);
 }
 
--- where it handles the client's event
+-- the core handles the client's event
 pub acted_event : (moment key id : ℕ) (who : Client) (event : Event) (last : Bool) (new : Entry) (l : Ledger) (hs : List Happening) (l' : Ledger) → EventOf who event → Good l → l.entries key ≡ Some new → ClientTalk new.talk → Ans.IsAnswered moment key id who event l hs l'
     → Acted moment key (step.Asks (ask.Event who event) last) new new.due l hs l'
 acted_event moment key id who event last new l hs l' own good there client (outcome, it) =

@@ -27,7 +27,7 @@ use Rattle.promises.proofs.Speaking.{Grows, grows_as, first_read, none_read, no_
 
 -- ---- the asks of a connection
 
--- it isn't that a device says its name, or reports
+-- the ask is neither a device's name nor a report
 abbrev pub IsFine : Ask → Type 0
 IsFine ask.Nothing = Unit {0}
 IsFine (ask.Broke growth) = Unit {0}
@@ -105,7 +105,7 @@ pub record SaysIt (settings : ServerSettings) (what : Ask) (e new : Entry) : Typ
   pub after : new.talk ≡ Link (reports ++ SaysHello name ∷ []) (Some device)
   pub read : IsRead new
 
--- one that has said its name reports
+-- a device that has given its name reports
 pub record ReportsIt (what : Ask) (e new : Entry) : Type 0 where
   pub device : ℕ
   pub it : Report

@@ -28,7 +28,7 @@ use Rattle.promises.proofs.Due.{fixed_sends, fixed_starts_all}
 
 -- ---- the result of an event
 
--- two outcomes of one kind, whose replies say the same
+-- two outcomes of one kind, whose replies have the same content
 abbrev pub SameOutcome : Outcome → Outcome → Type 0
 SameOutcome Dropped Dropped = Unit {0}
 SameOutcome (Queried one) (Queried other) = SameReply one other
@@ -37,7 +37,7 @@ SameOutcome (Idle one) (Idle other) = SameReply one other
 SameOutcome (Dispatched one) (Dispatched other) = SameReply one other
 SameOutcome _ _ = ⊥
 
--- it wasn't dropped
+-- the event wasn't dropped
 abbrev pub IsKept : Outcome → Type 0
 IsKept Dropped = ⊥
 IsKept (Queried reply) = Unit {0}
@@ -240,7 +240,7 @@ module _ (steps : StepsOnce) where
       (λ left right both. decided_one moment event other outcome said l p.front left p.mid q.front right q.mid same query kept enqueues both p.first q.first)
       (λ way. same_orders outcome said way)
 
-  -- one that is dropped does nothing
+  -- a dropped event changes nothing
   dropped_one : (moment : ℕ) (event : Event) (l : Ledger) (hs : List Happening) (a : Ledger) → Happens moment event Dropped l hs a → (hs ≡ []) × (a ≡ l)
   dropped_one moment event l hs a it =
       let told : it.first.notes ≡ [] = it.first.handles.1 in
@@ -256,7 +256,7 @@ module _ (steps : StepsOnce) where
       let left : it.front ≡ Chosen Found ∷ map Told it.first.notes = it.first.told ∙ ap (λ (xs : List Happening). xs ++ map Told it.first.notes) (found_kept outcome kept) in
       begins_just is_choice true (Chosen Found) (map Told it.first.notes ++ it.back) hs refl (it.whole ∙ ap (λ (xs : List Happening). xs ++ it.back) left)
 
-  -- ---- one that takes no memory, which isn't dropped
+  -- ---- an event that takes no memory, and isn't dropped
 
   light_kept : (moment : ℕ) (event : Event) (outcome : Outcome) (l : Ledger) (hs : List Happening) (a : Ledger) → TakesNoMemory event moment l.core → Happens moment event outcome l hs a → IsKept outcome
   light_kept moment event Dropped l hs a light it = it.first.handles.2 light
@@ -278,7 +278,7 @@ module _ (steps : StepsOnce) where
   pub fixed_tick : (moment : ℕ) → Fixed (Unanswered moment Is.Tick)
   fixed_tick moment = unanswered_alike moment Is.Tick Is.Tick refl refl (λ s. tt) (λ s. tt)
 
-  -- ---- one that is answered
+  -- ---- an event with an answer
 
   -- an event and its answer; the drop of an event is told first
   pub answered_alike : (moment : ℕ) (event other : Event) (Q R : Option Effects → Rel) → SameEvent event other → is_query event ≡ is_query other → Begins is_choice false (Q None) → Begins is_choice false (R None) → Alike (Q None) (R None)

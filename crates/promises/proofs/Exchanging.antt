@@ -69,7 +69,7 @@ first_ordered ordered some stays stream said first =
 
 -- ---- where a client is
 
--- where the front of an exchange leaves it
+-- the place after the front of an exchange
 abbrev place_of : Front → Place
 place_of Nothing = Between
 place_of (Begun closes true body) = Within closes (length body)
@@ -110,13 +110,13 @@ leads_on mode now said more leads step later = ap (λ (xs : List Said). in_order
 
 -- ---- one item
 
--- it is no whole exchange yet
+-- the exchange isn't whole yet
 record Grows (mode now : Mode) (more : List Said) (asked : List Handled) (bytes : List ℕ) : Type 0 where
   says : says_mode mode ++ more ≡ says_mode now
   due : due_mode mode ++ bytes ≡ due_mode now
   none : asked ≡ []
 
--- it makes one whole
+-- the exchange becomes whole
 record Completes (mode now : Mode) (more : List Said) (asked : List Handled) (bytes : List ℕ) : Type 0 where
   whole : Exchange
   is : IsExchange whole
@@ -399,7 +399,7 @@ module _ (ordered : SaysInOrder) (some : SaysSome) (stays : FirstStays) where
 
   -- ---- the connections of a trace
 
-  -- an LPD client's acts, and those of a device, come to no talk of an IPP client
+  -- the acts of an LPD client, and of a device, lead to no talk of an IPP client
   no_lpd : (settings : ServerSettings) (items : List ItemRecord) (session : Option SessionState) (what : Step) (after : PeerRecord) → IsNext settings (Queue items session) what after → (items' : List ItemRecord) × (session' : Option SessionState) × (after ≡ Queue items' session')
   no_lpd settings items session what after (inl next) = (items ++ next.said ∷ [], next.session_after, next.is)
   no_lpd settings items session what after (inr is) = (items, session, is.1)

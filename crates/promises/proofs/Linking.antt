@@ -159,7 +159,7 @@ opening_talks core door id key x e is of sound =
       due = ap (λ (y : Entry). y.due) (sym this);
     })
 
--- and it isn't broken
+-- the opening entry of a connection isn't broken
 pub opening_sound : (door : Door) (id : ℕ) (e : Entry) → Some (opening_entry door id) ≡ Some e → e.broken ≡ true → ⊥
 opening_sound door id e is broken = no_true e.broken broken (ap (λ (x : Entry). x.broken) (sym (one_entry (opening_entry door id) e is)))
 

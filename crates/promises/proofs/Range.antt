@@ -1,4 +1,4 @@
--- The numbers, names and orders of a good plan are those of a text.
+-- The numbers, names and orders of a good plan are within the range of a text.
 use Rattle.std.proofs.Common.{◌≡◌, ◌==◌, ◌&&◌, ℕ, zero, suc, ◌+◌, ◌<◌, ◌≤◌, Bool, true, false, cond, IsTrue, List, [], ◌∷◌, length, map, filter, is_none, is_some, Option, Some, None, get_or, refl, sym, ap, ◌∙◌, subst, arith, All, Contains}
 use Rattle.std.specs.List.{concat}
 use Rattle.std.proofs.lemmas.Int.{ints}

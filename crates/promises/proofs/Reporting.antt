@@ -386,7 +386,7 @@ unnamed_said (Http said closes body) = refl
 unnamed_said (Queue items session) = refl
 unnamed_said (Link reports device) = refl
 
--- it is turned away: it has another connection
+-- the connection is turned away: the device has another connection
 says_again : (moment device : ℕ) (name : List ℕ) (key id : ℕ) (d n : Entry) (l : Ledger) (front : List Happening) (m : Ledger) (back : List Happening) (l' : Ledger) (hs : List Happening) → hs ≡ front ++ back → core_notes front ≡ [] → Saying device name key d n l m
     → Then (GivesWay key) (Tells (DeviceRefused id (why.Connected device))) m back l' → Goes true moment l hs l'
 says_again moment device name key id d n l front m back l' hs whole silent s it =
@@ -422,7 +422,7 @@ both_told : (t : Bool) (one other : ReportRecord) → (if t then one ∷ other �
 both_told true one other = refl
 both_told false one other = refl
 
--- its old connection gives way, of which the core is told that it ended, and then its name
+-- the device's old connection gives way: the core is told its end, and then the name on the new connection
 says_over : (moment device : ℕ) (name : List ℕ) (key other : ℕ) (d n : Entry) (l : Ledger) (front : List Happening) (m : Ledger) (back : List Happening) (l' : Ledger) (hs : List Happening) → hs ≡ front ++ back → core_notes front ≡ [] → Saying device name key d n l m → HasOther true device key other m
     → Then (Chooses (On other)) (TakesOver moment other device name) m back l' → Goes true moment l hs l'
 says_over moment device name key other d n l front m back l' hs whole silent s has it = record {

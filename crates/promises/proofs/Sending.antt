@@ -28,7 +28,7 @@ abbrev pub Counts : ℕ → Option Entry → Type 0
 Counts device None = ⊥
 Counts device (Some e) = (device_of e.talk ≡ Some device) × (e.broken ≡ false)
 
--- or it broke since
+-- the connection has the device's name, and is broken
 abbrev pub IsLost : ℕ → Option Entry → Type 0
 IsLost device None = ⊥
 IsLost device (Some e) = (device_of e.talk ≡ Some device) × (e.broken ≡ true)
@@ -271,7 +271,7 @@ calm_still l hs l' silent same = record {
   each = λ key. subst (λ (x : Ledger). Ordered (λ device. []) (l.entries key) (x.entries key)) (sym same) (ordered_still (l.entries key));
 }
 
--- nothing was sent, where each connection is as it was
+-- if each connection is unchanged, nothing was sent
 pub sent_still : (sent : ℕ → List ℕ) (l : Ledger) (hs : List Happening) (l' : Ledger) → core_notes hs ≡ [] → l' ≡ l → ((key : ℕ) → Unsent sent (l.entries key)) → Sent sent l hs l'
 sent_still sent l hs l' silent same none = record {
   core = ap (λ (x : Ledger). x.core) same;

@@ -46,7 +46,7 @@ use Rattle.promises.proofs.Sending.{same_key}
 
 -- ---- one connection
 
--- it was closed, or is to be closed
+-- the connection was closed, or is to be closed
 abbrev pub IsOut : Option Entry → Type 0
 IsOut now = (now ≡ None) ⊎ ((e : Entry) × (now ≡ Some e) × (e.broken ≡ true))
 
@@ -88,7 +88,7 @@ left_then x y z p q = record {
     of_device e device sound talk (inl gone) = inl (still_out gone)
     of_device e device sound talk (inr (orders, is)) = more_due e orders (q.device (owing orders e) device is sound talk)
 
--- it breaks, where it is a device's
+-- a device's connection breaks
 left_out : (d : Entry) (device : ℕ) (y : Option Entry) → device_of d.talk ≡ Some device → IsOut y → Left (Some d) y
 left_out d device y named gone = record {
   none = λ is. cc;

@@ -199,7 +199,7 @@ talk_none talk reports is = ap device_of is
 pub link_fresh : (talk : PeerRecord) (reports : List ReportRecord) (e : Entry) → talk ≡ Link reports None → FreshTalk talk e → e.broken ≡ false → e.due ≡ []
 link_fresh talk reports e is fresh = subst (λ (t : PeerRecord). FreshTalk t e) is fresh
 
--- it breaks
+-- the connection breaks
 pub link_breaks : (what it : Ask) (e mid new : Entry) → what ≡ it → IsDeviceAsk it → new ≡ broken mid → mid.due ≡ e.due → ((device : ℕ) → device_of mid.talk ≡ Some device → device_of e.talk ≡ Some device) → (ClientTalk e.talk → ClientTalk mid.talk) → (ClientTalk mid.talk → ⊥) → DeviceAsks what e new
 link_breaks what it e mid new asks fine after due of_device of_client never =
     inl (subst IsDeviceAsk (sym asks) fine, subst (λ (x : Entry). Ordered (λ device. []) (Some e) (Some x)) (sym after) (ordered_broken (λ device. []) e (broken mid) refl (λ device named. (of_device device named, due)) of_client (λ client. absurd (never client))))
