@@ -44,7 +44,7 @@ pub record Laws : Type 0 where
   pub link_ends : Link.NoneFollows
   pub asked : (body : List ℕ) (given said : ParsedRequest) → Asks body given → Asks body said → given ≡ said
 
--- ---- asks that say the same
+-- ---- asks with the same content
 
 ask_self : (what : Ask) → SameAsk what what
 ask_self (ask.Event client event) = (refl, same_self event)
@@ -92,7 +92,7 @@ agree_as comes comes' one other mid mid' e is is' at at' agree =
     (subst (λ (c : Step). Agree one mid c mid') (sym is')
     (subst (λ (m : Entry). Agree one m other mid') (sym at) (subst (λ (m : Entry). Agree one e other m) (sym at') agree)))
 
--- both are one step at one entry
+-- two steps that equal one step, at one entry, agree
 agree_at : (comes comes' one : Step) (mid mid' e : Entry) → comes ≡ one → comes' ≡ one → mid ≡ e → mid' ≡ e → Agree comes mid comes' mid'
 agree_at comes comes' one mid mid' e is is' at at' = agree_as comes comes' one one mid mid' e is is' at at' (agree_self one e)
 
@@ -366,7 +366,7 @@ lpd_agrees queues before (Says command) comes comes' after after' entry a b = as
 lpd_agrees queues before Aborts comes comes' after after' entry a b = asks_agree (heard queues before Aborts) comes comes' after after' entry a b
 lpd_agrees queues before (Announces head) comes comes' after after' entry a b = asks_agree (heard queues before (Announces head)) comes comes' after after' entry a b
 
--- none of them is memory for a line
+-- no step for a file lacks memory for a line
 file_no_line : (hearing : Hearing) (before : Option SessionState) (comes : Step) (after : Option SessionState) → AsksForFile hearing before comes after → (loss : Option Loss) → Loses comes loss → loss ≡ Some (OfGrowth growth.Input) → ⊥
 file_no_line hearing before comes after (inl a) loss x is = let no : Some (OfPart part.File) ≡ Some (OfGrowth growth.Input) = sym (subst (λ (c : Step). Loses c loss) a.0 x) ∙ is in cc
 file_no_line hearing before comes after (inr a) loss x is = not_input loss (asks_usual hearing comes after a loss x) is

@@ -275,7 +275,7 @@ heard settings e (of.Lpd t) (of.Device u) what f next = absurd next
 heard settings e (of.Device t) (of.Ipp u) what f next = absurd next
 heard settings e (of.Device t) (of.Lpd u) what f next = absurd next
 
--- nothing whole is left
+-- the bytes that are left have no whole item
 pub rested : (settings : ServerSettings) (read : List ℕ) (talk : PeerRecord) (x y : Peer) → FitsPeer read talk false x → NextPeer settings None x y → IsHeardAs read talk × FitsPeer read talk false y
 rested settings read talk (of.Ipp t) (of.Ipp u) f (answers, is) =
     let all : Exchanges read f.said = answers.1 read f.said f.stands in

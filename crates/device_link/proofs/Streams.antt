@@ -199,7 +199,7 @@ answers_again old fault faulty =
     subst (λ new. Answers old (Err (Fault fault)) new) same
     (fault_stands old fault (λ left kept. subst (λ (f : Option LinkFault). IsLeft f old.greeted old.rest left) faulty kept))
 
--- where no line is whole
+-- the answer while no line is whole
 pub answers_nothing : (old : LinkState) → old.fault ≡ None → first_line_of DEVICE_LINE_BYTES old.rest ≡ Front.Unfinished → Answers old (Ok None) old
 answers_nothing old faultless begun = (
   refl,

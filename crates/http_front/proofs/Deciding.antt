@@ -13,7 +13,7 @@ use Rattle.httparse.specs.Pieces.{Piece, Begins, Then, Stops, is_newline, Bytes,
 use Rattle.httparse.proofs.PieceLemmas.{IsDeterministic, Newline_deterministic, Blank_deterministic, Word_deterministic, Method_deterministic, Target_deterministic, Version_deterministic, Name_deterministic, FieldLine_deterministic, RequestStart_deterministic, Bytes_deterministic, newline_not_stopped, FieldLine_parts, print_field-append}
 use Rattle.httparse.proofs.ChunkLemmas.{Run_deterministic, HexDigits_deterministic}
 
--- it is so, or it isn't
+-- a proposition holds, or it doesn't
 abbrev pub Decided : Type 0 → Type 0
 Decided P = P ⊎ (P → ⊥)
 
@@ -180,7 +180,7 @@ blank_later text end middle reads (inr none) = inr (
     (λ e m here more. none (subst (λ (t : List ℕ). Begins Blank t) (Newline_deterministic.unique e end text m middle here reads).1 more)) x.0 x.1 x.2
     )
 
--- where no line end is
+-- the decision for a text that doesn't begin with a line end
 blank_here : (text : List ℕ) → (Begins Newline text → ⊥) → Decided (Stops is_newline text) → Decided (Begins Blank text)
 blank_here text none (inl stops) = inl ([], text, (refl, stops))
 blank_here text none (inr ends) = inr (λ x. no_blank text ends (λ e m here more. none (e, m, here)) x.0 x.1 x.2)

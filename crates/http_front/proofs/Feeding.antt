@@ -20,7 +20,7 @@ stands_fed stream given piece reader stands = record {
   kept = kept_fed reader stands.left piece stands.kept;
 }
 
--- where nothing counts any more
+-- a reader that awaits nothing
 pub stands_still : (stream : List ℕ) (given : List Said) (piece : List ℕ) (reader : HttpState) → IsOver reader → Stands stream given reader → Stands (stream ++ piece) given reader
 stands_still stream given piece reader over stands = record {
   left = stands.left ++ piece;

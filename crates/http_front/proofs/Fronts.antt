@@ -35,7 +35,7 @@ goes old awaited said count next is front = advance old said (behind old count n
 shorter : (bytes : List ℕ) (count : ℕ) → 0 < count → count ≤ length bytes → length (drop count bytes) < length bytes
 shorter bytes count some within = omega (arith, some, within, length-drop count bytes)
 
--- nothing but the rank falls
+-- a step that lowers only the rank
 lower : (old : HttpState) (awaited : Awaited) (count : ℕ) (next : Awaited) → old.awaited ≡ awaited → rank next < rank awaited → work (behind old count next) < work old
 lower old awaited count next is less =
     let was : rank old.awaited ≡ rank awaited = ap rank is in

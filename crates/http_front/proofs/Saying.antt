@@ -44,7 +44,7 @@ empty_more (first ∷ []) (second ∷ ys) is = by (first == 10) refl is
     by false same more = cc
 empty_more (first ∷ second ∷ xs) ys is = refl
 
--- it ends where it ended
+-- an empty line ends at the same place if more bytes follow
 end_more : (begins : Bool) (place : ℕ) (xs ys : List ℕ) (end : ℕ) → empty_line_end begins place xs ≡ Some end → empty_line_end begins place (xs ++ ys) ≡ Some end
 end_more begins place [] ys end is = cc
 end_more begins place (byte ∷ xs) ys end is = by (begins && nat_lt 0 (empty_line (byte ∷ xs))) refl (λ later. end_more (byte == 10) (place + 1) xs ys end later) is
@@ -56,14 +56,14 @@ end_more begins place (byte ∷ xs) ys end is = by (begins && nat_lt 0 (empty_li
     both true t p = p
     both false t p = cc
 
-    -- where a line is empty
+    -- the case of an empty line
     found : begins && nat_lt 0 (empty_line (byte ∷ xs)) ≡ true → Some (place + empty_line (byte ∷ xs)) ≡ Some end → empty_line_end begins place (byte ∷ (xs ++ ys)) ≡ Some end
     found same it =
         let more : empty_line (byte ∷ (xs ++ ys)) ≡ empty_line (byte ∷ xs) = empty_more (byte ∷ xs) ys (both begins (nat_lt 0 (empty_line (byte ∷ xs))) same) in
         ap (λ (n : ℕ). if begins && nat_lt 0 n then Some (place + n) else empty_line_end (byte == 10) (place + 1) (xs ++ ys)) more
         ∙ (ap (λ (t : Bool). if t then Some (place + empty_line (byte ∷ xs)) else empty_line_end (byte == 10) (place + 1) (xs ++ ys)) same ∙ it)
 
-    -- where none is, and more follows
+    -- the case of a line that isn't empty, with more bytes behind it
     none : (zs : List ℕ) → xs ≡ zs → Later → begins && nat_lt 0 (empty_line (byte ∷ xs)) ≡ false → empty_line_end (byte == 10) (place + 1) xs ≡ Some end → empty_line_end begins place (byte ∷ (xs ++ ys)) ≡ Some end
     none [] same more out it = absurd (nothing (empty_line_end (byte == 10) (place + 1) xs) (ap (empty_line_end (byte == 10) (place + 1)) same) it)
       where
@@ -224,7 +224,7 @@ at_piece size room closes more some fits =
     is_within : (n m : ℕ) → n ≤ m → nat_le n m ≡ true
     is_within n m less = grind (arith, nat_tests, less)
 
--- and the end of a chunk
+-- a piece with its size line and the end of its chunk
 says_piece : (line octets more : List ℕ) (room : ℕ) (closes : Bool) (later : List Said) → IsSizeLine line (length octets) → 0 < length octets → length octets ≤ room → Says (Size (room - length octets) closes) more later
     → Says (Size room closes) (line ++ (octets ++ 13 ∷ 10 ∷ more)) (map HasByte octets ++ later)
 says_piece line octets more room closes later is some fits it =

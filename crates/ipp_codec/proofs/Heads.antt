@@ -86,7 +86,7 @@ lengths bytes len fits long walks =
     let split = split_header bytes _ _ fits long refl refl in
     head_found bytes (drop 8 bytes) _ _ _ _ len split.0 split.1 walks
 
--- the same for a fault
+-- the result of a walk with a fault
 pub failed : (bytes : List ℕ) (f : CodecFault) → IsBytes bytes → 8 ≤ length bytes → Walks (drop 8 bytes) (Err f) → FirstFault bytes f
 failed bytes f fits long walks =
     let split = split_header bytes _ _ fits long refl refl in

@@ -315,7 +315,7 @@ goes_taken d chunk front many walk fits may read within room walks front_is whol
     subst (λ (l : List ℕ). Stands (l ++ chunk) (settled (record d { head = d.head ++ front }) walk (length d.head))) known.0
     (stands_behind bytes (record d { head = d.head ++ front }) walk (length d.head) goes)
 
--- the same by steps: bytes are kept, and the walk goes over those that are unread
+-- the same by steps: bytes are kept, and the walk goes over the unread bytes
 pub lacking_taken : (old mid new : DecoderState) (chunk unread : List ℕ) (place : Place) (walk : Walk) (kept : ℕ) → IsBytes chunk → MayCome old → 8 ≤ old.walked → old.walked < length old.head → length old.head + length chunk ≤ IPP_HEAD_BYTES
     → mid ≡ record old { head = old.head ++ chunk } → place ≡ mid.place → unread ≡ drop mid.walked mid.head → WalksFrom place unread walk → kept ≡ length old.head → new ≡ settled mid walk kept → TakesIn old chunk new
 lacking_taken old mid new chunk unread place walk kept fits may read begun room mid_is place_is unread_is walks kept_is new_is =

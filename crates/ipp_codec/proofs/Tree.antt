@@ -95,7 +95,7 @@ nameless (suc d) = refl
 begins : (limit d : ℕ) → limit + d ≡ COLLECTION_DEPTH → 0 < limit → (d < COLLECTION_DEPTH) × ((limit - 1) + suc d ≡ COLLECTION_DEPTH)
 begins limit d is some = (omega (arith, is, some), omega (arith, is, some))
 
--- where a member may stand
+-- a place that takes a member
 pub behind_members : (place : Place) (around : ℕ) → TakesMember place → depth place ≡ suc around → (after_named place ≡ Naming around) × (after_finish place ≡ after_value around)
 behind_members (Begun d) around takes deep = let same : d ≡ around = omega (arith, deep) in (ap Naming same, ap after_value same)
 behind_members (Within d) around takes deep = let same : d ≡ around = omega (arith, deep) in (ap Naming same, ap after_value same)
@@ -203,7 +203,7 @@ value_top (Naming d) [] v l takes = tt
 value_top (Naming d) (c ∷ name) v l takes = absurd cc
 value_top (Within d) name v l takes = tt
 
--- so does a member or an end
+-- the same for a member or an end
 member_top : (place : Place) (l : Level) → TakesMember place → l.values ≡ [] → TopIs place l
 member_top (Begun d) l takes none = none
 member_top (Within d) l takes none = tt
@@ -268,7 +268,7 @@ again e x es step is = step ∙ ap (λ (t : List Element). e ∷ t) is
 at_depth : (d k : ℕ) (ls : List Level) (es : List Element) → d ≡ k → spelled k ls ≡ es → spelled d ls ≡ es
 at_depth d k ls es same is = ap (λ (n : ℕ). spelled n ls) same ∙ is
 
--- where a member may stand, one collection more is open
+-- at a place that takes a member, one collection more is open
 pub member_depth : (place : Place) → TakesMember place → (around : ℕ) × (depth place ≡ suc around)
 member_depth (Begun d) takes = (d, refl)
 member_depth (Within d) takes = (d, refl)

@@ -90,7 +90,7 @@ holds bytes reader heard reads whole =
 abbrev reader_of : DecoderState → List ℕ → ReaderState
 reader_of decoder document = record { decoder = decoder; document = document }
 
--- where nothing more is awaited, a decoder stays as it is
+-- a decoder that awaits no more bytes stays as it is
 abbrev pub StaysOver : DecoderState → DecoderState → Type 0
 StaysOver old new = ¬ (old.stage ≡ Awaiting) → new ≡ old
 
@@ -175,18 +175,18 @@ asks_under decoder document header said is under bytes stands holds =
     let reads : reads_document decoder.head ≡ sends_document (operation_of header) = ap (λ (o : Option Header). option_map_or (λ (h : Header). sends_document (operation_of h)) o false) is in
     subst (λ (o : Option Header). MatchOption o (said ≡ TooShort) (λ (h : Header). AsksUnder h bytes said)) (sym all) (under bytes stands (λ so. holds (reads ∙ so)))
 
--- it isn't
+-- the header isn't whole
 pub asks_short : (decoder : DecoderState) (document : List ℕ) → header_of decoder.head ≡ None → AsksOf decoder document TooShort
 asks_short decoder document is bytes stands holds =
     subst (λ (o : Option Header). MatchOption o (TooShort ≡ TooShort) (λ (h : Header). AsksUnder h bytes TooShort)) (sym (sym (header_kept bytes decoder stands) ∙ is)) refl
 
--- it asks for an operation
+-- the header gives an operation
 pub asks_by : (decoder : DecoderState) (document : List ℕ) (header : Header) (asked : Operation) (said : ParsedRequest) → operation_of header ≡ Ok asked → AsksByOf asked header.request_id decoder document said → AsksUnderOf header decoder document said
 asks_by decoder document header asked said is by bytes stands holds =
     subst (λ (r : Result Operation Status). MatchResult r (λ (o : Operation). AsksBy o header.request_id bytes said) (λ (s : Status). said ≡ Refused s header.request_id)) (sym is)
     (by bytes stands (λ so. holds (ap sends_document is ∙ so)))
 
--- it asks for none
+-- the header gives a status instead of an operation
 pub asks_none : (decoder : DecoderState) (document : List ℕ) (header : Header) (status : Status) → operation_of header ≡ Err status → AsksUnderOf header decoder document (Refused status header.request_id)
 asks_none decoder document header status is bytes stands holds =
     let said = Refused status header.request_id in

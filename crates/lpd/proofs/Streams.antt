@@ -150,7 +150,7 @@ hears_first a bytes (said ∷ items) ending x =
     let tail = hears_first (awaited_after said) x.0 items ending x.2 in
     (tail.0, tail.1, (x.0, x.1, tail.2), tail.3)
 
--- where no item stands, none is given
+-- bytes that end have no item at the front
 ends_no : (front : Front) (ending : Ending) (said : ItemRecord) (rest : List ℕ) → EndsAs front ending → front ≡ Gives said rest → ⊥
 ends_no front Open said rest x is = let no : Waits ≡ Gives said rest = sym x ∙ is in (cc)
 ends_no front (Faulty fault) said rest x is = let no : Fails fault ≡ Gives said rest = sym x ∙ is in (cc)
@@ -194,7 +194,7 @@ leads_one a bytes (said ∷ one) (told ∷ other) b c left behind x y long =
     let later = leads_one (awaited_after said) x.0 one other b c left behind x.2 tail (omega (arith, long)) in
     ap (λ s. s ∷ one) (sym same.0) ∙ ap (λ i. told ∷ i) later
 
--- none stands behind all of them
+-- no item is behind all items of a stream
 pub none_follows : (a : Awaited) (bytes : List ℕ) (items : List ItemRecord) (said : ItemRecord) (b : Awaited) (left : List ℕ) (ending : Ending) → Leads a bytes (items ++ said ∷ []) b left → Hears a bytes items ending → ⊥
 none_follows a bytes [] said b left ending x y = ends_no (front_of a bytes) ending said x.0 y x.1
 none_follows a bytes (told ∷ items) said b left ending x y =

@@ -25,7 +25,7 @@ any_loaded : (p : List ℕ → Bool) (media : List Medium) → list_any p (map (
 any_loaded p [] = refl
 any_loaded p (m ∷ media) = any_by_mark m.loaded p m (filter (λ n. n.loaded) media) (list_any (λ n. n.loaded && p n.name) media) (any_loaded p media)
 
--- the media of a job are looked up among the loaded ones
+-- the media of a job are searched among the loaded media
 pub has_media_from : (needs : JobNeeds) (device : Device) (media : List Medium) (wanted : List ℕ) (found : Bool) → media ≡ device.media → wanted ≡ needs.media → found ≡ list_any (λ m. m.loaded && bytes_eq wanted m.name) media → found ≡ has_media needs device
 has_media_from needs device media wanted found d e f =
     f ∙ ap (λ w. list_any (λ m. m.loaded && bytes_eq w m.name) media) e ∙ ap (list_any (λ m. m.loaded && bytes_eq needs.media m.name)) d ∙ sym (any_loaded (bytes_eq needs.media) device.media)

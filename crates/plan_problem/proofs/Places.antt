@@ -65,7 +65,7 @@ timed_place c class job device time e = elim (cases_lt (place_of c.ids job) (len
       absurd (let none : None ≡ Some time = (rw no_row at e) in cc)
 ]
 
--- and its device is one of the class
+-- the device of such a pair is a device of the class
 pub timed_device : (c : Class) → IsClass c → (job device time : ℕ) → time_in c job device ≡ Some time → device < length c.waits
 timed_device c class job device time e = elim (cases_lt device (length c.waits)) [
   | inl below ↦ below

@@ -228,7 +228,7 @@ full c = record {
   place_prices = c.priced.prices.places;
 }
 
--- these classes have been heard, the last of them perhaps not closed yet
+-- these classes were read, the last class perhaps not closed yet
 record IsBetween (devices : List (List ℕ)) (classes : List PlannedClass) (jobs below : ℕ) (heard : Heard) : Type 0 where
   pub live : is_at heard stages.Ended ≡ false
   pub early : is_at heard stages.Stranded ≡ false

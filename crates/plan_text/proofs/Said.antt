@@ -38,7 +38,7 @@ SaidInRange (SaysPlacePrices device prices) = (is_name device ≡ true) × All I
 SaidInRange (SaysStranded stranded) = IsJobId stranded.job
 SaidInRange SaysEnd = Unit {0}
 
--- its first word, and those after it
+-- the first word of a line, and the words after it
 abbrev pub first_of : Said → List ℕ
 first_of SaysPlan = codes "plan"
 first_of (SaysDevice name) = codes "device"

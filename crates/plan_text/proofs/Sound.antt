@@ -48,7 +48,7 @@ pub record HasEach (devices : ℕ) (c : PlannedClass) : Type 0 where
 abbrev pub AllKept : Heard → Type 0
 AllKept heard = All (HasEach (length heard.devices)) heard.classes
 
--- so it stands between two lines
+-- the state of the reader between two lines
 pub record IsSound (heard : Heard) : Type 0 where
   pub kept : AllKept heard
   pub none_yet : stage_number heard.stage ≤ 1 → heard.classes ≡ []
@@ -236,7 +236,7 @@ ended_kept heard rest named h s =
     let t = taken (length rest == 0) (ok (plan_of heard)) BadLine named p.1 in
     subst EachHasLists (ok_is (plan_of heard) named t.1) s.kept
 
--- so it is for each plan that a text is
+-- the same for each plan that a text is
 pub plan_kept : (text : List ℕ) (named : NamedPlan) → plan_at text ≡ ok named → EachHasLists named
 unfolding plan_in plan_from
 plan_kept text named h =

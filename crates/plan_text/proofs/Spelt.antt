@@ -188,7 +188,7 @@ cause_spelt word cause h =
     (λ h4. cause_named word (codes "Media") causes.Media cause _ refl h4
     (λ h5. cause_named word (codes "Running") causes.Running cause (Err BadLine) refl h5 (λ h6. absurd (cc)))))))
 
--- these words are the rest of a line that says this
+-- these words are the rest of a line with this content
 abbrev IsRest : List (List ℕ) → Said → Type 0
 IsRest words said = (words ≡ rest_of said) × SaidInRange said
 

@@ -141,7 +141,7 @@ Facts stages.Ended h = IsOver h
 abbrev TellsAt : Stage → List Said → Heard → Type 0
 TellsAt stage lines h = (lines ≡ told_at stage h) × Facts stage h
 
--- these lines, and no others, have been heard
+-- the state of the reader is that of exactly these lines
 abbrev Tells : List Said → Heard → Type 0
 Tells lines h = TellsAt h.stage lines h
 

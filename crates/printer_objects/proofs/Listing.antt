@@ -18,7 +18,7 @@ option_or_then None true x later = refl
 option_or_then None false x later = refl
 option_or_then (Some y) b x later = refl
 
--- an entry that fails isn't the one that passes
+-- an entry that fails isn't the entry that passes
 among_others : (p : List ℕ → Bool) (y : List ℕ) (ys : List (List ℕ)) (entry : List ℕ) → p entry ≡ true → p y ≡ false → is_among (y ∷ ys) entry ≡ true → is_among ys entry ≡ true
 among_others p y ys entry passes fails among =
     elim (bytes_eq y entry) as (λ b. bytes_eq y entry ≡ b → (b || is_among ys entry) ≡ true → is_among ys entry ≡ true) [
@@ -26,7 +26,7 @@ among_others p y ys entry passes fails among =
       | false ↦ λ same there. there
     ] refl among
 
--- where one of them passes, something is found
+-- if one of the entries passes, the search finds an entry
 found_among : (p : List ℕ → Bool) (found : List (List ℕ)) (entry : List ℕ) (o : Option (List ℕ)) → p entry ≡ true → is_among found entry ≡ true → option_or (find p found) o ≡ find p found
 found_among p [] entry o passes among = absurd cc
 found_among p (y ∷ ys) entry o passes among =

@@ -134,7 +134,7 @@ one_busy old mid new count after stirred busy t is next = record {
   takes = one_more old mid new busy.turns stirred busy.takes t;
 }
 
--- and then one in which none did
+-- turns with an answer other than Waiting, and then a turn without such an answer
 pub till_quiet : (old mid new : Play) (count : ℕ) (stirred : Bool) → AreBusy old mid count → TakesTurn mid new stirred → stirred ≡ false → count < most_turns → TakesTillQuiet old new
 till_quiet old mid new count stirred busy t is below = (
   busy.turns ++ t.turn ∷ [],
@@ -142,7 +142,7 @@ till_quiet old mid new count stirred busy t is below = (
   one_more old mid new busy.turns stirred busy.takes t,
 )
 
--- or as many as may be
+-- the most turns, each with an answer other than Waiting
 pub till_most : (old new : Play) (count : ℕ) → AreBusy old new count → count ≡ most_turns → TakesTillQuiet old new
 till_most old new count busy most = (busy.turns, record { busy = busy.turns; each = busy.each; ends = inr (busy.number ∙ most, refl) }, busy.takes)
 

@@ -158,7 +158,7 @@ unanswered texts names bytes event line reply old new before hs after text is pr
     let done = one_event texts names event old.moment reply before hs after one in
     record { line = line; is = is; part = done.part; answer = []; means = means done.part done.is_one; does = done.does; moment = moment; printed = printed ∙ done.printed }
 
--- a line is as well one of any other report that says the same
+-- a line of a report is also a line of each other report with the same content
 says_same : (names : List (List ℕ)) (text : List ℕ) (place : ℕ) (one other : Report) → report_of other ≡ report_of one → IsDeviceIn names text place one → IsDeviceIn names text place other
 says_same names text place one other same is = record { name = is.name; line = is.line; cut = is.cut; known = is.known; heard = is.heard ∙ ap (λ (r : ReportRecord). Some r) (sym same) }
 

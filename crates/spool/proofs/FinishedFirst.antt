@@ -48,7 +48,7 @@ first_behind zero (suc count) jobs behind first = absurd (omega (arith, behind))
 first_behind (suc place) (suc count) [] behind first = first
 first_behind (suc place) (suc count) (s ∷ jobs) behind first = (first.0, first_behind place count jobs (omega (arith, behind)) first.1)
 
--- one of them goes
+-- one of the jobs at the front is removed
 first_among : (place count : ℕ) (jobs : List SpooledRecord) → place ≤ count → AllFinished (suc count) jobs → AllFinished count (remove jobs place)
 first_among place zero jobs among first = tt
 first_among zero (suc count) [] among first = first
@@ -61,7 +61,7 @@ first_push zero jobs more first = tt
 first_push (suc count) [] more first = absurd first
 first_push (suc count) (s ∷ jobs) more first = (first.0, first_push count jobs more first.1)
 
--- one more is finished
+-- one more job at the front is finished
 next_finished : (count : ℕ) (jobs : List SpooledRecord) (s : SpooledRecord) → count < length jobs → s ≡ get_or jobs count s → is_finished s.job.state ≡ true → AllFinished count jobs → AllFinished (suc count) jobs
 next_finished count [] s inside is finished first = absurd (omega (arith, inside))
 next_finished zero (j ∷ jobs) s inside is finished first = (ap (λ (x : SpooledRecord). is_finished x.job.state) (sym is) ∙ finished, tt)

@@ -23,7 +23,7 @@ use Rattle.spool.specs.OnDevice.{is_on_device, documents_at, Stays, AllStay, Oth
 
 -- ---- the job of an id in a changed list
 
--- the first of a list, whose id is or isn't the one that is sought
+-- the first job of a list, whose id is or isn't the sought id
 first_is : (id : ℕ) (s : SpooledRecord) (jobs : List SpooledRecord) → (id == s.job.id) ≡ true → spooled_at id (s ∷ jobs) ≡ Some s
 first_is id s jobs is = ap (λ (b : Bool). cond b (Some s) (spooled_at id jobs)) is
 

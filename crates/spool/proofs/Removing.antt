@@ -129,7 +129,7 @@ spool_is now jobs next of_jobs of_next = λ i. record { jobs = of_jobs i; next =
 
 -- ---- where so few are finished that all are kept
 
--- one that isn't kept is settled
+-- a job that isn't kept is settled
 out_settled : (b c : Bool) → (not b || c) ≡ false → b ≡ true
 out_settled true c is = refl
 out_settled false c is = absurd (true≢false is)
@@ -138,7 +138,7 @@ later_settled : (a b : Bool) → (a && b) ≡ true → a ≡ true
 later_settled true b is = refl
 later_settled false b is = absurd (true≢false (sym is))
 
--- one that isn't kept has more settled ones beside it than are kept
+-- beside a job that isn't kept there are more settled jobs than are kept
 more_settled : (jobs : List SpooledRecord) (i : ℕ) (d : SpooledRecord) → i < length jobs → is_kept jobs (get_or jobs i d) ≡ false → FINISHED_JOBS_KEPT < count_by is_settled jobs
 more_settled jobs i d inside out =
     let x = get_or jobs i d in
