@@ -6,7 +6,7 @@
 //! request whose body is too short for an IPP message. The crate reads nothing else of the bodies, and
 //! replies to no request by itself.
 //!
-//! Its rows are traces of `play_examples`.
+//! The rows of the crate are traces of `play_examples`.
 #![tactic(auto)]
 
 mod after;
