@@ -91,7 +91,7 @@ lpd_replies said one other a b = record { answer = same_as (Lpd said) one.answer
 
 -- ---- judgments
 
--- a judged request leads to one end, if each result of the judgement does
+-- a judged request leads to one end, if each result of the judgment does
 judged : {T : Type 0} (r : Result T Rejection) (Comes : T → Effects → State → Type 0) (now : ℕ) (old : State) (one : Effects) (new : State) (other : Effects) (new' : State)
     → MatchResult r (λ x. Comes x one new) (λ refusal. Refuses now old refusal one new)
     → MatchResult r (λ x. Comes x other new') (λ refusal. Refuses now old refusal other new')
