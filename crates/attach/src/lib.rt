@@ -5,7 +5,7 @@
 //! the `attach_printers`. The contracts of the reports and of the bytes that are sent are in `attachment` and
 //! `attach_orders`. This crate has the connection to the server, the clock and the log.
 //!
-//! It is tested by the program.
+//! The program tests the crate.
 #![tactic(auto)]
 
 mod clock;

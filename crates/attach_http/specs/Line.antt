@@ -49,7 +49,7 @@ status_found (Some status) = after_status status
 abbrev pub status_read : List ℕ → Reached
 status_read text = status_found (status_in text)
 
--- the body by its framing; an empty body needs nothing
+-- the body by its framing; an empty body has no bytes to await. 204 and 304 have no body (RFC 9112, section 6.3)
 abbrev pub framed_body : Framing → Awaited
 framed_body framed.Untold = awaits.UntilEnd
 framed_body (framed.Length count) = if count == 0 then awaits.Nothing else awaits.Counted count

@@ -8,7 +8,7 @@ use Rattle.ipp_codec.specs.Message.{IppAttribute, IppMessage, bytes_in}
 use Rattle.ipp_codec.specs.Tag.{printer_attributes}
 use Rattle.attach_ipp.specs.Reply.{first_in, number_in}
 
--- the reason needs someone to come to the printer
+-- the reason needs a person at the printer
 unfoldable pub is_stop_reason : List ℕ → Bool
 is_stop_reason reason =
     bytes_eq reason (codes "media-empty")

@@ -9,8 +9,8 @@ use ipp_codec::{AttributeView, GroupTag, MessageView};
 /// The value of printer-state of a stopped printer (RFC 8011, section 5.4.11).
 const STOPPED: i32 = 5;
 
-/// Returns whether a printer prints nothing until someone comes: it is stopped, or one of its reasons is
-/// such.
+/// Returns whether a printer prints no job before a person comes: the printer is stopped, or one of its
+/// reasons needs a person.
 pub fn is_stopped(reply: &MessageView<'_>) -> bool
     ensures { result ≡ is_stopped (message_shown reply.now) }
 {
@@ -61,7 +61,7 @@ fn without_error(reason: &[u8]) -> &[u8]
     reason.strip_suffix(b"-error").unwrap_or(reason)
 }
 
-/// Returns whether a reason needs someone to come to the printer.
+/// Returns whether a reason needs a person at the printer.
 #[tactic(auto, unfolding(crate::specs::Printer::is_stop_reason))]
 fn is_stop_reason(reason: &[u8]) -> bool
     ensures { result ≡ is_stop_reason reason.now }

@@ -31,7 +31,7 @@ heard_append place (byte ∷ bytes) more =
     let here = heard_from next.place bytes in
     ap (λ (h : Heard). with_front next.said h) (heard_append next.place bytes more) ∙ sym (front_twice next.said here.said (heard_from here.place more))
 
--- from a place on more is heard behind what was heard
+-- from a place on, the items of further bytes follow the items of the bytes before
 pub heard_then : (place : Place) (bytes more : List ℕ) (heard : Heard) → heard_from place bytes ≡ heard → heard_from place (bytes ++ more) ≡ with_front heard.said (heard_from heard.place more)
 heard_then place bytes more heard is = subst (λ (h : Heard). heard_from place (bytes ++ more) ≡ with_front h.said (heard_from h.place more)) is (heard_append place bytes more)
 
@@ -208,14 +208,14 @@ answers_again old fault faulty =
 waits : (old : ReaderState) → (heard_from (place_of old) old.rest).said ≡ [] → Answers old (Ok None) old
 waits old is = (refl, λ stream given stands. ap (λ (h : Heard). h.said) stands ∙ ap (λ (s : List Said). given ++ s) is ∙ append-nil given)
 
--- where no line is whole
+-- the answer while no line is whole
 pub answers_nothing : (old : ReaderState) → old.fault ≡ None → old.octets ≡ 0 → first_line_of DEVICE_LINE_BYTES old.rest ≡ front.Unfinished → Answers old (Ok None) old
 answers_nothing old faultless outside begun =
     let parts = unfinished_line DEVICE_LINE_BYTES old.rest begun in
     let here = line_begun [] old.rest (found_nowhere 10 old.rest parts.0) (omega (arith, parts.1)) in
     waits old (ap (λ (h : Heard). h.said) (ap (λ (p : Place). heard_from p old.rest) (at_line old faultless outside) ∙ here))
 
--- where no octet has come
+-- the answer while no octet has come
 pub answers_no_octet : (old : ReaderState) → length old.rest ≡ 0 → Answers old (Ok None) old
 answers_no_octet old none =
     let by : (rest : List ℕ) → length rest ≡ 0 → (heard_from (place_of old) rest).said ≡ [] = λ rest.

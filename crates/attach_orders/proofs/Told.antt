@@ -1,4 +1,4 @@
--- What a device writes is read by the server as what it means.
+-- The server reads the line of a device as the device's report.
 use Rattle.std.specs.Prelude.{ℕ, ◌≡◌, ◌==◌, ◌≤◌, true, false, All, IsTrue, List, [], ◌∷◌, ◌++◌, Option, Some, option_map, codes}
 use Rattle.std.specs.List.{list_all}
 use Rattle.std.specs.Fmt.{decimal}

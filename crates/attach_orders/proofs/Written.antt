@@ -1,4 +1,4 @@
--- What either side writes is read back by the other.
+-- Each side reads back the lines of the other side.
 use Rattle.std.specs.Prelude.{ℕ, ◌≡◌, ◌==◌, ◌+◌, ◌^◌, ◌<◌, ◌≤◌, nat_lt, nat_le, Bool, true, false, not, if◌then◌else◌, List, [], ◌∷◌, ◌++◌, map, length, Option, Some, option_map, codes}
 use Rattle.std.specs.List.{list_all}
 use Rattle.std.specs.Str.{all_ascii_digits}
@@ -187,11 +187,11 @@ letters_lack true false true = (lacks_by (isnt 10) 10 refl (codes " SB") refl, l
 letters_lack true true false = (lacks_by (isnt 10) 10 refl (codes " SP") refl, lit≤ tt)
 letters_lack true true true = (lacks_by (isnt 10) 10 refl (codes " SPB") refl, lit≤ tt)
 
--- a line of words: the first, and what stands behind its space
+-- a line of words: the first word, and the text behind its space
 abbrev behind : List ℕ → List ℕ → List ℕ
 behind word rest = word ++ (32 ∷ rest)
 
--- texts without a line feed, of so many bytes at most
+-- texts without a line feed, of at most `most` bytes
 record IsShort (most : ℕ) (text : List ℕ) : Type 0 where
   lacks : Lacks 10 text
   few : length text ≤ most
@@ -220,7 +220,7 @@ sides_no_space One = lacks_by (isnt 32) 32 refl (codes "1") refl
 sides_no_space LongEdge = lacks_by (isnt 32) 32 refl (codes "L") refl
 sides_no_space ShortEdge = lacks_by (isnt 32) 32 refl (codes "S") refl
 
--- what stands on a job's line
+-- the part of a job's line about its sheets
 abbrev sheets : JobNeeds → List ℕ
 sheets needs = behind (sides_word needs.sides) (needs.media ++ finishings_word needs.finishings)
 

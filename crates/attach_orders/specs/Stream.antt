@@ -11,7 +11,7 @@ use Rattle.attach_orders.specs.declared.fault.OrderError.{OrderError}
 use Rattle.attach_orders.specs.declared.fault.OrderError.TheVariants.{Fault, OutOfMemory}
 use Rattle.attach_orders.specs.Line.{order_in}
 
--- one thing that the stream says: an order, or an octet of a job
+-- an element that the stream says: an order, or an octet of a job
 pub data Said : Type 0 where
   Orders : Order → Said
   HasOctet : ℕ → Said

@@ -46,7 +46,7 @@ pub enum Heard {
     Away,
     /// The printer can be reached again.
     Back,
-    /// The printer reports that it needs someone: paper is out or jammed, or a cover is open.
+    /// The printer reports that it needs a person: paper is out or jammed, or a cover is open.
     Stops,
     /// The printer reports that it prints again.
     Runs,

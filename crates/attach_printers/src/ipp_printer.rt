@@ -75,7 +75,7 @@ pub struct IppPrinter {
 }
 
 impl IppPrinter {
-    /// Creates a printer that hasn't been asked anything.
+    /// Creates a printer to which no request was sent.
     pub fn new(alloc: Global, address: IppAddress) -> IppPrinter {
         IppPrinter {
             alloc,

@@ -11,7 +11,7 @@ use base_types::Sides;
 use std::alloc::{AllocError, Global};
 use text::drop_front;
 
-/// The least code of a printer that needs someone: a cover is open, or paper is out or jammed.
+/// The least code of a printer that needs a person: a cover is open, or paper is out or jammed.
 const NEEDS_SOMEONE: u32 = 40_000;
 
 /// The part that is sent now, or that all parts are sent.
@@ -36,7 +36,7 @@ pub struct Pjl {
     output: Vec<u8>,
     /// The bytes of the printer that aren't read yet.
     input: Vec<u8>,
-    /// Whether the printer reported that it needs someone.
+    /// Whether the printer reported that it needs a person.
     stopped: bool,
 }
 

@@ -21,12 +21,12 @@ pub trait Protocol: Drop {
         attachment.job().is_some()
     }
 
-    /// The result of a turn without a connection, where `heard` is that of the connection.
+    /// The result of a turn without a connection; `heard` is the result of the try to connect.
     fn wait(&mut self, _session: &Session, heard: Heard, _now: u64) -> Heard {
         heard
     }
 
-    /// The result of a turn in which the connection was made, where `heard` is that of the connection.
+    /// The result of a turn in which the connection was made; `heard` is the result of the connection.
     fn open(&mut self, _attachment: &Attachment, heard: Heard) -> Result<Heard, AllocError> {
         Ok(heard)
     }

@@ -55,7 +55,7 @@ impl fmt::Display for LeftOut {
 #[derive(Clone, Copy)]
 pub enum Told {
     Nothing,
-    /// The printer reports that it needs someone.
+    /// The printer reports that it needs a person.
     Stops,
     /// The printer reports that it prints again.
     Runs,

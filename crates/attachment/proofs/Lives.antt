@@ -1,4 +1,4 @@
--- What an attachment's life allows, event by event.
+-- The events that an attachment's life allows.
 use Rattle.std.specs.Prelude.{ℕ, ◌≡◌, ◌==◌, ◌+◌, ◌<◌, ◌≤◌, nat_lt, Bool, true, false, if◌then◌else◌, List, [], ◌∷◌, ◌++◌, length, take, drop, Option, Some, None, option_map, Result, Ok, Err, OnOk}
 use Rattle.std.proofs.Common.{arith, refl, subst, sym, ap, ◌∙◌}
 use Rattle.std.proofs.lemmas.Bool.{and_parts}
@@ -18,7 +18,7 @@ leads_then : {P : Type 0} (step : P → Event → P → Type 0) (at : P) (life :
 leads_then step at [] mid event end x s = (end, subst (λ p. step p event end) x s, refl)
 leads_then step at (first ∷ life) mid event end x s = (x.0, x.1, leads_then step x.0 life mid event end x.2 s)
 
--- what an event has to be for each promise
+-- the condition of each promise on an event
 record Allows (old : AttachmentRecord) (event : Event) (new : AttachmentRecord) : Type 0 where
   answers : AnswersOnce (option_map id_of old.work) event (option_map id_of new.work)
   sends : SendsTheJob (option_map sending_of old.work) event (option_map sending_of new.work)
@@ -169,7 +169,7 @@ fail_by (Some work) printer told = lives_by (record { work = Some work; printer 
 pub lives_failed : (old : AttachmentRecord) (report : Option Report) → option_map report_of report ≡ option_map fail_report old.work → Lives old (said_by report) (record old { work = None })
 lives_failed old report is = subst (λ (e : List Event). Lives old e (record old { work = None })) (sym (said_events report (option_map fail_report old.work) is)) (fail_by old.work old.printer old.told)
 
--- between that the printer has printed a job and what is said of it
+-- the state after the printer has printed a job, and before the report about the job
 record IsPrinted (life : List Event) (work : WorkRecord) (printer : PrinterState) (told : Option PrinterState) : Type 0 where
   answers : Leads AnswersOnce None life (Some work.job)
   sends : Leads SendsTheJob None life (Some (record (sending_of work) { printed = true }))

@@ -28,7 +28,7 @@ ms_of s = s.ms
 abbrev IsOn : ℕ → ℕ → Sample → Type 0
 IsOn setup rate s = s.ms ≡ setup + s.impressions * rate
 
--- ---- what the sums are on a line
+-- ---- the sums on a line
 ms_on : (setup rate : ℕ) (xs : List Sample) → AreOn setup rate xs → total ms_of xs ≡ length xs * setup + total impressions_of xs * rate
 ms_on setup rate [] on = omega arith
 ms_on setup rate (x ∷ xs) on =

@@ -15,9 +15,9 @@ AnswersOnce asked (Says (SaysFail job)) next = (asked ≡ Some job) × (next ≡
 AnswersOnce asked (Says (SaysPages job printed)) next = (asked ≡ Some job) × (next ≡ asked)
 AnswersOnce asked event next = next ≡ asked
 
--- ---- the octets that are sent are the job's: those of each copy as they came, in order, and the next copy once all of them are sent; DONE is reported once the job was sent as often as it is to be, and is printed.
+-- ---- the octets that are sent are the job's: the octets of each copy as they came, in order, and the next copy once the copy before is sent; DONE is reported once the job was sent in all its copies, and is printed.
 
--- a job that is sent: the number of its octets, those that have come, how many of this copy are sent, the number of copies sent before, and whether the job is printed
+-- a job that is sent: the number of its octets, the octets that have come, the number of octets of this copy that are sent, the number of copies sent before, and whether the job is printed
 pub record Sending : Type 0 where
   pub octets : ℕ
   pub times : ℕ
@@ -54,7 +54,7 @@ abbrev pub SendsTheJob : Option Sending → Event → Option Sending → Type 0
 SendsTheJob None event next = NothingSends event next
 SendsTheJob (Some job) event next = JobSends job event next
 
--- ---- a cancel is obeyed: no octet of the job is sent after it. The state is the job, and whether it is canceled.
+-- ---- a cancel is obeyed: no octet of the job is sent after the cancel. The record has the job, and whether it is canceled.
 
 pub record Heeded : Type 0 where
   pub job : ℕ

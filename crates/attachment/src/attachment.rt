@@ -87,7 +87,7 @@ impl Attachment {
         self.keep(octets)
     }
 
-    /// Cancels the job in hand for the server. If the job in hand has another id, nothing changes.
+    /// Cancels the job in hand for the server. If there is none or it has another id, nothing changes.
     pub fn cancel(&mut self, job: JobId)
         ensures life { Lives self.old (Canceled job ∷ []) self.new }
         ensures stays { option_map id_of self.new.work ≡ option_map id_of self.old.work }

@@ -1,5 +1,5 @@
 //! The attachment of a printer: its reports to the server and the octets that it sends to the printer, for
-//! each behavior of either, without sockets and a clock.
+//! each behaviour of either, without sockets and a clock.
 //!
 //! An [`Attachment`] takes the events of the server (orders, octets, cancels) and of the printer (octets
 //! taken, its state, that a job is printed or can't be), and returns the reports that are due. Its contracts

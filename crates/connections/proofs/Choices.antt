@@ -1,4 +1,4 @@
--- What a connection asks next is one, where the choices are.
+-- The next ask of a connection is one, if the choices are.
 use Rattle.std.proofs.Common.{◌≡◌, ◌⊎◌, ℕ, ◌+◌, Bool, true, false, List, [], ◌∷◌, ◌++◌, length, map, refl, sym, ◌∙◌, ap, subst, Option, Some, None, inl, inr}
 use Rattle.std.proofs.lemmas.List.{append_cancel_left, length-append, length-map}
 use Rattle.base_types.specs.declared.report.Report.{Report}
@@ -35,7 +35,7 @@ use Rattle.connections.specs.Steps.{silent, no_memory, asked_step, EndsBody as E
 use Rattle.connections.specs.Asking.{HearsIpp, HearsItem, FindsFault, LosesLine, HearsReport, FindsLinkFault, Hears, Owes, StepsTo, AsksNext}
 use Rattle.connections.specs.Choice.{part_taken, part_heard, part_of, Loss, OfGrowth, OfPart, OfBody, lost_of, SameAsk}
 
--- the laws of what streams and bodies say
+-- the laws of the elements of streams and of the contents of bodies
 pub record Laws : Type 0 where
   pub http : Http.FirstIsOne
   pub lpd : Lpd.FirstIsOne
@@ -44,7 +44,7 @@ pub record Laws : Type 0 where
   pub link_ends : Link.NoneFollows
   pub asked : (body : List ℕ) (given said : ParsedRequest) → Asks body given → Asks body said → given ≡ said
 
--- ---- asks that say the same
+-- ---- asks with the same content
 
 ask_self : (what : Ask) → SameAsk what what
 ask_self (ask.Event client event) = (refl, same_self event)
@@ -92,11 +92,11 @@ agree_as comes comes' one other mid mid' e is is' at at' agree =
     (subst (λ (c : Step). Agree one mid c mid') (sym is')
     (subst (λ (m : Entry). Agree one m other mid') (sym at) (subst (λ (m : Entry). Agree one e other m) (sym at') agree)))
 
--- both are one step at one entry
+-- two steps that equal one step, at one entry, agree
 agree_at : (comes comes' one : Step) (mid mid' e : Entry) → comes ≡ one → comes' ≡ one → mid ≡ e → mid' ≡ e → Agree comes mid comes' mid'
 agree_at comes comes' one mid mid' e is is' at at' = agree_as comes comes' one one mid mid' e is is' at at' (agree_self one e)
 
--- ---- what a step may lose
+-- ---- the losses of a step
 
 abbrev Loses : Step → Option Loss → Type 0
 Loses (step.Due due last) loss = (loss ≡ None) ⊎ (loss ≡ Some (OfGrowth growth.Output))
@@ -112,7 +112,7 @@ loses (step.Due due last) mid what new a = owes_loses (due_bytes due) (finishing
 loses (step.Asks asked last) mid what new a = ap lost_of a.0
 loses (step.Breaks asked) mid what new a = ap lost_of a.0
 
--- what loses nothing alike agrees
+-- two steps without a common loss agree
 agree_never : (comes comes' : Step) (mid mid' : Entry) → ((loss : Option Loss) → Loses comes loss → Loses comes' loss → ⊥) → Agree comes mid comes' mid'
 agree_never comes comes' mid mid' never what said new after a b same =
     absurd (never (lost_of what) (loses comes mid what new a) (subst (λ (l : Option Loss). Loses comes' l) (sym same) (loses comes' mid' said after b)))
@@ -143,7 +143,7 @@ not_file loss (inl a) is = let no : None ≡ Some (OfPart part.File) = sym a ∙
 not_file loss (inr (inl a)) is = let no : Some (OfGrowth growth.Output) ≡ Some (OfPart part.File) = sym a ∙ is in cc
 not_file loss (inr (inr a)) is = let no : Some (OfPart part.Job) ≡ Some (OfPart part.File) = sym a ∙ is in cc
 
--- what is usual, and memory for a line
+-- a step with a usual loss, and a step that lacks memory for a line
 agree_no_memory : (comes comes' : Step) (mid mid' : Entry) → ((loss : Option Loss) → Loses comes loss → IsUsual loss) → comes' ≡ no_memory → Agree comes mid comes' mid'
 agree_no_memory comes comes' mid mid' usual is =
     agree_never comes comes' mid mid' (λ loss a b. not_input loss (usual loss a) (subst (λ (c : Step). Loses c loss) is b))
@@ -154,7 +154,7 @@ no_memory_agrees comes comes' mid mid' is usual =
 
 -- ---- an IPP client
 
--- what an item and its part are, by what they say
+-- an item and its part, by their elements
 
 abbrev said_long : Option ℕ → ℕ
 said_long None = 1
@@ -218,7 +218,7 @@ asked_usual closes asks.TooShort loss a = due_usual loss a
 asked_usual closes (asks.Refused status request) loss a = due_usual loss a
 asked_usual closes (asks.Event request event) loss a = inl a
 
--- what a whole body asks, or memory to read it is refused
+-- the ask of a whole body, or the refusal of memory to read the body
 ends_agree : Laws → (closes : Bool) (body : List ℕ) (comes comes' : Step) (e : Entry) → EndsSo closes body comes → EndsSo closes body comes' → Agree comes e comes' e
 ends_agree laws closes body comes comes' e (inl a) (inl b) =
     let same : b.0 ≡ a.0 = laws.asked body b.0 a.0 b.1 a.1 in
@@ -238,7 +238,7 @@ part_agrees comes comes' after (inl a) (inr b) = agree_no_memory comes comes' (a
 part_agrees comes comes' after (inr a) (inl b) = no_memory_agrees comes comes' (after comes) (after comes') a (silent_usual comes' b)
 part_agrees comes comes' after (inr a) (inr b) = agree_at comes comes' no_memory (after comes) (after comes') (after no_memory) a b (ap after a) (ap after b)
 
--- one item comes to this, and to that
+-- two steps of one item agree
 item_agrees : Laws → (it : HttpItem) (told : List Said) (e : Entry) (said : List Said) (closes : Bool) (body : List ℕ) (comes comes' : Step) → StepsIpp it closes body comes → StepsIpp it closes body comes'
     → Agree comes (after_item it told e said closes body comes) comes' (after_item it told e said closes body comes')
 item_agrees laws (item.Head next) told e said closes body comes comes' a b = agree_at comes comes' silent _ _ (after_item (item.Head next) told e said closes body silent) a b refl refl
@@ -263,7 +263,7 @@ ipp_agrees laws e said closes body comes comes' mid mid' a b parts =
 
 -- ---- an LPD client
 
--- an event is fixed by the job, or the command, up to what it says
+-- an event is fixed by the job or the command, up to equal content
 
 job_one : (job : SentRecord) (one other : Event) → SubmitsJob job one → SubmitsJob job other → SameEvent one other
 job_one job (Is.SubmitFiles one) (Is.SubmitFiles other) a b = record { queue = a.0 ∙ sym b.0; owner = a.1 ∙ sym b.1; name = a.2 ∙ sym b.2; documents = a.3 ∙ sym b.3 }
@@ -279,7 +279,7 @@ command_one (ListsLong queue operands) (Is.ListQueue one) other a b = absurd b
 command_one (RemovesJobs queue agent operands) (Is.RemoveJobs one) other a b = absurd b
 command_one command one other a b = absurd a
 
--- what is asked, by what was heard
+-- the ask, by the items that were heard
 
 abbrev TakesJob : SentRecord → Step → Type 0
 TakesJob job comes = ((event : Event) × SubmitsJob job event × (comes ≡ step.Asks (ask.Event client.LpdJob event) false)) ⊎ (comes ≡ step.Asks (ask.Lost part.Job) false)
@@ -366,7 +366,7 @@ lpd_agrees queues before (Says command) comes comes' after after' entry a b = as
 lpd_agrees queues before Aborts comes comes' after after' entry a b = asks_agree (heard queues before Aborts) comes comes' after after' entry a b
 lpd_agrees queues before (Announces head) comes comes' after after' entry a b = asks_agree (heard queues before (Announces head)) comes comes' after after' entry a b
 
--- none of them is memory for a line
+-- no step for a file lacks memory for a line
 file_no_line : (hearing : Hearing) (before : Option SessionState) (comes : Step) (after : Option SessionState) → AsksForFile hearing before comes after → (loss : Option Loss) → Loses comes loss → loss ≡ Some (OfGrowth growth.Input) → ⊥
 file_no_line hearing before comes after (inl a) loss x is = let no : Some (OfPart part.File) ≡ Some (OfGrowth growth.Input) = sym (subst (λ (c : Step). Loses c loss) a.0 x) ∙ is in cc
 file_no_line hearing before comes after (inr a) loss x is = not_input loss (asks_usual hearing comes after a loss x) is

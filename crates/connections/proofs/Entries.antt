@@ -1,4 +1,4 @@
--- What a connection asks, as its entry has it.
+-- The asks of a connection, as its entry has them.
 use Rattle.std.proofs.Common.{◌≡◌, ◌<◌, arith, ℕ, Bool, true, false, List, [], ◌∷◌, ◌++◌, length, drop, refl, sym, ◌∙◌, ap, subst, append_assoc, Some, None, inl, inr}
 use Rattle.std.specs.Prelude.{◌||◌, nat_lt}
 use Rattle.std.proofs.lemmas.Bool.Decides.{nat_tests}
@@ -17,30 +17,30 @@ use Rattle.connections.specs.Connections.{ConnectionState, with_peer, Takes}
 use Rattle.connections.specs.Representation.{FitsPeer, RepresentsConnection, Becomes}
 use Rattle.connections.proofs.Readers.{Goes, heard, rested, fed_peer}
 
--- ---- what waits
+-- ---- the waiting bytes
 
 drop_front-append : (xs ys : List ℕ) → drop (length xs) (xs ++ ys) ≡ ys
 drop_front-append [] ys = refl
 drop_front-append (x ∷ xs) ys = drop_front-append xs ys
 
--- what waits by the entry is what the connection holds
+-- the waiting bytes by the entry are the bytes that the connection holds
 pub waits : (e : Entry) (c : ConnectionState) → RepresentsConnection e c → waiting e ≡ c.output
 waits e c f = ap (λ (due : List ℕ). drop (length e.taken) due) (sym f.due) ∙ drop_front-append e.taken c.output
 
 above : (most n : ℕ) → most < n → nat_lt most n ≡ true
 above most n more = grind (arith, nat_tests, more)
 
--- what has no room in the reserve needs memory
+-- bytes without room in the reserve need memory
 grows : (bytes : List ℕ) (e : Entry) (c : ConnectionState) → RepresentsConnection e c → RESERVED_BYTES < length (c.output ++ bytes) → needs_memory bytes e ≡ true
 grows bytes e c f more = above RESERVED_BYTES (length (waiting e ++ bytes)) (subst (λ (w : List ℕ). RESERVED_BYTES < length (w ++ bytes)) (sym (waits e c f)) more)
 
--- bytes that are due follow what waits
+-- bytes that become due follow the waiting bytes
 more_due : (e : Entry) (c : ConnectionState) (bytes : List ℕ) → RepresentsConnection e c → e.taken ++ (c.output ++ bytes) ≡ e.due ++ bytes
 more_due e c bytes f = sym (append_assoc e.taken c.output bytes) ∙ ap (λ (o : List ℕ). o ++ bytes) f.due
 
 -- ---- a step
 
--- what a step comes to, of a connection whose peer is this now
+-- the result of a step of a connection whose peer is now `p`
 takes : (e : Entry) (talk : PeerRecord) (c d : ConnectionState) (p : Peer) (what : Step) (asked : Ask) → RepresentsConnection e c → e.broken ≡ false → FitsPeer e.read talk true p → (Goes what → FitsPeer e.read talk false p) → Takes what (with_peer p c) asked d
     → (new : Entry) × StepsTo what (talking talk e) asked new × RepresentsConnection new d
 takes e talk c d p (step.Due due last) asked f whole off on (inl (is, now)) =
@@ -78,7 +78,7 @@ right_false false y is = is
 counts_as : (e : Entry) (c : ConnectionState) (counts : Bool) → RepresentsConnection e c → (c.draining || c.broken) ≡ counts → (e.draining || e.broken) ≡ counts
 counts_as e c counts f is = sym (ap (λ (x : Bool). x || c.broken) f.draining ∙ ap (λ (y : Bool). e.draining || y) f.broken) ∙ is
 
--- ---- what is asked next
+-- ---- the next ask
 
 pub asks : (settings : ServerSettings) (what : Step) (asked : Ask) (c d : ConnectionState) (p : Peer) → (c.draining || c.broken) ≡ false → NextPeer settings (Some what) c.peer p → Takes what (with_peer p c) asked d → Becomes (Asking settings (Some asked)) c d
 asks settings what asked c d p counts next takes_ e f =

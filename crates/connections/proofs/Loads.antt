@@ -49,7 +49,7 @@ off_broken : (last : Bool) (n : ℕ) → (if last || true then 0 else n) ≤ 0
 off_broken true n = omega arith
 off_broken false n = omega arith
 
--- a step leaves at most what the peer can bring, and nothing where it is the last
+-- the load after a step is at most the peer's work, and nothing after the last step
 takes_within : (what : Step) (asked : Ask) (c d : ConnectionState) (p : Peer) → Takes what (with_peer p c) asked d → load d ≤ 1 + work p
 takes_within (step.Due due last) asked c d p (inl (is, now)) = load_as (is_kept (due_bytes due) (is_draining last (with_peer p c))) d (1 + work p) now (load_within (is_kept (due_bytes due) (is_draining last (with_peer p c))))
 takes_within (step.Due due last) asked c d p (inr (is, full, now)) = load_as (is_broken (is_draining last (with_peer p c))) d (1 + work p) now (load_within (is_broken (is_draining last (with_peer p c))))
@@ -114,6 +114,6 @@ falls_by : (what : Step) (asked : Ask) (c d : ConnectionState) (p : Peer) → (c
 falls_by what asked c d p counts (inl falls) takes = omega (arith, load_counts c counts, takes_within what asked c d p takes, falls)
 falls_by what asked c d p counts (inr last) takes = omega (arith, load_counts c counts, takes_last what asked c d p last takes)
 
--- what is asked is less to bring
+-- an ask makes the load less
 pub falls : (settings : ServerSettings) (what : Step) (asked : Ask) (c d : ConnectionState) (p : Peer) → (c.draining || c.broken) ≡ false → NextPeer settings (Some what) c.peer p → Takes what (with_peer p c) asked d → load d < load c
 falls settings what asked c d p counts next takes = falls_by what asked c d p counts (less settings what c.peer p next) takes

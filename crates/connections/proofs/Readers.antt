@@ -1,4 +1,4 @@
--- What readers say, as entries have it.
+-- The elements of readers, as entries have them.
 use Rattle.std.proofs.Common.{◌≡◌, ℕ, Bool, true, false, List, [], ◌∷◌, ◌++◌, refl, sym, ◌∙◌, ap, subst, Option, Some, None, inl, inr, Ok, Err, ◌<◌, IsSome}
 use Rattle.std.specs.Prelude.{map, take}
 use Rattle.std.specs.Str.Lines.{strip_carriage_return}
@@ -37,12 +37,12 @@ use Rattle.connections.specs.Peers.{with_http, with_lpd, with_link, HearsIpp, He
 use Rattle.connections.specs.Asking.{HearsIpp as NextItem, HearsItem, FindsFault, HearsReport, FindsLinkFault, Hears, IsHeardAs}
 use Rattle.connections.specs.Representation.{FitsIpp, FitsLpd, FitsDevice, FitsPeer}
 
--- what the first fault of an LPD client's stream comes to, or the lack of memory for a line
+-- the step for the first fault of an LPD client's stream, or for the lack of memory for a line
 pub next_failed : (queues : List ℕ → Bool) (t u : LpdClientState) (error : LpdError) → Lpd.Answers t.reader (Err error) u.reader → u ≡ with_lpd u.reader t → NextLpd queues (Some (step_of error)) t u
 next_failed queues t u (lpd.Fault fault) answers is = inr (inl (fault, answers, refl, is))
 next_failed queues t u lpd.OutOfMemory answers is = inr (inr (answers, refl, is))
 
--- what was taken off of its stream, if an item is whole
+-- the item taken off the stream, if it is whole
 pub item_heard : (queues : List ℕ → Bool) (t u : LpdClientState) (reader : LpdState) (it : Option LpdItem) (what : Option Step) → Lpd.Answers t.reader (Ok it) reader → (IsSome it → Lpd.work reader < Lpd.work t.reader) → HearsWholeItem queues it what (with_lpd reader t) u → NextLpd queues what t u
 item_heard queues t u reader None None answers falls hears =
     let same : reader ≡ u.reader = sym (ap (λ (x : LpdClientState). x.reader) hears) in
@@ -59,7 +59,7 @@ report_heard named t u reader (Some it) (Some what) answers falls hears = inl (i
 report_heard named t u reader None (Some what) answers falls hears = absurd hears
 report_heard named t u reader (Some it) None answers falls hears = absurd hears
 
--- what the first fault of a device's stream comes to, or the lack of memory for a line
+-- the step for the first fault of a device's stream, or for the lack of memory for a line
 pub report_failed : (named : List ℕ → Option ℕ) (t u : DeviceState) (error : LinkError) → Link.Answers t.reader (Err error) u.reader → u ≡ with_link u.reader t → NextDevice named (Some (link_step error t.device)) t u
 report_failed named t u (link.Fault fault) answers is = inr (inl (fault, answers, refl, is))
 report_failed named t u link.OutOfMemory answers is = inr (inr (answers, refl, is))
@@ -70,7 +70,7 @@ Goes (step.Due due last) = Unit {0}
 Goes (step.Asks ask last) = Unit {0}
 Goes (step.Breaks ask) = ⊥
 
--- what a broken connection's peer said counts no more
+-- the elements of a broken connection's peer count no more
 pub broken_peer : (read : List ℕ) (talk : PeerRecord) (off : Bool) (p : Peer) → FitsPeer read talk off p → FitsPeer read talk true p
 broken_peer read talk off (of.Ipp t) f = f
 broken_peer read talk off (of.Lpd t) f = f
@@ -110,7 +110,7 @@ heard_told read talk t f off =
 says_first : (read : List ℕ) (said : List Said) (reader : HttpState) → Http.Stands read said reader → Http.SaysFirst read said
 says_first read said reader stands = record { next = reader.awaited; left = stands.left; leads = stands.leads }
 
--- an item comes to this
+-- the step for an item
 abbrev Comes : Entry → List Said → Bool → List ℕ → Step → IppClientState → Type 0
 Comes e said closes body what u = (talk : PeerRecord) × NextItem e said closes body what (talking talk e) × FitsIpp e.read talk u
 
@@ -219,7 +219,7 @@ hello_first read r reader stands =
     let front = stands.leads.1 in
     first_is_hello (said (words_of (strip_carriage_return (take front.count read)))) r front.says
 
--- what a report comes to, and what the device is then: it has said its name, unless the connection breaks
+-- the step for a report, and the device then: the device has given its name, unless the connection breaks
 record Comes_of (named : List ℕ → Option ℕ) (device : Option ℕ) (it : ReportRecord) (what : Step) (after : Option ℕ) : Type 0 where
   pub steps : StepsDevice named device it what after
   pub goes : Goes what → after ≡ None → ⊥
@@ -305,7 +305,7 @@ heard settings e (of.Lpd t) (of.Device u) what f next = absurd next
 heard settings e (of.Device t) (of.Ipp u) what f next = absurd next
 heard settings e (of.Device t) (of.Lpd u) what f next = absurd next
 
--- nothing whole is left
+-- the bytes that are left have no whole item
 pub rested : (settings : ServerSettings) (read : List ℕ) (talk : PeerRecord) (x y : Peer) → FitsPeer read talk false x → NextPeer settings None x y → IsHeardAs read talk × FitsPeer read talk false y
 rested settings read talk (of.Ipp t) (of.Ipp u) f (off, answers, is) =
     let all : Exchanges read f.said = answers.1 read f.said (stands_told read talk t f off) in

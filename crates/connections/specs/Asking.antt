@@ -89,17 +89,17 @@ StepsTo (step.Breaks asked) e what new = (what ≡ asked) × (new ≡ broken e)
 
 -- ---- the whole relation
 
--- all that was read was acted on
+-- all bytes that were read were acted on
 abbrev pub IsHeardAs : List ℕ → PeerRecord → Type 0
 IsHeardAs read (OfIpp said closes body) = Exchanges read said
 IsHeardAs read (OfLpd items session) = LpdItems read items Open
 IsHeardAs read (OfDevice reports device) = device_reports read ≡ record { reports = reports; ending = Unfinished }
 
--- the connection is draining or broken, or all that it read was acted on
+-- the connection is draining or broken, or all bytes that it read were acted on
 abbrev pub IsHeard : Entry → Type 0
 IsHeard e = ((e.draining || e.broken) ≡ true) ⊎ IsHeardAs e.read e.talk
 
--- a connection that is neither draining nor broken asks something
+-- a connection that is neither draining nor broken has an ask
 pub record AsksNext (settings : ServerSettings) (what : Ask) (e new : Entry) : Type 0 where
   pub counts : (e.draining || e.broken) ≡ false
   pub comes : Step
@@ -107,7 +107,7 @@ pub record AsksNext (settings : ServerSettings) (what : Ask) (e new : Entry) : T
   pub hears : Hears settings e.talk e comes mid
   pub steps : StepsTo comes mid what new
 
--- the connection asks something, or has nothing to ask
+-- the connection has this ask, or no ask
 abbrev pub Asking : ServerSettings → Option Ask → Entry → Entry → Type 0
 Asking settings None e new = IsHeard e × (new ≡ e)
 Asking settings (Some what) e new = AsksNext settings what e new

@@ -32,7 +32,7 @@ part_heard settings (OfDevice reports device) e comes mid next = None
 abbrev pub part_of : {settings : ServerSettings} {what : Ask} {e new : Entry} → AsksNext settings what e new → Option ℕ
 part_of {settings} {e} asks = part_heard settings e.talk e asks.comes asks.mid asks.hears
 
--- what memory was refused for, as something is asked
+-- the purpose of the memory that was refused, as an ask is made
 pub data Loss : Type 0 where
   OfGrowth : Growth → Loss
   OfPart : Part → Loss

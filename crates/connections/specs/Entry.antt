@@ -1,4 +1,4 @@
--- A connection since it was accepted, as whole lists: all that was read, the part of it that was acted on, all that was due and all that was taken. The lists aren't stored.
+-- A connection since it was accepted, as whole lists: all bytes that were read, the part of them that was acted on, all bytes that were due and all bytes that were taken. The lists aren't stored.
 use Rattle.std.specs.Prelude.{ℕ, nat_lt, Bool, true, false, List, [], ◌++◌, length, drop, Option, None}
 use Rattle.base_types.specs.Report.{ReportRecord}
 use Rattle.http_front.specs.Stream.{Said}
@@ -42,7 +42,7 @@ pub record Entry : Type 0 where
   pub talk : PeerRecord
   -- the input of the connection has ended
   pub ended : Bool
-  -- bytes that are read from now on are discarded; the connection closes once all that is due was taken
+  -- bytes that are read from now on are discarded; the connection closes once all due bytes were taken
   pub draining : Bool
   -- the connection is to be closed as by a fault: nothing becomes due on it any more
   pub broken : Bool

@@ -120,7 +120,7 @@ impl Device {
     }
 }
 
-/// The step that asks the server something; the connection goes on.
+/// The step with an ask to the server; the connection goes on.
 fn asks(ask: Ask) -> Step
     ensures { result ≡ Step.Asks ask false }
 {

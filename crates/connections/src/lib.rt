@@ -6,8 +6,8 @@
 //! until a wire takes them.
 //!
 //! Its contracts are relations on an entry: all bytes that were read, the part of them that was acted on, all
-//! bytes that were due and all bytes that were taken (`specs/Entry.antt`). Its rows are sessions of
-//! `server_tests` and traces of `play_examples`.
+//! bytes that were due and all bytes that were taken (`specs/Entry.antt`). The rows of the crate are sessions
+//! of `server_tests` and traces of `play_examples`.
 #![tactic(auto)]
 
 mod ask;

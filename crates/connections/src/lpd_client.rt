@@ -233,7 +233,7 @@ fn byte_due(byte: Option<u8>) -> Due
     }
 }
 
-/// The step that asks the server something; the session goes on.
+/// The step with an ask to the server; the session goes on.
 fn asks(ask: Ask) -> Step
     ensures { result ≡ Step.Asks ask false }
 {

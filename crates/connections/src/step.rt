@@ -26,7 +26,7 @@ pub enum Due {
 pub enum Step {
     /// Bytes become due. After the last step the connection drains.
     Due { due: Due, last: bool },
-    /// The server is asked something. After the last step the connection drains.
+    /// An ask to the server. After the last step the connection drains.
     Asks { ask: Ask, last: bool },
     /// The connection breaks, and the server is told.
     Breaks(Ask),

@@ -30,7 +30,7 @@ takes_turn moves moment u a v b turn notes polls tells none = record {
   calls = are_noted moves notes polls tells none turn.happenings u v turn.leads;
 }
 
--- what is equal has the same
+-- equal values have equal notes
 pub same_of : {A : Type 0} (x y : A) → y ≡ x → (notes : A → NoteState) → notes y ≡ notes x
 same_of x y is notes = ap notes is
 

@@ -89,7 +89,7 @@ impl Begun {
         }
     }
 
-    /// Appends the jobs that were heard to begin. The only error is out of memory, and some may be appended
+    /// Appends the jobs that began by the notes. The only error is out of memory, and some may be appended
     /// then.
     pub(crate) fn add(&mut self, heard: &[LoggedNote]) -> Result<(), AllocError>
         ensures { OnOk result (self.new ≡ self.old ++ flat_map begun_by heard.now) }
@@ -114,7 +114,7 @@ impl Begun {
     }
 }
 
-/// Appends the jobs that were heard to begin.
+/// Appends the jobs that began by the notes.
 fn put_begun(begun: &mut Vec<Started>, heard: &[LoggedNote]) -> Result<(), AllocError>
     ensures { OnOk result (begun.new.items ≡ begun.old.items ++ flat_map begun_by heard.now) }
 {

@@ -23,7 +23,7 @@ use Rattle.text.proofs.Splits.{parts, split_before, split_nowhere, first_is_long
 heard_first_of : (greeted : Bool) (line : List ℕ) (texts next : List ℕ) (more : List (List ℕ)) (parts : List (List ℕ)) → length line < DEVICE_LINE_BYTES → parts ≡ next ∷ more → heard_in greeted (line ∷ parts) ≡ heard_after (report_in greeted line) (heard_in true parts)
 heard_first_of greeted line texts next more parts short cut = rw cut (search (rules, short))
 
--- a whole line is heard before what comes after it
+-- a whole line is heard before the bytes behind it
 pub heard_line : (greeted : Bool) (bytes coming : List ℕ) (count : ℕ) → first_line_of DEVICE_LINE_BYTES bytes ≡ Front.Whole count → heard_in greeted (texts_of (bytes ++ coming)) ≡ heard_after (report_in greeted (take count bytes)) (heard_in true (texts_of (drop (count + 1) bytes ++ coming)))
 heard_line greeted bytes coming count line =
     let later = parts (λ byte. byte == 10) (drop (count + 1) bytes ++ coming) in
@@ -72,7 +72,7 @@ leads_more greeted bytes more (report ∷ reports) next left x = (x.0 ++ more, l
 with_none : (heard : Heard) → with_front [] heard ≡ heard
 with_none heard = refl
 
--- what is heard of bytes: the reports that they say first, and then what is heard of those left
+-- the reports of bytes: the reports that they say first, and then the reports of the bytes that are left
 heard_leads : (greeted : Bool) (bytes coming : List ℕ) (reports : List ReportRecord) (next : Bool) (left : List ℕ) → Leads greeted bytes reports next left → heard_in greeted (texts_of (bytes ++ coming)) ≡ with_front reports (heard_in next (texts_of (left ++ coming)))
 heard_leads greeted bytes coming [] next left x = rw (x.0, x.1) (sym (with_none (heard_in greeted (texts_of (bytes ++ coming)))))
 heard_leads greeted bytes coming (report ∷ reports) next left x =
@@ -142,7 +142,7 @@ stands_still stream given piece reader faulty stands = record {
 
 -- ---- answers
 
--- what a stream says that a reader has read up to its left bytes
+-- the reports of a stream that a reader has read up to the bytes that are left
 heard_so : (stream : List ℕ) (given : List ReportRecord) (next : Bool) (left : List ℕ) (ending : Ending) → Leads false stream given next left → heard_in next (texts_of left) ≡ silence ending → device_reports stream ≡ record { reports = given; ending = ending }
 heard_so stream given next left ending leads is =
     let all : heard_in false (texts_of (stream ++ [])) ≡ with_front given (heard_in next (texts_of (left ++ []))) = heard_leads false stream [] given next left leads in
@@ -150,7 +150,7 @@ heard_so stream given next left ending leads is =
     let none : with_front given (silence ending) ≡ record { reports = given; ending = ending } = ap (λ (r : List ReportRecord). record { reports = r; ending = ending }) (append-nil given) in
     here ∙ ap (λ (h : Heard). with_front given h) is ∙ none
 
--- what a report's line answers
+-- the answer for the line of a report
 pub answers_report : (old : LinkState) (count : ℕ) (report : Report) → old.fault ≡ None → first_line_of DEVICE_LINE_BYTES old.rest ≡ Front.Whole count → report_in old.greeted (take count old.rest) ≡ Some (report_of report) → Answers old (Ok (Some report)) (record { rest = drop (count + 1) old.rest; greeted = true; fault = None })
 answers_report old count report faultless line says stream given stands =
     let same : stands.left ≡ old.rest = subst (λ (f : Option LinkFault). IsLeft f old.greeted old.rest stands.left) faultless stands.kept in
@@ -165,7 +165,7 @@ report_falls bytes count line =
     let within : count < length bytes = search (rules, position-Some (λ byte. byte == 10) bytes count 0 at.0) in
     omega (arith, within, length-drop (count + 1) bytes)
 
--- where a fault stands at the front of what is left
+-- the answer for a fault at the front of the bytes that are left
 fault_stands : (old : LinkState) (fault : LinkFault) → ((left : List ℕ) → IsLeft old.fault old.greeted old.rest left → heard_in old.greeted (texts_of left) ≡ silence (Faulty fault)) → Answers old (Err (Fault fault)) (record old { fault = Some fault })
 fault_stands old fault faulty = (
   refl,
@@ -199,7 +199,7 @@ answers_again old fault faulty =
     subst (λ new. Answers old (Err (Fault fault)) new) same
     (fault_stands old fault (λ left kept. subst (λ (f : Option LinkFault). IsLeft f old.greeted old.rest left) faulty kept))
 
--- where no line is whole
+-- the answer while no line is whole
 pub answers_nothing : (old : LinkState) → old.fault ≡ None → first_line_of DEVICE_LINE_BYTES old.rest ≡ Front.Unfinished → Answers old (Ok None) old
 answers_nothing old faultless begun = (
   refl,
@@ -223,7 +223,7 @@ hears_rest stream coming given reader stands =
 pub first_stays : (stream more : List ℕ) (first : List ReportRecord) → SaysFirst stream first → (later : Heard) × (device_reports (stream ++ more) ≡ with_front first later)
 first_stays stream more first x = (heard_in x.next (texts_of (x.left ++ more)), heard_leads false stream more first x.next x.left x.leads)
 
--- all that a stream says begins with what it says first
+-- the reports of a stream begin with the reports that it says first
 begins_so : (stream : List ℕ) (first : List ReportRecord) → SaysFirst stream first → (later : Heard) × (device_reports stream ≡ with_front first later)
 begins_so stream first x =
     let all = first_stays stream [] first x in

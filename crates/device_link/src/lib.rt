@@ -6,7 +6,7 @@
 //! their lines. The crate opens no connection, and doesn't apply a report to a job or a device.
 //! `docs/DEVICES.md` describes the protocol for authors of adapters.
 //!
-//! Its rows are traces of `play_examples`.
+//! The rows of the crate are traces of `play_examples`.
 #![tactic(auto)]
 
 mod fault;

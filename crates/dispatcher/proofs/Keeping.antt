@@ -45,7 +45,7 @@ use Rattle.listings.specs.Removal.{removed_jobs}
 use Rattle.dispatcher.specs.Step.{StepAt}
 use Rattle.dispatcher.specs.Keeping.{StepKeeps}
 
--- what the room promises of each change
+-- the promises of the room for each change
 pub record RoomKeeps (old : State) : Type 0 where
   pub submits : (now : ℕ) (job : Submission) (incoming : Bool) → AllKeep old (with_job_taken now job incoming old)
   pub sends : (now id : ℕ) (name : List ℕ) (document : DocumentRecord) (last : Bool) → sending_refusal id name (length document.contents) last old ≡ None → AllKeep old (sending now id document last old)
@@ -56,9 +56,9 @@ pub record RoomKeeps (old : State) : Type 0 where
   pub expires : (now : ℕ) → AllKeep old (expiring now old)
   pub reports : (now place : ℕ) (report : Report) (documents : List DocumentRecord) (new : State) → Reports now place report old documents new → KeepsOrEnds place old documents new
 
--- ---- a document is sent only where nothing stands against it
+-- ---- a document is sent only if no check refuses it
 
--- what comes of a first and a second check is what comes of the second, of what the first gives
+-- the result of two checks is the result of the second check on the value of the first
 behind : {A B : Type 0} (first : Result A Rejection) (second : A → Result B Rejection) (made : B) → (first >>= second) ≡ Ok made → (a : A) × (first ≡ Ok a) × (second a ≡ Ok made)
 behind (Ok a) second made is = (a, refl, is)
 behind (Err refusal) second made is = absurd (cc)
@@ -67,7 +67,7 @@ at_last : {A : Type 0} (cause : Option SpoolRefusal) (one made : A) → (unrefus
 at_last None one made is = (refl, cc is)
 at_last (Some why) one made is = absurd (cc)
 
--- the job that a Send-Document names, which takes its document, and what is answered of it
+-- the job that a Send-Document names, which takes its document, and the answer about the job
 pub record IsSent (request : SendDocument) (old : State) (sent : Sent) : Type 0 where
   pub job : JobRecord
   pub named : named_job request.job.target old ≡ Ok job

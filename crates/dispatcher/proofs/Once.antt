@@ -1,4 +1,4 @@
--- An event leads to one state and one reply, and so do two events that say the same.
+-- An event leads to one state and one reply, and so do two events with the same content.
 use Rattle.std.proofs.Common.{◌≡◌, ℕ, true, false, List, [], Option, None, Some, Result, Ok, Err, refl, sym, subst, ◌∙◌, max, slice_get, ap}
 use Rattle.std.specs.Prelude.{MatchOption, MatchResult}
 use Rattle.std.specs.Global.{Vec}
@@ -53,7 +53,7 @@ use Rattle.dispatcher.specs.RemoveJobs.{cancels_of_each, told_of, RemovesJobs}
 use Rattle.dispatcher.specs.Step.{Step, StepAt, TakesNoMemory, TakesNoMemoryAt}
 use Rattle.dispatcher.specs.OneStep.{SameLpdAnswer, SameAnswer, SameReply, SameEnd}
 
--- ---- what is answered
+-- ---- answers
 
 same_answers : (status : Status) (unsupported : List IppAttribute) (groups : List IppGroup) (one other : Response) → IsResponse status unsupported groups one → IsResponse status unsupported groups other → SameAnswer one other
 same_answers status unsupported groups (Ipp one) (Ipp other) a b = record { status = a.0 ∙ sym b.0; unsupported = a.1 ∙ sym b.1; groups = a.2 ∙ sym b.2 }
@@ -69,7 +69,7 @@ same_replies status unsupported groups one other a b = record {
   documents = a.documents ∙ sym b.documents;
 }
 
--- equal answers say the same
+-- equal answers have the same content
 
 same_lpd_self : (one : LpdResponse) → SameLpdAnswer one one
 same_lpd_self (Taken taken) = refl
@@ -91,7 +91,7 @@ lpd_replies said one other a b = record { answer = same_as (Lpd said) one.answer
 
 -- ---- judgments
 
--- what is judged leads to one end, where what it comes to does
+-- a judged request leads to one end, if each result of the judgment does
 judged : {T : Type 0} (r : Result T Rejection) (Comes : T → Effects → State → Type 0) (now : ℕ) (old : State) (one : Effects) (new : State) (other : Effects) (new' : State)
     → MatchResult r (λ x. Comes x one new) (λ refusal. Refuses now old refusal one new)
     → MatchResult r (λ x. Comes x other new') (λ refusal. Refuses now old refusal other new')
@@ -200,7 +200,7 @@ at_once Is.Tick now old one new other new' a b = record {
   reply_is = record { answer = same_as Nothing one.answer other.answer a.unanswered b.unanswered; cancels = a.cancels ∙ sym b.cancels; documents = a.documents ∙ sym b.documents };
 }
 
--- ---- two events that say the same
+-- ---- two events with the same content
 
 -- a job of files
 filed_same : (one other : SubmitFiles) → SameFiles one other → (now : ℕ) (old : State) → filed_of one now old ≡ filed_of other now old
@@ -270,7 +270,7 @@ media_as now place old one other same documents new b = at_device (slice_get old
 reports_as : (now place : ℕ) (old : State) (one other : Report) → report_of one ≡ report_of other → ReportsAs now place old one other
 reports_as now place old one other same = by_report (ReportsAs now place old) (λ report documents new b. b) (media_as now place old) one other same
 
--- ---- whatever says the same
+-- ---- all events with the same content
 
 abbrev EndsAs : Event → Event → Type 0
 EndsAs one other = (now : ℕ) (old : State) (reply : Effects) (new : State) (said : Effects) (after : State) → StepAt one now old reply new → StepAt other now old said after → SameEnd reply new said after
@@ -291,7 +291,7 @@ each_end = record {
 pub same_end : (old : State) (one other : Event) (moment : ℕ) (reply : Effects) (new : State) (said : Effects) (after : State) → SameEvent one other → Step old one moment reply new → Step old other moment said after → SameEnd reply new said after
 same_end old one other moment reply new said after same = by_same EndsAs each_end one other same (max moment old.last) old reply new said after
 
--- what only asks, and what is acted on without memory
+-- queries, and events that are acted on without memory
 
 pub same_query : (one other : Event) → SameEvent one other → is_query one ≡ is_query other
 same_query one other same =

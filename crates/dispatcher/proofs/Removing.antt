@@ -9,7 +9,7 @@ use Rattle.events.specs.declared.effects.Cancel.{Cancel}
 use Rattle.dispatcher.specs.CancelJob.{cancels_of}
 use Rattle.dispatcher.specs.RemoveJobs.{cancels_if_named, cancels_of_each}
 
--- the first of two lists in a row that hold nothing holds nothing
+-- a part of an empty list is empty
 nothing_between : (a b c : List Cancel) → a ++ (b ++ c) ≡ [] → b ≡ []
 nothing_between [] [] c is = refl
 nothing_between [] (y ∷ b) c is = absurd (cc)
@@ -20,7 +20,7 @@ on_err_so (Ok value) holds = tt
 on_err_so (Err error) holds = holds
 
 module _ (place : ℕ) (request : RemoveJobs) (state : State) where
-  -- the cancels for those of the jobs that are named
+  -- the cancels for the named jobs among these jobs
   abbrev each : List SpooledRecord → List Cancel
   each jobs = cancels_of_each (map (λ s. s.job.id) (filter (λ s. is_named place request s.job) jobs)) state
 
@@ -38,14 +38,14 @@ module _ (place : ℕ) (request : RemoveJobs) (state : State) where
       ∙ (ap (λ (y : SpooledRecord). each (y ∷ drop (suc i) items)) (sym is)
       ∙ (ap (λ (n : ℕ). each (x ∷ drop n items)) one ∙ one_more (drop (i + 1) items) x))
 
-  -- those added, and those of the jobs that are left, are all
+  -- the appended cancels and the cancels for the jobs that are left are all cancels
   pub added : (items : List SpooledRecord) (i : ℕ) (x : SpooledRecord) (before new whole : List Cancel) → i < length items → x ≡ get_or items i x → new ≡ before ++ cancels_if_named place request state x.job → before ++ each (drop i items) ≡ whole → new ++ each (drop (i + 1) items) ≡ whole
   added items i x before new whole inside is more all =
       ap (λ (cs : List Cancel). cs ++ each (drop (i + 1) items)) more
       ∙ (append_assoc before (cancels_if_named place request state x.job) (each (drop (i + 1) items))
       ∙ (ap (λ (cs : List Cancel). before ++ cs) (sym (rest_is items i x inside is)) ∙ all))
 
-  -- where one is sent, not none are
+  -- if one cancel is sent, the list of cancels isn't empty
   pub some_sent : (items : List SpooledRecord) (i : ℕ) (x : SpooledRecord) (before whole : List Cancel) → i < length items → x ≡ get_or items i x → cancels_if_named place request state x.job ≢ [] → before ++ each (drop i items) ≡ whole → whole ≢ []
   some_sent items i x before whole inside is some all none =
       some (nothing_between before (cancels_if_named place request state x.job) (each (drop (i + 1) items)) (ap (λ (cs : List Cancel). before ++ cs) (sym (rest_is items i x inside is)) ∙ (all ∙ none)))

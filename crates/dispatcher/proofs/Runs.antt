@@ -1,4 +1,4 @@
--- What a listener is told, one note after the other; a run, and one event more.
+-- The notes of a listener, one after the other; a run, and one event more.
 use Rattle.std.proofs.Common.{◌≡◌, ◌≢◌, ◌<◌, ◌+◌, ℕ, max, Bool, false, Some, None, List, [], ◌∷◌, ◌++◌, length, map, take, get_or, refl, subst, sym, ◌∙◌}
 use Rattle.std.proofs.lemmas.List.{map_more}
 use Rattle.events.specs.declared.effects.Cancel.{Cancel}

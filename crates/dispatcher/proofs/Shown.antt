@@ -1,4 +1,4 @@
--- What a Send-Document is answered is the group of its job as it is after it.
+-- The answer to a Send-Document is the group of its job in the state after it.
 use Rattle.std.proofs.Common.{◌≡◌, ◌==◌, ◌&&◌, ◌∙◌, ℕ, Bool, true, false, cond, List, [], ◌∷◌, length, Option, Some, None, Result, Ok, Err, refl, sym, ap, subst, true≢false}
 use Rattle.std.specs.Prelude.{All, IfSome, not, option_map, MatchResult}
 use Rattle.std.specs.Option.{option_and_then, option_map_or}
@@ -38,9 +38,9 @@ use Rattle.print_room.specs.State.{State}
 use Rattle.print_room.specs.Jobs.{asker_of, sending}
 use Rattle.dispatcher.proofs.Keeping.{IsSent, is_sent}
 
--- ---- the job that it names
+-- ---- the job that the request names
 
--- a job that is found by an id has it
+-- a job that is found by an id has this id
 found_id : (id : ℕ) (jobs : List SpooledRecord) → IfSome (spooled_at id jobs) (λ s. id ≡ s.job.id)
 found_id id [] = tt
 found_id id (s ∷ jobs) = step (id == s.job.id) refl (found_id id jobs)
@@ -85,7 +85,7 @@ known : (o : Option JobRecord) (job : JobRecord) → option_map_or Ok o (Err (re
 known None job is = absurd (cc)
 known (Some one) job is = let same : one ≡ job = cc is in ap Some same
 
--- ---- its documents are still to come
+-- ---- the documents of the job are still to come
 
 still_to_come : (asker : AskerRecord) (octets : ℕ) (last : Bool) (s : SpooledRecord) → document_refusal asker octets last (Some s) ≡ None → s.job.incoming ≡ true
 still_to_come asker octets last s free = at (asking_refusal asker (Some s)) s.job.incoming (adds octets last && is_too_large octets s.job) free
@@ -104,7 +104,7 @@ held_back Canceled held on fits = absurd (true≢false fits)
 held_back Aborted held on fits = absurd (true≢false fits)
 held_back Completed held on fits = absurd (true≢false fits)
 
--- a job that comes in stands under the id of this one, and is shown as this one is
+-- the spool has an incoming job under the id of this job, and shows it as it shows this job
 record ComesIn (job : JobRecord) (jobs : List SpooledRecord) : Type 0 where
   spooled : SpooledRecord
   there : spooled_at job.id jobs ≡ Some spooled
@@ -125,9 +125,9 @@ comes_in asker octets last jobs job sound in_jobs free =
       alike = λ old last. ap (λ (j : JobRecord). sent_group old j last) in_jobs.job_is;
     }
 
--- ---- what it is shown as
+-- ---- the group of the job
 
--- the group of a job as it is
+-- the group of a job in the present state
 abbrev group_now : State → JobRecord → IppGroup
 group_now now job = created_group now.settings.uri_base job (paused_at now.paused job.needs.printer)
 
@@ -138,7 +138,7 @@ closed_shown : (old : State) (now : ℕ) (s : SpooledRecord) (held : Bool) → s
 closed_shown old now s true held state incoming = rw (state, incoming, held) refl
 closed_shown old now s false held state incoming = rw (state, incoming, held) refl
 
--- with the document it is a job that comes in still
+-- with the document, the job is still incoming
 with_it : (added : Bool) (document : DocumentRecord) (now : ℕ) (jobs : List SpooledRecord) (job : JobRecord) → ComesIn job jobs → ComesIn job (with_document added job.id document now jobs)
 with_it true document now jobs job comes =
     record {
@@ -150,7 +150,7 @@ with_it true document now jobs job comes =
     }
 with_it false document now jobs job comes = comes
 
--- and is then shown as it is, whether that was the last or not
+-- the job is then shown in its present state, whether the document was the last or not
 record ShownIn (old : State) (job : JobRecord) (last : Bool) (jobs : List SpooledRecord) : Type 0 where
   spooled : SpooledRecord
   there : spooled_at job.id jobs ≡ Some spooled
@@ -166,7 +166,7 @@ once_closed true old now jobs job comes =
 once_closed false old now jobs job comes =
     record { spooled = comes.spooled; there = comes.there; shown = coming_shown old comes.spooled.job comes.state comes.incoming ∙ comes.alike old false }
 
--- ---- what it is answered
+-- ---- the answer
 
 job_shown : (request : SendDocument) (now : ℕ) (document : DocumentRecord) (old : State) (sent : Sent) → IsSpool old.spool → IsSent request old sent → IsShown sent.job sent.groups (sending now sent.job document request.last old)
 job_shown request now document old sent spool is =

@@ -11,7 +11,7 @@ use job_template::RequestAttributes;
 use print_room::PrintRoom;
 use std::alloc::Global;
 
-/// Holds or releases a job, by job-hold-until, or responds with the rejection. It takes no memory.
+/// Holds or releases a job, by job-hold-until, or responds with the rejection. The call takes no memory.
 pub(crate) fn hold_job(
     alloc: Global,
     room: &mut PrintRoom,
@@ -53,7 +53,7 @@ fn hold(
     }
 }
 
-/// Releases a job, or responds with the rejection. It takes no memory.
+/// Releases a job, or responds with the rejection. The call takes no memory.
 pub(crate) fn release_job(
     alloc: Global,
     room: &mut PrintRoom,

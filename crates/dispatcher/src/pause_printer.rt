@@ -9,7 +9,7 @@ use events::{Effects, PrinterRequest};
 use print_room::PrintRoom;
 use std::alloc::Global;
 
-/// Pauses a printer or ends its pause, or responds with the rejection. It takes no memory.
+/// Pauses a printer or ends its pause, or responds with the rejection. The call takes no memory.
 pub(crate) fn set_paused(
     alloc: Global,
     room: &mut PrintRoom,

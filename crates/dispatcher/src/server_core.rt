@@ -72,8 +72,8 @@ impl<P: Planner + Drop> Core<P> {
     }
 
     /// The jobs that began with the last plan, by device. Until the next dispatch they can be read with
-    /// [`Core::job`] and [`Core::documents`], once the borrow of the dispatch's own result has ended. It
-    /// takes no memory.
+    /// [`Core::job`] and [`Core::documents`], once the borrow of the dispatch's own result has ended. The
+    /// call takes no memory.
     pub fn begun(&self) -> &[Started]
         ensures { result.now ≡ self.now.begun }
     {
@@ -87,21 +87,21 @@ impl<P: Planner + Drop> Core<P> {
         self.room.settings()
     }
 
-    /// The job of an id, if it is kept. It takes no memory.
+    /// The job of an id, if it is kept. The call takes no memory.
     pub fn job(&self, id: JobId) -> Option<&Job>
         ensures { option_copied result ≡ job_at id self.now.spool.jobs }
     {
         self.room.spool().get(id)
     }
 
-    /// The state of the device at a place of the settings. It takes no memory.
+    /// The state of the device at a place of the settings. The call takes no memory.
     pub fn device(&self, id: DeviceId) -> Option<&DeviceNow>
         ensures { option_copied result ≡ slice_get self.now.devices id }
     {
         self.room.devices().get(id.place())
     }
 
-    /// The documents of a job, until they are handed out or dropped. It takes no memory.
+    /// The documents of a job, until they are handed out or dropped. The call takes no memory.
     pub fn documents(&self, id: JobId) -> Option<&[Document]>
         ensures { option_map (λ d. d.now) result ≡ option_map (λ s. s.documents) (spooled_at id self.now.spool.jobs) }
     {

@@ -11,7 +11,7 @@ use job_template::RequestAttributes;
 use print_room::PrintRoom;
 use std::alloc::Global;
 
-/// Takes the step of a Validate-Job request. It takes no memory.
+/// Takes the step of a Validate-Job request. The call takes no memory.
 pub(crate) fn validate_job(
     alloc: Global,
     room: &mut PrintRoom,

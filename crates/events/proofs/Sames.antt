@@ -1,4 +1,4 @@
--- What holds of two events that say the same, by what they say.
+-- Properties of two events with the same content, by the kind of content.
 use Rattle.std.specs.Prelude.{ℕ, ◌≡◌, Bool, true, false, List, []}
 use Rattle.std.specs.Global.{Vec}
 use Rattle.std.proofs.Common.{refl, sym, ap, subst}
@@ -44,7 +44,7 @@ by_report P equal media one other is = let same : one ≡ other = ap plain_repor
 
 -- ---- events
 
--- what is to be shown of two events that say the same
+-- the property to be shown of two events with the same content
 pub record OfEach (P : Event → Event → Type 0) : Type 0 where
   pub equal : (event : Event) → P event event
   pub files : (one other : SubmitFiles) → SameFiles one other → P (Is.SubmitFiles one) (Is.SubmitFiles other)

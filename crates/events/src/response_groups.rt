@@ -31,7 +31,7 @@ impl Model for ResponseGroups {
 }
 
 impl ResponseGroups {
-    /// Creates an empty list. It takes no memory.
+    /// Creates an empty list. The call takes no memory.
     pub fn new(alloc: Global) -> ResponseGroups
         ensures { result ≡ [] }
     {

@@ -13,7 +13,7 @@ use Rattle.httparse.specs.Pieces.{Piece, Begins, Then, Stops, is_newline, Bytes,
 use Rattle.httparse.proofs.PieceLemmas.{IsDeterministic, Newline_deterministic, Blank_deterministic, Word_deterministic, Method_deterministic, Target_deterministic, Version_deterministic, Name_deterministic, FieldLine_deterministic, RequestStart_deterministic, Bytes_deterministic, newline_not_stopped, FieldLine_parts, print_field-append}
 use Rattle.httparse.proofs.ChunkLemmas.{Run_deterministic, HexDigits_deterministic}
 
--- it is so, or it isn't
+-- a proposition holds, or it doesn't
 abbrev pub Decided : Type 0 → Type 0
 Decided P = P ⊎ (P → ⊥)
 
@@ -155,7 +155,7 @@ version_by text (inr none) (inr one) = inr (λ x. no_version text none one x.0 x
 
 -- ---- the empty lines before it
 
--- what is blank begins with a line end, or with what stops it
+-- a blank text begins with a line end, or with an octet that stops it
 no_blank : (text : List ℕ) → (Stops is_newline text → ⊥) → ((end : LineEnd) (middle : List ℕ) → Newline end text middle → Begins Blank middle → ⊥) → (ends : List LineEnd) (rest : List ℕ) → Blank ends text rest → ⊥
 no_blank text none later [] rest x = none (subst (λ (t : List ℕ). Stops is_newline t) (sym x.0) x.1)
 no_blank text none later (end ∷ ends) rest x = later end (print_blank ends ++ rest) (x.0 ∙ append_assoc (print_end end) (print_blank ends) rest) (ends, rest, (refl, x.1))
@@ -180,7 +180,7 @@ blank_later text end middle reads (inr none) = inr (
     (λ e m here more. none (subst (λ (t : List ℕ). Begins Blank t) (Newline_deterministic.unique e end text m middle here reads).1 more)) x.0 x.1 x.2
     )
 
--- where no line end is
+-- the decision for a text that doesn't begin with a line end
 blank_here : (text : List ℕ) → (Begins Newline text → ⊥) → Decided (Stops is_newline text) → Decided (Begins Blank text)
 blank_here text none (inl stops) = inl ([], text, (refl, stops))
 blank_here text none (inr ends) = inr (λ x. no_blank text ends (λ e m here more. none (e, m, here)) x.0 x.1 x.2)
@@ -231,7 +231,7 @@ section_head g gs last text rest x = (
       ∙ append_assoc (print_field g) (flat_map print_field gs ++ print_end last) rest,
 )
 
--- what a section begins with, if it does
+-- the cases in which a text begins with a section
 no_section : (text : List ℕ) → (Begins Newline text → ⊥) → ((f : Field) (middle : List ℕ) → FieldLine f text middle → Begins Section middle → ⊥) → (fields : List Field) (last : LineEnd) (rest : List ℕ) → Section (fields, last) text rest → ⊥
 no_section text none later [] last rest x = none (last, rest, x.1)
 no_section text none later (f ∷ fields) last rest x =

@@ -1,4 +1,4 @@
--- Where a reader stands after a piece, and what it will hear.
+-- The place of a reader in its stream after a piece, and the elements that it will give.
 use Rattle.std.specs.Prelude.{ℕ, suc, zero, ◌≡◌, ◌⊎◌, ◌≤◌, ◌-◌, List, [], ◌∷◌, ◌++◌, length, map, take, drop, Result, Ok, Err, OnOk}
 use Rattle.std.proofs.Common.{arith, refl, subst, sym, ap, inl, inr}
 use Rattle.std.specs.declared.alloc.AllocError.{AllocError}
@@ -21,7 +21,7 @@ stands_fed stream given piece reader stands = record {
   kept = kept_fed reader stands.left piece stands.kept;
 }
 
--- where nothing counts any more
+-- a reader that awaits nothing
 pub stands_still : (stream : List ℕ) (given : List Said) (piece : List ℕ) (reader : HttpState) → IsOver reader → Stands stream given reader → Stands (stream ++ piece) given reader
 stands_still stream given piece reader over stands = record {
   left = stands.left ++ piece;
@@ -33,7 +33,7 @@ pub fed_by : (old new : HttpState) (piece : List ℕ) (answer : Result (Unit {0}
 fed_by old new piece (Ok done) is = λ stream given stands. subst (λ n. Stands (stream ++ piece) given n) (sym is) (stands_fed stream given piece old stands)
 fed_by old new piece (Err error) is = tt
 
--- laws of what was given
+-- laws of the elements that were given
 
 nothing_in : (steps : ℕ) (bytes other : List ℕ) (said : List Said) → SaysIn steps Nothing bytes said → SaysIn steps Nothing other said
 nothing_in zero bytes other said says = says

@@ -1,4 +1,4 @@
--- What one step of a reader came to, by what stands at the front.
+-- The result of one step of a reader, by the front of its bytes.
 use Rattle.std.specs.Prelude.{ℕ, ◌≡◌, ◌+◌, ◌-◌, ◌<◌, ◌≤◌, ◌==◌, nat_le, Bool, true, false, List, [], ◌∷◌, ◌++◌, length, take, drop, Option, Some, None, Result, Ok, Err}
 use Rattle.std.proofs.Common.{rules, arith, refl, subst, sym, ap, ◌∙◌}
 use Rattle.std.proofs.lemmas.List.{length-drop}
@@ -25,7 +25,7 @@ use Rattle.http_front.specs.Stream.{Said, is_last, HasHead, Invites, EndsBody, I
 use Rattle.http_front.proofs.Steps.{advance}
 use Rattle.http_front.proofs.Sections.{section_within, section_some}
 
--- the reader goes on behind so many bytes
+-- the reader behind this number of bytes
 abbrev pub behind : HttpState → ℕ → Awaited → HttpState
 behind old count next = record { part = []; rest = drop count old.rest; awaited = next }
 
@@ -35,7 +35,7 @@ goes old awaited said count next is front = advance old said (behind old count n
 shorter : (bytes : List ℕ) (count : ℕ) → 0 < count → count ≤ length bytes → length (drop count bytes) < length bytes
 shorter bytes count some within = omega (arith, some, within, length-drop count bytes)
 
--- nothing but the rank falls
+-- a step that lowers only the rank
 lower : (old : HttpState) (awaited : Awaited) (count : ℕ) (next : Awaited) → old.awaited ≡ awaited → rank next < rank awaited → work (behind old count next) < work old
 lower old awaited count next is less =
     let was : rank old.awaited ≡ rank awaited = ap rank is in

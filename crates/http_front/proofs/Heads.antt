@@ -1,4 +1,4 @@
--- What the parser of heads found, and what that means.
+-- The results of the parser of heads, and their meanings.
 use Rattle.std.specs.Prelude.{ℕ, ◌≡◌, ◌+◌, ◌<◌, ◌⊎◌, List, [], length, drop, Err}
 use Rattle.std.proofs.Common.{arith, refl, sym, ap, ◌∙◌, inl, inr, length-append}
 use Rattle.std.proofs.lemmas.List.{length-map}

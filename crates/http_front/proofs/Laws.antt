@@ -1,4 +1,4 @@
--- A stream says one thing, and what it says stays at the front where more comes.
+-- A stream has one reading, and its elements stay at the front if more bytes come.
 use Rattle.std.specs.Prelude.{ℕ, suc, zero, ◌≡◌, ◌+◌, ◌==◌, ◌≤◌, nat_le, if◌then◌else◌, Bool, true, false, MatchBool, List, [], ◌∷◌, ◌++◌, length, map, take, drop, Option, Some, None, Result, Ok, Err}
 use Rattle.std.proofs.Common.{arith, refl, subst, sym, ap, ◌∙◌, inl, inr}
 use Rattle.std.proofs.lemmas.List.{append_assoc, length-append, take-append-le, drop-append-le}
@@ -180,7 +180,7 @@ stays_in (suc n) (suc m) awaited bytes more given next left said x y =
     let later = stays_in n m x.2 x.1 more x.3 next left y.3 x.6 tail in
     (later.0, y.5 ∙ ap (λ s. s ++ y.3) (sym same.0) ∙ ap (λ s. x.0 ++ s) later.1 ∙ sym (append_assoc x.0 x.3 later.0) ∙ ap (λ s. s ++ later.0) (sym x.5))
 
--- what all of the bytes say they say first
+-- the elements that all of the bytes say are said first
 pub said_first : (n : ℕ) (awaited : Awaited) (bytes : List ℕ) (said : List Said) → SaysIn n awaited bytes said → (next : Awaited) × (left : List ℕ) × LeadsIn n awaited bytes said next left
 said_first zero awaited bytes said x = (awaited, bytes, (x.0, refl, refl))
 said_first (suc n) awaited bytes said x =

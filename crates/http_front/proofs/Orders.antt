@@ -1,4 +1,4 @@
--- What a stream says is in the order of exchanges.
+-- The elements of a stream are in the order of exchanges.
 use Rattle.std.specs.Prelude.{ℕ, suc, zero, ◌≡◌, ◌+◌, ◌-◌, ◌≤◌, ◌==◌, nat_le, if◌then◌else◌, Bool, true, false, MatchBool, List, [], ◌∷◌, ◌++◌, drop, Option, Some, None, Result, Ok, Err}
 use Rattle.std.proofs.Common.{arith, refl, subst, sym, ap, ◌∙◌, zero-add}
 use Rattle.text.specs.FirstLine.{first_line_of}
@@ -22,9 +22,9 @@ use Rattle.http_front.specs.Stream.{Said, HasHead, Invites, HasByte, EndsBody, I
 use Rattle.http_front.specs.Order.{Place, Between, Headed, Within, in_order, is_none}
 use Rattle.http_front.proofs.Laws.{goes_is}
 
--- what may be awaited at a place
+-- the parts that may be awaited at a place
 
--- so many bytes of a body were told, or will be before this follows
+-- this number of bytes of a body were said, or will be said before `following` comes
 abbrev BodyAllows : Bool → ℕ → Following → Type 0
 BodyAllows closes total (Close last) = last ≡ is_last closes total
 BodyAllows closes total (Chunk room also) = (also ≡ closes) × (total + room ≡ HTTP_BODY_BYTES)
@@ -41,7 +41,7 @@ Allows (Within closes told) (Size room also) = (also ≡ closes) × (told + room
 Allows (Within closes told) (Trailer last) = last ≡ is_last closes told
 Allows place awaited = ⊥
 
--- what follows is in order wherever it may stand
+-- the later elements are in order at each place that the awaited part allows
 abbrev Later : Awaited → List Said → Type 0
 Later next later = ((place : Place) → Allows place next → in_order place later ≡ true) × (next ≡ Nothing → later ≡ [])
 
@@ -99,7 +99,7 @@ at_head_order (byte ∷ bytes) said rest next x later ok =
     (λ is. goes_order Between [] bytes Head (λ later ok. ok.0 Between tt) said rest next is later ok)
     (λ is. head_order (byte ∷ bytes) (section_in HTTP_HEAD_BYTES (byte ∷ bytes)) said rest next is later ok) x
 
--- a place within an exchange, of which so many bytes were told
+-- a place within an exchange, of whose body `told` bytes were said
 record Inside (place : Place) (closes : Bool) (told : ℕ) : Type 0 where
   allows : (awaited : Awaited) → Allows (Within closes told) awaited → Allows place awaited
   ends : (later : List Said) → (if is_last closes told then is_none later else in_order Between later) ≡ true → in_order place (EndsBody ∷ later) ≡ true

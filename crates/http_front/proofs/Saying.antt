@@ -1,4 +1,4 @@
--- What a request says, told from what was written.
+-- The elements of a request, from its written form.
 use Rattle.std.proofs.Common.{◌≡◌, ◌<◌, ◌≤◌, ◌+◌, ◌-◌, arith, ℕ, zero, suc, Bool, true, false, List, [], ◌∷◌, ◌++◌, length, take, drop, refl, sym, ◌∙◌, ap, subst, append_assoc, length-append, Option, Some, None, Ok}
 use Rattle.std.specs.Prelude.{◌==◌, ◌&&◌, not, nat_lt, nat_le, cond, if◌then◌else◌, map, position, MatchBool}
 use Rattle.std.specs.List.{flat_map, prefix_len}
@@ -44,7 +44,7 @@ empty_more (first ∷ []) (second ∷ ys) is = by (first == 10) refl is
     by false same more = cc
 empty_more (first ∷ second ∷ xs) ys is = refl
 
--- it ends where it ended
+-- an empty line ends at the same place if more bytes follow
 end_more : (begins : Bool) (place : ℕ) (xs ys : List ℕ) (end : ℕ) → empty_line_end begins place xs ≡ Some end → empty_line_end begins place (xs ++ ys) ≡ Some end
 end_more begins place [] ys end is = cc
 end_more begins place (byte ∷ xs) ys end is = by (begins && nat_lt 0 (empty_line (byte ∷ xs))) refl (λ later. end_more (byte == 10) (place + 1) xs ys end later) is
@@ -56,14 +56,14 @@ end_more begins place (byte ∷ xs) ys end is = by (begins && nat_lt 0 (empty_li
     both true t p = p
     both false t p = cc
 
-    -- where a line is empty
+    -- the case of an empty line
     found : begins && nat_lt 0 (empty_line (byte ∷ xs)) ≡ true → Some (place + empty_line (byte ∷ xs)) ≡ Some end → empty_line_end begins place (byte ∷ (xs ++ ys)) ≡ Some end
     found same it =
         let more : empty_line (byte ∷ (xs ++ ys)) ≡ empty_line (byte ∷ xs) = empty_more (byte ∷ xs) ys (both begins (nat_lt 0 (empty_line (byte ∷ xs))) same) in
         ap (λ (n : ℕ). if begins && nat_lt 0 n then Some (place + n) else empty_line_end (byte == 10) (place + 1) (xs ++ ys)) more
         ∙ (ap (λ (t : Bool). if t then Some (place + empty_line (byte ∷ xs)) else empty_line_end (byte == 10) (place + 1) (xs ++ ys)) same ∙ it)
 
-    -- where none is, and more follows
+    -- the case of a line that isn't empty, with more bytes behind it
     none : (zs : List ℕ) → xs ≡ zs → Later → begins && nat_lt 0 (empty_line (byte ∷ xs)) ≡ false → empty_line_end (byte == 10) (place + 1) xs ≡ Some end → empty_line_end begins place (byte ∷ (xs ++ ys)) ≡ Some end
     none [] same more out it = absurd (nothing (empty_line_end (byte == 10) (place + 1) xs) (ap (empty_line_end (byte == 10) (place + 1)) same) it)
       where
@@ -212,7 +212,7 @@ at_size line more size room closes is =
     subst (λ (l : FirstLine). SizeIn (line ++ more) room closes l (sized (Some size) room closes more)) (sym (line_more HTTP_CHUNK_LINE_BYTES is.place line more is.whole))
     (Some size, subst (λ (bytes : List ℕ). IsSizeOf bytes (Some size)) (sym (take_line line more is.place is.ends)) is.is, ap (sized (Some size) room closes) (sym (drop_line line more is.place is.ends)))
 
--- a piece is so many bytes
+-- the size line of a piece leads to a body of its size
 at_piece : (size room : ℕ) (closes : Bool) (more : List ℕ) → 0 < size → size ≤ room → sized (Some size) room closes more ≡ Goes [] more (Body size (Chunk (room - size) closes))
 at_piece size room closes more some fits =
     ap (λ (t : Bool). if t then Goes [] more (Trailer (is_last closes (HTTP_BODY_BYTES - room))) else if nat_le size room then Goes [] more (Body size (Chunk (room - size) closes)) else refused ContentTooLarge more) (is_some size some)
@@ -224,7 +224,7 @@ at_piece size room closes more some fits =
     is_within : (n m : ℕ) → n ≤ m → nat_le n m ≡ true
     is_within n m less = grind (arith, nat_tests, less)
 
--- and the end of a chunk
+-- a piece with its size line and the end of its chunk
 says_piece : (line octets more : List ℕ) (room : ℕ) (closes : Bool) (later : List Said) → IsSizeLine line (length octets) → 0 < length octets → length octets ≤ room → Says (Size (room - length octets) closes) more later
     → Says (Size room closes) (line ++ (octets ++ 13 ∷ 10 ∷ more)) (map HasByte octets ++ later)
 says_piece line octets more room closes later is some fits it =
@@ -235,7 +235,7 @@ says_piece line octets more room closes later is some fits it =
 piece_joined : (piece : Piece) (rest : List ℕ) → piece_bytes piece ++ rest ≡ piece.line ++ (piece.octets ++ 13 ∷ 10 ∷ rest)
 piece_joined piece rest = append_assoc piece.line (piece.octets ++ 13 ∷ 10 ∷ []) rest ∙ ap (λ (bytes : List ℕ). piece.line ++ bytes) (append_assoc piece.octets (13 ∷ 10 ∷ []) rest)
 
--- all pieces, and then what is awaited with the room that is left
+-- all pieces, and then the part that is awaited with the room that is left
 says_pieces : (pieces : List Piece) (rest : List ℕ) (room : ℕ) (closes : Bool) (later : List Said) → ArePieces room pieces → Says (Size (room - length (octets_of pieces)) closes) rest later → Says (Size room closes) (flat_map piece_bytes pieces ++ rest) (map HasByte (octets_of pieces) ++ later)
 says_pieces [] rest room closes later are it = subst (λ (n : ℕ). Says (Size n closes) rest later) (none room) it
   where

@@ -1,11 +1,11 @@
--- What the first empty line tells, also where more bytes follow.
+-- The result for the first empty line stays the same if more bytes follow.
 use Rattle.std.specs.Prelude.{ℕ, suc, zero, ◌==◌, ◌&&◌, ◌≡◌, ◌++◌, ◌+◌, ◌<◌, ◌≤◌, Bool, true, false, nat_lt, if◌then◌else◌, List, [], ◌∷◌, length, take, Option, Some, None}
 use Rattle.std.proofs.Common.{arith, refl, ap, ◌∙◌}
 use Rattle.std.proofs.lemmas.List.{take-append-le, length-append, length-take}
 use Rattle.text.specs.declared.line.FirstLine.TheVariants.{Whole, TooLong}
 use Rattle.http_front.specs.Section.{empty_line, empty_line_end, section_of, section_in}
 
--- where an empty line ends, it ends there where more follows
+-- an empty line ends at the same place if more bytes follow
 one_grown : (first : ℕ) (coming : List ℕ) (begins : Bool) (place end : ℕ) → empty_line_end begins place (first ∷ []) ≡ Some end → empty_line_end begins place (first ∷ coming) ≡ Some end
 one_grown first [] begins place end is = is
 one_grown first (second ∷ coming) begins place end is = grind (arith, is)
@@ -57,7 +57,7 @@ end_above (byte ∷ bytes) begins place end is =
     let later = end_above bytes (byte == 10) (place + 1) end in
     grind (arith, is, later)
 
--- it has a byte
+-- a section has at least one byte
 pub section_some : (most : ℕ) (bytes : List ℕ) (end : ℕ) → section_in most bytes ≡ Whole end → 0 < end
 section_some most bytes end is = end_above (take most bytes) true 0 end (whole_by most (length bytes) end (empty_line_end true 0 (take most bytes)) is)
 

@@ -53,7 +53,7 @@ pub advances_then : (old mid new : HttpState) (said : List Said) → Advances ol
 advances_then old mid new said first second stream given stands =
     second stream given (subst (λ g. Stands stream g mid) (append-nil given) (first stream given stands))
 
--- where it is not known yet what stands at the front
+-- the front is not known yet
 
 waits_in : (old : HttpState) (left : List ℕ) → FrontIs old.awaited old.rest Waits → (IsOver old ⊎ (left ≡ old.rest)) → FrontIs old.awaited left Waits
 waits_in old left waits (inl over) = subst (λ (a : Awaited). FrontIs a left Waits) (sym over) refl

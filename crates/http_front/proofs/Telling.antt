@@ -32,7 +32,7 @@ use Rattle.http_front.proofs.Fronts.{behind, rank_passed, waits_blank, passes_bl
 use Rattle.http_front.proofs.Steps.{tells_all, lends, lends_less}
 use Rattle.http_front.proofs.Deciding.{Decided, request_decides, chunk_decides}
 
--- ---- what a head asks
+-- ---- the request of a head
 
 asks_in : (bytes : List ℕ) (head : RequestHead) → ReadsRequest bytes head [] → (few : Bool) → nat_le (length head.fields) HTTP_FIELDS ≡ few → (asked : Result Request HttpRejection) × Asks bytes asked
 asks_in bytes head reads true few = (judged head.method head.minor (map name_and_value head.fields), inl (head, (reads, grind (arith, few)), refl))

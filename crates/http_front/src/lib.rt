@@ -2,10 +2,11 @@
 //! pieces of any length, and the heads of the replies.
 //!
 //! An [`HttpReader`] gives exactly the exchanges of the whole stream that it was fed, in order, up to the
-//! last: a request that is refused, one that closes the connection, or one whose body is too short for an IPP
-//! message. The crate reads nothing else of the bodies, and replies to no request by itself.
+//! last exchange. The last exchange is a request that is refused, a request that closes the connection, or a
+//! request whose body is too short for an IPP message. The crate reads nothing else of the bodies, and
+//! replies to no request by itself.
 //!
-//! Its rows are traces of `play_examples`.
+//! The rows of the crate are traces of `play_examples`.
 #![tactic(auto)]
 
 mod after;

@@ -106,8 +106,8 @@ impl HttpReader {
         &self.unread.bytes()[..self.lent]
     }
 
-    /// Returns how many bytes of a body come next: what is left of a body that has a length, or of a chunk.
-    /// Returns 0 if something else comes next.
+    /// The number of bytes of a body that come next: the rest of a body with a length, or the rest of a
+    /// chunk. It is 0 if another part comes next.
     pub fn body_left(&self) -> u32
         ensures { result ≡ body_left self.now.awaited }
     {

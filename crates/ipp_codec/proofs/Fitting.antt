@@ -1,4 +1,4 @@
--- Elements that may follow one another make groups that have a spelling, and what has begun can be ended.
+-- Elements that may follow one another make groups that have a spelling, and each beginning of groups can be ended.
 use Rattle.std.proofs.Common.{◌≡◌, ◌≢◌, ℕ, zero, suc, ◌-◌, ◌<◌, List, [], ◌∷◌, ◌++◌, length, refl, sym, ap, subst, ◌∙◌, arith, inl, inr}
 use Rattle.std.specs.List.{AllByRecursion}
 use Rattle.base_types.specs.declared.limits.TheConstants.Limits.{COLLECTION_DEPTH}
@@ -11,7 +11,7 @@ use Rattle.ipp_codec.specs.Place.{depth, after_value, after, place_from, Follows
 use Rattle.ipp_codec.specs.Shown.{Level, add, add_member, top, below, before, levels_of}
 use Rattle.ipp_codec.proofs.Tree.{spelled, Closed, spelled_again, top_is, inner_nameless, depth-after_value, member_depth, behind_members}
 
--- The levels have a spelling, where so many lie inside collections.
+-- The levels have a spelling, where this number of them lie inside collections.
 pub Fit : ℕ → List Level → Type 0
 Fit zero ls = AreValues COLLECTION_DEPTH (values_of (top ls).values) × AllByRecursion IsAttribute (top ls).attributes × AllByRecursion IsGroup (top ls).groups
 Fit (suc d) ls = AreValues (COLLECTION_DEPTH - suc d) (values_of (top ls).values) × AreMembers (COLLECTION_DEPTH - suc d) (top ls).members × Fit d (below ls)
@@ -99,7 +99,7 @@ groups_only es follows closed =
     let first = top_is Outside es follows closed in
     (only_groups (levels_of es) es first.0 first.1 (spelled_again Outside es follows closed), Fit-groups (levels_of es) (fits_again Outside es follows closed))
 
--- ---- what has begun can be ended
+-- ---- each beginning can be ended
 
 abbrev Ends : Place → Type 0
 Ends place = (es : List Element) × Follows place es × Closed place es
@@ -144,7 +144,7 @@ pub Follows-front : (place : Place) (es fs : List Element) → Follows place (es
 Follows-front place [] fs follows = tt
 Follows-front place (e ∷ es) fs follows = (follows.0, Follows-front (after place e) es fs follows.1)
 
--- What may follow one another from the start begins the elements of groups.
+-- Elements that may follow one another from the start are a front of the elements of groups.
 pub can_end : (es : List Element) → Follows Outside es → (behind : List Element) × Follows Outside (es ++ behind) × Closed Outside (es ++ behind)
 can_end es follows =
     let rest = end_of (place_from Outside es) in

@@ -80,13 +80,13 @@ split_header bytes code id fits long code-is id-is = absurd (omega (arith, long)
 pub behind : (bytes : List ℕ) → take (length bytes - 8) (drop 8 bytes) ≡ drop 8 bytes
 behind bytes = take_rest bytes 8
 
--- what a walk behind the header comes to
+-- the result of a walk behind the header
 pub lengths : (bytes : List ℕ) (len : ℕ) → IsBytes bytes → 8 ≤ length bytes → Walks (drop 8 bytes) (Ok len) → Lengths bytes (Ok (8 + len + 1))
 lengths bytes len fits long walks =
     let split = split_header bytes _ _ fits long refl refl in
     head_found bytes (drop 8 bytes) _ _ _ _ len split.0 split.1 walks
 
--- the same for a fault
+-- the result of a walk with a fault
 pub failed : (bytes : List ℕ) (f : CodecFault) → IsBytes bytes → 8 ≤ length bytes → Walks (drop 8 bytes) (Err f) → FirstFault bytes f
 failed bytes f fits long walks =
     let split = split_header bytes _ _ fits long refl refl in

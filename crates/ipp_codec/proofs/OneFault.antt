@@ -11,7 +11,7 @@ use Rattle.ipp_codec.specs.Reading.{fields_at}
 use Rattle.ipp_codec.proofs.Parts.{Fields, no_both}
 use Rattle.ipp_codec.proofs.Unique.{Unread, field_faults, cut_short, too_long, whole_fields}
 
--- what stands where a fault is, by its first byte
+-- the part at a fault, by its first byte
 data Met (place : Place) (part : List ℕ) (f : CodecFault) : Type 0 where
   missing : part ≡ [] → f ≡ Short → Met place part f
   bad_tag : AtTag part (IsBadTag place) → f ≡ BadTag → Met place part f
@@ -52,7 +52,7 @@ one_excess place (opening tag) f g a b = absurd a
 one_excess place (named name) f g a b = absurd a
 one_excess place finish f g a b = absurd a
 
--- what a broken rule says, without its fault
+-- the content of a broken rule, without its fault
 data Breach (place : Place) (tag : ℕ) (name bytes : List ℕ) (f : CodecFault) : Type 0 where
   loose : IsLoose place name → f ≡ LooseValue → Breach place tag name bytes f
   misplaced : ¬ (IsLoose place name) → ((e : Element) → kind_of tag name bytes ≡ Some e → ¬ (Takes place e)) → f ≡ BadCollection → Breach place tag name bytes f

@@ -1,4 +1,4 @@
--- Elements at the front of bytes: what is read is what was written, and what was written is read again.
+-- Elements at the front of bytes: an element that is read is the element that was written, and a written element is read again.
 use Rattle.std.proofs.Common.{◌≡◌, ◌≢◌, ℕ, ◌<◌, ◌≤◌, Bool, true, false, ltb, eqb, List, [], ◌∷◌, ◌++◌, length, Option, Some, None, option_map, Result, Ok, Err, refl, sym, ap, subst, ◌∙◌, append_assoc, arith, inl, inr, ◌⊎◌, IsTrue, ◌↔◌}
 use Rattle.std.proofs.lemmas.Bool.{le-ltb, eqb-true, eqb-false, ne_eqb, lt-ltb}
 use Rattle.std.proofs.lemmas.List.{append-nil, nil_from_length, length-append}
@@ -87,7 +87,7 @@ no_text bytes a r f e g w =
     let rest : counted b.1 ≡ r = ap (λ (p : List ℕ × List ℕ). p.1) same in
     no_both (counted_at r) (b.1, []) f (subst (λ (t : List ℕ). counted_at t ≡ Ok (b.1, [])) rest b.3) g
 
--- what is left behind the text
+-- no byte is left behind the text
 pub nothing_left : (bytes a r b s : List ℕ) → counted_at bytes ≡ Ok (a, r) → counted_at r ≡ Ok (b, s) → IsWithLanguage bytes → s ≡ []
 nothing_left bytes a r b s e f w =
     let x = with_language_again bytes w in
@@ -178,7 +178,7 @@ finish_form = record { kind = refl; spelled = refl; tag_from = omega arith; tag_
 plain_form : (tag : ℕ) (name bytes : List ℕ) → length name < 0x8000 → IsPlain tag bytes → IsForm (plainly tag name bytes) tag name bytes
 plain_form tag name bytes short plain = record { kind = plain_kind tag name bytes plain.no_collection; spelled = refl; tag_from = plain.tag_from; tag_below = plain.tag_below; name_length = short; length = plain.length }
 
--- what an element is spelled as
+-- the spelling of an element, by its kind
 pub data Form (e : Element) : Type 0 where
   tagged : (tag : ℕ) → opening tag ≡ e → IsGroupTag tag → Form e
   formed : (tag : ℕ) → (name bytes : List ℕ) → IsForm e tag name bytes → Form e
@@ -190,7 +190,7 @@ form around (begin name) s = formed 0x34 name [] (begin_form name s.0)
 form around (named name) s = formed 0x4A [] name (named_form name s)
 form around finish s = formed 0x37 [] [] finish_form
 
--- the spelling of what is read
+-- the spelling of an element that is read
 pub kind_spelled : (tag : ℕ) (name bytes : List ℕ) (e : Element) → kind_of tag name bytes ≡ Some e → element_bytes e ≡ value_bytes tag name bytes
 kind_spelled tag name bytes e is =
     elim (kind_is tag name bytes e is) [

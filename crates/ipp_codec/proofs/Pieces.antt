@@ -1,4 +1,4 @@
--- A head that comes in pieces: what is known of the bytes so far, and what a further piece makes of it.
+-- A head that comes in pieces: the state of the decoder for the bytes so far, and the state after a further piece.
 use Rattle.std.proofs.Common.{◌≡◌, ◌≢◌, ℕ, zero, suc, ◌+◌, ◌-◌, ◌<◌, ◌≤◌, List, [], ◌∷◌, ◌++◌, length, take, drop, max, Option, Some, None, Ok, refl, sym, ap, subst, ◌∙◌, append_assoc, arith, inl, inr, get_or, Bool, true, false, leb, eqb, cond}
 use Rattle.std.proofs.lemmas.List.{append-nil, length-append, length-take, length-drop, take-append-drop, take-take, take_all, take_at, drop_at, drop-append-le, take-append-le, drop-drop, drop_all, take_rest}
 use Rattle.std.proofs.lemmas.List.Concat.{flat_map-append}
@@ -37,7 +37,7 @@ Leads-append bytes more place rest leads = (
   leads.3,
 )
 
--- a walk over what is left leads on
+-- a walk over the bytes that are left leads on
 pub Leads-walk : (bytes : List ℕ) (place : Place) (rest : List ℕ) (walk : Walk) → Leads bytes place rest → WalksFrom place rest walk → Leads bytes walk.place (drop walk.length rest)
 Leads-walk bytes place rest walk leads walks =
     let es = leads.0 in
@@ -51,7 +51,7 @@ Leads-walk bytes place rest walk leads walks =
       walks.reached ∙ ap (λ (p : Place). place_from p fs) leads.3 ∙ sym (place_from-append Outside es fs),
     )
 
--- what stands behind a walk
+-- the bytes behind a walk
 pub walk_ends : (place : Place) (rest : List ℕ) (walk : Walk) → WalksFrom place rest walk → EndsAt walk.fault walk.place (drop walk.length rest)
 walk_ends place rest walk walks =
     let part_is : drop walk.length rest ≡ walks.part = ap (λ (l : List ℕ). drop walk.length l) walks.joined ∙ drop_at (bytes_of walks.es) walks.part walk.length (sym walks.length) in
@@ -67,7 +67,7 @@ end_within place rest walk walks is =
     let ends : EndsAt None walk.place (drop walk.length rest) = subst (λ (f : Option CodecFault). EndsAt f walk.place (drop walk.length rest)) is (walk_ends place rest walk walks) in
     omega (arith, ap length ends.1.1, length-drop walk.length rest)
 
--- what is missing bytes is passed before the end byte
+-- an element that lacks bytes is passed before the end byte
 passed_by : (place : Place) (pending chunk : List ℕ) (es : List Element) (part tail : List ℕ) → First place pending Short → Follows place es → pending ++ chunk ≡ bytes_of es ++ part → depth (place_from place es) ≡ 0 → part ≡ 3 ∷ tail → length pending ≤ length (bytes_of es) + 1
 passed_by place [] chunk es part tail first follows joined deep ends = omega arith
 passed_by place (b ∷ pending) chunk [] part tail first follows joined deep ends =
@@ -89,9 +89,9 @@ pending_passed place pending chunk walk first walks is =
     let ends : EndsAt None walk.place walks.part = subst (λ (f : Option CodecFault). EndsAt f walk.place walks.part) is walks.ends in
     omega (arith, walks.length, passed_by place pending chunk walks.es walks.part ends.1.0 first walks.follows walks.joined (ap depth (sym walks.reached) ∙ ends.0) ends.1.1)
 
--- ---- what is known at the end of a walk
+-- ---- the end of a walk
 
--- so many bytes of a head are read, and lead to the place
+-- this number of bytes of a head are read, and lead to the place
 abbrev pub ReadTo : List ℕ → ℕ → Place → Type 0
 ReadTo bytes count place = (8 ≤ count) × (count ≤ length bytes) × Leads (drop 8 bytes) place (drop count bytes)
 
@@ -111,7 +111,7 @@ head_there bytes count place fits read ends =
     let count_is : count + 1 ≡ 8 + length (bytes_of es) + 1 = omega (arith, read.0, read.1, ap length leads.2, length-append (bytes_of es) (drop count bytes), length-drop 8 bytes, length-drop count bytes) in
     (found.0, (found.2, ap (λ (l : List ℕ). take (count + 1) l) found.3 ∙ take_at (spelling found.0) found.1 (count + 1) (sym found.4 ∙ sym count_is)))
 
--- ---- what is kept
+-- ---- the kept bytes
 
 -- the kept bytes are the front, and their header that of all
 pub record IsFront (fed head : List ℕ) : Type 0 where
@@ -216,7 +216,7 @@ stands_behind bytes d walk before goes =
     stands_by bytes d.walked d.place walk d.head before walk.fault goes refl
     (subst (λ (l : List ℕ). EndsAt walk.fault walk.place l) (drop-drop walk.length d.walked bytes) (walk_ends d.place (drop d.walked bytes) walk goes.walks))
 
--- ---- what stays
+-- ---- the parts that stay
 
 pub IsBytes-append : (bytes more : List ℕ) → IsBytes bytes → IsBytes more → IsBytes (bytes ++ more)
 IsBytes-append [] more a b i = b i
@@ -230,7 +230,7 @@ take_over (x ∷ bytes) more (suc n) le =
     let same : suc n - suc (length bytes) ≡ n - length bytes = omega arith in
     ap (λ (l : List ℕ). x ∷ l) (take_over bytes more n (omega (arith, le)) ∙ ap (λ (k : ℕ). bytes ++ take k more) (sym same))
 
--- the first bytes of what goes on begin as before
+-- the first bytes of a longer text begin as before
 limit_more : (bytes more : List ℕ) → (later : List ℕ) × (take IPP_HEAD_BYTES (bytes ++ more) ≡ take IPP_HEAD_BYTES bytes ++ later)
 limit_more bytes more = elim (cases_lt (length bytes) IPP_HEAD_BYTES) [
   | inl lt ↦ (take (IPP_HEAD_BYTES - length bytes) more, take_over bytes more IPP_HEAD_BYTES (omega arith) ∙ ap (λ (l : List ℕ). l ++ take (IPP_HEAD_BYTES - length bytes) more) (sym (take_all IPP_HEAD_BYTES bytes (omega arith))))
@@ -252,7 +252,7 @@ head_fault_stays bytes more LooseValue other fault = first_stays bytes more Loos
 head_fault_stays bytes more BadCollection other fault = first_stays bytes more BadCollection other fault
 head_fault_stays bytes more TooDeep other fault = first_stays bytes more TooDeep other fault
 
--- what is kept is no longer than what was fed
+-- the kept bytes are no longer than the fed bytes
 head_long : (fed : List ℕ) (d : DecoderState) → Stands fed d → 8 ≤ length d.head → 8 ≤ length fed
 head_long fed d stands long = omega (arith, long, ap length stands.front.1, length-append d.head stands.front.0)
 
@@ -285,7 +285,7 @@ take_behind bytes more n =
     let same : (length bytes + n) - length bytes ≡ n = omega arith in
     take_over bytes more (length bytes + n) (omega arith) ∙ ap (λ (k : ℕ). bytes ++ take k more) same
 
--- a walk over what is unread and a chunk behind it, of which this front is kept
+-- a walk over the unread bytes and a chunk behind them, of which this front is kept
 pub goes_taken : (d : DecoderState) (chunk front : List ℕ) (many : ℕ) (walk : Walk) → IsBytes chunk → MayCome d → 8 ≤ d.walked → d.walked ≤ length d.head
     → length d.head + length chunk ≤ IPP_HEAD_BYTES → WalksFrom d.place (drop d.walked (d.head ++ chunk)) walk → front ≡ take many chunk
     → (walk.fault ≡ None → d.walked + walk.length + 1 ≤ length d.head + many) → (walk.fault ≡ Some Short → length chunk ≤ many)
@@ -315,7 +315,7 @@ goes_taken d chunk front many walk fits may read within room walks front_is whol
     subst (λ (l : List ℕ). Stands (l ++ chunk) (settled (record d { head = d.head ++ front }) walk (length d.head))) known.0
     (stands_behind bytes (record d { head = d.head ++ front }) walk (length d.head) goes)
 
--- the same by steps: bytes are kept, and the walk goes over those that are unread
+-- the same by steps: bytes are kept, and the walk goes over the unread bytes
 pub lacking_taken : (old mid new : DecoderState) (chunk unread : List ℕ) (place : Place) (walk : Walk) (kept : ℕ) → IsBytes chunk → MayCome old → 8 ≤ old.walked → old.walked < length old.head → length old.head + length chunk ≤ IPP_HEAD_BYTES
     → mid ≡ record old { head = old.head ++ chunk } → place ≡ mid.place → unread ≡ drop mid.walked mid.head → WalksFrom place unread walk → kept ≡ length old.head → new ≡ settled mid walk kept → TakesIn old chunk new
 lacking_taken old mid new chunk unread place walk kept fits may read begun room mid_is place_is unread_is walks kept_is new_is =
@@ -340,11 +340,11 @@ elements_taken old mid new chunk front place walk kept many fits may read betwee
     (λ h. let some : many ≡ walk.length + 1 = many_is ∙ ap (λ (f : Option CodecFault). kept_of f walk.length (length chunk)) h in omega (arith, some, between))
     (λ h. let all : many ≡ length chunk = many_is ∙ ap (λ (f : Option CodecFault). kept_of f walk.length (length chunk)) h in omega (arith, all)))
 
--- a walk over what is unread goes no further than what is kept
+-- a walk over the unread bytes goes no further than the kept bytes
 pub unread_within : (d : DecoderState) (place : Place) (unread : List ℕ) (walk : Walk) → WalksFrom place unread walk → unread ≡ drop d.walked d.head → d.walked ≤ length d.head → d.walked + walk.length ≤ length d.head
 unread_within d place unread walk walks is within = omega (arith, within, walk_within place unread walk walks, ap length is, length-drop d.walked d.head)
 
--- what was kept stays in front
+-- the kept bytes stay in front
 pub settled_grows : (old mid new : DecoderState) (front : List ℕ) (walk : Walk) (fault : Option CodecFault) (kept : ℕ) → mid ≡ record old { head = old.head ++ front } → kept ≡ length old.head → walk.fault ≡ fault → new ≡ settled mid walk kept → take (length old.head) new.head ≡ old.head
 settled_grows old mid new front walk None kept mid_is kept_is is new_is =
     let n = max kept (mid.walked + walk.length + 1) in
@@ -398,14 +398,14 @@ fed_by old new piece Awaiting is takes grows bounded = (takes, is)
 fed_by old new piece Whole is takes grows bounded = (takes, is, omega (arith, grows), omega (arith, bounded))
 fed_by old new piece (Faulty fault) is takes grows bounded = (takes, is)
 
--- what begins with other bytes is no shorter
+-- bytes that begin with other bytes are no shorter than these
 pub begins_long : (bytes front : List ℕ) → take (length front) bytes ≡ front → length front ≤ length bytes
 begins_long bytes front is = omega (arith, ap length is, length-take (length front) bytes)
 
 pub back : (old new : DecoderState) → take (length old.head) new.head ≡ old.head → returned new (reached_of old) ≡ old
 back old new is = ap (λ (l : List ℕ). let made : DecoderState = record { head = l; walked = old.walked; place = old.place; stage = old.stage } in made) is
 
--- What a decoder has taken of a piece, and what is left of it.
+-- The part of a piece that a decoder has taken, and the part that is left.
 abbrev pub Taken : DecoderState → List ℕ → List ℕ → DecoderState → Type 0
 Taken start piece rest now =
     (taken : List ℕ) × (piece ≡ taken ++ rest) × TakesIn start taken now

@@ -1,4 +1,4 @@
--- What is shown of bytes, one element on.
+-- The views of bytes, one element further.
 use Rattle.std.proofs.Common.{◌≡◌, ◌≢◌, ℕ, zero, suc, ◌≤◌, List, [], ◌∷◌, ◌++◌, length, drop, Bor, Option, Some, None, option_map, eqb, false, refl, sym, ap, ◌∙◌, arith}
 use Rattle.std.proofs.lemmas.List.{length-append, drop_all}
 use Rattle.ipp_codec.specs.Message.{IppValue, collection, IppValues, IppMembers, no_member, member_and, IppMember, members_of, members_in, members_within}
@@ -88,7 +88,7 @@ elements_in-bytes_of place (e ∷ es) (suc n) follows long =
 pub nothing_behind : (n : ℕ) (rest bytes : List ℕ) → drop n (shown rest) ≡ below (shown bytes) → shown rest ≡ [] → shown [] ≡ below (shown bytes)
 nothing_behind n rest bytes is none = shown-nil ∙ sym (drop_all n [] (omega arith)) ∙ ap (λ (ls : List Level). drop n ls) (sym none) ∙ is
 
--- a member: its name, a first value, and the other values at the front of what is left
+-- a member: its name, a first value, and the other values at the front of the bytes that are left
 abbrev pub member_at : List ℕ → IppValue → List ℕ → IppMember
 member_at name first rest = record { name = name; first = first; others = (level rest).values }
 
@@ -107,7 +107,7 @@ members_again no_member = refl
 members_again (member_and name v vs ms) =
     ap (λ (ws : IppValues). member_and name v ws (members_of (members_in ms))) (values_again vs) ∙ ap (λ (ns : IppMembers). member_and name v vs ns) (members_again ms)
 
--- a collection that is made of what a view shows
+-- a collection that is made of the members that a view shows
 pub collection_shown : (owned : IppValue) (ms : List IppMember) (v : ValueView) → v.tag ≡ 0x34 → owned ≡ collection (members_of ms) → ms ≡ members_in (level v.content.now).members → owned ≡ value_shown v
 collection_shown owned ms v tag is members =
     let shown_is : value_shown v ≡ collection (level v.content.now).members = rw tag refl in

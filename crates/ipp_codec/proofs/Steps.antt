@@ -106,7 +106,7 @@ Follows-push : (place : Place) (es : List Element) (e : Element) → Follows pla
 Follows-push place [] e follows allowed = (allowed, tt)
 Follows-push place (x ∷ es) e follows allowed = (follows.0, Follows-push (after place x) es e follows.1 allowed)
 
--- what the loop keeps
+-- the property that the loop keeps
 abbrev pub Walked : Place → List ℕ → List ℕ → Place → Type 0
 Walked start bytes rest place = (es : List Element) × Follows start es × (bytes ≡ bytes_of es ++ rest) × (place ≡ place_from start es)
 

@@ -56,7 +56,7 @@ mutual
       ∙ ap (λ (ls : List Level). add_to [] v ls) (read_values vs (members_then ms (finish ∷ es)) ∙ ap (λ (ls : List Level). add_values vs ls) (read_members ms es) ∙ add_values-inside vs ms (levels_of es)))
       ∙ ap (λ (ws : IppValues). inside [] (member_and name v ws ms) ∷ levels_of es) (values_again vs)
 
--- what attributes and groups make at the outermost depth
+-- the level of attributes and groups at the outermost depth
 abbrev outer : List IppValue → List IppAttribute → List IppGroup → Level
 outer vs xs gs = record { values = vs; members = no_member; attributes = xs; groups = gs }
 
@@ -95,7 +95,7 @@ nameless (suc d) = refl
 begins : (limit d : ℕ) → limit + d ≡ COLLECTION_DEPTH → 0 < limit → (d < COLLECTION_DEPTH) × ((limit - 1) + suc d ≡ COLLECTION_DEPTH)
 begins limit d is some = (omega (arith, is, some), omega (arith, is, some))
 
--- where a member may stand
+-- a place that takes a member
 pub behind_members : (place : Place) (around : ℕ) → TakesMember place → depth place ≡ suc around → (after_named place ≡ Naming around) × (after_finish place ≡ after_value around)
 behind_members (Begun d) around takes deep = let same : d ≡ around = omega (arith, deep) in (ap Naming same, ap after_value same)
 behind_members (Within d) around takes deep = let same : d ≡ around = omega (arith, deep) in (ap Naming same, ap after_value same)
@@ -151,7 +151,7 @@ groups_follow (g ∷ gs) place d fits = ((d, fits.0.tag), attributes_follow g.at
 
 -- ---- elements to groups
 
--- the elements of levels, so many of which lie inside collections
+-- the elements of levels, of which this number lie inside collections
 unfoldable pub spelled : ℕ → List Level → List Element
 spelled zero ls = values_then (values_of (top ls).values) (attributes_then (top ls).attributes (elements (top ls).groups))
 spelled (suc d) ls = values_then (values_of (top ls).values) (members_then (top ls).members (finish ∷ spelled d (below ls)))
@@ -180,7 +180,7 @@ abbrev pub IsSome : List IppValue → Type 0
 IsSome [] = ⊥
 IsSome (v ∷ vs) = Unit {0}
 
--- what stands first behind a place
+-- the condition of a place on the level behind it
 abbrev pub TopIs : Place → Level → Type 0
 TopIs Outside l = (l.values ≡ []) × (l.attributes ≡ [])
 TopIs Opened l = l.values ≡ []
@@ -193,7 +193,7 @@ named_top : (name : List ℕ) (v : IppValue) (l : Level) → name ≢ [] → (ad
 named_top [] v l some = absurd (some refl)
 named_top (c ∷ name) v l some = refl
 
--- a value leaves what its place asks of what stands first
+-- a value, added at a place that takes it, makes a level that meets the condition of the place
 value_top : (place : Place) (name : List ℕ) (v : IppValue) (l : Level) → TakesValue place name → TopIs place (add name v l)
 value_top Outside name v l takes = absurd takes
 value_top Opened name v l takes = named_top name v l takes
@@ -203,7 +203,7 @@ value_top (Naming d) [] v l takes = tt
 value_top (Naming d) (c ∷ name) v l takes = absurd cc
 value_top (Within d) name v l takes = tt
 
--- so does a member or an end
+-- the same for a member or an end
 member_top : (place : Place) (l : Level) → TakesMember place → l.values ≡ [] → TopIs place l
 member_top (Begun d) l takes none = none
 member_top (Within d) l takes none = tt
@@ -268,7 +268,7 @@ again e x es step is = step ∙ ap (λ (t : List Element). e ∷ t) is
 at_depth : (d k : ℕ) (ls : List Level) (es : List Element) → d ≡ k → spelled k ls ≡ es → spelled d ls ≡ es
 at_depth d k ls es same is = ap (λ (n : ℕ). spelled n ls) same ∙ is
 
--- where a member may stand, one collection more is open
+-- at a place that takes a member, one collection more is open
 pub member_depth : (place : Place) → TakesMember place → (around : ℕ) × (depth place ≡ suc around)
 member_depth (Begun d) takes = (d, refl)
 member_depth (Within d) takes = (d, refl)

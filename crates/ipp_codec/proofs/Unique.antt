@@ -19,11 +19,11 @@ use Rattle.ipp_codec.proofs.Parts.{Fields, fields_again, element_again, some_lon
 abbrev pub Stops : Place → List ℕ → Type 0
 Stops place part = (e : Element) (rest : List ℕ) → IsAllowed place e → part ≡ element_bytes e ++ rest → ⊥
 
--- what is read at the front
+-- the element that is read at the front
 front : (place : Place) (part : List ℕ) (e : Element) (rest : List ℕ) → IsAllowed place e → part ≡ element_bytes e ++ rest → element_at part ≡ Some (e, rest)
 front place part e rest allowed is = ap element_at is ∙ element_again (depth place) e rest allowed.1
 
--- what is read is one element
+-- two readings are of one element
 same_read : (r : Option (Element × List ℕ)) (e f : Element) (x y : List ℕ) → r ≡ Some (e, x) → r ≡ Some (f, y) → (e ≡ f) × (x ≡ y)
 same_read r e f x y p q =
     let both : (e, x) ≡ (f, y) = cc in
@@ -50,7 +50,7 @@ too_long [] long = absurd long
 too_long (b ∷ []) long = absurd long
 too_long (high ∷ low ∷ bytes) long = let a : leb 128 high ≡ true = le-leb _ _ long in rw a refl
 
--- where a value's tag stands, what its fields are
+-- the fields of a value, at its tag
 pub record Unread (place : Place) (part : List ℕ) (fault : CodecFault) : Type 0 where
   pub tag : ℕ
   pub bytes : List ℕ
@@ -89,7 +89,7 @@ unread_stops place part f u e rest allowed is =
     let none : element_at part ≡ None = ap element_at u.joined ∙ read_from u.tag u.bytes (Err f) u.admitted.0 u.fails in
     absurd cc
 
--- what begins with a whole value is read as that
+-- bytes that begin with a whole value are read as this value
 pub whole_fields : (place : Place) (part : List ℕ) (tag : ℕ) (name bytes : List ℕ) → (w : IsWhole place part tag name bytes) → fields_at ((counted name ++ counted bytes) ++ w.rest) ≡ Ok (name, bytes, w.rest)
 whole_fields place part tag name bytes w = fields_again name bytes w.rest w.name_length w.length
 

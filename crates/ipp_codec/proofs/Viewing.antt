@@ -52,7 +52,7 @@ one_front bytes n k m p a b =
     let second : bytes ≡ spelling p ++ drop k bytes = sym (take-append-drop k bytes) ∙ ap (λ (l : List ℕ). l ++ drop k bytes) b.1 in
     (one_spelling m p (drop n bytes) (drop k bytes) a.0 b.0 (sym first ∙ second)).0
 
--- a length with what it was found by
+-- a length, with the bytes in which it was found
 abbrev IsFound : List ℕ → ℕ → Type 0
 IsFound bytes n = (n ≤ IPP_HEAD_BYTES) × (n ≤ length bytes) × ((m : IppMessage) × Spells (take n bytes) m)
 

@@ -1,4 +1,4 @@
--- What is written is the spelling, and what an owned collection means.
+-- The written bytes are the spelling; the meaning of an owned collection.
 use Rattle.std.proofs.Common.{◌≡◌, ℕ, List, [], ◌∷◌, ◌++◌, refl, sym, ap, ◌∙◌, append_assoc, Vec, Global}
 use Rattle.ipp_codec.specs.declared.value.Member.{Member}
 use Rattle.ipp_codec.specs.declared.value.Value.TheViews.{Collection}

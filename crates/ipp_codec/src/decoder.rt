@@ -330,8 +330,8 @@ fn stage_at(fault: Option<CodecFault>, kept: usize) -> Stage
     }
 }
 
-/// The number of bytes that are kept of those that a walk went through: up to the end byte; or all, if the
-/// last element goes on; or else the elements before the fault.
+/// The number of bytes that are kept after a walk: the bytes up to the end byte; all bytes, if the last
+/// element goes on; or else the elements before the fault.
 fn kept_of(walk: Walk, len: usize) -> usize
     requires within { walk.length ≤ len }
     requires end { walk.fault ≡ None → walk.length < len }

@@ -35,7 +35,7 @@ impl Value {
         Ok(Value::Plain { tag, bytes })
     }
 
-    /// A value of a tag without bytes. It takes no memory.
+    /// A value of a tag without bytes. The call takes no memory.
     pub fn empty(alloc: Global, tag: ValueTag) -> Value
         ensures { value_owned result ≡ plain tag [] }
     {

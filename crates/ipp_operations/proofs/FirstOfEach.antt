@@ -32,11 +32,11 @@ eq_turned xs ys =
 
 -- ---- which are new
 
--- one of those kept has the name
+-- a kept attribute has the name
 abbrev pub is_kept : List IppAttribute → List ℕ → Bool
 is_kept kept name = list_any (λ a. bytes_eq a.name name) kept
 
--- none of those kept has its name
+-- no kept attribute has the attribute's name
 abbrev pub is_new : List IppAttribute → IppAttribute → Bool
 is_new kept attribute = not (is_kept kept attribute.name)
 
@@ -45,11 +45,11 @@ filter_all : (xs : List IppAttribute) → filter (is_new []) xs ≡ xs
 filter_all [] = refl
 filter_all (x ∷ xs) = ap (λ (ys : List IppAttribute). x ∷ ys) (filter_all xs)
 
--- its name is another
+-- the attribute's name differs
 abbrev pub differs : IppAttribute → IppAttribute → Bool
 differs attribute other = not (bytes_eq other.name attribute.name)
 
--- those kept, and of the rest the first of each name that is new
+-- the kept attributes, and from the rest the first attribute of each new name
 abbrev pub kept_with : List IppAttribute → List IppAttribute → List IppAttribute
 kept_with kept rest = kept ++ filter (is_new kept) (first_of_each rest)
 
@@ -58,7 +58,7 @@ same_new : (kept : List IppAttribute) (a x : IppAttribute) → bytes_eq x.name a
 same_new kept a x same there =
     ap (λ (name : List ℕ). not (is_kept kept name)) ((bytes_eq-Decides x.name a.name).0 same) ∙ ap not there
 
--- none is lost where those of a name that is kept are left out
+-- no new attribute is lost if the attributes of a kept name are left out
 without_kept : (kept : List IppAttribute) (a : IppAttribute) (xs : List IppAttribute) → is_kept kept a.name ≡ true → filter (is_new kept) (filter (differs a) xs) ≡ filter (is_new kept) xs
 without_kept kept a [] there = refl
 without_kept kept a (x ∷ xs) there =
@@ -98,17 +98,17 @@ with_another kept a (x ∷ xs) =
 
 -- ---- one attribute more
 
--- nothing is kept at first
+-- no attribute is kept at first
 pub kept_first : (all : List IppAttribute) → kept_with [] all ≡ first_of_each all
 kept_first all = filter_all (first_of_each all)
 
--- its name is kept
+-- an attribute whose name is kept
 pub kept_again : (kept : List IppAttribute) (a : IppAttribute) (rest : List IppAttribute) → is_kept kept a.name ≡ true → kept_with kept (a ∷ rest) ≡ kept_with kept rest
 kept_again kept a rest there =
     ap (λ (b : Bool). kept ++ cond (not b) (a ∷ filter (is_new kept) (filter (differs a) (first_of_each rest))) (filter (is_new kept) (filter (differs a) (first_of_each rest)))) there
     ∙ ap (λ (xs : List IppAttribute). kept ++ xs) (without_kept kept a (first_of_each rest) there)
 
--- its name is new
+-- an attribute whose name is new
 pub kept_then : (kept : List IppAttribute) (a : IppAttribute) (rest : List IppAttribute) → is_kept kept a.name ≡ false → kept_with kept (a ∷ rest) ≡ kept_with (kept ++ a ∷ []) rest
 kept_then kept a rest apart =
     ap (λ (b : Bool). kept ++ cond (not b) (a ∷ filter (is_new kept) (filter (differs a) (first_of_each rest))) (filter (is_new kept) (filter (differs a) (first_of_each rest)))) apart
@@ -150,7 +150,7 @@ names_same old new kept same has other =
 
 -- ---- both
 
--- nothing is kept yet
+-- no attribute is kept yet
 pub none_kept : (names : BTreeSet (Bor (List ℕ))) (kept left all : List IppAttribute) → names.keys ≡ [] → kept ≡ [] → left ≡ all → HasNames names kept × (kept_with kept left ≡ first_of_each all)
 none_kept names kept left all unnamed none same = (
   λ name.
@@ -179,7 +179,7 @@ one_new old new name kept more a left rest all added next is tells adds updates 
           ∙ (sym (kept_then kept a rest apart) ∙ (ap (λ (xs : List IppAttribute). kept_with kept xs) (sym next) ∙ so)),
     )
 
--- the next attribute has the name of one that is kept
+-- the next attribute has the name of a kept attribute
 pub one_again : (old new : BTreeSet (Bor (List ℕ))) (name : Bor (List ℕ)) (kept : List IppAttribute) (a : IppAttribute) (left rest all : List IppAttribute) (added : Bool) → left ≡ a ∷ rest → name.now ≡ a.name → added ≡ not (contains in_order old name) → added ≡ false → IsUnchanged old new → HasNames old kept → kept_with kept left ≡ first_of_each all → HasNames new kept × (kept_with kept rest ≡ first_of_each all)
 one_again old new name kept a left rest all added next is tells adds same has so =
     let there : is_kept kept a.name ≡ true = sym (known old name kept a is has) ∙ not_true (contains in_order old name) (sym adds ∙ tells) in (

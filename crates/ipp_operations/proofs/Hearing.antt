@@ -1,4 +1,4 @@
--- A body that comes in pieces: what its reader has heard, and what it asks.
+-- A body that comes in pieces: the bytes that its reader was fed, and the event that the body asks for.
 use Rattle.std.proofs.Common.{◌≡◌, ℕ, ◌+◌, ◌≤◌, Bool, true, false, cond, List, [], ◌∷◌, ◌++◌, length, take, drop, Option, Some, None, option_map, Result, Ok, Err, MatchOption, MatchResult, refl, sym, ap, subst, ◌∙◌, inl, inr, arith}
 use Rattle.std.specs.Option.{option_map_or}
 use Rattle.std.proofs.lemmas.List.{length-append, drop-append-le, drop_at, drop-drop, drop_all}
@@ -34,11 +34,11 @@ header_front (a ∷ b ∷ c ∷ d ∷ e ∷ f ∷ []) = refl
 header_front (a ∷ b ∷ c ∷ d ∷ e ∷ f ∷ g ∷ []) = refl
 header_front (a ∷ b ∷ c ∷ d ∷ e ∷ f ∷ g ∷ h ∷ rest) = refl
 
--- the header of what is kept is that of all bytes
+-- the header of the kept bytes is the header of all bytes
 pub header_kept : (bytes : List ℕ) (decoder : DecoderState) → Stands bytes decoder → header_of decoder.head ≡ header_of bytes
 header_kept bytes decoder stands = header_front decoder.head ∙ ap header_of stands.header ∙ sym (header_front bytes)
 
--- ---- what is asked
+-- ---- the request of a body
 
 -- an event that has no document is the same whatever follows its head
 no_document : (asked : Operation) (message : IppMessage) (x y : List ℕ) → has_document asked ≡ false → event_of asked message x ≡ event_of asked message y
@@ -73,13 +73,13 @@ found_requests asked message count bytes document decoder event found long whole
 pub fault_requests : (asked : Operation) (fault : CodecFault) (bytes : List ℕ) → HeadFault bytes fault → Requests asked bytes (Err (status_of fault))
 fault_requests asked fault bytes is = inl (fault, is, refl)
 
--- the request-id of what is kept is that of all bytes
+-- the request-id of the kept bytes is the request-id of all bytes
 pub id_kept : (bytes : List ℕ) (decoder : DecoderState) → Stands bytes decoder → request_id_of decoder.head ≡ request_id_of bytes
 id_kept bytes decoder stands = ap (λ (o : Option Header). option_map (λ (h : Header). h.request_id) o) (header_kept bytes decoder stands)
 
 -- ---- a reader
 
--- what is kept is the document, where it is read
+-- the kept octets are the document, if the document is read
 pub holds : (bytes : List ℕ) (reader : ReaderState) → Heard bytes reader → Holds (reads_document reader.decoder.head) bytes reader.decoder reader.document
 holds bytes reader heard reads whole =
     let kept : KeptAt Whole bytes reader = subst (λ (s : Stage). KeptAt s bytes reader) whole heard.kept in
@@ -90,7 +90,7 @@ holds bytes reader heard reads whole =
 abbrev reader_of : DecoderState → List ℕ → ReaderState
 reader_of decoder document = record { decoder = decoder; document = document }
 
--- where nothing more is awaited, a decoder stays as it is
+-- a decoder that awaits no more bytes stays as it is
 abbrev pub StaysOver : DecoderState → DecoderState → Type 0
 StaysOver old new = ¬ (old.stage ≡ Awaiting) → new ≡ old
 
@@ -117,7 +117,7 @@ went_on : (reads : Bool) (document before part piece all : List ℕ) → documen
 went_on true document before part piece all was more behind = ap (λ (l : List ℕ). l ++ part) was ∙ ap (λ (l : List ℕ). before ++ l) more ∙ sym behind
 went_on false document before part piece all was more behind = was
 
--- what a piece in which the head is whole makes of the document
+-- the document after a piece in which the head becomes whole
 headed : (bytes piece document : List ℕ) (old new : DecoderState) (count : ℕ) (stage : Stage) (reads : Bool) → old.stage ≡ stage → Stands bytes old → StandsAt stage bytes old → KeptAt stage bytes (reader_of old document)
     → StaysOver old new → new.stage ≡ Whole → length new.head ≡ length old.head + count → reads_document new.head ≡ reads
     → cond reads (document ++ drop count piece) document ≡ cond reads (drop (length new.head) (bytes ++ piece)) []
@@ -166,7 +166,7 @@ none_kept decoder document Whole none = none ∙ sym (either (reads_document dec
 pub heard_nothing : (decoder : DecoderState) (document : List ℕ) → Stands [] decoder → document ≡ [] → Heard [] (reader_of decoder document)
 heard_nothing decoder document stands none = record { stands = stands; kept = none_kept decoder document decoder.stage none }
 
--- ---- from a decoder to what is asked
+-- ---- from a decoder to the request
 
 -- the header is there
 pub asks_under : (decoder : DecoderState) (document : List ℕ) (header : Header) (said : ParsedRequest) → header_of decoder.head ≡ Some header → AsksUnderOf header decoder document said → AsksOf decoder document said
@@ -175,18 +175,18 @@ asks_under decoder document header said is under bytes stands holds =
     let reads : reads_document decoder.head ≡ sends_document (operation_of header) = ap (λ (o : Option Header). option_map_or (λ (h : Header). sends_document (operation_of h)) o false) is in
     subst (λ (o : Option Header). MatchOption o (said ≡ TooShort) (λ (h : Header). AsksUnder h bytes said)) (sym all) (under bytes stands (λ so. holds (reads ∙ so)))
 
--- it isn't
+-- the header isn't whole
 pub asks_short : (decoder : DecoderState) (document : List ℕ) → header_of decoder.head ≡ None → AsksOf decoder document TooShort
 asks_short decoder document is bytes stands holds =
     subst (λ (o : Option Header). MatchOption o (TooShort ≡ TooShort) (λ (h : Header). AsksUnder h bytes TooShort)) (sym (sym (header_kept bytes decoder stands) ∙ is)) refl
 
--- it asks for an operation
+-- the header gives an operation
 pub asks_by : (decoder : DecoderState) (document : List ℕ) (header : Header) (asked : Operation) (said : ParsedRequest) → operation_of header ≡ Ok asked → AsksByOf asked header.request_id decoder document said → AsksUnderOf header decoder document said
 asks_by decoder document header asked said is by bytes stands holds =
     subst (λ (r : Result Operation Status). MatchResult r (λ (o : Operation). AsksBy o header.request_id bytes said) (λ (s : Status). said ≡ Refused s header.request_id)) (sym is)
     (by bytes stands (λ so. holds (ap sends_document is ∙ so)))
 
--- it asks for none
+-- the header gives a status instead of an operation
 pub asks_none : (decoder : DecoderState) (document : List ℕ) (header : Header) (status : Status) → operation_of header ≡ Err status → AsksUnderOf header decoder document (Refused status header.request_id)
 asks_none decoder document header status is bytes stands holds =
     let said = Refused status header.request_id in

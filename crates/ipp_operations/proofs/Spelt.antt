@@ -17,7 +17,7 @@ found_is P test (x ∷ xs) all =
       | false ↦ found_is P test xs all.1
     ]
 
--- the same of what shows it
+-- a property of the shown value, from the value that is found
 pub shown_is : {A B : Type 0} (P : B → Type 0) (f : A → B) (r : Option A) (a : A) (o : Option B) → option_map f r ≡ o → r ≡ Some a → IfSome o P → P (f a)
 shown_is P f r a o is here found = subst (λ o. IfSome o P) (sym is ∙ ap (option_map f) here) found
 

@@ -29,7 +29,7 @@ pub(crate) fn header_of(body: &[u8]) -> Option<Header>
     })
 }
 
-/// The request-id of a body, if the body has a whole header. It takes no memory.
+/// The request-id of a body, if the body has a whole header. The call takes no memory.
 pub fn request_id(body: &[u8]) -> Option<u32>
     ensures { result ≡ request_id_of body.now }
 {

@@ -5,7 +5,7 @@ ghost use Rattle.ipp_operations.specs.Reply.{refusal_bytes};
 use events::Status;
 
 /// The bytes of a reply of a status with its charset and natural language alone (RFC 8011, section 4.1.4.2).
-/// They take no memory.
+/// The calls take no memory.
 pub fn ipp_refusal(status: Status, request_id: u32) -> [u8; 72]
     ensures { result ≡ refusal_bytes status request_id }
 {

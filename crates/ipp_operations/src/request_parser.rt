@@ -68,7 +68,7 @@ impl RequestParser {
         kept
     }
 
-    /// The request-id, once the header is whole. It takes no memory.
+    /// The request-id, once the header is whole. The call takes no memory.
     pub fn request_id(&self) -> Option<u32>
         ensures { (bytes : List ℕ) → Heard bytes self.now → result ≡ request_id_of bytes }
     {

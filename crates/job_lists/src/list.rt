@@ -72,7 +72,8 @@ fn job_of(
     draft.job(alloc, settings)
 }
 
-/// Appends the job of a line. It comes no earlier than the last one, and the number of jobs is limited.
+/// Appends the job of a line. The job comes no earlier than the job before, and the number of jobs is
+/// limited.
 fn add_job(
     alloc: Global,
     jobs: &mut Vec<ListedJob>,

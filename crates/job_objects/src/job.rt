@@ -28,10 +28,11 @@ pub struct Job {
     pub held: bool,
     /// Whether the last plan found no device for the job.
     pub stranded: bool,
-    /// The number of documents taken, at most [`base_types::Limits::JOB_DOCUMENTS`]. It stays when the
-    /// documents are dropped.
+    /// The number of documents taken, at most [`base_types::Limits::JOB_DOCUMENTS`]. The number stays when
+    /// the documents are dropped.
     pub documents: usize,
-    /// The number of octets of all documents, at most [`base_types::Limits::JOB_OCTETS`]. It stays too.
+    /// The number of octets of all documents, at most [`base_types::Limits::JOB_OCTETS`]. The number stays
+    /// too.
     pub octets: usize,
     /// The role of the user who canceled the job, if it is canceled.
     pub canceled_by: Option<Canceler>,

@@ -1,4 +1,4 @@
--- What is returned of attributes that have a spelling has one.
+-- The attributes returned from attributes with a spelling have a spelling.
 use Rattle.std.proofs.Common.{Bool, true, false, cond, List, [], ◌∷◌, inl, inr, arith, map, filter, is_some}
 use Rattle.std.specs.List.{AllByRecursion}
 use Rattle.ipp_codec.specs.Message.{plain, IppAttribute}

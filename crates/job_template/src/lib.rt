@@ -6,7 +6,7 @@
 //! Each attribute has one value; only `finishings` may have several. The parser of requests drops all but the
 //! first of several attributes of a name.
 //!
-//! Its rows are traces of `play_examples`.
+//! The rows of the crate are traces of `play_examples`.
 #![tactic(auto)]
 
 mod request_attribute;

@@ -39,7 +39,7 @@ impl Model for RequestAttributes {
 }
 
 impl RequestAttributes {
-    /// Creates an empty list. It takes no memory.
+    /// Creates an empty list. The call takes no memory.
     pub fn new(alloc: Global) -> RequestAttributes
         ensures { result ≡ [] }
     {
@@ -89,8 +89,8 @@ impl RequestAttributes {
             .find(|attribute| name == attribute.name())
     }
 
-    /// Changes the job group into the attributes that the response returns, in the same order. It takes no
-    /// memory.
+    /// Changes the job group into the attributes that the response returns, in the same order. The call takes
+    /// no memory.
     #[tactic(auto, unfolding(crate::specs::Unsupported::unsupported_of))]
     pub fn make_unsupported(&mut self, alloc: Global, offer: &Offer<'_>)
         ensures { self.new ≡ unsupported_of offer.now self.old }

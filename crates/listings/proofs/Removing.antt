@@ -1,4 +1,4 @@
--- A removal's cancels: each takes the first job that is named, and leaves the others as they are.
+-- The cancels of a removal: each cancel takes the first named job, and leaves the other jobs as they are.
 use Rattle.std.proofs.Common.{◌≡◌, ◌∙◌, ◌<◌, ◌==◌, ◌&&◌, ◌||◌, not, ℕ, zero, suc, Bool, true, false, cond, List, [], ◌∷◌, map, filter, find, Option, Some, None, option_map, refl, sym, ap, subst, arith, nat_lt, true≢false}
 use Rattle.std.specs.Prelude.{All}
 use Rattle.std.specs.List.{AllPairs, list_any}
@@ -37,7 +37,7 @@ rises : (ns : List ℕ) → AllPairs (λ a b. a < b) ns → Rises ns
 rises [] pairs = tt
 rises (n ∷ ns) pairs = ((λ k d inside. pairs zero (suc k) d (omega arith) (omega arith)), rises ns (λ i j d before inside. pairs (suc i) (suc j) d (omega arith) (omega arith)))
 
--- ---- what a search finds
+-- ---- the result of a search
 
 found_is : {X : Type 0} (f : X → ℕ) (P : ℕ → Type 0) (test : X → Bool) (xs : List X) (y : X) → All P (map f xs) → find test xs ≡ Some y → P (f y)
 found_is f P test [] y all is = absurd (cc)
@@ -63,7 +63,7 @@ none_found {X} test (x ∷ xs) is = step (test x) is (none_found test xs)
     step true here rest = absurd (cc)
     step false there rest = rest there
 
--- what passes the first test is left by a filter of the second, where it passes that too
+-- a filter by `kept` in front of a filter by `test` makes no difference, if each element that passes `test` passes `kept`
 filter_within : {X : Type 0} (test kept : X → Bool) → ((x : X) → test x ≡ true → kept x ≡ true) → (xs : List X) → filter test (filter kept xs) ≡ filter test xs
 filter_within test kept both [] = refl
 filter_within {X} test kept both (x ∷ xs) = step (test x) refl (kept x) refl (filter_within test kept both xs)
@@ -82,7 +82,7 @@ other_number m n less = grind arith
 
 -- ---- the first job of a test
 
--- it is the job of its id
+-- the first job of a test is the job of its id
 found_at : (test : SpooledRecord → Bool) (jobs : List SpooledRecord) (s : SpooledRecord) → Rises (map (λ s. s.job.id) jobs) → find test jobs ≡ Some s → spooled_at s.job.id jobs ≡ Some s
 found_at test [] s rising is = absurd (cc)
 found_at test (x ∷ xs) s rising is = step (test x) is (found_at test xs s rising.1)
@@ -95,7 +95,7 @@ found_at test (x ∷ xs) s rising is = step (test x) is (found_at test xs s risi
         let less : x.job.id < s.job.id = found_is (λ s. s.job.id) (λ m. x.job.id < m) test xs s rising.0 there in
         ap (λ (t : Bool). cond t (Some x) (spooled_at s.job.id xs)) (other_number x.job.id s.job.id less) ∙ rest there
 
--- once it is changed so that it fails the test, the others are left
+-- once the first job is changed and fails the test, the other jobs of the test are left
 taken : (test : SpooledRecord → Bool) (change : SpooledRecord → SpooledRecord) (jobs : List SpooledRecord) (s : SpooledRecord) → Rises (map (λ s. s.job.id) jobs) → find test jobs ≡ Some s → test (change s) ≡ false → filter test jobs ≡ s ∷ filter test (with_job s.job.id change jobs)
 taken test change [] s rising is gone = absurd (cc)
 taken test change (x ∷ xs) s rising is gone = step (test x) refl is (taken test change xs s rising.1)
@@ -130,7 +130,7 @@ canceled by now s = record s { job = record (ended Canceled now s.job) { cancele
 ended_so : (by : Canceler) (now : ℕ) (s : SpooledRecord) → is_finished (settled (canceled by now s)).job.state ≡ true
 ended_so by now s = ap (λ (j : JobRecord). is_finished j.state) (settled_job (canceled by now s))
 
--- an unfinished job is finished by it
+-- a cancel finishes an unfinished job
 canceled_ends : (by : Canceler) (now : ℕ) (s : SpooledRecord) → is_finished s.job.state ≡ false → is_finished (changed (Cancel by) now s).job.state ≡ true
 canceled_ends by now s unfinished = at s.job.state unfinished
   where
@@ -147,7 +147,7 @@ canceled_ends by now s unfinished = at s.job.state unfinished
 unfinished_kept : (jobs : List SpooledRecord) (s : SpooledRecord) → is_finished s.job.state ≡ false → is_kept jobs s ≡ true
 unfinished_kept jobs s unfinished = ap (λ (b : Bool). not (b && not s.on_device) || nat_lt (later_jobs jobs s) FINISHED_JOBS_KEPT) unfinished
 
--- nothing stands against the cancel of a job that was found, by one who may ask for it
+-- no check refuses the cancel of a found job by an asker who may cancel the job
 free : (asker : AskerRecord) (test : SpooledRecord → Bool) (jobs : List SpooledRecord) (s : SpooledRecord) → Rises (map (λ s. s.job.id) jobs) → find test jobs ≡ Some s → may_ask asker s.job ≡ true → is_finished s.job.state ≡ false → cancel_refusal asker (spooled_at s.job.id jobs) ≡ None
 free asker test jobs s rising is may unfinished =
     ap (λ (o : Option SpooledRecord). cancel_refusal asker o) (found_at test jobs s rising is)
@@ -184,7 +184,7 @@ finished_unnamed place request job finished = at (is_named place request job) re
 spool_rises : (state : State) → IsSpool state.spool → Rises (map (λ s. s.job.id) state.spool.jobs)
 spool_rises state spool = rises (map (λ s. s.job.id) state.spool.jobs) (AllPairs-from_increasing (map (λ s. s.job.id) state.spool.jobs) spool.rising)
 
--- what is known of the first that is named: nothing stands against its cancel, after which the others are named
+-- the first named job: no check refuses its cancel, and the other jobs are named after it
 pub record Next (now place : ℕ) (request : RemoveJobs) (state : State) (id : ℕ) : Type 0 where
   pub is_free : cancel_refusal (remover request.agent) (spooled_at id state.spool.jobs) ≡ None
   pub others : named_jobs place request state ≡ id ∷ named_jobs place request (canceling now id request.agent state)
@@ -218,7 +218,7 @@ none_named place request state is = at (find (λ s. is_named place request s.job
     at None found none = ap (λ (xs : List SpooledRecord). map (λ s. s.job.id) xs) (none_found (λ s. is_named place request s.job) state.spool.jobs found)
     at (Some s) found some = absurd (cc)
 
--- ---- the job that is removed where none is named
+-- ---- the job that is removed if no job is named
 
 busy_unfinished : (state : JobState) → is_printing_or_stopped state ≡ true → is_finished state ≡ false
 busy_unfinished Pending is = refl

@@ -1,4 +1,4 @@
--- What is shown of a printer, as the code puts it together.
+-- The group of a printer, as the code puts it together.
 use Rattle.std.proofs.Common.{◌≡◌, ℕ, count_by, refl}
 use Rattle.spool.specs.Calls.{paused_at}
 use Rattle.printer_objects.specs.Offer.{OfferRecord}

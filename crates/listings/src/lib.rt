@@ -11,8 +11,8 @@
 //! For LPD the contracts determine the jobs that an operand names, and that they are listed in the same order
 //! ([`queue_listing`]). A removal cancels exactly the jobs that its agent may remove, by rising id
 //! ([`remove`]). The operators of the settings have no special right there: `root` may remove any job, others
-//! their own. No other call changes a room, and each call's only error is out of memory. Its rows are traces
-//! of `play_examples`.
+//! their own. No other call changes a room, and each call's only error is out of memory. The rows of the
+//! crate are traces of `play_examples`.
 #![tactic(auto)]
 
 mod entry;

@@ -109,7 +109,8 @@ fn first_named(room: &PrintRoom, place: usize, request: &RemoveJobs) -> Option<J
 }
 
 /// Removes jobs, at a moment that isn't before the last one: those that the operands name, by rising id, or
-/// the active job if there are no operands. Nothing is removed from an unknown queue. It takes no memory.
+/// the active job if there are no operands. Nothing is removed from an unknown queue. The call takes no
+/// memory.
 ///
 /// A device that has such a job keeps it until it reports that it is done.
 pub fn remove(room: &mut PrintRoom, request: &RemoveJobs, now: Moment)

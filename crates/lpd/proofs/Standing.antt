@@ -47,7 +47,7 @@ left_still : (fault : Option LpdFault) (awaited : Awaited) (rest left piece : Li
 left_still (Some fault) awaited rest left piece over is = fails_more awaited left piece fault is
 left_still None awaited rest left piece over is = inl (is_nothing_is awaited over)
 
--- where nothing counts any more
+-- a reader that gives no more items
 pub stands_still : (stream : List ℕ) (given : List ItemRecord) (piece : List ℕ) (reader : LpdState) → is_over reader ≡ true → Stands stream given reader → Stands (stream ++ piece) given reader
 stands_still stream given piece reader over stands = record {
   left = stands.left ++ piece;
@@ -55,16 +55,16 @@ stands_still stream given piece reader over stands = record {
   kept = left_still reader.fault reader.awaited reader.rest stands.left piece over stands.kept;
 }
 
--- ---- what stands at the front
+-- ---- the front of the bytes
 
--- what a line means where one is awaited
+-- the front by the meaning of a line, where a line is awaited
 front_by_line : (awaited : Awaited) (bytes : List ℕ) → awaits_line awaited ≡ true → front_of awaited bytes ≡ by_line (meaning_of awaited) bytes (first_line_of LPD_LINE_BYTES bytes)
 front_by_line Command bytes is = refl
 front_by_line Subcommand bytes is = refl
 front_by_line (File length) bytes is = absurd (search (rules, is))
 front_by_line Nothing bytes is = absurd (search (rules, is))
 
--- a reader without a fault that something counts for stands at what it hasn't read
+-- a reader without a fault that still awaits a part is at its unread bytes
 at_front : (awaited : Awaited) (rest left : List ℕ) (front : Front) → IsLeft None awaited rest left → front_of awaited rest ≡ front → (front ≡ Waits → ⊥) → left ≡ rest
 at_front awaited rest left front (inl over) is some = absurd (some (sym is ∙ ap (λ (a : Awaited). front_of a rest) over))
 at_front awaited rest left front (inr same) is some = same
@@ -79,7 +79,7 @@ gives_some said rest is = (cc)
 fails_some : (fault : LpdFault) → Fails fault ≡ Waits → ⊥
 fails_some fault is = (cc)
 
--- where an item stands at the front
+-- the answer for an item at the front
 answers_item : (old : LpdState) (said : LpdItem) (file rest : List ℕ) → old.fault ≡ None → front_of old.awaited old.rest ≡ Gives (item_record said file) rest → Answers old (Ok (Some said)) (record { file = file; rest = rest; awaited = awaited_after (item_record said file); fault = None })
 answers_item old said file rest faultless gives stream given stands =
     let told = item_record said file in
@@ -89,7 +89,7 @@ answers_item old said file rest faultless gives stream given stands =
     let on : Leads old.awaited old.rest (told ∷ []) (awaited_after told) rest = (rest, gives, (refl, refl)) in
     record { left = rest; leads = leads_then Command stream given old.awaited old.rest (told ∷ []) (awaited_after told) rest here on; kept = inr refl }
 
--- where a fault stands at the front
+-- the answer for a fault at the front
 fault_stands : (old : LpdState) (fault : LpdFault) → ((left : List ℕ) → IsLeft old.fault old.awaited old.rest left → front_of old.awaited left ≡ Fails fault) → Answers old (Err (Fault fault)) (record old { fault = Some fault })
 fault_stands old fault fails = (
   refl,
@@ -114,7 +114,7 @@ answers_again old fault faulty =
     subst (λ new. Answers old (Err (Fault fault)) new) same
     (fault_stands old fault (λ left kept. subst (λ (f : Option LpdFault). IsLeft f old.awaited old.rest left) faulty kept))
 
--- where nothing can be told yet
+-- the answer while more bytes are awaited
 answers_nothing : (old : LpdState) → old.fault ≡ None → front_of old.awaited old.rest ≡ Waits → Answers old (Ok None) old
 answers_nothing old faultless waits = (
   refl,
@@ -180,7 +180,7 @@ all_stays stream more given items end ending x y =
 pub first_stays : (stream more : List ℕ) (first items : List ItemRecord) (ending : Ending) → SaysFirst stream first → LpdItems (stream ++ more) items ending → (later : List ItemRecord) × (items ≡ first ++ later)
 first_stays stream more first items ending x y = stays_in Command stream more first x.next x.left items ending x.leads y
 
--- where nothing counts any more, nothing is heard of other bytes either
+-- if nothing is awaited, other bytes say no item either
 nothing_heard : (bytes other : List ℕ) (items : List ItemRecord) (ending : Ending) → Hears Nothing bytes items ending → Hears Nothing other items ending
 nothing_heard bytes other [] Open x = refl
 nothing_heard bytes other [] (Faulty fault) x = absurd (let no : Waits ≡ Fails fault = x in (cc))

@@ -1,4 +1,4 @@
--- What stands at the front of bytes stays there where more comes, and so does what they say.
+-- The front of bytes stays the same if more bytes come, and so do their items.
 use Rattle.std.specs.Prelude.{ℕ, suc, zero, ◌==◌, ◌≡◌, ◌⊎◌, ◌++◌, ◌+◌, ◌<◌, ◌≤◌, nat_le, if◌then◌else◌, Bool, true, false, List, [], ◌∷◌, length, take, drop, slice_index_or, Result, Ok, Err}
 use Rattle.std.proofs.Common.{rules, arith, refl, subst, sym, ap, ◌∙◌, inl, inr}
 use Rattle.std.proofs.lemmas.List.{append_assoc, drop-append-le, take-append-le, length-append, length-drop, get_or_append_left}
@@ -143,14 +143,14 @@ pub leads_more : (a : Awaited) (bytes more : List ℕ) (items : List ItemRecord)
 leads_more a bytes more [] b left x = (x.0, ap (λ l. l ++ more) x.1)
 leads_more a bytes more (said ∷ items) b left x = (x.0 ++ more, gives_more a bytes more said x.0 x.1, leads_more (awaited_after said) x.0 more items b left x.2)
 
--- what all of the bytes say they say first
+-- the items that all of the bytes say are said first
 pub hears_first : (a : Awaited) (bytes : List ℕ) (items : List ItemRecord) (ending : Ending) → Hears a bytes items ending → (next : Awaited) × (left : List ℕ) × Leads a bytes items next left × EndsAs (front_of next left) ending
 hears_first a bytes [] ending x = (a, bytes, (refl, refl), x)
 hears_first a bytes (said ∷ items) ending x =
     let tail = hears_first (awaited_after said) x.0 items ending x.2 in
     (tail.0, tail.1, (x.0, x.1, tail.2), tail.3)
 
--- where no item stands, none is given
+-- bytes that end have no item at the front
 ends_no : (front : Front) (ending : Ending) (said : ItemRecord) (rest : List ℕ) → EndsAs front ending → front ≡ Gives said rest → ⊥
 ends_no front Open said rest x is = let no : Waits ≡ Gives said rest = sym x ∙ is in (cc)
 ends_no front (Faulty fault) said rest x is = let no : Fails fault ≡ Gives said rest = sym x ∙ is in (cc)
@@ -194,7 +194,7 @@ leads_one a bytes (said ∷ one) (told ∷ other) b c left behind x y long =
     let later = leads_one (awaited_after said) x.0 one other b c left behind x.2 tail (omega (arith, long)) in
     ap (λ s. s ∷ one) (sym same.0) ∙ ap (λ i. told ∷ i) later
 
--- none stands behind all of them
+-- no item is behind all items of a stream
 pub none_follows : (a : Awaited) (bytes : List ℕ) (items : List ItemRecord) (said : ItemRecord) (b : Awaited) (left : List ℕ) (ending : Ending) → Leads a bytes (items ++ said ∷ []) b left → Hears a bytes items ending → ⊥
 none_follows a bytes [] said b left ending x y = ends_no (front_of a bytes) ending said x.0 y x.1
 none_follows a bytes (told ∷ items) said b left ending x y =

@@ -54,8 +54,8 @@ impl Session {
     }
 
     /// Returns whether an announced file is admitted: with it, at most 100 files of its kind are pending, and
-    /// pending data is within [`Limits::JOB_OCTETS`]. A file of the same name, which is replaced, isn't
-    /// counted.
+    /// pending data is within [`base_types::Limits::JOB_OCTETS`]. A file of the same name, which is replaced,
+    /// isn't counted.
     pub fn admits(&self, head: &FileHead) -> bool
         ensures { result ≡ admits head.now self.now }
     {

@@ -41,7 +41,7 @@ impl Model for Page {
 }
 
 impl Page {
-    /// Creates a page without octets. It takes no memory.
+    /// Creates a page without octets. The call takes no memory.
     pub fn new(alloc: Global) -> Page
         ensures { result ≡ [] }
     {

@@ -29,7 +29,7 @@ impl Model for Pages {
 }
 
 impl Pages {
-    /// Creates pages without octets. It takes no memory.
+    /// Creates pages without octets. The call takes no memory.
     pub fn new(alloc: Global) -> Pages
         ensures { result ≡ [] }
     {

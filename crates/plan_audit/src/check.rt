@@ -48,8 +48,8 @@ impl Model for Answer {
 /// Reads the text of a plan to its end, writes the verdict on it, and returns the exit status with the
 /// objection.
 ///
-/// The answer is one of three. `yes` says that the plan is proved best; where `starts` is set, a line `start
-/// ID NAME S E` for each job follows, with its start and end in ms from now. `no NAME class P` has the first
+/// The answer is one of three. `yes` says that the plan is proved best. If `starts` is set, a line for each
+/// job follows, `start ID NAME S E`, with its start and end in ms from now. `no NAME class P` has the first
 /// fault and the priority of its class. `refused NAME` says that the text is no plan, or has too many bytes.
 /// The status says which answer it was, or that memory or a stream failed: a front of the answer is written
 /// then.

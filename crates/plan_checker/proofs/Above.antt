@@ -1,4 +1,4 @@
--- The classes above one, and what they leave.
+-- The classes above a class, and the waits that they leave.
 use Rattle.std.proofs.Common.{◌≡◌, ◌==◌, ℕ, zero, suc, ◌-◌, ◌<◌, ◌≤◌, List, length, get_or, Option, Some, None, MatchOption, is_some, false, true, Contains, arith, sym, ap, ◌∙◌, subst}
 use Rattle.std.specs.Prelude.{slice_get}
 use Rattle.std.proofs.lemmas.Option.{get_or_from_slice_get, slice_get-get_or}
@@ -24,7 +24,7 @@ match_since_none : {X : Type 0} (o : Option X) (A : Type 0) (B : X → Type 0) �
 match_since_none None A B h m = m
 match_since_none (Some x) A B h m = absurd (cc)
 
--- one that it doesn't find isn't
+-- a job that the search doesn't find isn't in the class
 pub missed_job : (ids : List ℕ) (job : ℕ) (place : Option ℕ) → is_some place ≡ false → MatchOption place (place_of ids job ≡ length ids) (λ at. (place_of ids job ≡ at) × (at < length ids)) → ¬ Contains ids job
 missed_job ids job place none match known =
     let past : place_of ids job ≡ length ids = match_since_none place _ _ none match in

@@ -18,14 +18,14 @@ pub read_time : (c : Class) (device : ℕ) (items : List ℕ) (i k x t : ℕ) (o
 read_time c device items i k x t o same l is at e f =
     e ∙ ap (λ j. time_in c j device) (job_at c.ids items i x same l is ∙ ap (λ n. get_or c.ids n 0) (sym at)) ∙ f
 
--- what is fair for all jobs is fair for the job at a place
+-- prices that are fair for all jobs are fair for the job at a place
 pub fair_at_place : (c : Class) → IsClass c → (device : ℕ) (prices places : List ℤ) (items : List ℕ) (i x t : ℕ) → items ≡ c.ids → i < length items → x ≡ get_or items i x → Some t ≡ time_in c x device → AllFairOn c device prices places → IsFairOn (wait_in c device) t (get_or prices i (pos 0)) places
 fair_at_place c ok device prices places items i x t same l is e all =
     let n : i < length c.ids = (let q : length items ≡ length c.ids = ap length same in omega arith) in
     let p : place_of c.ids x ≡ i = ap (place_of c.ids) (job_at c.ids items i x same l is) ∙ place_at c.ids ok.rising i n in
     subst (λ k. IsFairOn (wait_in c device) t (get_or prices k (pos 0)) places) p (all x t (sym e))
 
--- what is fair for the job at each place is fair for all jobs
+-- prices that are fair for the job at each place are fair for all jobs
 pub fair_for_all : (c : Class) → IsClass c → (device wait : ℕ) (prices places : List ℤ) (i : ℕ) → wait ≡ wait_in c device → length c.ids ≤ i → ((k t : ℕ) → k < i → time_in c (get_or c.ids k 0) device ≡ Some t → IsFairOn wait t (get_or prices k (pos 0)) places) → AllFairOn c device prices places
 fair_for_all c ok device wait prices places i w l each job t e =
     let p : place_of c.ids job < length c.ids = timed_place c ok job device t e in

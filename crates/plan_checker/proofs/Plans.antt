@@ -57,7 +57,7 @@ module _ (plan : PlanRecord) (lists : All HasOneListEach plan.classes) where
       let y = verdict class (class_at k d l) in
       way_from_parts class.problem class.priced.way (lists k d l).queues y.0 y.1.0.in_way y.1.1.0.jobs y.1.1.1.0
 
-  -- and so have those above one
+  -- the classes above a class have ways too
   pub above_ways : (place : ℕ) → place ≤ length plan.classes → YesAbove plan place → AboveHaveWays (take place plan.classes)
   above_ways place most verdicts k d l =
       let n : length (take place plan.classes) ≤ place = omega (arith, length-take place plan.classes) in
@@ -76,7 +76,7 @@ module _ (plan : PlanRecord) (lists : All HasOneListEach plan.classes) where
     once = λ at class found. let within : at < length plan.classes = slice_get_within plan.classes at class found in (so_far.yes at (omega arith) class found).1.0.elsewhere;
   }
 
-  -- and each class is best
+  -- each class is planned best
   pub best_classes : (place : ℕ) → length plan.classes ≤ place → YesSoFar plan place → All (λ class. IsBest class.problem class.priced.way) plan.classes
   best_classes place all so_far k d l =
       let class = get_or plan.classes k d in

@@ -1,4 +1,4 @@
--- what the parts of a verdict make
+-- a verdict, from its parts
 use Rattle.std.proofs.Common.{◌≡◌, ℕ, suc, ◌+◌, ◌*◌, ◌<◌, ◌≤◌, List, [], ◌∷◌, length, get_or, refl, sym, ap, ◌∙◌, subst, arith, inl, inr, All, ℤ, pos, ◌≤ℤ◌, Some}
 use Rattle.std.specs.List.{concat}
 use Rattle.std.proofs.lemmas.Bool.{cases_lt}
@@ -90,7 +90,7 @@ module _ (c : Class) (w : List (List ℕ)) (p : PriceLists) (total : ℕ) (prove
     next = subst (λ x. job_price c.ids p.jobs job ≤ℤ pos (wait_in c device + suc x * t)) (sym (proved.fair.one_each_place device)) (proved.fair.next job device t e);
   }
 
-  -- and a proved class has it, where nothing beside it speaks against it
+  -- a proved class has the verdict Yes, if none of its jobs is elsewhere and its waits follow the classes above
   pub yes_from_proved : (beside : Beside) → NoneElsewhere beside c → WaitsFollow beside.above c → IsVerdict beside c w p total Yes
   yes_from_proved beside elsewhere follow = (
     proved.is_way.known,

@@ -14,7 +14,7 @@ use crate::verdict::{Fault, Verdict};
 use plan_prices::{PlannedClass, PricedWay, Stranded, all_able, names_known, none_twice};
 use plan_problem::ClassProblem;
 
-/// Checks a priced way of a class by itself. It takes no memory.
+/// Checks a priced way of a class by itself. The call takes no memory.
 ///
 /// The verdict is yes exactly if the way is one of the class, its prices are fair and its total is stated.
 /// The way is then best, and no timetable of the class is better. The waits are taken as given.

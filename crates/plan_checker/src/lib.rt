@@ -6,7 +6,7 @@
 //! as given. The order of the classes isn't checked, nor whether a job is named twice among the stranded. The
 //! crate finds no plans, and reads no text.
 //!
-//! Its rows are plans of `play_examples`.
+//! The rows of the crate are plans of `play_examples`.
 #![tactic(auto)]
 
 mod beside;

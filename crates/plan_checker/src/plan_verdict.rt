@@ -9,7 +9,7 @@ use crate::class_verdict::judge;
 use crate::verdict::{PlanVerdict, Verdict};
 use plan_prices::{Plan, PlannedClass};
 
-/// Checks a plan, class by class from the top. It takes no memory.
+/// Checks a plan, class by class from the top. The call takes no memory.
 ///
 /// The verdict is yes exactly if each class is proved, its waits are those after the class above it, and no
 /// job is in two classes, or in a class and among the stranded. Each class is then best under its waits, and

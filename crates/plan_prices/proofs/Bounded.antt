@@ -30,7 +30,7 @@ time_in_range c ok job device time e =
     rw e at entry
 
 module _ (c : Class) (way : List (List ℕ)) (p : PriceLists) (f : AreFair c way p) where
-  -- what a job at a place of a list costs
+  -- the cost of a job at a place of a list
   abbrev cost_at : ℕ → List ℕ → ℕ → ℕ → ℕ
   cost_at d jobs i after = wait_in c d + suc after * time_on c (get_or jobs i 0) d
 
@@ -38,7 +38,7 @@ module _ (c : Class) (way : List (List ℕ)) (p : PriceLists) (f : AreFair c way
   abbrev price_at : ℕ → List ℕ → ℕ → ℕ → ℤ
   price_at d jobs i after = job_price c.ids p.jobs (get_or jobs i 0) +ℤ place_price p.places d after
 
-  -- a list's prices, with one job's in place of what it costs, are at most what the list costs
+  -- the prices of a list, with the cost of one job in the place of its price, are at most the cost of the list
   list_slack : (d : ℕ) (jobs : List ℕ) → All (λ j. IsSome (time_in c j d)) jobs → (i after : ℕ) → i + suc after ≡ length jobs
       → ((prices_of c.ids p.jobs jobs +ℤ sum_signed (take (length jobs) (places_on p.places d))) +ℤ pos (cost_at d jobs i after)) ≤ℤ (pos (list_cost c d (wait_in c d) jobs) +ℤ price_at d jobs i after)
   list_slack d [] h i after e = absurd (omega arith)
@@ -67,7 +67,7 @@ module _ (c : Class) (way : List (List ℕ)) (p : PriceLists) (f : AreFair c way
       let t : list_total c d (wait_in c d) jobs ≡ list_cost c d (wait_in c d) jobs = list_cost_is c d (wait_in c d) jobs in
       omega (arith, ints, a, b, t)
 
-  -- and so are those of all lists
+  -- the same for the prices of all lists
   lists_slack : (d : ℕ) (qs : List (List ℕ)) → AbleFrom c d qs → (n i after : ℕ) → n < length qs → i + suc after ≡ length (get_or qs n [])
       → ((prices_of c.ids p.jobs (concat qs) +ℤ sum_devices p.places d (length qs)) +ℤ pos (cost_at (d + n) (get_or qs n []) i after)) ≤ℤ (pos (total_from c d qs) +ℤ price_at (d + n) (get_or qs n []) i after)
   lists_slack d [] h n i after l e = absurd (omega arith)
@@ -88,7 +88,7 @@ module _ (c : Class) (way : List (List ℕ)) (p : PriceLists) (f : AreFair c way
       subst P there (omega (arith, ints, a, b, s))
 
   module _ (ok : IsClass c) (w : IsWay c way) where
-    -- the prices at a used place are at least what the job costs there
+    -- the prices at a used place are at least the cost of the job there
     tight : (d i after : ℕ) → d < length way → i + suc after ≡ length (queue_of way d) → pos (cost_at d (queue_of way d) i after) ≤ℤ price_at d (queue_of way d) i after
     unfolding times_named
     tight d i after l e =

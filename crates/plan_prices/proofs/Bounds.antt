@@ -43,7 +43,7 @@ time_small c ok j d = elim (cases_lt (place_of c.ids j) (length c.rows)) [
   | inr past ↦ rw (get_or_past c.rows (place_of c.ids j) [] past) (omega arith)
 ]
 
--- what a job at any place of a list costs at most, where no wait is longer than this
+-- the most that a job costs at any place of a list, where no wait is longer than this
 abbrev most_cost : ℕ → ℕ
 most_cost wait = wait + UNFINISHED_JOBS * JOB_TIME
 

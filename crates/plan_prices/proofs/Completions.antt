@@ -124,7 +124,7 @@ names_total c d (q ∷ qs) h =
     sum_by-same f (completion_from c (suc d) qs) (concat qs) (λ k x l. completion_later c d q qs (get_or (concat qs) k x) (has_other q (concat qs) parts.2 k x l)) in
     omega (arith, sum_by-append f q (concat qs), here, list_ends c d (wait_in c d) q parts.0, later, names_total c (suc d) qs parts.1)
 
--- what is added up over the names is added up over the jobs
+-- a sum over the names is a sum over the jobs
 names_priced : (ids : List ℕ) (f : ℕ → ℕ) (names : List ℕ) → All (Contains ids) names → prices_of ids (map (λ id. pos (f id)) ids) names ≡ pos (sum_by f names)
 names_priced ids f [] h = refl
 names_priced ids f (x ∷ xs) h =

@@ -58,7 +58,7 @@ pub some_value : (o : Option ℕ) → IsSome o → o ≡ Some (unwrap_or o 0)
 some_value (Some t) h = refl
 some_value None h = absurd (search rules)
 
--- what a list of jobs on a device costs is at least the jobs' prices and those of all places there
+-- the cost of a list of jobs on a device is at least the prices of the jobs and of all places there
 pub list_bound : (c : Class) (way : List (List ℕ)) (p : PriceLists) → AreFair c way p → (d : ℕ) (jobs : List ℕ) → All (λ j. IsSome (time_in c j d)) jobs → (prices_of c.ids p.jobs jobs +ℤ sum_signed (take (length jobs) (places_on p.places d))) ≤ℤ pos (list_cost c d (wait_in c d) jobs)
 list_bound c way p f d [] h = le_z_yes tt
 list_bound c way p f d (j ∷ js) h =

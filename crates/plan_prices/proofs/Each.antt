@@ -1,4 +1,4 @@
--- what holds of each element so far
+-- properties of each element so far
 use Rattle.std.proofs.Common.{◌≡◌, ℕ, ◌+◌, ◌<◌, ◌≤◌, List, length, get_or, sym, ap, ◌∙◌, subst, arith, inl, inr, Option, Some, None, IsSome, MatchOption, is_some, true, false, ◌⊎◌, IsTrue, rules}
 use Rattle.std.proofs.lemmas.Bool.{cases_lt}
 use Rattle.std.proofs.lemmas.List.{get_or_default, get_or_past}
@@ -38,7 +38,7 @@ match_since_some None A B h m = absurd (cc)
 pub none_is_true : {A : Type 0} → IsTrue false → A
 none_is_true h = absurd (search rules)
 
--- an item that a loop reads, and what it is seen as
+-- an item that a loop reads, and the value that it is seen as
 pub item_is : {X : Type 0} (qs w : List X) (i : ℕ) (q s d : X) → qs ≡ w → i < length qs → q ≡ get_or qs i q → s ≡ q → s ≡ get_or w i d
 item_is qs w i q s d same l is seen = seen ∙ is ∙ get_or_default qs i q d l ∙ ap (λ v. get_or v i d) same
 

@@ -10,7 +10,7 @@ use Rattle.plan_problem.proofs.Places.{place_below, at_place}
 use Rattle.plan_prices.specs.Way.{IsWay, times_named, NamesKnown, NoneTwice, AllNamed, AllAble}
 use Rattle.plan_prices.proofs.Sums.{count_of, count_of-no}
 
--- what holds in each list holds of all names
+-- a property of the names of each list is a property of all names
 pub all_concat : (P : ℕ → Type 0) (w : List (List ℕ)) → All (λ q. All P q) w → All P (concat w)
 all_concat P [] h = All-nil P
 all_concat P (q ∷ qs) h = All-append P q (concat qs) (All-head (λ x. All P x) q qs h) (all_concat P qs (All-tail (λ x. All P x) q qs h))
@@ -21,7 +21,7 @@ all_left P xs ys h k d l = subst P (get_or_append_left xs ys d k l) (h k d (omeg
 pub all_right : (P : ℕ → Type 0) (xs ys : List ℕ) → All P (xs ++ ys) → All P ys
 all_right P xs ys h k d l = subst P (get_or-append-add xs ys k d) (h (length xs + k) d (omega (arith, l, length-append xs ys)))
 
--- and the other way round
+-- the converse: a property of all names is a property of the names of each list
 pub all_lists : (P : ℕ → Type 0) (w : List (List ℕ)) → All P (concat w) → All (λ q. All P q) w
 all_lists P [] h = All-nil (λ q. All P q)
 all_lists P (q ∷ qs) h = All-cons (λ x. All P x) q qs (all_left P q (concat qs) h) (all_lists P qs (all_right P q (concat qs) h))
@@ -39,7 +39,7 @@ each_list_more P w i l here before k d h = elim (cases_lt k i) [
 pub none_named : (w : List (List ℕ)) (job : ℕ) → All (λ q. All (λ id. ¬ (id ≡ job)) q) w → ¬ Contains (concat w) job
 none_named w job none named = all_concat (λ id. ¬ (id ≡ job)) w none named.0 job named.1 named.2
 
--- what holds of all names holds of one that is counted
+-- a property of all names is a property of a name that is counted
 pub of_counted : (P : ℕ → Type 0) (names : List ℕ) (job n : ℕ) → count_of names job ≡ suc n → All P names → P job
 of_counted P [] job n e h = absurd (let z : 0 ≡ suc n = e in omega arith)
 of_counted P (x ∷ xs) job n e h = elim (cases_eq x job) [
@@ -47,7 +47,7 @@ of_counted P (x ∷ xs) job n e h = elim (cases_eq x job) [
   | inr other ↦ of_counted P xs job n (sym (count_of-no x xs job other) ∙ e) (All-tail P x xs h)
 ]
 
--- how often lists name a job, list by list
+-- the number of times that lists name a job, list by list
 abbrev pub times_in_lists : List (List ℕ) → ℕ → ℕ
 times_in_lists way job = sum_by (λ jobs. count_by (λ id. id == job) jobs) way
 
@@ -84,7 +84,7 @@ way_from_parts c w n known twice named able = record {
   able = able;
 }
 
--- and a way has them
+-- the same for the lists of a way
 pub none_twice_in : (c : Class) (w : List (List ℕ)) → IsWay c w → NoneTwice c w
 none_twice_in c w h k d l = let a : times_named w (get_or c.ids k d) ≡ 1 = h.once k d l in omega (arith, a)
 

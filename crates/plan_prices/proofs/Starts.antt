@@ -8,7 +8,7 @@ use Rattle.plan_problem.specs.Class.{Class, wait_in}
 use Rattle.plan_prices.specs.Total.{time_on, busy_time}
 use Rattle.plan_prices.specs.Timetable.{Slot, slots_of_list, slots_from, own_slots}
 
--- where a search finds a job
+-- the place at which a search finds a job
 found_below : (jobs : List ℕ) (job before : ℕ) → Some before ≡ position (λ id. id == job) jobs → (before < length jobs) × (get_or jobs before 0 ≡ job)
 found_below jobs job before found =
     let first = position_or_len (λ id. id == job) jobs in
@@ -20,7 +20,7 @@ found_below jobs job before found =
     (λ _ same. absurd (cc))
     found
 
--- where it finds none, the job isn't there
+-- if a search finds no place, the job isn't there
 pub none_found : (jobs : List ℕ) (job : ℕ) → None ≡ position (λ id. id == job) jobs → All (λ id. ¬ (id ≡ job)) jobs
 none_found jobs job none =
     let first = position_or_len (λ id. id == job) jobs in
@@ -41,7 +41,7 @@ contains_right xs ys s h = (length xs + h.0, omega (arith, h.1, length-append xs
 contains_later : (x : Slot) (xs : List Slot) (s : Slot) → Contains xs s → Contains (x ∷ xs) s
 contains_later x xs s h = (suc h.0, omega (arith, h.1), h.2)
 
--- the slot of the job that has so many before it
+-- the slot of the job that has this number of jobs before it
 slot_in_list : (c : Class) (d free : ℕ) (jobs : List ℕ) (i : ℕ) → i < length jobs → Contains (slots_of_list c d free jobs) (record { job = get_or jobs i 0; device = d; start = free + busy_time c d (take i jobs) })
 slot_in_list c d free [] i l = absurd (omega arith)
 slot_in_list c d free (j ∷ js) zero l = (0, omega arith, rw add-zero refl)

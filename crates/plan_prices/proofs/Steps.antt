@@ -1,4 +1,4 @@
--- totals of what is left of a list, one step on
+-- totals of the rest of a list, one step further
 use Rattle.std.proofs.Common.{◌≡◌, ℕ, suc, ◌+◌, ◌<◌, ◌≤◌, List, [], ◌∷◌, length, drop, get_or, refl, sym, zero, ap, ◌∙◌, arith, add-one}
 use Rattle.std.proofs.lemmas.List.{at_drop_more, at_drop_all, get_or_default}
 use Rattle.plan_problem.specs.Class.{Class, wait_in}
@@ -9,7 +9,7 @@ use Rattle.plan_prices.proofs.Totals.{list_total, list_cost_is}
 pub list_total_step : (c : Class) (d free : ℕ) (jobs : List ℕ) (i x : ℕ) → i < length jobs → x ≡ time_on c (get_or jobs i 0) d → list_total c d free (drop i jobs) ≡ (free + x) + list_total c d (free + x) (drop (i + 1) jobs)
 list_total_step c d free jobs i x l e = rw e (at_drop_more (list_total c d free) jobs i 0 l)
 
--- at the end of the list its ends are what it costs by places
+-- at the end of the list, the sum of its ends is its cost by places
 pub list_total_end : (c : Class) (d free sum i : ℕ) (jobs : List ℕ) → length jobs ≤ i → sum + list_total c d free (drop i jobs) ≡ list_total c d (wait_in c d) jobs → sum ≡ list_cost c d (wait_in c d) jobs
 list_total_end c d free sum i jobs l e = omega (arith, e, at_drop_all (list_total c d free) jobs i l, list_cost_is c d (wait_in c d) jobs)
 
@@ -46,7 +46,7 @@ waits_from_at c d [] k l = absurd (omega arith)
 waits_from_at c d (q ∷ qs) zero l = ap (λ n. wait_in c n + busy_time c n q) (let e : d ≡ d + zero = omega arith in e)
 waits_from_at c d (q ∷ qs) (suc k) l = waits_from_at c (suc d) qs k (omega arith) ∙ ap (λ n. wait_in c n + busy_time c n (get_or qs k [])) (let e : suc d + k ≡ d + suc k = omega arith in e)
 
--- what the code computes for a device is the wait that the way leaves
+-- the value that the code computes for a device is the wait that the way leaves
 pub left_at : (c : Class) (w : List (List ℕ)) (i x d : ℕ) (jobs : List ℕ) → i < length w → d ≡ i → jobs ≡ get_or w i [] → x ≡ wait_in c d + busy_time c d jobs → x ≡ get_or (waits_after c w) i 0
 left_at c w i x d jobs l at is e =
     let v : get_or (waits_after c w) i 0 ≡ wait_in c (0 + i) + busy_time c (0 + i) (get_or w i []) = waits_from_at c 0 w i l in

@@ -17,12 +17,12 @@ Rises (x ∷ xs) = All (λ y. x < y) xs × Rises xs
 abbrev pub count_of : List ℕ → ℕ → ℕ
 count_of names job = count_by (λ x. x == job) names
 
--- a price so many times
+-- a price, this number of times
 abbrev pub times : ℕ → ℤ → ℤ
 times zero p = pos 0
 times (suc n) p = p +ℤ times n p
 
--- each job's price as often as count says
+-- the sum of the jobs' prices, each as often as `count` gives
 abbrev pub weighed : List ℕ → List ℤ → (ℕ → ℕ) → ℤ
 weighed [] ps count = pos 0
 weighed (i ∷ is) [] count = pos 0

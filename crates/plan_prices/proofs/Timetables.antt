@@ -37,7 +37,7 @@ Apart_all c (s ∷ ss) = All (λ x. Apart c s x) ss × Apart_all c ss
 abbrev pub jobs_of : List Slot → List ℕ
 jobs_of slots = map (λ s. s.job) slots
 
--- what put keeps of each element
+-- a property of each element that `put` keeps
 put_all : (c : Class) (P : Slot → Type 0) (s : Slot) (xs : List Slot) → P s → All P xs → All P (put c s xs)
 put_all c P s [] h k = All-cons P s [] h k
 put_all c P s (x ∷ xs) h k =
@@ -180,7 +180,7 @@ way_total_at_most c d (suc n) ss w a =
     let y : total_from c (suc d) (way_from c (suc d) n ss) ≤ weight_from c (end_of c) (suc d) n ss = way_total_at_most c (suc d) n ss w a in
     omega (arith, x, y, slots_total_is c (slots_on c d ss))
 
--- how often jobs are named, in a way and in slots
+-- the number of times that jobs are named, in a way and in slots
 abbrev pub one_if : ℕ → Slot → ℕ
 one_if job s = cond (s.job == job) 1 0
 

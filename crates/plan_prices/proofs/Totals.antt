@@ -8,7 +8,7 @@ abbrev pub list_total : Class → ℕ → ℕ → List ℕ → ℕ
 list_total c device free [] = 0
 list_total c device free (job ∷ jobs) = (free + time_on c job device) + list_total c device (free + time_on c job device) jobs
 
--- those of all lists, for the devices from one on
+-- the totals of all lists, for the devices from a device on
 abbrev pub total_from : Class → ℕ → List (List ℕ) → ℕ
 total_from c device [] = 0
 total_from c device (jobs ∷ lists) = list_total c device (wait_in c device) jobs + total_from c (suc device) lists

@@ -107,13 +107,13 @@ own_timetable c w h =
       apart = all_pairs c slots (from_apart c 0 w);
     }
 
--- and their total is the way's
+-- the total of the slots is the total of the way
 pub own_total : (c : Class) → IsClass c → (w : List (List ℕ)) → IsWay c w → slots_total c (own_slots c w) ≡ total_of c w
 own_total c ok w h = slots_from_total c 0 w ∙ sym (total_is c ok w h)
 
 -- ---- each ends when its job is complete
 
--- what holds of the jobs of a list holds of those of its slots
+-- a property of the jobs of a list is a property of the jobs of its slots
 slots_have : (P : ℕ → Type 0) (c : Class) (d free : ℕ) (q : List ℕ) → All P q → All (λ s. P s.job) (slots_of_list c d free q)
 slots_have P c d free q h = all_of_jobs P (slots_of_list c d free q) (subst (All P) (sym (list_jobs c d free q)) h)
 

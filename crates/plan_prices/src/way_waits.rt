@@ -29,7 +29,8 @@ pub fn waits_after(alloc: Global, class: &ClassProblem, way: &Way) -> Result<Vec
     Ok(after)
 }
 
-/// Returns whether `next` are the waits after the way, as [`waits_after`] returns them. It takes no memory.
+/// Returns whether `next` are the waits after the way, as [`waits_after`] returns them. The call takes no
+/// memory.
 pub fn leaves_waits(class: &ClassProblem, way: &Way, next: &[u64]) -> bool
     requires way { IsWay class.now way.now }
     requires next { length next.now ≡ length class.now.waits }

@@ -8,7 +8,7 @@ use Rattle.plan_problem.specs.Cause.{filters_of, first_cause, devices_of, cause_
 use Rattle.plan_problem.proofs.Filters.{able_from_tests, none_since}
 use Rattle.plan_problem.proofs.Stages.{stage_of, stage_of-nil, stage_of-cons_option, stage_with, passed_by, none_failed, past_if_none, past_if_able, none_past_stages}
 
--- where the printer passes all filters, one of its places has an able device
+-- if the printer passes all filters, one of its places has an able device
 able_if_past : (needs : JobNeeds) (printer places : List ℕ) (devices : List Device) → ((place : ℕ) → Contains places place → Contains printer place) → 6 ≤ stage_of (filters_of needs) (devices_of places devices) → HasAbleDevice needs printer devices
 able_if_past needs printer [] devices among past = absurd (omega (arith, stage_of-nil (filters_of needs)))
 able_if_past needs printer (place ∷ places) devices among past =

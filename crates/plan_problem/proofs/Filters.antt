@@ -1,4 +1,4 @@
--- What the tests of a device tell.
+-- The results of the tests of a device.
 use Rattle.std.proofs.Common.{◌≡◌, ℕ, List, [], ◌∷◌, Bool, true, false, cond, ◌||◌, ◌&&◌, not, Option, Some, None, IsSome, is_some, IsTrue, Contains, map, filter, refl, sym, ap, ◌∙◌}
 use Rattle.std.specs.Bool.{Decides, if◌then◌else◌}
 use Rattle.std.specs.List.{list_any, list_all}
@@ -25,7 +25,7 @@ any_loaded : (p : List ℕ → Bool) (media : List Medium) → list_any p (map (
 any_loaded p [] = refl
 any_loaded p (m ∷ media) = any_by_mark m.loaded p m (filter (λ n. n.loaded) media) (list_any (λ n. n.loaded && p n.name) media) (any_loaded p media)
 
--- the media of a job are looked up among the loaded ones
+-- the media of a job are searched among the loaded media
 pub has_media_from : (needs : JobNeeds) (device : Device) (media : List Medium) (wanted : List ℕ) (found : Bool) → media ≡ device.media → wanted ≡ needs.media → found ≡ list_any (λ m. m.loaded && bytes_eq wanted m.name) media → found ≡ has_media needs device
 has_media_from needs device media wanted found d e f =
     f ∙ ap (λ w. list_any (λ m. m.loaded && bytes_eq w m.name) media) e ∙ ap (list_any (λ m. m.loaded && bytes_eq needs.media m.name)) d ∙ sym (any_loaded (bytes_eq needs.media) device.media)
@@ -97,7 +97,7 @@ pub tests_from_able : (needs : JobNeeds) (place : ℕ) (device : Device) (printe
 tests_from_able needs place device printer able =
     rw ((formats_decides needs device).1 able.formats, (sides_decide (is_two_sided needs.sides) device.rate_two).1 able.sides, (finishings_decide device.finishings needs.finishings).1 able.finishings, (text_decides needs.media (loaded_media device)).1 able.media, able.runs) refl
 
--- what `able` answers of a device of the printer
+-- the answer of `able` for a device of the printer
 pub none_is_able : (needs : JobNeeds) (place : ℕ) (device : Device) (printer : List ℕ) (none : Bool) → Contains printer place → is_some (first_failed (filters_of needs) device) ≡ not none → (IsTrue none → IsAble needs place device printer) × (IsAble needs place device printer → IsTrue none)
 none_is_able needs place device printer none served e = (
   λ t. able_from_tests needs place device printer served (none_since _ (e ∙ ap not t)),

@@ -34,7 +34,7 @@ named_pair jobs devices printers id place time job device entry known named foun
       takes = pair_some.time;
     }
 
--- what has a time in the class of these jobs and devices is such a pair
+-- a pair with a time in the class is a pair of these jobs and devices
 pub timed_pair : (jobs : List JobOfClass) (devices : List Device) (printers : List (List ℕ)) (waits : List ℕ) (c : Class) → IsClass c → IsClassOf jobs devices printers waits c → length waits ≡ length devices
     → (id place time : ℕ) → time_in c id place ≡ Some time → TimedPair jobs devices printers id place time
 timed_pair jobs devices printers waits c class built one_wait_each id place time e =

@@ -22,7 +22,7 @@ place_at ids up place below =
 pub at_place : (ids : List ℕ) (job : ℕ) → place_of ids job < length ids → get_or ids (place_of ids job) 0 ≡ job
 at_place ids job below = eqb-true (get_or ids (place_of ids job) 0) job (passes_at_first (λ id. id == job) ids 0 below)
 
--- what a search among jobs by rising id finds
+-- the result of a search among jobs by rising id
 pub found_at : (ids : List ℕ) (job place : ℕ) → IsStrictlyIncreasing ids → place < length ids → get_or ids place 0 ≡ job → place_of ids job ≡ place
 found_at ids job place up below e = rw (← e) (place_at ids up place below)
 
@@ -65,7 +65,7 @@ timed_place c class job device time e = elim (cases_lt (place_of c.ids job) (len
       absurd (let none : None ≡ Some time = (rw no_row at e) in cc)
 ]
 
--- and its device is one of the class
+-- the device of such a pair is a device of the class
 pub timed_device : (c : Class) → IsClass c → (job device time : ℕ) → time_in c job device ≡ Some time → device < length c.waits
 timed_device c class job device time e = elim (cases_lt device (length c.waits)) [
   | inl below ↦ below

@@ -100,7 +100,7 @@ able_same one other place device printer same able = record {
 need_back : (one other : JobNeeds) → NeedSame one other → NeedSame other one
 need_back one other same = record { printer = sym same.printer; formats = sym same.formats; sides = sym same.sides; finishings = sym same.finishings; media = sym same.media }
 
--- its times tell which devices are able
+-- the times of a row say which devices are able
 pub tells_alike : (jobs : List JobOfClass) (devices : List Device) (printers : List (List ℕ)) (count : ℕ) (ids : List ℕ) (rows : List (List (Option ℕ))) (needs : JobNeeds) (times : List (Option ℕ))
     → RowsSoFar jobs devices printers count ids rows → FromAlike jobs rows needs times
     → (place : ℕ) (device : Device) → slice_get devices place ≡ Some device → TellsAble needs place device (printer_of needs printers) times
@@ -140,7 +140,7 @@ built_is_class jobs devices printers waits count ids rows can so_far all =
       few_devices = omega (arith, can.few_devices, can.one_wait_each);
     }
 
--- and it is the class problem of these jobs and devices
+-- the problem that is built is the class problem of these jobs and devices
 pub built_is_class_of : (jobs : List JobOfClass) (devices : List Device) (printers : List (List ℕ)) (waits : List ℕ) (count : ℕ) (ids : List ℕ) (rows : List (List (Option ℕ)))
     → CanBuild jobs devices printers waits → RowsSoFar jobs devices printers count ids rows → count ≡ length jobs → IsClassOf jobs devices printers waits (record { ids = ids; rows = rows; waits = waits })
 built_is_class_of jobs devices printers waits count ids rows can so_far all =

@@ -11,7 +11,7 @@ use Rattle.plan_problem.specs.Cause.{Filter, filters_of, first_failed, first_cau
 use Rattle.plan_problem.specs.Able.{IsAble}
 use Rattle.plan_problem.proofs.Filters.{able_from_tests, tests_from_able}
 
--- how many filters in a row one device passes
+-- the number of filters in a row that one device passes
 pub passed_by : List Filter → Device → ℕ
 passed_by [] device = 0
 passed_by (f ∷ filters) device = cond (f.test device) (suc (passed_by filters device)) 0
@@ -20,7 +20,7 @@ zero_if_none : List Device → ℕ → ℕ
 zero_if_none [] n = 0
 zero_if_none (device ∷ devices) n = suc n
 
--- how many filters in a row leave some of the devices
+-- the number of filters in a row that leave some of the devices
 pub stage_of : List Filter → List Device → ℕ
 stage_of [] devices = 0
 stage_of (f ∷ filters) devices = zero_if_none (filter f.test devices) (stage_of filters (filter f.test devices))
@@ -142,7 +142,7 @@ abbrev pub stage_with : List Filter → Option Device → ℕ → ℕ
 stage_with filters None stage = stage
 stage_with filters (Some device) stage = max (passed_by filters device) stage
 
--- what such a device adds
+-- the stage with the first found device added
 pub stage_of-cons_option : (filters : List Filter) (found : Option Device) (devices : List Device) → stage_of filters (cons_option found devices) ≡ stage_with filters found (stage_of filters devices)
 stage_of-cons_option filters None devices = refl
 stage_of-cons_option filters (Some device) devices = stage_of-cons filters device devices
@@ -170,7 +170,7 @@ stage_of_printer filters (p ∷ printer) devices (suc k) place device below at f
     let e = stage_of-cons_option filters (slice_get devices p) (devices_of printer devices) in
     omega (arith, e, stage_with_at_least filters (slice_get devices p) (stage_of filters (devices_of printer devices)), stage_of_printer filters printer devices k place device (omega arith) at found)
 
--- where a device is able the printer passes all filters
+-- if a device is able, the printer passes all filters
 pub past_if_able : (needs : JobNeeds) (printer : List ℕ) (devices : List Device) → HasAbleDevice needs printer devices → 6 ≤ stage_of (filters_of needs) (devices_of printer devices)
 past_if_able needs printer devices (place, able) = at_found (slice_get devices place) refl able where
   at_found : (found : Option Device) → found ≡ slice_get devices place → IsSomeAnd found (λ device. IsAble needs place device printer) → 6 ≤ stage_of (filters_of needs) (devices_of printer devices)
@@ -208,7 +208,7 @@ pub none_failed : (needs : JobNeeds) (device : Device) → 6 ≤ passed_by (filt
 unfolding causes
 none_failed needs device h = first_failed_at (filters_of needs) device ∙ past_causes (passed_by (filters_of needs) device) h
 
--- where there is no cause the devices pass all filters
+-- if there is no cause, the devices pass all filters
 pub past_if_none : (needs : JobNeeds) (devices : List Device) → first_cause (filters_of needs) devices ≡ None → 6 ≤ stage_of (filters_of needs) devices
 unfolding order_or_six causes
 past_if_none needs devices e =

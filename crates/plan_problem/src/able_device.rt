@@ -8,8 +8,8 @@ ghost use Rattle.plan_problem.specs.Cause.{prints_formats, prints_sides, finishe
 use base_types::{Activity, Cause, DeviceId, DeviceNow, Medium, Needs, PrinterSet, Sides, Text};
 
 /// Returns whether the device at a place of the settings, with the state `now`, can print the job for a
-/// printer: it is one of the printer's, prints each document format of the job, prints two-sided if the job
-/// is two-sided, has every finishing of the job and its media loaded, and runs.
+/// printer. Such a device is a device of the printer, prints each document format of the job, prints
+/// two-sided if the job is two-sided, has every finishing of the job and its media loaded, and runs.
 pub fn able(needs: &Needs, device: DeviceId, now: &DeviceNow, printer: &PrinterSet) -> bool
     ensures { IsTrue result ↔ IsAble needs.now device now.now printer.now }
 {
@@ -93,7 +93,7 @@ fn has_loaded(media: &[Medium], wanted: &[u8]) -> bool
     media.iter().any(|medium| is_loaded(medium, wanted))
 }
 
-/// Returns whether a medium is the wanted one, and loaded.
+/// Returns whether a medium is the wanted medium, and loaded.
 fn is_loaded(medium: &Medium, wanted: &[u8]) -> bool
     ensures { result ≡ (medium.now.loaded && bytes_eq wanted.now medium.now.name) }
 {

@@ -6,7 +6,7 @@
 //! [`ClassProblem`] made of jobs and devices has a time exactly if the device is able. The crate makes no
 //! plans.
 //!
-//! Its rows are traces of `play_examples`, and tests of `unit_tests`.
+//! The rows of the crate are traces of `play_examples`, and tests of `unit_tests`.
 #![tactic(auto)]
 
 mod able_device;

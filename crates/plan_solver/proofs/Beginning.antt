@@ -16,7 +16,7 @@ use Rattle.plan_solver.specs.Matching.{HasRoom, IsFair, IsTight}
 use Rattle.plan_solver.proofs.Laid.{laid_none, laid_now, shows_none, shows_now}
 use Rattle.plan_solver.proofs.ColumnGrowth.{by_device_more, by_device_none}
 
--- what is fair towards the next places of the devices is so towards those that are free
+-- prices that are fair towards the next places of the devices are fair towards the free places
 pub fair_free_from : (costs : Costs) (b : Begun) → IsLaidOut costs b → ((q : ℕ) → q < vec_len b.matching.columns → IsFairBeside costs b.by_device.items b.matching q) → IsFair (cost_of costs) b.matching.jobs.items b.matching.prices.items b.free.items []
 fair_free_from costs b h next = record {
   at = λ q f lq lf.
@@ -25,7 +25,7 @@ fair_free_from costs b h next = record {
       rw (← same) (omega (arith, next q (omega (arith, lq, h.jobs, b.matching.jobs.ok.0)) f lt));
 }
 
--- what is laid out, fair and with room is where the search may begin
+-- a beginning that is laid out, fair and with room is one from which the search may begin
 pub begun_from : (costs : Costs) (b : Begun) → IsLaidOut costs b → IsFair (cost_of costs) b.matching.jobs.items b.matching.prices.items b.matching.columns.items b.matching.duals.items → HasRoom (cost_of costs) b.matching.jobs.items b.matching.prices.items b.free.items b.slacks.items → IsPermutation (range_with_len 0 (vec_len costs.rows)) (b.matching.jobs.items ++ b.left.items) → IsBegun costs b
 begun_from costs b h fair room all = record {
   matched = record {
@@ -85,7 +85,7 @@ laid_out_none costs b none columns jobs prices duals free places by_device empty
   one_each = slacks;
 }
 
--- one column more, whose job is charged what the place costs with the dual
+-- one column more, whose job is charged the cost of the place with the dual
 tight_more : (costs : Costs) (jobs prices : List ℕ) (columns : List Place) (duals : List ℕ) (job price dual : ℕ) (place : Place) → length jobs ≡ length columns → length prices ≡ length columns → length duals ≡ length columns → IsTight (cost_of costs) jobs prices columns duals
     → price ≡ cost_of costs job place + dual → IsTight (cost_of costs) (jobs ++ job ∷ []) (prices ++ price ∷ []) (columns ++ place ∷ []) (duals ++ dual ∷ [])
 tight_more costs jobs prices columns duals job price dual place lj lp lr h is = record {

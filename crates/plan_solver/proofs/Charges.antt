@@ -1,4 +1,4 @@
--- What a place costs a job.
+-- The cost of a place for a job.
 use Rattle.std.proofs.Common.{◌≡◌, ℕ, ◌+◌, ◌*◌, ◌≤◌, suc, mul_comm, List, Option, Some, None, min, get_or, arith}
 use Rattle.std.proofs.Math.Nat.{suc-mul}
 use Rattle.plan_solver.specs.declared.costs.Costs.{Costs}
@@ -15,7 +15,7 @@ pub cost_at-low : (waits : List ℕ) (row : List ℕ) (place : Place) → cost_a
 unfolding cost_at
 cost_at-low waits row place = omega arith
 
--- no place costs more than one that the job can't have
+-- no place costs more than a place that the job can't have
 pub cost_of-low : (costs : Costs) (job : ℕ) (place : Place) → cost_of costs job place ≤ UNABLE
 cost_of-low costs job place = cost_at-low _ _ place
 

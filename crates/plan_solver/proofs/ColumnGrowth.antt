@@ -58,7 +58,7 @@ device_columns_more device columns device_columns h =
       ];
     }
 
--- and of another device
+-- the same for another device
 device_columns_same : (device : ℕ) (columns : List Place) (p : Place) (device_columns : List ℕ) → AreColumnsOf device columns device_columns → p.device ≢ device → AreColumnsOf device (columns ++ p ∷ []) device_columns
 device_columns_same device columns p device_columns h ne =
     let n = length columns in

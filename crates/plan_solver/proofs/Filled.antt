@@ -1,4 +1,4 @@
--- What a matching of all jobs of a class gives: who sits where, and what it costs there.
+-- The results of a matching of all jobs of a class: the place of each job, and its cost there.
 use Rattle.std.proofs.Common.{◌≡◌, ◌≢◌, ℕ, zero, suc, add-one, ◌+◌, ◌*◌, ◌<◌, ◌≤◌, List, Option, Some, None, length, vec_len, min, get_or, take, sum, ap, ◌∙◌, refl, arith, inl, inr}
 use Rattle.std.specs.Option.{IsSome, unwrap_or}
 use Rattle.std.specs.List.{range_with_len}
@@ -49,7 +49,7 @@ devices_len c e s h = omega (arith, ap length h.read.waits, e.costs.waits.ok.0)
 pub job_in : (c : Class) (e : Entries) (s : Matching) → Solves c e s → (m : ℕ) → m < vec_len s.columns → get_or s.jobs.items m 0 < length c.ids
 job_in c e s h m lt = omega (arith, jobs-below (vec_len e.costs.rows) s.jobs.items h.all m (omega (arith, lt, h.filled.matched.jobs, s.jobs.ok.0)), h.read.rows)
 
--- each job sits somewhere
+-- each job has a column
 pub column_of_job : (c : Class) (e : Entries) (s : Matching) → Solves c e s → (j : ℕ) → j < length c.ids → (q : ℕ) × (q < vec_len s.columns) × (get_or s.jobs.items q 0 ≡ j)
 column_of_job c e s h j lt =
     let jobs = s.jobs.items in
@@ -58,7 +58,7 @@ column_of_job c e s h j lt =
     let at = All-permutation P jobs (range_with_len 0 n) (IsPermutation-sym _ _ h.all) (λ k d below. (k, below, get_or_default jobs k 0 d below)) j 0 (omega (arith, lt, length-range_with_len 0 n, h.read.rows)) in
     (at.0, omega (arith, at.1, h.filled.matched.jobs, s.jobs.ok.0), at.2 ∙ get_or-range_with_len 0 n j 0 (omega (arith, lt, h.read.rows)) ∙ omega arith)
 
--- what a job costs on a device that is able, and on one that isn't
+-- the cost of a job on a device that is able, and on a device that isn't
 wait_read : (c : Class) (e : Entries) (s : Matching) → Solves c e s → (d : ℕ) → d < length c.waits → get_or e.costs.waits.items d UNABLE ≡ wait_in c d
 wait_read c e s h d lt = ap (λ w. get_or w d UNABLE) h.read.waits ∙ get_or_default c.waits d UNABLE 0 lt
 
@@ -99,7 +99,7 @@ charged_low c e s h q lt =
     let work : suc after * t ≤ suc UNFINISHED_JOBS * JOB_TIME = mul-le (suc after) t (suc UNFINISHED_JOBS) JOB_TIME few short in
     omega (arith, fair, cost, work, wait_small c h.ok d)
 
--- the device of a column is able to print its job, which costs there what its place counts
+-- the device of a column is able to print its job, whose cost there is by its place
 pub record IsSatAt (c : Class) (costs : Costs) (s : Matching) (m : ℕ) (t : ℕ) : Type 0 where
   pub device_in : (get_or s.columns.items m nowhere).device < length c.waits
   pub timed : time_in c (get_or c.ids (get_or s.jobs.items m 0) 0) (get_or s.columns.items m nowhere).device ≡ Some t

@@ -1,4 +1,4 @@
--- The places of each device are its last ones.
+-- The places of each device are its last places.
 use Rattle.std.proofs.Common.{◌≡◌, ◌≢◌, ℕ, ◌+◌, ◌<◌, ◌≤◌, zero, suc, ◌*◌, add-one, cond, eqb, List, [], ◌∷◌, ◌++◌, length, vec_len, get_or, set, take, drop, ◌^◌, min, ap, sym, inl, inr, ◌∙◌, refl, arith}
 use Rattle.std.proofs.lemmas.Bool.{cases_eq}
 use Rattle.std.proofs.lemmas.Bool.Decides.{nat_tests}
@@ -144,7 +144,7 @@ matched_none costs s free es ej ls lj lp lr = record {
   tight = record { at = λ k lk. absurd (omega (arith, lk, ap length es)) };
 }
 
--- what a place shows can go up by one
+-- the number that a place shows can go up by one
 pub shown_low : (devices f : ℕ) (columns free : List Place) → ShowsNext devices columns free → f < devices → length columns < 2 ^ 63 → (get_or free f nowhere).after < 2 ^ 63
 shown_low devices f columns free show lt small = rw (show.next f lt) (omega (arith, taken-le f columns))
 
@@ -152,7 +152,7 @@ shown_low devices f columns free show lt small = rw (show.next f lt) (omega (ari
 pub lent_whole : {X : Type 0} (n : ℕ) (new old : List X) → length new ≡ n → take n (new ++ drop (length new) old) ≡ new
 lent_whole n new old e = rw (← e) (take-append-le (length new) new (drop (length new) old) (omega arith) ∙ take-length new)
 
--- the matching is filled, once its free places are the next ones
+-- the matching is filled, once its free places are the next places of the devices
 pub filled_from : (costs : Costs) (s : Matching) (free : List Place) → IsFairlyMatched (cost_of costs) s free → IsLaid (vec_len costs.waits) s.columns.items → ShowsNext (vec_len costs.waits) s.columns.items free → IsFilled costs s
 filled_from costs s free h laid show = record {
   matched = matched_with costs s free [] h (record { at = λ q k lq lk. absurd (omega (arith, lk)) });

@@ -20,7 +20,7 @@ pub nearest_of : (lengths ranks : List ℕ) (n reach least : ℕ) (r : Option �
 nearest_of lengths ranks n reach least None h all = λ k lt e. omega (arith, all k lt e, h)
 nearest_of lengths ranks n reach least (Some c) h all = (h.0, h.1, omega (arith, h.2, h.3), λ k lt e. omega (arith, all k lt e, h.2))
 
--- the column that is looked at, and one that was
+-- the column that is looked at, and a column that was looked at
 pub relaxed_here : (e e' r r' o x x' l l' f f' m g : ℕ) → IsRelaxed e r o x l m f g → e' ≡ e → r' ≡ r → x' ≡ x → l' ≡ l → f' ≡ f → IsRelaxed e' r' o x' l' m f' g
 relaxed_here e e' r r' o x x' l l' f f' m g h ee er ex el ef = rw (ee, er, ex, el, ef) h
 

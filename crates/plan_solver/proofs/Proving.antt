@@ -39,7 +39,7 @@ queue-length d ids columns jobs (suc m) le = elim (cases_eq (get_or columns m no
   | inr ne ↦ omega (arith, ap (λ (l : List ℕ). length l) (queue-other d ids columns jobs m ne), taken-other d m columns (omega arith) ne, queue-length d ids columns jobs m (omega arith))
 ]
 
--- what holds of the job of each column on the device holds of its queue
+-- a property of the job of each column of the device is a property of its queue
 queue-all : (P : ℕ → Type 0) (d : ℕ) (ids : List ℕ) (columns : List Place) (jobs : List ℕ) (m : ℕ) → ((k : ℕ) → k < m → (get_or columns k nowhere).device ≡ d → P (get_or ids (get_or jobs k 0) 0)) → All P (queue_of_columns d ids columns jobs m)
 queue-all P d ids columns jobs zero h = All-nil P
 queue-all P d ids columns jobs (suc m) h = elim (cases_eq (get_or columns m nowhere).device d) [
@@ -91,7 +91,7 @@ count_once (i ∷ is) r = All-cons (λ j. count_of (i ∷ is) j ≡ 1) i is
     (omega (arith, count_of-yes i is i refl, count_none i is r.0))
     (λ k d lt. let above : i < get_or is k d = r.0 k d lt in count_of-no i is (get_or is k d) (λ e. omega arith) ∙ count_once is r.1 k d lt)
 
--- how often one name is another
+-- 1 if two names are equal, else 0
 abbrev is_name : ℕ → ℕ → ℕ
 is_name job id = cond (id == job) 1 0
 

@@ -20,7 +20,7 @@ queue_more device ids columns jobs m s id xs xs' whole em ed ei ex e =
     let next : queue_of_columns device ids columns jobs m ≡ id ∷ queue_of_columns device ids columns jobs s = ap (λ k. queue_of_columns device ids columns jobs k) em ∙ here ∙ ap (λ k. k ∷ queue_of_columns device ids columns jobs s) (sym ei) in
     rw (ex, append_assoc) (ap (λ q. xs ++ q) (sym next) ∙ e)
 
--- what the first columns cost is no more than what all of them cost
+-- the cost of the first columns is at most the cost of all columns
 pub cost_of_columns-le : (costs : Costs) (columns : List Place) (jobs : List ℕ) (m n : ℕ) → m ≤ n → cost_of_columns costs columns jobs m ≤ cost_of_columns costs columns jobs n
 cost_of_columns-le costs columns jobs m zero le = rw (let z : m ≡ 0 = omega arith in z) (omega arith)
 cost_of_columns-le costs columns jobs m (suc n) le = elim (cases_eq m (suc n)) [

@@ -52,7 +52,7 @@ free_up h q f le lt =
 tight_up : {cost : ℕ → Place → ℕ} {jobs P : List ℕ} {columns : List Place} {V : List ℕ} {free : List Place} {L F R P' V' : List ℕ} {E : Exit} {top n : ℕ} → Raises cost jobs P columns V free L F R P' V' E top n → (c : ℕ) → c < n → get_or P' c 0 ≡ cost (get_or jobs c 0) (get_or columns c nowhere) + get_or V' c 0
 tight_up h c lt = omega (arith, h.price_up c (omega arith), h.dual_up c lt, h.tight c lt)
 
--- the job from which a settled column was reached pays there what it is charged
+-- the job from which a settled column was reached pays its charge there
 edge_up : {cost : ℕ → Place → ℕ} {jobs P : List ℕ} {columns : List Place} {V : List ℕ} {free : List Place} {L F R P' V' : List ℕ} {E : Exit} {top n : ℕ} → Raises cost jobs P columns V free L F R P' V' E top n → (c : ℕ) → c < n → get_or R c 0 ≢ UNSETTLED → get_or P' (get_or F c 0) 0 ≡ cost (get_or jobs (get_or F c 0) 0) (get_or columns c nowhere) + get_or V' c 0
 edge_up {L} {F} h c lt ne =
     let from = h.searched.origin c lt in
@@ -89,7 +89,7 @@ sat {F'} {E} {n} h q le = elim (h.moved q le) [
       (get_or F' q 0, from_in, k.0, k.1)
 ]
 
--- each job is charged at most what a place costs it
+-- each job is charged at most the cost of a place for it
 fair_at : {cost : ℕ → Place → ℕ} {jobs P : List ℕ} {columns : List Place} {V : List ℕ} {free : List Place} {L F R P' V' : List ℕ} {columns' : List Place} {V'' F' R' jobs' P'' : List ℕ} {E : Exit} {top n : ℕ} → Moves cost jobs P columns V free L F R P' V' columns' V'' F' R' jobs' P'' E top n → (p c : ℕ) → p ≤ n → c ≤ n → get_or P' p 0 ≤ cost (get_or jobs p 0) (get_or columns' c nowhere) + get_or V'' c 0
 fair_at {E} {n} h p c lp lc = elim (cases_eq c n) [
   | inl e ↦ rw (e, h.column_new, h.dual_new) (omega (arith, free_up h.raised p E.place lp h.raised.searched.exit_place))
@@ -115,7 +115,7 @@ tight_now {E} {n} h c le = elim (h.moved c le) [
   ]
 ]
 
--- what the walk along the path asks
+-- the conditions of the walk along the path
 pub from_in : {cost : ℕ → Place → ℕ} {jobs P : List ℕ} {columns : List Place} {V : List ℕ} {free : List Place} {L F R P' V' : List ℕ} {E : Exit} {top n : ℕ} → Raises cost jobs P columns V free L F R P' V' E top n → (F' : List ℕ) → ((c : ℕ) → c < n → get_or F' c 0 ≡ get_or F c 0) → get_or F' n 0 ≡ E.from → (c : ℕ) → c ≤ n → get_or F' c 0 ≤ n
 from_in {n} h F' same new c le = elim (cases_eq c n) [
   | inl e ↦ rw (e, new) h.searched.exit_origin

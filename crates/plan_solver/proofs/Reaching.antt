@@ -1,4 +1,4 @@
--- What the places of a device cost a job, the last place first.
+-- The costs of the places of a device for a job, the last place first.
 use Rattle.std.proofs.Common.{◌≡◌, ℕ, ◌+◌, ◌-◌, ◌*◌, ◌<◌, ◌≤◌, List, suc, add-one, length, min, get_or, refl, arith}
 use Rattle.std.proofs.Math.Nat.{mul-le-mul_right, suc-mul}
 use Rattle.plan_solver.specs.declared.costs.Place.{Place}
@@ -44,7 +44,7 @@ placed waits row columns device_columns device after n charge time next base pri
 pub charged : (waits row : List ℕ) (device after charge time next : ℕ) → charge ≡ get_or waits device UNABLE + after * get_or row device UNABLE → time ≡ get_or row device UNABLE → next ≡ min (charge + time) 18446744073709551615 → next ≤ get_or waits device UNABLE + (after + 1) * get_or row device UNABLE
 charged waits row device after charge time next ec et en = omega (arith, times_more after (get_or row device UNABLE))
 
--- what is left of the most that a place may be charged
+-- the rest of the most that a place may be charged
 pub left_more : (waits row : List ℕ) (device after left time most : ℕ) → left ≡ most - (get_or waits device UNABLE + after * get_or row device UNABLE) → time ≡ get_or row device UNABLE → left - time ≡ most - (get_or waits device UNABLE + (after + 1) * get_or row device UNABLE)
 left_more waits row device after left time most is et = omega (arith, is, et, times_more after (get_or row device UNABLE))
 

@@ -1,4 +1,4 @@
--- Sums over the devices of what their columns add.
+-- Sums over the devices of the numbers that their columns add.
 use Rattle.std.proofs.Common.{◌≡◌, ◌≢◌, ℕ, zero, suc, add-one, ◌+◌, ◌<◌, ◌≤◌, List, [], ◌∷◌, length, get_or, take, sum_by, ap, sym, ◌∙◌, refl, arith, inl, inr, All}
 use Rattle.std.specs.List.{range_with_len}
 use Rattle.std.specs.List.Sorted.{IsPermutation}
@@ -34,7 +34,7 @@ sum_to-none : (f : ℕ → ℕ) (n : ℕ) → ((d : ℕ) → f d ≡ 0) → sum_
 sum_to-none f zero h = refl
 sum_to-none f (suc n) h = omega (arith, sum_to-none f n h, h n)
 
--- what grows at each column's device by what the column adds
+-- a function of the device that grows, at the device of each column, by the number that the column adds
 pub record Spreads (f : ℕ → ℕ → ℕ) (x device : ℕ → ℕ) (devices n : ℕ) : Type 0 where
   pub none : (d : ℕ) → f d 0 ≡ 0
   pub known : (m : ℕ) → m < n → device m < devices

@@ -58,13 +58,13 @@ length_same {L} {L'} {n} h q le ne = elim (cases_eq q n) [
   | inr d ↦ relaxed_settled _ _ _ _ _ _ _ _ (h.relaxed q (omega arith)) ne
 ]
 
--- what was settled, is
+-- a settled column stays settled
 was_settled : {cost : ℕ → Place → ℕ} {jobs prices : List ℕ} {columns : List Place} {duals : List ℕ} {free : List Place} {L F R L' F' R' : List ℕ} {E E' : Exit} {top s n : ℕ} → Settles cost jobs prices columns duals free L F R L' F' R' E E' top s n → (q : ℕ) → get_or R q 0 ≢ UNSETTLED → (q ≢ s) × (get_or R' q 0 ≡ get_or R q 0)
 was_settled {R} h q ne =
     let apart : q ≢ _ = λ e. ne (ap (λ x. get_or R x 0) e ∙ h.unsettled) in
     (apart, h.rank_other q apart)
 
--- what is settled now is the column, or was settled
+-- a column that is settled now is the column of the step, or was settled before
 settled_now : {cost : ℕ → Place → ℕ} {jobs prices : List ℕ} {columns : List Place} {duals : List ℕ} {free : List Place} {L F R L' F' R' : List ℕ} {E E' : Exit} {top s n : ℕ} → Settles cost jobs prices columns duals free L F R L' F' R' E E' top s n → (q : ℕ) → get_or R' q 0 ≢ UNSETTLED → (q ≡ s) ⊎ ((q ≢ s) × (get_or R q 0 ≢ UNSETTLED))
 settled_now {s} h q ne = elim (cases_eq q s) [
   | inl e ↦ inl e
@@ -118,7 +118,7 @@ out_now {L} {R'} {s} {n} h q f le lt ne =
       | inr d ↦ let old = h.old.out q f le lt d.1 in omega arith
     ]
 
--- what is settled now is no farther than the column
+-- a column that is settled now is no farther than the column of the step
 before_here : {cost : ℕ → Place → ℕ} {jobs prices : List ℕ} {columns : List Place} {duals : List ℕ} {free : List Place} {L F R L' F' R' : List ℕ} {E E' : Exit} {top s n : ℕ} → Settles cost jobs prices columns duals free L F R L' F' R' E E' top s n → (q : ℕ) → q ≤ n → get_or R' q 0 ≢ UNSETTLED → get_or L q 0 ≤ get_or L s 0
 before_here {s} {n} h q le ne = elim (settled_now h q ne) [
   | inl e ↦ rw e (omega arith)
@@ -227,7 +227,7 @@ searched_now h root = record {
   exit_edge = (exit_now h).3;
 }
 
--- and so are the free places' distances kept
+-- the distances of the free places are kept
 pub nears_now : {cost : ℕ → Place → ℕ} {jobs prices : List ℕ} {columns : List Place} {duals : List ℕ} {free : List Place} {L F R L' F' R' : List ℕ} {E E' : Exit} {top s n : ℕ} → Settles cost jobs prices columns duals free L F R L' F' R' E E' top s n → (N N' : List ℕ) → AreNears cost jobs prices free L R N n → length N' ≡ length free
     → ((f : ℕ) → f < length free → get_or N' f 0 ≤ get_or N f 0)
     → ((f : ℕ) → f < length free → get_or N' f 0 ≤ get_or L s 0 + (cost (get_or jobs s 0) (get_or free f nowhere) - get_or prices s 0))

@@ -30,7 +30,7 @@ pub trait Times {
     fn looks(&self) -> u64
         ensures { result ≡ looked self.now };
 
-    /// The time of a job on a device in ms, `None` if the device isn't able. It is one look.
+    /// The time of a job on a device in ms, `None` if the device isn't able. The call is one look.
     fn time(&mut self, job: JobId, device: DeviceId) -> Option<u64>
         requires { looked self.old < 2 ^ 63 }
         ensures time { result ≡ time_in (class self.old) job device }

@@ -1,4 +1,4 @@
--- Each line that is written is read as what it says.
+-- Each written line is read as its content.
 use Rattle.std.proofs.Common.{◌≡◌, ◌==◌, ◌&&◌, ◌||◌, ℕ, ℤ, pos, negsuc, suc, ◌+◌, ◌^◌, ◌<◌, ◌≤◌, Bool, true, false, not, List, [], ◌∷◌, ◌++◌, length, map, get_or, All, IfSome, Option, Some, None, if◌then◌else◌, nat_lt, refl, ap, ◌∙◌, subst, inl, inr, arith, codes, append-nil, rules, slice_index}
 use Rattle.std.specs.List.{list_all, AllPass}
 use Rattle.std.specs.Str.{all_ascii_digits, bytes_eq}

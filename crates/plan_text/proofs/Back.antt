@@ -102,7 +102,7 @@ devices_run devices (name ∷ names) rest l =
 
 -- ---- the lines of a class
 
--- what has been heard within a class
+-- the state of the reader within a class
 abbrev within : Stage → List (List ℕ) → List PlannedClass → ℕ → ℕ → ℕ → Opened → Heard
 within stage devices classes jobs below last opened = record { stage = stage; devices = devices; classes = classes; stranded = []; jobs = jobs; below = below; last = last; opened = opened }
 
@@ -228,7 +228,7 @@ full c = record {
   place_prices = c.priced.prices.places;
 }
 
--- these classes have been heard, the last of them perhaps not closed yet
+-- these classes were read, the last class perhaps not closed yet
 record IsBetween (devices : List (List ℕ)) (classes : List PlannedClass) (jobs below : ℕ) (heard : Heard) : Type 0 where
   pub live : is_at heard stages.Ended ≡ false
   pub early : is_at heard stages.Stranded ≡ false
@@ -293,7 +293,7 @@ between_class : (devices : List (List ℕ)) (classes : List PlannedClass) (jobs 
     → IsBetween devices (classes ++ c ∷ []) jobs c.priority (within stages.PlacePrices devices classes jobs c.priority last (full c))
 between_class devices classes jobs last c r = record { live = refl; early = refl; stage = stages.PlacePrices; opened = opened_at c.priority; closes = class_closes devices classes jobs last c r }
 
--- what has been heard after these lines
+-- the state of the reader after these lines
 record AfterClasses (devices : List (List ℕ)) (classes : List PlannedClass) (jobs : ℕ) (heard : Heard) (lines rest : List Said) : Type 0 where
   pub heard' : Heard
   pub below : ℕ

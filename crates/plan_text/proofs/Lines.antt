@@ -41,7 +41,7 @@ plan_text_is named =
     (lines_append (stranded_lines named.plan.stranded) (SaysEnd ∷ [])
     ∙ ap (λ rest. lines_text (stranded_lines named.plan.stranded) ++ rest) end_last)))
 
--- what was appended in turn
+-- the texts that were appended in turn
 
 pub joined3 : (old x y z a b new t : List ℕ) → a ≡ old ++ x → b ≡ a ++ y → new ≡ b ++ z → t ≡ x ++ (y ++ z) → new ≡ old ++ t
 joined3 old x y z a b new t ea eb en et =

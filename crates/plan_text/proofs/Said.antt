@@ -1,4 +1,4 @@
--- The lines of a text that is written are read as what they say.
+-- The lines of a written text are read as their contents.
 use Rattle.std.proofs.Common.{◌≡◌, ◌==◌, ◌&&◌, ℕ, ℤ, ◌-◌, ◌≤◌, Bool, true, false, List, [], ◌∷◌, ◌++◌, length, map, take, slice_index_or, All, IfSome, Option, Result, Ok, Err, if◌then◌else◌, refl, sym, ap, ◌∙◌, arith, codes, append_assoc, append-nil, length-append}
 use Rattle.std.specs.List.{list_all}
 use Rattle.std.specs.Fmt.{decimal, signed_decimal}
@@ -24,7 +24,7 @@ use Rattle.plan_text.specs.Ranges.{IsPrice}
 use Rattle.plan_text.proofs.Sound.{ok}
 use Rattle.plan_text.proofs.Again.{lacks, spaced, split_words, lacks-spaced, lacks-append, lacks-map, number_again, numbers_again, all_numbers, decimal_is_number, decimal_lacks, entries_again, all_entries, entry_lacks, prices_again, all_prices, price_lacks, name_lacks, none_in}
 
--- what a line may say
+-- the contents that a line may have
 abbrev pub SaidInRange : Said → Type 0
 SaidInRange SaysPlan = Unit {0}
 SaidInRange (SaysDevice name) = is_name name ≡ true
@@ -38,7 +38,7 @@ SaidInRange (SaysPlacePrices device prices) = (is_name device ≡ true) × All I
 SaidInRange (SaysStranded stranded) = IsJobId stranded.job
 SaidInRange SaysEnd = Unit {0}
 
--- its first word, and those after it
+-- the first word of a line, and the words after it
 abbrev pub first_of : Said → List ℕ
 first_of SaysPlan = codes "plan"
 first_of (SaysDevice name) = codes "device"
@@ -165,7 +165,7 @@ rest_lacks_feed SaysEnd h = refl
 body_lacks : (said : Said) → SaidInRange said → lacks 10 (body_of said) ≡ true
 body_lacks said h = lacks-append 10 (first_of said) (spaced (rest_of said)) (first_lacks said).1 (lacks-spaced (rest_of said) (rest_lacks_feed said h))
 
--- ---- its words are read as what it says
+-- ---- the words of a line are read as its content
 
 cause_again : (cause : Cause) → cause_at (cause_word cause) ≡ ok cause
 unfolding cause_at
@@ -214,7 +214,7 @@ parts_are (said ∷ lines) h =
     ∙ slice_split_at (λ byte. byte == 10) (body_of said) 10 (lines_text lines) (none_breaks (body_of said) (body_lacks said h.0)) refl
     ∙ ap (λ parts. body_of said ∷ parts) (parts_are lines h.1)
 
--- what has been heard once lines have said these, each in turn
+-- the state of the reader after lines with these contents, each in turn
 abbrev pub said_next : Heard → Said → Result Heard TextFault
 said_next heard said = if is_at heard stages.Ended then Err BadLine else next heard said
 
@@ -244,7 +244,7 @@ last_is : (xs : List (List ℕ)) (x : List ℕ) → slice_index_or (xs ++ x ∷ 
 last_is [] x = refl
 last_is (y ∷ xs) x = last_is xs x
 
--- what is read of a text of these lines
+-- the result of reading a text of these lines
 pub text_said : (lines : List Said) → AllInRange lines → plan_at (lines_text lines) ≡ (says_next (nothing_heard DEFAULT_PRIORITY) lines >>= λ heard. ended heard [])
 unfolding plan_in plan_from
 text_said lines h =

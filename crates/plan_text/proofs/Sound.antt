@@ -39,7 +39,7 @@ pub either : {X : Type 0} (b : Bool) (r q : Result X TextFault) (x : X) → (if 
 either true r q x h = inl (refl, h)
 either false r q x h = inr (refl, h)
 
--- a class with a wait, a way and place prices for each of so many devices
+-- a class with a wait, a way and place prices for each of `devices` devices
 pub record HasEach (devices : ℕ) (c : PlannedClass) : Type 0 where
   pub waits : length c.problem.waits ≡ devices
   pub ways : length c.priced.way ≡ devices
@@ -48,7 +48,7 @@ pub record HasEach (devices : ℕ) (c : PlannedClass) : Type 0 where
 abbrev pub AllKept : Heard → Type 0
 AllKept heard = All (HasEach (length heard.devices)) heard.classes
 
--- so it stands between two lines
+-- the state of the reader between two lines
 pub record IsSound (heard : Heard) : Type 0 where
   pub kept : AllKept heard
   pub none_yet : stage_number heard.stage ≤ 1 → heard.classes ≡ []
@@ -78,7 +78,7 @@ device_sound heard new name h s =
     let sound : IsSound after = record { kept = kept; none_yet = λ _. none; waits = λ l m. absurd (omega (arith, l, here)); ways = λ l m. absurd (omega (arith, l, here)) } in
     subst IsSound (ok_is after new t.1) sound
 
--- a class that is closed has what each class has
+-- a closed class has the properties of each class
 closed_kept : (heard whole : Heard) → closed heard ≡ ok whole → IsSound heard → AllKept whole
 unfolding closed
 closed_kept heard whole h s =
@@ -236,7 +236,7 @@ ended_kept heard rest named h s =
     let t = taken (length rest == 0) (ok (plan_of heard)) BadLine named p.1 in
     subst EachHasLists (ok_is (plan_of heard) named t.1) s.kept
 
--- so it is for each plan that a text is
+-- the same for each plan that a text is
 pub plan_kept : (text : List ℕ) (named : NamedPlan) → plan_at text ≡ ok named → EachHasLists named
 unfolding plan_in plan_from
 plan_kept text named h =
@@ -252,7 +252,7 @@ judged_lists named h k d l = let e = h k d l in record { queues = e.ways ∙ sym
 pub written_lists : (named : NamedPlan) → EachHasLists named → All (HasOneEach named.devices) named.plan.classes
 written_lists named h k d l = let e = h k d l in record { ways = e.ways; places = e.places }
 
--- and for what a function returned that gives the plan of a text
+-- the same for the result of a function that gives the plan of a text
 
 pub judged_since : (result : Result NamedPlan ReadError) (text : List ℕ) → Gives (λ plan. plan) result (plan_at text) → IfOk result (λ named. All HasOneListEach named.plan.classes)
 judged_since (Ok named) text h = judged_lists named (plan_kept text named h)

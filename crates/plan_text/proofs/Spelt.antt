@@ -1,4 +1,4 @@
--- The words of a line that is read are those that what it says is written with.
+-- The words of a line that is read are the words with which its content is written.
 use Rattle.std.proofs.Common.{◌≡◌, ◌==◌, ◌&&◌, ◌||◌, ℕ, ℤ, pos, neg_ℤ, zero, suc, ◌^◌, ◌<◌, ◌≤◌, Bool, true, false, not, List, [], ◌∷◌, ◌++◌, length, map, drop, All, IfSome, Option, Some, None, Result, Err, if◌then◌else◌, nat_lt, refl, sym, ap, ◌∙◌, subst, inl, inr, arith, codes, append-nil, slice_index}
 use Rattle.std.specs.List.{list_all, join_with_byte}
 use Rattle.std.specs.Str.{all_ascii_digits, bytes_eq}
@@ -188,7 +188,7 @@ cause_spelt word cause h =
     (λ h4. cause_named word (codes "Media") causes.Media cause _ refl h4
     (λ h5. cause_named word (codes "Running") causes.Running cause (Err BadLine) refl h5 (λ h6. absurd (cc)))))))
 
--- these words are the rest of a line that says this
+-- these words are the rest of a line with this content
 abbrev IsRest : List (List ℕ) → Said → Type 0
 IsRest words said = (words ≡ rest_of said) × SaidInRange said
 
@@ -324,7 +324,7 @@ line_of_spelt first words said h =
     (λ h10. begun first (codes "end") words said (alone_at SaysEnd words) (Err BadLine) h10 (alone_spelt SaysEnd said words refl tt)
     (λ h11. absurd (cc))))))))))))
 
--- A line that is read is the line of what it says, which is in range.
+-- A line that is read is the line of its content, which is in range.
 pub line_spelt : (line : List ℕ) (said : Said) → line_at (words_of line) ≡ ok said → (line ++ feed ≡ line_text said) × SaidInRange said
 line_spelt line said h =
     let w = went_on (first_word (words_of line)) (λ w. line_of w.0 w.1) said h in

@@ -1,4 +1,4 @@
--- What has been heard of a text is what its lines so far say, and it is in range.
+-- The state of the reader is that of the contents of the lines so far, and it is in range.
 use Rattle.std.proofs.Common.{◌≡◌, ◌==◌, ◌&&◌, ℕ, ℤ, zero, suc, ◌+◌, ◌-◌, ◌<◌, ◌≤◌, Bool, true, not, List, [], ◌∷◌, ◌++◌, length, take, All, IsTrue, IfOk, ◌↔◌, Option, Result, Ok, Err, if◌then◌else◌, nat_lt, slice_index_or, refl, sym, ap, ◌∙◌, subst, inl, inr, arith, append_assoc, append-nil, length-append}
 use Rattle.std.specs.Str.{bytes_eq}
 use Rattle.std.specs.List.{join_with_byte}
@@ -64,7 +64,7 @@ stage_is heard stage h = sym (stage_back heard.stage) ∙ ap stage_of (eqb-true 
 lower : (m n : ℕ) → nat_lt m n ≡ true → m < n
 lower m n h = grind (arith, nat_tests)
 
--- ---- the lines that say what has been heard
+-- ---- the lines of the reader's state
 
 -- the devices and the classes
 abbrev front : Heard → List Said
@@ -141,7 +141,7 @@ Facts stages.Ended h = IsOver h
 abbrev TellsAt : Stage → List Said → Heard → Type 0
 TellsAt stage lines h = (lines ≡ told_at stage h) × Facts stage h
 
--- these lines, and no others, have been heard
+-- the state of the reader is that of exactly these lines
 abbrev Tells : List Said → Heard → Type 0
 Tells lines h = TellsAt h.stage lines h
 
@@ -151,7 +151,7 @@ tells_at stage lines h is t = subst (λ s. TellsAt s lines h) (stage_is h stage 
 abbrev WouldTell : List Said → Said → Heard → Type 0
 WouldTell lines said new = Tells (lines ++ said ∷ []) new
 
--- a line behind so many parts
+-- a line behind this number of parts
 
 behind1 : (a b : List Said) (said : Said) → (a ++ b) ++ said ∷ [] ≡ a ++ (b ++ said ∷ [])
 behind1 a b said = append_assoc a b (said ∷ [])
@@ -575,7 +575,7 @@ abbrev fed : List (List ℕ) → List ℕ
 fed [] = []
 fed (line ∷ lines) = line ++ (10 ∷ fed lines)
 
--- lines that were read are those of what has been heard
+-- the lines that were read are the lines of the reader's state
 record Heard' (before : List Said) (lines : List (List ℕ)) (new : Heard) : Type 0 where
   pub said : List Said
   pub tells : Tells said new
@@ -659,7 +659,7 @@ text_told text named h =
 pub is_one_text : (text : List ℕ) (named : NamedPlan) → (plan_at text ≡ ok named) ↔ IsTextOf text named
 is_one_text text named = (text_told text named, λ t. ap plan_at t.is ∙ plan_back named t.in_range)
 
--- and so it is for what a function returned that gives the plan of a text
+-- the same for the result of a function that gives the plan of a text
 pub told_since : (result : Result NamedPlan ReadError) (text : List ℕ) → Gives (λ plan. plan) result (plan_at text) → IfOk result (λ named. IsTextOf text named)
 told_since (Ok named) text h = text_told text named h
 told_since (Err error) text h = tt

@@ -1,4 +1,4 @@
--- The words of a plan's text. A number is decimal without leading zeros, and may have any number of digits. A word that isn't a number and one whose number is out of range are different faults.
+-- The words of a plan's text. A number is decimal without leading zeros, and may have any number of digits. A word that isn't a number and a number out of its range are different faults.
 use Rattle.std.specs.Prelude.{◌==◌, ◌&&◌, ◌||◌, not, ℕ, ℤ, pos, neg_ℤ, Bool, List, [], ◌∷◌, length, drop, slice_index, nat_lt, Result, Ok, Err, Option, Some, None, if◌then◌else◌, codes}
 use Rattle.std.specs.Str.{bytes_eq}
 use Rattle.std.specs.Str.Parse.{digits_value}

@@ -6,7 +6,7 @@
 //! is proved of it, except that it is safe and ends. The contract of a server over a wire is in `server`, and
 //! the content of a line in `recordings`.
 //!
-//! Its rows are recorded traces of `play_examples`.
+//! The rows of the crate are recorded traces of `play_examples`.
 #![tactic(auto)]
 
 mod beginning;

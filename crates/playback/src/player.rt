@@ -21,8 +21,8 @@ pub(crate) enum Step {
     Bad,
     /// Memory was refused to the server in the turn that the line ends, as the line of this number says.
     Refused(u64),
-    /// In the turn that the line ends the server made a call that isn't the recorded one. These lines
-    /// describe it.
+    /// In the turn that the line ends, the server made another call than the recorded call. These lines
+    /// describe the call.
     Differs(Vec<u8>),
 }
 

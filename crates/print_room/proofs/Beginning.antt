@@ -1,4 +1,4 @@
--- What a good plan lets devices begin, they can begin: each job waits, and begins on one device alone.
+-- Devices can begin the jobs that a good plan lets them begin: each job waits, and begins on one device alone.
 use Rattle.std.proofs.Common.{◌≡◌, ◌⊎◌, ◌∙◌, ◌==◌, ◌+◌, ◌<◌, ◌≤◌, ◌&&◌, ℕ, zero, suc, Bool, true, false, cond, not, if◌then◌else◌, List, [], ◌∷◌, ◌++◌, length, map, filter, count_by, sum_by, Contains, All, get_or, drop, Option, Some, None, option_to_list, refl, sym, ap, subst, arith, inl, inr, true≢false}
 use Rattle.std.specs.Prelude.{slice_get, option_map, IfSome}
 use Rattle.std.specs.List.{concat, list_any}
@@ -46,7 +46,7 @@ use Rattle.print_room.proofs.Keeping.{keep_from, keep_then}
 
 -- ---- the first job of a device's list is a job of its class, and of no other device
 
--- how often a job stands among names
+-- the number of times that a job is among names
 abbrev times : List ℕ → ℕ → ℕ
 times names job = count_by (λ id. id == job) names
 
@@ -65,7 +65,7 @@ named_once [] k job rest is = absurd (cc)
 named_once (q ∷ qs) zero job rest is = omega (arith, counts_queue q (concat qs) job, subst (λ (names : List ℕ). 1 ≤ times names job) (sym is) (first_counts job rest))
 named_once (q ∷ qs) (suc k) job rest is = omega (arith, counts_queue q (concat qs) job, named_once qs k job rest is)
 
--- one that stands first in two is named twice
+-- a job that stands first in two queues is named twice
 named_twice : (way : List (List ℕ)) (k l job : ℕ) (rest more : List ℕ) → k < l → queue_of way k ≡ job ∷ rest → queue_of way l ≡ job ∷ more → 2 ≤ times (concat way) job
 named_twice [] k l job rest more before is too = absurd (cc)
 named_twice (q ∷ qs) k zero job rest more before is too = absurd (omega (arith, before))
@@ -115,7 +115,7 @@ abbrev pub AllApart : List PlannedClass → Type 0
 AllApart [] = Unit {0}
 AllApart (class ∷ classes) = IsWay class.problem class.priced.way × ((job : ℕ) → Contains (ids_of class) job → SomeHas classes job → ⊥) × AllApart classes
 
--- where the first job of a device's list comes from
+-- the class from which the first job of a device's list comes
 or_from : (first next : Option Started) (start : Started) → or_next first next ≡ Some start → (first ≡ Some start) ⊎ ((first ≡ None) × (next ≡ Some start))
 or_from None next start is = inr (refl, is)
 or_from (Some first) next start is = inl is
@@ -140,13 +140,13 @@ begin_apart (class ∷ classes) apart k l a b before one other same =
     from (inr x) (inl y) rest = apart.1 b.job (class_has class apart.0 l b y) (subst (λ (job : ℕ). SomeHas classes job) same (some_has classes apart.2 k a x.1))
     from (inr x) (inr y) rest = rest x.1 y.1
 
--- a job of some class is one of the class at a place
+-- a job of some class is a job of the class at a place
 has_at : (classes : List PlannedClass) (job : ℕ) → SomeHas classes job → (k : ℕ) × (k < length classes) × ((d : PlannedClass) → Contains (ids_of (get_or classes k d)) job)
 has_at [] job has = absurd has
 has_at (class ∷ classes) job (inl here) = (0, omega arith, λ d. here)
 has_at (class ∷ classes) job (inr later) = let rest = has_at classes job later in (suc rest.0, omega (arith, rest.1), rest.2)
 
--- from what is known of the classes by their places
+-- from the properties of the classes by their places
 pub apart_from : (classes : List PlannedClass) → ((k : ℕ) (d : PlannedClass) → k < length classes → IsWay (get_or classes k d).problem (get_or classes k d).priced.way)
     → ((i k : ℕ) (d : PlannedClass) → i < k → k < length classes → (job : ℕ) → Contains (ids_of (get_or classes k d)) job → Contains (ids_of (get_or classes i d)) job → ⊥) → AllApart classes
 apart_from [] ways apart = tt
@@ -209,7 +209,7 @@ marked_waits paused stranded jobs id =
     each None = refl
     each (Some s) = either_state (is_ready paused s.job) (marked (list_any (λ e. e.job == s.job.id) stranded) s) s refl
 
--- ---- what begins, device by device
+-- ---- the starts, device by device
 
 idle_job : (activity : Activity) → runs_idle activity ≡ true → job_on activity ≡ None
 idle_job (Running None) free = refl
@@ -235,7 +235,7 @@ next_place classes place d devices state can = record {
   waits = λ k start le is. can.waits k start (omega (arith, le)) is;
 }
 
--- after one began
+-- the same after one job began
 next_begun : (now : ℕ) (classes : List PlannedClass) → AllApart classes → (place : ℕ) (d : Device) (devices : List Device) (start : Started) (state : State) → first_of classes place ≡ Some start → CanFrom classes place (d ∷ devices) state → CanFrom classes (suc place) devices (beginning now start state)
 next_begun now classes apart place d devices start state is can =
     let next = next_place classes place d devices state can in
@@ -287,7 +287,7 @@ module _ (s : State) (plan : PlanRecord) (now : ℕ) (good : IsGoodPlan now s pl
       let below : at.0 < length plan.classes = subst (λ (cs : List PlannedClass). at.0 < length cs) (sym is) at.1 in
       class_waits at.0 class below job (subst (λ (cs : List PlannedClass). Contains (ids_of (get_or cs at.0 class)) job) (sym is) (at.2 class))
 
-  -- what begins under a good plan can begin
+  -- the starts under a good plan can begin
   pub plan_can_begin : AllCanBegin now (starts_of now s plan) (marked_state now plan s)
   plan_can_begin = starts_can now plan.classes apart 0 s.devices (marked_state now plan s) (record {
     same = devices_same s.devices;
@@ -363,13 +363,13 @@ all_begin_keep now (start ∷ starts) state inside can agree =
     (All-weaker (λ s. s.device < length state.devices) (λ s. s.device < length next.devices) (λ s below. omega (arith, below, begins_devices now start state)) starts (All-tail (λ s. s.device < length state.devices) start starts inside))
     can.1 (begin_agrees now (now + start.time) start.device start.job state.devices state.spool.jobs (All-head (λ s. s.device < length state.devices) start starts inside) can.0.waits agree))
 
--- the next can begin, and those behind it once it has
+-- the next start can begin, and the starts behind it can begin after it
 pub can_next : (now i : ℕ) (starts : List Started) (start : Started) (s : State) → i < length starts → start ≡ get_or starts i start → AllCanBegin now (drop i starts) s → CanBegin start s × AllCanBegin now (drop (i + 1) starts) (beginning now start s)
 can_next now i starts start s inside is can = subst (λ (ss : List Started). AllCanBegin now ss s) (split_at starts i start inside is) can
 
 -- ---- a dispatch
 
--- devices keep their jobs over it
+-- devices keep their jobs over a dispatch
 pub dispatch_keeps : (s : State) (plan : PlanRecord) (now : ℕ) → IsGoodPlan now s plan → IsSpool s.spool → Agree s.devices s.spool.jobs → AllKeep s (beginning_all now (starts_of now s plan) (marked_state now plan s))
 dispatch_keeps s plan now good spool agree =
     let marked_s = marked_state now plan s in

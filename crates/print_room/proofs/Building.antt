@@ -27,7 +27,7 @@ use Rattle.print_room.proofs.Planned.{jobs_above}
 use Rattle.spool.proofs.RisingIds.{RisesFrom, increasing_from_rises, filter_rises, ready_ids_rise}
 use Rattle.print_room.proofs.Readying.{ready_unfinished, count_short}
 
--- a printer without devices has none that is able
+-- a printer without devices has no device that is able
 none_able : (needs : JobNeeds) (devices : List Device) → HasAbleDevice needs [] devices → ⊥
 none_able needs devices (place, found) = at (slice_get devices place) found
   where

@@ -65,7 +65,7 @@ agree_fewer devices new jobs were agree = record {
   apart = λ k l id one other. agree.apart k l id (were k id one) (were l id other);
 }
 
--- one device has its job still, or none
+-- one device still has its job, or no job
 pub agree_device : (place : ℕ) (change : Device → Device) (devices : List Device) (jobs : List SpooledRecord) (d : Device) → slice_get devices place ≡ Some d → (job_on (change d).activity ≡ job_on d.activity) ⊎ (job_on (change d).activity ≡ None) → Agree devices jobs → Agree (with_device place change devices) jobs
 agree_device place change devices jobs d found job agree = agree_fewer devices (with_device place change devices) jobs was agree
   where
@@ -79,7 +79,7 @@ agree_device place change devices jobs d found job agree = agree_fewer devices (
       | inr differ ↦ sym (job_elsewhere place k change devices differ) ∙ has
     ]
 
--- the jobs change, and those of devices stay
+-- the jobs change, and the jobs of devices stay
 pub agree_stay : (devices : List Device) (jobs new : List SpooledRecord) → AllStay jobs new → Agree devices jobs → Agree devices new
 agree_stay devices jobs new stay agree = record {
   in_spool = λ k id has. (stay id (agree.in_spool k id has)).on_device;
@@ -123,7 +123,7 @@ agree_begins place id change devices jobs d found begins on free agree = record 
 
 -- ---- a report
 
--- what a device says of its job, and the job that it has after it
+-- the report of a device about its job, and the device's job after the report
 abbrev pub Leaves : Option DeviceSays → Option ℕ → Option ℕ → Type 0
 Leaves None old new = new ≡ old
 Leaves (Some Stop) old new = new ≡ old
@@ -198,14 +198,14 @@ same_or_none (Some Continue) old new is = inl is
 same_or_none (Some Done) old new is = inr is
 same_or_none (Some Fail) old new is = inr is
 
--- the jobs of devices are on them, once the device at a place said this of its job and has what that leaves
+-- the jobs of devices are on them, once the device at a place has reported about its job and has the job that this report leaves
 pub agree_told : (now place : ℕ) (change : Device → Device) (devices : List Device) (jobs : List SpooledRecord) (d : Device) (said : Option DeviceSays) → slice_get devices place ≡ Some d → Leaves said (job_on d.activity) (job_on (change d).activity) → Agree devices jobs → Agree (with_device place change devices) (jobs_after now (job_on d.activity) said jobs)
 agree_told now place change devices jobs d said found leaves agree = told (job_on d.activity) refl said leaves
   where
     fewer : (said : Option DeviceSays) → Leaves said (job_on d.activity) (job_on (change d).activity) → Agree (with_device place change devices) jobs
     fewer said leaves = agree_device place change devices jobs d found (same_or_none said (job_on d.activity) (job_on (change d).activity) leaves) agree
 
-    -- a job that ended is no device's
+    -- no device has a job that ended
     ended : (id : ℕ) (says : DeviceSays) → job_on d.activity ≡ Some id → job_on (change d).activity ≡ None → Agree (with_device place change devices) (jobs_told id says now jobs)
     ended id says had none =
         let mid : Agree (with_device place change devices) jobs = agree_device place change devices jobs d found (inr none) agree in

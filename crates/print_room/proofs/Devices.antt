@@ -21,7 +21,7 @@ pub length_opening : (entries : List DeviceEntry) → length (map opening_device
 length_opening [] = refl
 length_opening (entry ∷ entries) = ap suc (length_opening entries)
 
--- what holds of each device holds once one of them is changed
+-- a property of each device holds after a change of one device
 pub all_with : (P : Device → Type 0) (place : ℕ) (change : Device → Device) → ((d : Device) → P d → P (change d)) → (devices : List Device) → All P devices → All P (with_device place change devices)
 all_with P place change keeps [] all = all
 all_with P zero change keeps (d ∷ ds) all = All-cons P (change d) ds (keeps d (All-head P d ds all)) (All-tail P d ds all)
@@ -42,7 +42,7 @@ keeps_later last now (Stopped None) later keeps = tt
 pub all_keep_later : (last now : ℕ) (devices : List Device) → last ≤ now → All (λ d. KeepsTime last d.activity) devices → All (λ d. KeepsTime now d.activity) devices
 all_keep_later last now devices later all = All-weaker (λ (d : Device). KeepsTime last d.activity) (λ (d : Device). KeepsTime now d.activity) (λ d keeps. keeps_later last now d.activity later keeps) devices all
 
--- a report other than of media, a time or its end is of what the device does
+-- a report other than of media, of a time or of the device's end is about the device's activity
 pub other_report : (now place : ℕ) (report : Report) (activity : Activity) (devices : List Device) → ((names : _) → report ≡ Says.Media names → ⊥) → ((time : _) → report ≡ Says.Busy time → ⊥) → (report ≡ Says.Gone → ⊥) → with_device place (refitted now report activity) devices ≡ with_device place (doing activity) devices
 other_report now place (Says.Hello name) activity devices media busy gone = refl
 other_report now place (Says.Media names) activity devices media busy gone = absurd (media names refl)

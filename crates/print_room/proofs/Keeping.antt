@@ -1,4 +1,4 @@
--- What becomes of the documents of the jobs that devices have.
+-- The documents of the jobs that devices have, after each call.
 use Rattle.std.proofs.Common.{◌≡◌, ◌⊎◌, ◌∙◌, ℕ, Bool, true, false, cond, List, [], ◌∷◌, map, Option, Some, None, refl, sym, ap, subst, inl, inr, true≢false}
 use Rattle.std.specs.Prelude.{slice_get, MatchOption, IfSome, All, not, ◌&&◌, length}
 use Rattle.std.proofs.lemmas.Bool.{cases_eq}
@@ -41,7 +41,7 @@ keep_then old mid new one two place id has =
     let second = two place id first.0 in
     (second.0, second.1 ∙ first.1)
 
--- a job that goes on hands nothing out, one that ends all of its documents
+-- a job that goes on hands out no document, a job that ends hands out all of its documents
 told_nothing : (says : DeviceSays) → is_end says ≡ false → (id : ℕ) (jobs : List SpooledRecord) → documents_told id says jobs ≡ []
 told_nothing says goes_on id jobs = at (spooled_at id jobs)
   where
@@ -116,7 +116,7 @@ submits_keep now job incoming old agree = keep_from old (with_job_taken now job 
 pub changes_keep : (now id : ℕ) (change : JobChange) (old : State) → Agree old.devices old.spool.jobs → AllKeep old (changing now id change old)
 changes_keep now id change old agree = keep_from old (changing now id change old) (λ place one has. has) (stay_with id (changed change now) (changed_on change now) old.spool.jobs) agree
 
--- a cancel leaves what devices have
+-- a cancel leaves the jobs of devices
 cancels_stay : (now id : ℕ) (name : List ℕ) (old : State) → AllStay old.spool.jobs (canceling now id name old).spool.jobs
 cancels_stay now id name old =
     let change = cancel_by id name old in
@@ -126,7 +126,7 @@ cancels_stay now id name old =
 pub cancels_keep : (now id : ℕ) (name : List ℕ) (old : State) → Agree old.devices old.spool.jobs → AllKeep old (canceling now id name old)
 cancels_keep now id name old agree = keep_from old (canceling now id name old) (λ place one has. has) (cancels_stay now id name old) agree
 
--- so do cancels one after the other
+-- cancels, one after the other, leave the jobs of devices too
 pub removes_keep : (now : ℕ) (name ids : List ℕ) (old : State) → Agree old.devices old.spool.jobs → AllKeep old (canceling_each now name ids old)
 removes_keep now name [] old agree = λ place id has. (has, refl)
 removes_keep now name (id ∷ ids) old agree =
@@ -134,9 +134,9 @@ removes_keep now name (id ∷ ids) old agree =
     let agree_mid : Agree mid.devices mid.spool.jobs = agree_stay old.devices old.spool.jobs mid.spool.jobs (cancels_stay now id name old) agree in
     keep_then old mid (canceling_each now name ids mid) (cancels_keep now id name old agree) (removes_keep now name ids mid agree_mid)
 
--- ---- a document that someone sends
+-- ---- a sent document
 
--- where nothing stands against the first, nor against the second, nothing does against the second
+-- if neither of two checks refuses, the second check doesn't refuse
 later_free : (first later : Option SpoolRefusal) → or_else first later ≡ None → later ≡ None
 later_free None later free = free
 later_free (Some cause) later free = absurd (cc)

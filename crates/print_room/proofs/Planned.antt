@@ -1,4 +1,4 @@
--- How far the planning of a state has come: the classes of the priorities above one are planned.
+-- The progress of the planning of a state: the classes of the priorities above a priority are planned.
 use Rattle.std.specs.Prelude.{ℕ, ◌≡◌, ◌+◌, ◌*◌, ◌≤◌, nat_lt, List, [], ◌∷◌, ◌++◌, map, filter, length, count_by, All}
 use Rattle.base_types.specs.declared.limits.TheConstants.Limits.{JOB_TIME, NOT_BEFORE}
 use Rattle.plan_prices.specs.declared.plan.PlannedClass.{PlannedClass}
@@ -12,7 +12,7 @@ abbrev pub left_by : List ℕ → List PlannedClass → List ℕ
 left_by waits [] = waits
 left_by waits (class ∷ classes) = left_by (waits_after class.problem class.priced.way) classes
 
--- how many ready jobs have a higher priority
+-- the number of ready jobs with a higher priority
 abbrev pub jobs_above : ℕ → State → ℕ
 jobs_above priority state = count_by (λ j. nat_lt priority j.priority) (ready_of state)
 

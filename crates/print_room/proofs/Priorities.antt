@@ -58,7 +58,7 @@ next_none s now p classes waits h none = record {
   short = λ k d below. omega (arith, h.short k d below, class_counts s p);
 }
 
--- none is planned yet
+-- no class is planned yet
 pub none_planned : (s : State) (now : ℕ) (classes : List PlannedClass) (waits : List ℕ) → classes ≡ [] → waits ≡ waits_of now s → All (λ wait. wait ≤ NOT_BEFORE) waits → PlannedAbove s now HIGHEST_PRIORITY classes waits
 none_planned s now classes waits none is short = subst (λ (cs : List PlannedClass). PlannedAbove s now HIGHEST_PRIORITY cs waits) (sym none) (record {
   priorities = refl;

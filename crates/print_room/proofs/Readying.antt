@@ -1,4 +1,4 @@
--- The ready jobs are gathered, and those of a class picked out of them.
+-- The ready jobs are gathered, and the jobs of a class are picked out of them.
 use Rattle.std.proofs.Common.{◌≡◌, ◌⊎◌, inl, inr, true≢false, ◌==◌, max, nat_le, is_none, ℕ, ◌+◌, ◌<◌, ◌≤◌, ◌&&◌, Bool, true, false, cond, List, [], ◌∷◌, ◌++◌, length, take, get_or, refl, sym, ap, ◌∙◌, filter, map, filter_map, option_to_list, Option, Some, None, arith, count_by, not}
 use Rattle.std.specs.List.{cons_option}
 use Rattle.std.proofs.Math.Nat.{max-le}
@@ -30,7 +30,7 @@ stranded_more xs i x inside is =
     ∙ (filter_map-append entry_of (take i xs) (x ∷ [])
     ∙ ap (λ (es : List Stranded). filter_map entry_of (take i xs) ++ es) (entry_one (entry_of x)))
 
--- the stranded ones of a state
+-- the stranded jobs of a state
 pub stranded_gathered : (s : State) (jobs : List JobRecord) → filter_map entry_of (map (gathered s) jobs) ≡ filter_map (stranding s) jobs
 stranded_gathered s [] = refl
 stranded_gathered s (job ∷ jobs) = ap (λ (es : List Stranded). cons_option (stranding s job) es) (stranded_gathered s jobs)
@@ -39,7 +39,7 @@ class_one : (b : Bool) (s : State) (job : JobRecord) (xs : List Gathered) (ys : 
 class_one true s job xs ys h = ap (λ (cs : List JobOfClass). job_of_class job ∷ cs) h
 class_one false s job xs ys h = h
 
--- those of a class
+-- the gathered jobs of a class
 pub class_gathered : (s : State) (p : ℕ) (jobs : List JobRecord) → map class_job_of (filter (is_of_class p) (map (gathered s) jobs)) ≡ map job_of_class (filter (belongs s p) jobs)
 class_gathered s p [] = refl
 class_gathered s p (job ∷ jobs) = class_one (belongs s p job) s job (filter (is_of_class p) (map (gathered s) jobs)) (filter (belongs s p) jobs) (class_gathered s p jobs)

@@ -1,4 +1,4 @@
--- What begins, device by device.
+-- The starts of jobs, device by device.
 use Rattle.std.proofs.Common.{◌≡◌, ℕ, zero, suc, ◌+◌, ◌<◌, Bool, true, false, if◌then◌else◌, List, [], ◌∷◌, ◌++◌, length, drop, get_or, Option, Some, None, is_some, option_to_list, refl, sym, ◌∙◌, ap, add-one, arith, append_assoc, All, IfSome}
 use Rattle.std.proofs.Math.Seq.{drop-cons}
 use Rattle.std.proofs.lemmas.List.Elements.{All-nil, All-cons, All-append, All-weaker}
@@ -30,12 +30,12 @@ pub first_found : (classes : List PlannedClass) (i place : ℕ) (class : Planned
 first_found classes i place class first inside is found some =
     rw (split_at classes i class inside is, ← found) (or_some first (first_of (drop (i + 1) classes) place) some)
 
--- one that has none
+-- a class that has no job for the device
 pub first_later : (classes : List PlannedClass) (i place : ℕ) (class : PlannedClass) (first : Option Started) → i < length classes → class ≡ get_or classes i class → first ≡ first_of_queue class place (queue_of class.priced.way place) → is_some first ≡ false → first_of (drop i classes) place ≡ first_of (drop (i + 1) classes) place
 first_later classes i place class first inside is found none =
     rw (split_at classes i class inside is, ← found) (or_none first (first_of (drop (i + 1) classes) place) none)
 
--- ---- what begins
+-- ---- the starts
 
 -- one device more
 pub starts_next : (now : ℕ) (classes : List PlannedClass) (devices : List Device) (place : ℕ) (device : Device) (starts all : List Started) (start : Option Started) → place < length devices → device ≡ get_or devices place device → start ≡ (if is_free now device then first_of classes place else None)
@@ -65,7 +65,7 @@ some_ready (job ∷ jobs) h e = absurd (cc)
 pub begins_devices : (now : ℕ) (start : Started) (s : State) → length (beginning now start s).devices ≡ length s.devices
 begins_devices now start s = length_with start.device (λ d. _) s.devices
 
--- ---- the devices of what begins
+-- ---- the devices of the starts
 
 or_both : (P : Started → Type 0) (first next : Option Started) → IfSome first P → IfSome next P → IfSome (or_next first next) P
 or_both P None next one other = other

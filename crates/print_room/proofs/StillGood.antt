@@ -130,7 +130,7 @@ good_kept now s plan good = (
   good_over s now (Some plan) [] (map (marked_by s.paused plan.stranded) s.spool.jobs) (λ p. class_marked s p plan.stranded s.spool.jobs) now plan (stranded_marked s plan.stranded s.spool.jobs) good,
 )
 
--- ---- what changes nothing
+-- ---- calls that change nothing
 
 pub media_same : (names : List (List ℕ)) (media : List Medium) → list_all (loads names) media ≡ true → map (loaded_if names) media ≡ media
 media_same names [] all = refl
@@ -144,7 +144,7 @@ media_same names (m ∷ ms) all =
     one false true h = absurd (true≢false (sym h))
     one false false h = refl
 
--- a device that is changed to what it is
+-- a device that is changed to itself
 pub with_same : (place : ℕ) (change : Device → Device) (devices : List Device) (d : Device) → place < length devices → d ≡ get_or devices place d → change d ≡ d → with_device place change devices ≡ devices
 with_same place change [] d inside is same = refl
 with_same zero change (x ∷ xs) d inside is same =

@@ -75,7 +75,7 @@ impl PrintRoom {
     }
 
     /// Returns why a document of this many octets isn't taken, if there is a cause other than out of memory.
-    /// It takes no memory.
+    /// The call takes no memory.
     pub fn admits_document(
         &self,
         id: JobId,
@@ -90,7 +90,7 @@ impl PrintRoom {
         self.spool.admits_document(id, &asker, octets, last)
     }
 
-    /// Holds a job that waits (RFC 8011, section 4.3.5). It takes no memory.
+    /// Holds a job that waits (RFC 8011, section 4.3.5). The call takes no memory.
     ///
     /// The causes of a refusal, in this order: not found, not authorized, not possible.
     pub fn hold(&mut self, id: JobId, name: &Text, now: Moment) -> Result<(), SpoolRefusal>
@@ -108,7 +108,7 @@ impl PrintRoom {
     }
 
     /// Releases a job (RFC 8011, section 4.3.6): a held job isn't held any more, and a job that a device
-    /// prints goes on. It takes no memory.
+    /// prints goes on. The call takes no memory.
     ///
     /// The causes of a refusal, in this order: not found, not authorized, not possible.
     pub fn release(&mut self, id: JobId, name: &Text, now: Moment) -> Result<(), SpoolRefusal>
@@ -126,7 +126,7 @@ impl PrintRoom {
     }
 
     /// Cancels a job that isn't finished (RFC 8011, section 4.3.3). A device that has the job keeps it until
-    /// it reports that it is done. It takes no memory.
+    /// it reports that it is done. The call takes no memory.
     ///
     /// The causes of a refusal, in this order: not found, not authorized, not possible.
     pub fn cancel(&mut self, id: JobId, name: &Text, now: Moment) -> Result<(), SpoolRefusal>
@@ -141,7 +141,7 @@ impl PrintRoom {
     }
 
     /// Cancels a job that isn't finished; the asker says whether they are an operator. A device that has the
-    /// job keeps it until it reports that it is done. It takes no memory.
+    /// job keeps it until it reports that it is done. The call takes no memory.
     ///
     /// The causes of a refusal, in this order: not found, not authorized, not possible.
     pub fn cancel_for(
@@ -162,7 +162,7 @@ impl PrintRoom {
         Ok(())
     }
 
-    /// Returns why a cancel isn't made, if there is a cause. It takes no memory.
+    /// Returns why a cancel isn't made, if there is a cause. The call takes no memory.
     pub fn admits_cancel(&self, id: JobId, name: &Text) -> Result<(), SpoolRefusal>
         ensures ok { OnOk result (canceling_refusal id name.now self.now ≡ None) }
         ensures refused { IfErr result (λ refusal. canceling_refusal id name.now self.now ≡ Some refusal) }
@@ -188,8 +188,8 @@ impl PrintRoom {
         is_named(&self.settings.operators, name.as_bytes())
     }
 
-    /// Aborts the jobs whose documents stopped coming, and may forget the oldest of the finished jobs. It
-    /// takes no memory.
+    /// Aborts the jobs whose documents stopped coming, and may forget the oldest of the finished jobs. The
+    /// call takes no memory.
     pub fn expire(&mut self, now: Moment)
         requires { self.old.last ≤ now }
         ensures state { self.new ≡ expiring now self.old }

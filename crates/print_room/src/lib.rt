@@ -4,7 +4,7 @@
 //! The main call is [`PrintRoom::dispatch`]: whenever a plan is made, each priority class has the least total
 //! of completion times, and each free device begins the first job of its list. The contract of each other
 //! call determines the state after it. The core decides which call a request needs, and when a dispatch
-//! follows. The crate makes no replies. Its rows are traces of `play_examples`.
+//! follows. The crate makes no replies. The rows of the crate are traces of `play_examples`.
 #![tactic(auto)]
 
 mod activity;

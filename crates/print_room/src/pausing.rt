@@ -7,7 +7,7 @@ use crate::room::PrintRoom;
 use base_types::{Moment, PrinterId};
 use job_objects::Printer;
 
-/// The pause of a printer, at a moment that isn't before the last one. It takes no memory.
+/// The pause of a printer, at a moment that isn't before the last one. The call takes no memory.
 impl PrintRoom {
     /// Pauses a printer (RFC 8011, section 4.2.7): none of its jobs is planned. A paused printer stays
     /// paused. If there is no such printer, only the moment changes.

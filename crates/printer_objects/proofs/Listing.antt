@@ -1,4 +1,4 @@
--- What is found among entries that are listed once each.
+-- Searches among entries that are listed once each.
 use Rattle.std.proofs.Common.{◌≡◌, ◌∙◌, ℕ, Bool, true, false, cond, ◌||◌, if◌then◌else◌, List, [], ◌∷◌, ◌++◌, find, Option, Some, None, is_some, refl, sym, ap}
 use Rattle.std.specs.List.{Contains, list_any}
 use Rattle.std.specs.Option.{option_or}
@@ -18,7 +18,7 @@ option_or_then None true x later = refl
 option_or_then None false x later = refl
 option_or_then (Some y) b x later = refl
 
--- an entry that fails isn't the one that passes
+-- an entry that fails isn't the entry that passes
 among_others : (p : List ℕ → Bool) (y : List ℕ) (ys : List (List ℕ)) (entry : List ℕ) → p entry ≡ true → p y ≡ false → is_among (y ∷ ys) entry ≡ true → is_among ys entry ≡ true
 among_others p y ys entry passes fails among =
     elim (bytes_eq y entry) as (λ b. bytes_eq y entry ≡ b → (b || is_among ys entry) ≡ true → is_among ys entry ≡ true) [
@@ -26,7 +26,7 @@ among_others p y ys entry passes fails among =
       | false ↦ λ same there. there
     ] refl among
 
--- where one of them passes, something is found
+-- if one of the entries passes, the search finds an entry
 found_among : (p : List ℕ → Bool) (found : List (List ℕ)) (entry : List ℕ) (o : Option (List ℕ)) → p entry ≡ true → is_among found entry ≡ true → option_or (find p found) o ≡ find p found
 found_among p [] entry o passes among = absurd cc
 found_among p (y ∷ ys) entry o passes among =
@@ -52,11 +52,11 @@ found_with_entries p found (entry ∷ entries) =
     ∙ (ap (λ (o : Option (List ℕ)). option_or o (find p entries)) (found_with_entry p found entry)
     ∙ option_or_then (find p found) (p entry) entry (find p entries))
 
--- a look-up among what is listed, and then the default
+-- a search among the listed entries, and then the default
 pub find_offered : (p : List ℕ → Bool) (listed : List (List ℕ)) (default : List ℕ) → find p (distinct (listed ++ default ∷ [])) ≡ option_or (find p listed) (if p default then Some default else None)
 find_offered p listed default = found_with_entries p [] (listed ++ default ∷ []) ∙ find-append p listed (default ∷ [])
 
--- nothing is found, neither among what is listed nor in the default
+-- no entry is found, neither among the listed entries nor in the default
 pub none_offered : (p : List ℕ → Bool) (listed : List (List ℕ)) (default : List ℕ) → None ≡ find p listed → p default ≡ false → None ≡ find p (distinct (listed ++ default ∷ []))
 none_offered p listed default none fails =
     sym (find_offered p listed default

@@ -1,4 +1,4 @@
--- The first that passes, among what each entry of a list has.
+-- The first value that passes a test, among the values of the entries of a list.
 use Rattle.std.proofs.Common.{◌≡◌, ◌∙◌, ℕ, suc, ◌+◌, ◌<◌, Bool, ◌&&◌, List, [], ◌∷◌, ◌++◌, length, get_or, drop, find, filter, map, cond, true, false, Some, None, option_map, refl, sym, ap, drop-cons, add-one}
 use Rattle.std.specs.List.{flat_map}
 use Rattle.std.specs.Option.{option_or}
@@ -22,7 +22,7 @@ pub not_at : {X A : Type 0} (p : A → Bool) (f : X → List A) (xs : List X) (i
 not_at p f xs i x inside is none =
     find_from p f xs i x inside is ∙ ap (λ o. option_or o (find p (flat_map f (drop (i + 1) xs)))) (sym none)
 
--- a search among what each element gives
+-- a search among the values of the elements
 pub find_mapped : {X A : Type 0} (p : A → Bool) (f : X → A) (xs : List X) → find p (map f xs) ≡ option_map f (find (λ x. p (f x)) xs)
 find_mapped p f [] = refl
 find_mapped p f (x ∷ xs) =

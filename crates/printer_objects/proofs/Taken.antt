@@ -1,4 +1,4 @@
--- What is shown as supported is what a request may ask for.
+-- The values shown as supported are the values that a request may ask for.
 use Rattle.std.proofs.Common.{◌≡◌, ◌∙◌, ◌==◌, ℕ, true, List, find, map, Option, Some, None, option_map, is_some, refl, sym, ap}
 use Rattle.std.specs.List.{Contains}
 use Rattle.std.specs.Str.{bytes_eq, str_to_ascii_lowercase}

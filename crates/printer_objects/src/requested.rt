@@ -21,7 +21,7 @@ impl Model for Requested {
 }
 
 impl Requested {
-    /// Creates an empty list. It takes no memory.
+    /// Creates an empty list. The call takes no memory.
     pub fn new(alloc: Global) -> Requested
         ensures { result ≡ [] }
     {

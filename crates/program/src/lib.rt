@@ -5,7 +5,7 @@
 //! program's caller. [`read_or_refuse`] reads the settings of a file's bytes, or writes why they are refused.
 //! [`refusal_line`] is that line, for a caller that writes it among others. A program without settings uses
 //! [`BUILT_IN_SETTINGS`]. The settings and their first fault are defined in `settings_file`. The crate opens
-//! no file. It is tested by the programs of `printd`.
+//! no file. The programs of `printd` test the crate.
 #![tactic(auto)]
 
 mod built_in;

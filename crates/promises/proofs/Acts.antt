@@ -1,4 +1,4 @@
--- Connections are closed, and what they ask comes about, in one way.
+-- Connections are closed, and their asks come about, in one way.
 use Rattle.std.proofs.Common.{◌≡◌, ◌<◌, arith, ℕ, zero, suc, Bool, true, false, List, [], ◌∷◌, ◌++◌, refl, sym, ◌∙◌, ap, subst, Option, Some, None, inl, inr}
 use Rattle.base_types.specs.declared.report.Report.{Report}
 use Rattle.base_types.specs.declared.report.Report.TheVariants as report
@@ -47,7 +47,7 @@ fixed_leaves fate key e = record { one = λ l hs rest a ks more b same p q. (p.0
 broken_there : (l : Ledger) (key : ℕ) (e : Entry) → l.entries key ≡ Some e → e.broken ≡ true → IsBroken (l.entries key)
 broken_there l key e there is = subst (λ (o : Option Entry). IsBroken o) (sym there) is
 
--- an event says the same as itself
+-- an event has the same content as itself
 pub same_self : (event : Event) → SameEvent event event
 same_self (Is.SubmitFiles request) = record { queue = refl; owner = refl; name = refl; documents = refl }
 same_self (Is.ListQueue request) = record { queue = refl; form = refl; operands = refl }
@@ -131,7 +131,7 @@ module _ (steps : StepsOnce) (queries : SameQueries) (asks : AsksOne) where
   pub fixed_reports : (moment device : ℕ) (said : ReportRecord) → Fixed (Tells moment device said)
   fixed_reports moment device said = record { one = λ l hs rest a ks more b e (one, is, p) (other, its, q). (same_report moment device device one other refl (is ∙ sym its)).one l hs rest a ks more b e p q }
 
-  -- ---- what a connection asks
+  -- ---- the asks of a connection
 
   same_events : (moment key id : ℕ) (who other : Client) (event said : Event) → who ≡ other → SameEvent event said → Alike (ActsOn moment key id (ask.Event who event)) (ActsOn moment key id (ask.Event other said))
   same_events moment key id who other event said same says =
@@ -178,7 +178,7 @@ module _ (steps : StepsOnce) (queries : SameQueries) (asks : AsksOne) where
   same_does moment key id (ask.Report device one) (ask.Stranger name) same = cc
   same_does moment key id (ask.Report device one) (ask.Fault other) same = cc
 
-  -- what one entry asks is one, where the choices are
+  -- two asks of one entry are the same if their choices are
   asked_one : (settings : ServerSettings) (o : Option Entry) (e d : Entry) (what said : Ask) (new after : Entry) → o ≡ Some e → o ≡ Some d → (one : AsksNext settings what e new) (other : AsksNext settings said d after)
       → part_of one ≡ part_of other → lost_of what ≡ lost_of said → SameAsk what said × (new ≡ after)
   asked_one settings o e d what said new after there is one other part lost =
@@ -188,7 +188,7 @@ module _ (steps : StepsOnce) (queries : SameQueries) (asks : AsksOne) where
   same_asked : (part other : Option ℕ) (loss lost : Option Loss) → As.Asked part loss ≡ As.Asked other lost → (part ≡ other) × (loss ≡ lost)
   same_asked part other loss lost same = (cc, cc)
 
-  -- one ask, of one number
+  -- two asks are one ask of one connection's number
   record OneAsk (id : ℕ) (what : Ask) (other : ℕ) (said : Ask) : Type 0 where
     ids : id ≡ other
     says : SameAsk what said

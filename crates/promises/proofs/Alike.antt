@@ -19,7 +19,7 @@ Fixed R = Alike R R
 pub alike_as : (R S R' S' : Rel) → ((l : Ledger) (hs : List Happening) (a : Ledger) → R' l hs a → R l hs a) → ((l : Ledger) (hs : List Happening) (a : Ledger) → S' l hs a → S l hs a) → Alike R S → Alike R' S'
 alike_as R S R' S' left right r = record { one = λ l hs rest a ks more b e p q. r.one l hs rest a ks more b e (left l hs a p) (right l ks b q) }
 
--- what happens, and its end, by the ledger
+-- the happenings and the end are functions of the ledger
 pub fixed_just : (hs : Ledger → List Happening) (to : Ledger → Ledger) → Fixed (λ l ks a. (ks ≡ hs l) × (a ≡ to l))
 fixed_just hs to = record { one = λ l xs rest a ks more b e p q. (p.0 ∙ sym q.0, p.1 ∙ sym q.1) }
 
@@ -46,7 +46,7 @@ alike_then {R} {R'} {S} {S'} r s = record {
       (p.whole ∙ (ap (λ (x : List Happening). x ++ p.back) first.0 ∙ (ap (λ (x : List Happening). q.front ++ x) second.0 ∙ sym q.whole)), second.1);
 }
 
--- ---- by what comes first
+-- ---- relations that differ in their first happening
 
 -- the first that happens is of this kind, or isn't
 abbrev pub BeginsAs : (Happening → Bool) → Bool → List Happening → Type 0
@@ -91,7 +91,7 @@ is_choice (Polled poll) = false
 is_choice (Told note) = false
 is_choice (Chosen choice) = true
 
--- what comes first is one
+-- the first happening of one list is one
 pub first_one : (x y : Happening) (hs rest ks more front back : List Happening) → hs ++ rest ≡ ks ++ more → hs ≡ x ∷ front → ks ≡ y ∷ back → x ≡ y
 first_one x y hs rest ks more front back e p q = let both : x ∷ (front ++ rest) ≡ y ∷ (back ++ more) = sym (ap (λ (z : List Happening). z ++ rest) p) ∙ (e ∙ ap (λ (z : List Happening). z ++ more) q) in cc
 
@@ -132,7 +132,7 @@ pub alike_if : (test : Bool) {R R' S S' : Rel} → Alike R R' → Alike S S' →
 alike_if true r s = record { one = λ l hs rest a ks more b e p q. r.one l hs rest a ks more b e p q }
 alike_if false r s = record { one = λ l hs rest a ks more b e p q. s.one l hs rest a ks more b e p q }
 
--- by what the ledger says
+-- relations that are alike for each value, at the value in the ledger
 pub alike_by : {A : Type 0} (of : Ledger → A) (R S : A → Rel) → ((x : A) → Alike (R x) (S x)) → Alike (λ l hs a. R (of l) l hs a) (λ l hs a. S (of l) l hs a)
 alike_by of R S each = record { one = λ l hs rest a ks more b e p q. (each (of l)).one l hs rest a ks more b e p q }
 
@@ -192,7 +192,7 @@ until_one R Stop r never (suc n) (suc m) l hs rest a ks more b e p q =
 pub fixed_until : (R : Rel) (Stop : Ledger → Type 0) → Fixed R → ((l : Ledger) (hs : List Happening) (a : Ledger) → Stop l → R l hs a → ⊥) → Fixed (λ l hs a. Many R l hs a × Stop a)
 fixed_until R Stop r never = record { one = λ l hs rest a ks more b e p q. until_one R Stop r never p.0.0 q.0.0 l hs rest a ks more b e (record { done = p.0.1; stop = p.1 }) (record { done = q.0.1; stop = q.1 }) }
 
--- what is done at least once, and then something else, begins as it does
+-- a relation taken at least once, and then another relation, begins as the first relation
 many_first : (kind : Happening → Bool) (R S : Rel) → Begins kind true R → (m : ℕ) (l : Ledger) (ks : List Happening) (b : Ledger) → Then (Times (suc m) R) S l ks b → BeginsAs kind true ks
 many_first kind R S br m l ks b q =
     let x = times_cons m R l q.front q.mid q.first in
@@ -201,7 +201,7 @@ many_first kind R S br m l ks b q =
 none_first : (kind : Happening → Bool) (S : Rel) → Begins kind false S → (l : Ledger) (hs : List Happening) (a : Ledger) → Then Nothing S l hs a → BeginsAs kind false hs
 none_first kind S bs l hs a p = subst (BeginsAs kind false) (sym (p.whole ∙ ap (λ (z : List Happening). z ++ p.back) p.first.0)) (bs.begins p.mid p.back a p.second)
 
--- and then something else, which begins apart
+-- a relation taken again and again, and then another relation whose beginnings differ
 behind_one : (kind : Happening → Bool) (R S : Rel) → Begins kind true R → Begins kind false S → Fixed R → Fixed S → (n m : ℕ) → (l : Ledger) (hs rest : List Happening) (a : Ledger) (ks more : List Happening) (b : Ledger) → hs ++ rest ≡ ks ++ more → Then (Times n R) S l hs a → Then (Times m R) S l ks b → (hs ≡ ks) × (a ≡ b)
 behind_one kind R S br bs r s zero zero l hs rest a ks more b e p q = (alike_then fixed_nothing s).one l hs rest a ks more b e p q
 behind_one kind R S br bs r s zero (suc m) l hs rest a ks more b e p q = apart kind ks more hs rest (sym e) (many_first kind R S br m l ks b q) (none_first kind S bs l hs a p)

@@ -1,4 +1,4 @@
--- What clients are answered becomes due in one way.
+-- The answers to clients become due in one way.
 use Rattle.std.proofs.Common.{◌≡◌, ℕ, Bool, true, false, List, [], ◌∷◌, ◌++◌, refl, sym, ◌∙◌, ap, subst, Some, None, inl, inr}
 use Rattle.std.specs.Prelude.{codes}
 use Rattle.ipp_codec.specs.Message.{IppAttribute, IppGroup}
@@ -37,7 +37,7 @@ use Rattle.promises.proofs.Alike.{Alike, Fixed, fixed_nothing, fixed_tells, fixe
 use Rattle.promises.proofs.Due.{fixed_breaks, fixed_enqueues, fixed_reply, fixed_status}
 use Rattle.promises.proofs.Events.{answered_alike}
 
--- ---- the bytes of answers that say the same
+-- ---- the bytes of answers with the same content
 
 same_message : (one other : IppResponse) (id : ℕ) → SameIppAnswer one other → message_of one id ≡ message_of other id
 same_message one other id same =

@@ -11,14 +11,14 @@ use Rattle.server.specs.Refinement.{StandsAt}
 use Rattle.server.proofs.Steps.{leads_append, leads_with}
 use Rattle.promises.specs.Calls.{Call, TakesTurn, Serves, Reports, Ticks, ByContract, AreMade, IsOf, AreOf, IsAccounted}
 
--- what one call leads to
+-- the result of one call
 record Made {W N : Type 0} (polled : W → Poll → W → Type 0) (told : N → Note → N → Type 0) (call : Call) (u v : W × N) (old new : EngineState) : Type 0 where
   action : Action
   is_of : IsOf call action
   leads : Leads (both polled told) u (happenings_of action) v
   stands : (opening : State) (trace : Trace) → StandsAt opening trace old → StandsAt opening (trace ++ action ∷ []) new
 
--- where the wire stays the listener is led on beside it
+-- if the wire stays, the happenings lead the listener on beside it
 beside : {W N : Type 0} (polled : W → Poll → W → Type 0) (told : N → Note → N → Type 0) (u v : W × N) (hs : List Happening) → v.0 ≡ u.0 → Leads (alone told) u.1 hs v.1 → Leads (both polled told) u hs v
 beside polled told u v hs same leads = subst (λ w. Leads (both polled told) u hs (w, v.1)) (sym same) (leads_with polled told u.0 u.1 v.1 hs leads)
 
@@ -28,7 +28,7 @@ made polled told (Serves moment body) u v old new (answer, same, it) = record { 
 made polled told (Reports moment device said) u v old new (result, same, it) = record { action = Reported moment device said it.happenings; is_of = (refl, refl, refl); leads = beside polled told u v it.happenings same it.leads; stands = it.stands }
 made polled told (Ticks moment) u v old new (result, same, it) = record { action = Ticked moment it.happenings; is_of = refl; leads = beside polled told u v it.happenings same it.leads; stands = it.stands }
 
--- what all lead to
+-- the result of all calls
 record AllMade {W N : Type 0} (polled : W → Poll → W → Type 0) (told : N → Note → N → Type 0) (calls : List Call) (u v : W × N) (old new : EngineState) : Type 0 where
   actions : Trace
   are_of : AreOf calls actions

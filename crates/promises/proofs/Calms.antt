@@ -1,4 +1,4 @@
--- Parts of an action that bring no event, and what an event leaves on each connection.
+-- Parts of an action that bring no event, and the state of each connection after an event.
 use Rattle.std.proofs.Common.{◌≡◌, ℕ, Bool, true, false, List, [], ◌∷◌, ◌++◌, map, refl, sym, ◌∙◌, ap, subst, append-nil, Option, Some, None, inl, inr}
 use Rattle.device_link.specs.Orders.{cancel_line}
 use Rattle.print_room.specs.declared.started.Started.{Started}
@@ -38,7 +38,7 @@ use Rattle.promises.proofs.Sending.{notes_append}
 use Rattle.promises.proofs.Handling.{told_notes, found_silent}
 use Rattle.promises.proofs.Speaking.{Grows, grows_as, Kept, kept_same, kept_then, here, aside, by_key, KeptAll}
 
--- ---- what brings no event, and no report
+-- ---- parts that bring no event and no report
 
 pub record Calm (l : Ledger) (hs : List Happening) (l' : Ledger) : Type 0 where
   pub core : l'.core ≡ l.core

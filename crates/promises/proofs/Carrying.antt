@@ -1,4 +1,4 @@
--- Of each connection what was read and what was taken is what the wire carried.
+-- The bytes read and the bytes taken of each connection are the bytes that the wire carried.
 use Rattle.std.proofs.Common.{◌≡◌, ◌≢◌, ℕ, zero, suc, Bool, true, false, List, [], ◌∷◌, ◌++◌, length, take, drop, refl, sym, ◌∙◌, ap, subst, append_assoc, append-nil, Option, Some, None, ◌⊎◌, inl, inr}
 use Rattle.std.specs.Prelude.{◌==◌, ◌||◌, nat_lt, if◌then◌else◌, map}
 use Rattle.base_types.specs.declared.limits.TheConstants.Limits.{CONNECTIONS}
@@ -60,7 +60,7 @@ use Rattle.promises.proofs.Sending.{same_key, other_key, is_key, not_key}
 
 -- ---- one connection
 
--- more may be due on it, and it may count no longer; what it took is what it was, and so is what it read while it counts
+-- more bytes may be due on the connection, and it may count no longer; the bytes taken are the same, and so are the bytes read while it counts
 record Steady (d e : Entry) : Type 0 where
   id : e.id ≡ d.id
   taken : e.taken ≡ d.taken
@@ -85,7 +85,7 @@ steady_given_up e = record { id = refl; taken = refl; more = no_more e (given_up
 steady_ended : (e : Entry) → Steady e (record e { ended = true })
 steady_ended e = record { id = refl; taken = refl; more = no_more e (record e { ended = true }) refl; read = λ draining sound. (draining, sound, refl) }
 
--- what it asks changes it in this way
+-- the change of the entry by an ask
 steady_talk : (e mid : Entry) (talk : PeerRecord) → mid ≡ talking talk e → (mid.id ≡ e.id) × (mid.taken ≡ e.taken) × (mid.due ≡ e.due) × (mid.read ≡ e.read)
 steady_talk e mid talk is = (ap (λ (x : Entry). x.id) is, ap (λ (x : Entry). x.taken) is, ap (λ (x : Entry). x.due) is, ap (λ (x : Entry). x.read) is)
 
@@ -156,7 +156,7 @@ steady_asks settings what e new a = steady_step e a.mid new a.comes what a.count
 
 -- ---- all connections
 
--- the ledger has of each open connection what was carried
+-- the ledger has the bytes that were carried on each open connection
 record Agrees (c : Carried) (l : Ledger) : Type 0 where
   there : (key : ℕ) (e : Entry) → l.entries key ≡ Some e → c.open_now e.id ≡ true
   one : (key other : ℕ) (e d : Entry) → l.entries key ≡ Some e → l.entries other ≡ Some d → e.id ≡ d.id → key ≡ other
@@ -164,7 +164,7 @@ record Agrees (c : Carried) (l : Ledger) : Type 0 where
   front : (key : ℕ) (e : Entry) → l.entries key ≡ Some e → (rest : List ℕ) × (e.due ≡ e.taken ++ rest)
   read : (key : ℕ) (e : Entry) → l.entries key ≡ Some e → e.draining ≡ false → e.broken ≡ false → e.read ≡ c.read e.id
 
--- each connection is what it was, or steady
+-- each connection is unchanged, or steady
 abbrev Follow : Ledger → Ledger → Type 0
 Follow l l' = (key : ℕ) (e : Entry) → l'.entries key ≡ Some e → (d : Entry) × (l.entries key ≡ Some d) × Steady d e
 
@@ -189,7 +189,7 @@ follow_same l l' same key e is = (e, subst (λ (entries : ℕ → Option Entry).
 some_one : (d e : Entry) → Some d ≡ Some e → d ≡ e
 some_one d e same = cc
 
--- what is under a key, where another connection is there, and elsewhere
+-- the connection under a key once another connection is set there, and under each other key
 at_cases : (key : ℕ) (o : Option Entry) (entries : ℕ → Option Entry) (k : ℕ) → ((k ≡ key) × (at_key key o entries k ≡ o)) ⊎ ((k ≢ key) × (at_key key o entries k ≡ entries k))
 at_cases key o entries k = by (k == key) refl
   where
@@ -221,7 +221,7 @@ new_append c (Polled poll ∷ hs) ks new = let more = new_append (carry c poll) 
 new_append c (Told note ∷ hs) ks new = new_append c hs ks new
 new_append c (Chosen choice ∷ hs) ks new = new_append c hs ks new
 
--- what was carried agrees with the ledger after it, too
+-- the carried bytes agree with the ledger after the part too
 abbrev Carries : Rel → Type 0
 Carries R = (c : Carried) (l : Ledger) (hs : List Happening) (l' : Ledger) → Agrees c l → AreNew c hs → R l hs l' → Agrees (carried c hs) l'
 
@@ -273,9 +273,9 @@ carries_sets key d e c l hs l' a there steady it = carries_quiet c l hs l' a (ap
 carries_drops : (place : AllocationSite) (key : ℕ) (e : Entry) (c : Carried) (l : Ledger) (hs : List Happening) (l' : Ledger) → Agrees c l → l.entries key ≡ Some e → Drops place key e l hs l' → Agrees (carried c hs) l'
 carries_drops place key e c l hs l' a there it = carries_quiet c l hs l' a (ap (carried c) it.0) (follow_sets key e (broken e) l l' there (steady_broken e) it.1)
 
--- ---- what becomes due
+-- ---- bytes that become due
 
--- a part by what is under a key
+-- a part that depends on the connection under a key
 abbrev CarriesAt : ℕ → (Option Entry → Rel) → Type 0
 CarriesAt key R = (o : Option Entry) (c : Carried) (l : Ledger) (hs : List Happening) (l' : Ledger) → l.entries key ≡ o → Agrees c l → AreNew c hs → R o l hs l' → Agrees (carried c hs) l'
 
@@ -441,7 +441,7 @@ carries_first moment c l hs l' a new it = carries_closes moment Broken it.key it
 carries_settles : (moment : ℕ) → Carries (Settles moment)
 carries_settles moment c l hs l' a new it = carries_many (ClosesFirst moment) (carries_first moment) c l hs l' a new it.0
 
--- ---- what a connection asks
+-- ---- the asks of a connection
 
 gives_way_at : (key : ℕ) → CarriesAt key (GivesWayAt key)
 gives_way_at key None c l hs l' there a new it = carries_nothing c l hs l' a new it
@@ -492,7 +492,7 @@ carries_serves moment key c l hs l' a new it = carries_then (Many (Acts moment k
 carries_fails : (moment key : ℕ) → Carries (Fails moment key)
 carries_fails moment key = carries_then (Breaks key) (Settles moment) (carries_breaks key) (carries_settles moment)
 
--- another connection under a key, of the same number, of which this was carried: what it read, or what it took
+-- another entry of the same connection under a key, with the bytes carried for it: bytes read, or bytes taken
 agrees_with : (key : ℕ) (d e : Entry) (c c' : Carried) (l l' : Ledger) → Agrees c l → l.entries key ≡ Some d → l'.entries ≡ at_key key (Some e) l.entries → e.id ≡ d.id → c'.open_now ≡ c.open_now
     → ((id : ℕ) → id ≢ d.id → (c'.taken id ≡ c.taken id) × (c'.read id ≡ c.read id)) → e.taken ≡ c'.taken d.id → ((rest : List ℕ) × (e.due ≡ e.taken ++ rest)) → (e.draining ≡ false → e.broken ≡ false → e.read ≡ c'.read d.id) → Agrees c' l'
 agrees_with key d e c c' l l' a at after number still others taken front read = record {
@@ -553,7 +553,7 @@ agrees_read key d e bytes c l l' a at after number taken due read =
     (let f = a.front key d at in (f.0, due ∙ (f.1 ∙ ap (λ (xs : List ℕ). xs ++ f.0) (sym taken))))
     (λ draining sound. let was = read draining sound in was.2 ∙ (ap (λ (xs : List ℕ). xs ++ bytes) (a.read key d at was.0 was.1) ∙ sym (at_this d.id (c.read d.id ++ bytes) c.read)))
 
--- what follows a read that brought bytes
+-- the parts behind a read that brought bytes
 abbrev Fed : ℕ → List ℕ → Rel → Type 0
 Fed key bytes R = (e : Entry) (c : Carried) (l : Ledger) (hs : List Happening) (l' : Ledger) → Agrees c l → l.entries key ≡ Some e → AreNew (carry c (Reads e.id (wire.Done bytes))) hs → R l hs l' → Agrees (carried (carry c (Reads e.id (wire.Done bytes))) hs) l'
 
@@ -618,7 +618,7 @@ reads_at moment key (Some e) c l hs l' there a new it = reads_if (is_read e) mom
 carries_reads : (moment key : ℕ) → Carries (ReadsOne moment key)
 carries_reads moment key c l hs l' a new it = reads_at moment key (l.entries key) c l hs l' refl a new it
 
--- what waits is what is due behind what was taken
+-- the waiting bytes are the due bytes behind the taken bytes
 waits : (e : Entry) (rest : List ℕ) → e.due ≡ e.taken ++ rest → waiting e ≡ rest
 waits e rest is = ap (λ (due : List ℕ). drop (length e.taken) due) is ∙ past e.taken rest
   where
@@ -680,7 +680,7 @@ carries_ends moment key c l hs l' a new it = ends_at moment key (l.entries key) 
 
 -- ---- accepts
 
--- of an open connection the number isn't one that no open one has
+-- the number of an open connection differs from a number that no open connection has
 not_new : (c : Carried) (id number : ℕ) → c.open_now number ≡ true → c.open_now id ≡ false → number ≢ id
 not_new c id number is none = λ same. untrue (c.open_now id) (ap c.open_now (sym same) ∙ is) none
   where
@@ -747,7 +747,7 @@ opened key id door c l l' a none after = record {
     read_at k e is draining sound (inl (same, its)) = subst (λ (x : Entry). x.read ≡ (carry c (Accepts door (wire.Done id))).read x.id) (is_new k e is its) (sym (at_this id [] c.read))
     read_at k e is draining sound (inr (apart, its)) = before.read k e (is_old k e is its) draining sound
 
--- it was closed at once
+-- the connection was closed at once
 refused : (id : ℕ) (door : Door) (c : Carried) (l : Ledger) → Agrees c l → c.open_now id ≡ false → Agrees (carry (carry c (Accepts door (wire.Done id))) (Closes id)) l
 refused id door c l a none =
     let before = given c l door id a none in

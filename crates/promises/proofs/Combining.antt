@@ -1,11 +1,11 @@
--- What holds of a relation of parts where it holds of each part: of either of two, of one for each number, of one again and again. It has to hold of nothing, and of two parts one after the other.
+-- Properties that hold of a combined relation if they hold of each part: of one of two parts, of a part for each number, and of a repeated part. Such a property has to hold of the empty part, and of two parts one after the other.
 use Rattle.std.proofs.Common.{ℕ, zero, suc, Bool, true, false, List, inl, inr}
 use Rattle.server.specs.Ledger.{Ledger}
 use Rattle.server.specs.Polls.{Happening}
 use Rattle.server.specs.Rel.{Rel, Nothing, Then, If, Or, Times, Many, Each}
 
 module _ {ℓ} (P : Ledger → List Happening → Ledger → Type ℓ) where
-  -- it holds of each step that a relation allows
+  -- the property holds of each step that a relation allows
   abbrev pub Within : Rel → Type ℓ
   Within R = (l : Ledger) (hs : List Happening) (l' : Ledger) → R l hs l' → P l hs l'
 

@@ -1,4 +1,4 @@
--- What a connection asks comes about.
+-- The asks of a connection come about.
 use Rattle.std.proofs.Common.{◌≡◌, ◌≢◌, ℕ, Bool, true, false, List, [], ◌∷◌, ◌++◌, refl, sym, ◌∙◌, ap, subst, append-nil, Option, Some, None, ◌⊎◌, inl, inr}
 use Rattle.std.specs.Prelude.{◌==◌, ◌||◌, if◌then◌else◌}
 use Rattle.std.specs.List.{flat_map}
@@ -37,17 +37,17 @@ use Rattle.promises.proofs.Moving.{Moves, moves_calm, moves_then, moves_many, mo
 use Rattle.promises.proofs.Stepping.{IsClientAsk, silent_growth, silent_part, device_does, IsClientStep, client_hears, DeviceAsks, device_hears}
 use Rattle.promises.proofs.Naming.{Just, greets}
 
--- ---- what is asked comes about
+-- ---- the asks come about
 
 pub not_broken : (draining is : Bool) → (draining || is) ≡ false → is ≡ false
 not_broken true is none = cc
 not_broken false is none = none
 
--- where it broke nothing is due by it, or all of it
+-- if the connection broke, none of the step's bytes are due, or all of them
 abbrev pub HaltsAs : Step → Entry → List ℕ → List Handled → Entry → Type 0
 HaltsAs comes new base asked e = (e.due ≡ base) ⊎ ((bytes : List ℕ) × IsOwed (closes_of new.talk) comes asked bytes × (e.due ≡ base ++ bytes))
 
--- what comes of a client's step: what the core handled, and the bytes that are due by it behind these
+-- the result of a client's step: the events that the core handled, and the bytes that are due by the step behind the earlier bytes
 pub record Acted (moment key : ℕ) (comes : Step) (new : Entry) (base : List ℕ) (l : Ledger) (hs : List Happening) (l' : Ledger) : Type 0 where
   pub handled : List Handled
   pub sent : ℕ → List ℕ
@@ -67,7 +67,7 @@ halts_due : (comes : Step) (new d e : Entry) (base : List ℕ) (asked : List Han
 halts_due comes new d e base asked same (inl is) = inl (sym same ∙ is)
 halts_due comes new d e base asked same (inr (bytes, owed, is)) = inr (bytes, owed, sym same ∙ is)
 
--- where the core handles nothing
+-- the core handles no event
 pub acted_calm : (moment key : ℕ) (comes : Step) (new : Entry) (base : List ℕ) (Q : Bool → List ℕ → Type 0) (l : Ledger) (hs : List Happening) (l' : Ledger) → l.entries key ≡ Some new → ClientTalk new.talk
     → ((bytes : List ℕ) → new.broken ≡ false → Q (closes_of new.talk) bytes → (given : List ℕ) × IsOwed (closes_of new.talk) comes [] given × (new.due ++ bytes ≡ base ++ given)) → HaltsAs comes new base [] new → Gave key Q l hs l' → Acted moment key comes new base l hs l'
 acted_calm moment key comes new base Q l hs l' there client owed halted g = record {
@@ -93,7 +93,7 @@ acted_calm moment key comes new base Q l hs l' there client owed halted g = reco
       (sym it.2 ∙ ap (λ (x : Entry). x.talk) (sym this), halts_due comes new new e base [] (ap (λ (x : Entry). x.due) this ∙ it.3) halted);
 }
 
--- where it handles the client's event
+-- the core handles the client's event
 pub acted_event : (moment key id : ℕ) (who : Client) (event : Event) (last : Bool) (new : Entry) (l : Ledger) (hs : List Happening) (l' : Ledger) → EventOf who event → Good l → l.entries key ≡ Some new → ClientTalk new.talk → Ans.IsAnswered moment key id who event l hs l'
     → Acted moment key (step.Asks (ask.Event who event) last) new new.due l hs l'
 acted_event moment key id who event last new l hs l' own good there client (outcome, it) =
@@ -308,7 +308,7 @@ client_acts moment key id what l front mid back l' hs whole good a client does =
     heard_next : (a.asks.mid.due ≡ a.entry.due) × (((a.asks.comes ≡ no_memory) × (a.asks.mid.talk ≡ a.entry.talk)) ⊎ IsNext l.core.settings a.entry.talk a.asks.comes a.asks.mid.talk)
     heard_next = next_of l.core.settings a.entry.talk a.entry a.asks.comes a.asks.mid client refl heard_so.0 a.asks.hears
 
-    -- it broke: what it came to isn't due, or it is
+    -- the connection broke: the bytes of its last step aren't due, or they are
     broke : (e : Entry) → e.talk ≡ a.new.talk → ((a.asks.comes ≡ no_memory) × (a.asks.mid.talk ≡ a.entry.talk)) ⊎ IsNext l.core.settings a.entry.talk a.asks.comes a.asks.mid.talk → a.asks.mid.due ≡ a.entry.due → HaltsAs a.asks.comes a.new a.asks.mid.due (asked_by key acted.handled) e
         → BrokeAfter l.core key acted.handled acted.handled a.entry.talk a.entry.due e
     broke e talk next due (inl is) = record {

@@ -1,4 +1,4 @@
--- What the next of a stream comes to, for the core: a device says its name, or reports; or neither.
+-- The next item of a stream, for the core: a device gives its name, or sends a report; or neither.
 use Rattle.std.proofs.Common.{◌≡◌, ℕ, false, List, [], ◌∷◌, ◌++◌, refl, sym, ◌∙◌, ap, subst, Option, Some, None, ◌⊎◌, inl, inr}
 use Rattle.base_types.specs.declared.report.Report.{Report}
 use Rattle.base_types.specs.Report.{ReportRecord, SaysHello, SaysMedia, SaysReady, SaysStop, SaysBusy, SaysPages, SaysDone, SaysFail, IsGone as SaysGone, report_of}
@@ -25,9 +25,9 @@ use Rattle.promises.proofs.Sending.{no_true}
 use Rattle.promises.proofs.Stepping.{IsClientAsk, IsClientStep}
 use Rattle.promises.proofs.Speaking.{Grows, grows_as, first_read, none_read, no_both}
 
--- ---- what a connection asks
+-- ---- the asks of a connection
 
--- it isn't that a device says its name, or reports
+-- the ask is neither a device's name nor a report
 abbrev pub IsFine : Ask → Type 0
 IsFine ask.Nothing = Unit {0}
 IsFine (ask.Broke growth) = Unit {0}
@@ -105,7 +105,7 @@ pub record SaysIt (settings : ServerSettings) (what : Ask) (e new : Entry) : Typ
   pub after : new.talk ≡ Link (reports ++ SaysHello name ∷ []) (Some device)
   pub read : IsRead new
 
--- one that has said its name reports
+-- a device that has given its name reports
 pub record ReportsIt (what : Ask) (e new : Entry) : Type 0 where
   pub device : ℕ
   pub it : Report

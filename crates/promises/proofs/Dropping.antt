@@ -1,4 +1,4 @@
--- Of each event of a trace the listener is told, of one that was dropped too.
+-- The listener has notes of each event of a trace, also of a dropped event.
 use Rattle.std.proofs.Common.{◌≡◌, ℕ, Bool, true, false, List, [], ◌∷◌, ◌++◌, map, refl, sym, ◌∙◌, ap, subst, Option, Some, None, inl, inr}
 use Rattle.std.specs.Prelude.{◌||◌, All, nat_lt, length, take}
 use Rattle.std.proofs.lemmas.List.{append-nil, append_assoc, map-append}
@@ -71,9 +71,9 @@ use Rattle.server.proofs.Speaking.{notes_append, never, none_before, none_after}
 use Rattle.promises.specs.Dropped.{brings_event, event_note, event_notes, begins_event, events_told, IsToldOf, AreToldOf, TellsDropped}
 use Rattle.promises.proofs.Combining.{or_within, if_within, many_within, each_within}
 
--- ---- what is told of events
+-- ---- the notes of events
 
--- whether an event may come behind these, where it may or may not before
+-- whether an event may come behind these happenings; the argument says whether it may come before them
 abbrev after : Bool → List Happening → Bool
 after came [] = came
 after came (h ∷ hs) = after (brings_event h) hs
@@ -83,19 +83,19 @@ notes_then came [] ks = refl
 notes_then came (h ∷ hs) ks =
     ap (λ (ns : List Note). event_note came h ++ ns) (notes_then (brings_event h) hs ks) ∙ sym (append_assoc (event_note came h) (event_notes (brings_event h) hs) (event_notes (after (brings_event h) hs) ks))
 
--- nothing is told of events, whatever came before
+-- these happenings have no note of an event, whether or not an event came before
 abbrev Silent : List Happening → Type 0
 Silent hs = (came : Bool) → event_notes came hs ≡ []
 
 silent_then : (hs ks : List Happening) → Silent hs → Silent ks → Silent (hs ++ ks)
 silent_then hs ks p q came = notes_then came hs ks ∙ (ap (λ (ns : List Note). ns ++ event_notes (after came hs) ks) (p came) ∙ q (after came hs))
 
--- nothing more is told
+-- silent happenings add no note
 notes_before : (came : Bool) (hs ks : List Happening) (notes : List Note) → event_notes came hs ≡ notes → Silent ks → event_notes came (hs ++ ks) ≡ notes
 notes_before came hs ks notes is silent =
     notes_then came hs ks ∙ (ap (λ (ns : List Note). event_notes came hs ++ ns) (silent (after came hs)) ∙ (append-nil (event_notes came hs) ∙ is))
 
--- ---- what leaves the core as it is
+-- ---- parts that don't change the core
 
 record Quiet (l : Ledger) (hs : List Happening) (l' : Ledger) : Type 0 where
   core : l'.core ≡ l.core
@@ -175,7 +175,7 @@ quiet_reply key bytes l hs l' it = reply_at (λ closes. http_reply closes bytes)
 quiet_status : (key : ℕ) (status : Status) (request : ℕ) → Quietly (EnqueuesStatus key status request)
 quiet_status key status request l hs l' it = reply_at (λ closes. http_status closes status request) key (l.entries key) l hs l' it
 
--- ---- what devices are told
+-- ---- the notes about devices
 
 each_sent : (cancels : List Cancel) → Quietly (EachOf cancels Sends)
 each_sent [] = quiet_nothing
@@ -234,7 +234,7 @@ body_told request bytes reply l hs l' (inr it) = quiet_tells (Refused At.Reply N
 
 -- ---- memory for an event is refused
 
--- that is told first, and nothing more of events
+-- the refusal is told first, and no further note of events
 record Refuses (l : Ledger) (hs : List Happening) (l' : Ledger) : Type 0 where
   core : l'.core ≡ l.core
   id : Option ℕ
@@ -264,7 +264,7 @@ client_refused key id client.LpdCommand query = refuses_then (Some id) (Breaks k
 
 -- ---- runs
 
--- one after the other
+-- two runs, one after the other
 run_then : (old mid new : State) (events later : List Timed) (outcomes others : List Outcome) (told more : List Note) → AreToldOf old events outcomes told mid → AreToldOf mid later others more new → AreToldOf old (events ++ later) (outcomes ++ others) (told ++ more) new
 run_then old mid new [] later [] others told more (same, none) q =
     subst (λ (ns : List Note). AreToldOf old later others (ns ++ more) new) (sym none) (subst (λ (s : State). AreToldOf s later others more new) same q)
@@ -276,7 +276,7 @@ run_then old mid new (timed ∷ events) later [] others told more none q = absur
 one_told : (timed : Timed) (outcome : Outcome) (told : List Note) (old new : State) → IsToldOf timed old outcome told new → AreToldOf old (timed ∷ []) (outcome ∷ []) told new
 one_told timed outcome told old new it = (new, told, [], sym (append-nil told), it, (refl, refl))
 
--- what happens is a run of events at one moment, of which this is told where an event may come before or not
+-- the happenings are a run of events at one moment, with these notes; `came` says whether an event came before
 record ToldFrom (came : Bool) (moment : ℕ) (l : Ledger) (hs : List Happening) (l' : Ledger) : Type 0 where
   events : List Timed
   outcomes : List Outcome
@@ -318,7 +318,7 @@ told_last (cancel ∷ cancels) last is came = ap (λ (ns : List Note). Canceled 
 told_by : (notes : List Note) (reply : Effects) (last : List Note) → notes ≡ cancels_told reply ++ last → IsRead last → IsRead notes
 told_by notes reply last is told = subst IsRead (sym is) (told_last reply.cancels.items last told)
 
--- all that the core tells is told of its event
+-- all notes of the core are notes of its event
 told_back : (moment : ℕ) (event : Event) (old : State) (outcome : Outcome) (notes : List Note) (new : State) → Handles moment event old outcome notes new → IsRead notes
 told_back moment event old Dropped notes new (same, none, heavy) = subst IsRead (sym none) (λ came. refl)
 told_back moment event old (Queried reply) notes new (query, step, is) = told_by notes reply [] (is ∙ sym (append-nil (cancels_told reply))) (λ came. refl)
@@ -326,7 +326,7 @@ told_back moment event old (Undispatched reply) notes new (query, step, ready, i
 told_back moment event old (Idle reply) notes new (query, mid, step, made, is) = told_by notes reply (Planned None [] ∷ []) is (λ came. refl)
 told_back moment event old (Dispatched reply) notes new (query, mid, step, plan, made, is) = told_by notes reply (Planned (Some plan) new.begun ∷ []) is (λ came. refl)
 
--- it wasn't dropped
+-- the event wasn't dropped
 abbrev IsKept : Outcome → Type 0
 IsKept Dropped = ⊥
 IsKept (Queried reply) = Unit {0}
@@ -348,7 +348,7 @@ kept_told timed old (Undispatched reply) notes new kept it = it
 kept_told timed old (Idle reply) notes new kept it = it
 kept_told timed old (Dispatched reply) notes new kept it = it
 
--- one that wasn't dropped, with what comes behind it
+-- an event that wasn't dropped, and the part behind it
 kept_then : (came : Bool) (moment : ℕ) (event : Event) (outcome : Outcome) (Q : Rel) → IsKept outcome → Quietly Q → (l : Ledger) (hs : List Happening) (l' : Ledger) → Then (Happens moment event outcome) Q l hs l' → ToldFrom came moment l hs l'
 kept_then came moment event outcome Q kept quiet l hs l' it =
     let made = it.first.first in
@@ -363,7 +363,7 @@ kept_then came moment event outcome Q kept quiet l hs l' it =
     (kept_told (record { event = event; moment = moment }) l.core outcome made.notes l'.core kept
     (subst (λ (s : State). Handles moment event l.core outcome made.notes s) (sym core) made.handles))
 
--- one that was dropped did nothing
+-- a dropped event changes nothing
 dropped_nothing : (moment : ℕ) (event : Event) (l : Ledger) (hs : List Happening) (l' : Ledger) → Happens moment event Dropped l hs l' → (hs ≡ []) × (l'.core ≡ l.core)
 dropped_nothing moment event l hs l' it =
     let none : it.front ≡ [] = it.first.told ∙ ap (λ (ns : List Note). map Told ns) it.first.handles.1 in (
@@ -371,7 +371,7 @@ dropped_nothing moment event l hs l' it =
       ap (λ (x : Ledger). x.core) it.second.1 ∙ (ap (λ (x : Ledger). x.core) it.first.after ∙ it.first.handles.0),
     )
 
--- one that was dropped is told behind it
+-- the refusal of a dropped event is told behind it
 dropped_then : (moment : ℕ) (event : Event) (Q : Rel) → ((l : Ledger) (hs : List Happening) (l' : Ledger) → Q l hs l' → Refuses l hs l')
     → (l : Ledger) (hs : List Happening) (l' : Ledger) → Then (Happens moment event Dropped) Q l hs l' → ToldFrom true moment l hs l'
 dropped_then moment event Q refuses l hs l' it =
@@ -390,7 +390,7 @@ answered_then moment event Q quiet refuses (Undispatched reply) l hs l' it = kep
 answered_then moment event Q quiet refuses (Idle reply) l hs l' it = kept_then true moment event (Idle reply) (Q (Some reply)) tt (quiet reply) l hs l' it
 answered_then moment event Q quiet refuses (Dispatched reply) l hs l' it = kept_then true moment event (Dispatched reply) (Q (Some reply)) tt (quiet reply) l hs l' it
 
--- one that takes no memory isn't dropped
+-- an event that takes no memory isn't dropped
 light_kept : (moment : ℕ) (event : Event) (outcome : Outcome) (l : Ledger) (hs : List Happening) (l' : Ledger) → TakesNoMemory event moment l.core → Happens moment event outcome l hs l' → IsKept outcome
 light_kept moment event Dropped l hs l' light it = it.first.handles.2 light
 light_kept moment event (Queried reply) l hs l' light it = tt
@@ -504,9 +504,9 @@ module _ (moment : ℕ) where
   greets_in key id device name l hs l' (inr (inl (other, ended, it))) = then_in (chooses_in (On other)) (then_in (gives_way_in other) (then_in (gone_in (Some device)) (reported_in device (reported.Hello name)))) l hs l' it
   greets_in key id device name l hs l' (inr (inr (other, is, it))) = then_in (gives_way_in key) (turned_away_in id (why.Connected device)) l hs l' it
 
-  -- ---- what a connection asks
+  -- ---- the asks of a connection
 
-  -- no event came of what could not be read, though its refusal is told as an event's is
+  -- a request that could not be read is no event, though its refusal is told as an event's refusal is
   unread_from : (l : Ledger) (hs : List Happening) (l' : Ledger) → Refuses l hs l' → ToldFrom false moment l hs l'
   unread_from l hs l' it = no_event false moment l hs l' it.core (ap (event_notes false) it.whole ∙ it.silent true)
 
@@ -521,7 +521,7 @@ module _ (moment : ℕ) where
   client_from : (key id : ℕ) (who : Client) (event : Event) (l : Ledger) (hs : List Happening) (l' : Ledger) → Answering.IsAnswered moment key id who event l hs l' → ToldFrom true moment l hs l'
   client_from key id who event l hs l' (outcome, it) = answered_then moment event (Answering.Answers key id who (is_query event)) (client_told key id who (is_query event)) (client_refused key id who (is_query event)) outcome l hs l' it
 
-  -- its mark says whether an event may come of it
+  -- the mark of an ask says whether an event may come of it
   acts_from : (key id : ℕ) (what : Ask) (taken : Option ℕ) (l : Ledger) (hs : List Happening) (l' : Ledger) → Acting.ActsOn moment key id what l hs l' → ToldFrom (brings_event (Chosen (Asked taken (lost_of what)))) moment l hs l'
   acts_from key id ask.Nothing taken l hs l' it = nothing_in l hs l' it true
   acts_from key id (ask.Broke growth) taken l hs l' it = broke_in growth id l hs l' it true
@@ -667,7 +667,7 @@ trace_told (action ∷ actions) old new (mid, does, runs) =
 
 -- ---- that is the one run of the core
 
--- what the core tells of a happening is told of events
+-- the core's note of a happening is a note of an event
 note_core : (came : Bool) (h : Happening) → core_notes (map Told (event_note came h)) ≡ core_note h
 note_core came (Told (Planned plan started)) = refl
 note_core came (Told (Canceled cancel)) = refl

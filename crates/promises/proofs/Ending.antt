@@ -52,7 +52,7 @@ ends_same l l' same ended = subst (λ (closed : List (Entry × Fate)). All (λ (
 calmly : {R : Rel} → Calms R → Ends R
 calmly calms l hs l' it = ends_same l l' (calms l hs l' it).kept.closed
 
--- where the ledger after it is known
+-- the same for a ledger that equals a ledger with the same closed connections
 ends_to : (m l l' : Ledger) → m.closed ≡ l.closed → l' ≡ m → EndHeard l → EndHeard l'
 ends_to m l l' same after = ends_same l l' (ap (λ (x : Ledger). x.closed) after ∙ same)
 
@@ -100,7 +100,7 @@ module _ (moment : ℕ) where
   ends_settles : Ends (Settles moment)
   ends_settles l hs l' it = ends_many (ClosesFirst moment) (λ a ks b first. ends_closes Broken first.key first.entry (broken_heard first.entry first.is_broken) a ks b first.closes) l hs l' it.0
 
-  -- ---- what a connection asks
+  -- ---- the asks of a connection
 
   way_at : (key : ℕ) (o : Option Entry) → Ends (GivesWayAt key o)
   way_at key None = calmly calms_nothing
@@ -174,7 +174,7 @@ module _ (moment : ℕ) where
   ends_writes : (key : ℕ) → Ends (WritesOne moment key)
   ends_writes key l hs l' it = writes_at key (l.entries key) l hs l' it
 
-  -- all that was read was acted on before a closing that isn't at once
+  -- all bytes that were read were acted on before the connection closes, unless it closes at once
   done_at : (key : ℕ) (o : Option Entry) (l : Ledger) (hs : List Happening) (l' : Ledger) → l.entries key ≡ o → AllHeard l → EndsAt moment key o l hs l' → EndHeard l → EndHeard l'
   done_at key None l hs l' open_there heard it = calmly calms_nothing l hs l' it
   done_at key (Some e) l hs l' open_there heard it =

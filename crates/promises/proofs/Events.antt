@@ -1,4 +1,4 @@
--- An event comes about in one way: up to what its listener is told of its plan, which stands in the list of what happens.
+-- An event comes about in one way, up to the note of its plan, which is in the list of happenings.
 use Rattle.std.proofs.Common.{◌≡◌, ℕ, max, Bool, true, false, List, [], ◌∷◌, ◌++◌, map, refl, sym, ◌∙◌, ap, subst, Option, Some, None, inl, inr, ◌⊎◌}
 use Rattle.base_types.specs.declared.report.Report.{Report}
 use Rattle.plan_prices.specs.Plan.{PlanRecord}
@@ -26,9 +26,9 @@ use Rattle.promises.specs.OneLedger.{StepsOnce}
 use Rattle.promises.proofs.Alike.{Alike, Fixed, fixed_nothing, alike_then, then_one, apart, BeginsAs, begins_append, begins_just, Begins, is_choice, fixed_each_of}
 use Rattle.promises.proofs.Due.{fixed_sends, fixed_starts_all}
 
--- ---- what an event comes to
+-- ---- the result of an event
 
--- two outcomes of one kind, whose replies say the same
+-- two outcomes of one kind, whose replies have the same content
 abbrev pub SameOutcome : Outcome → Outcome → Type 0
 SameOutcome Dropped Dropped = Unit {0}
 SameOutcome (Queried one) (Queried other) = SameReply one other
@@ -37,7 +37,7 @@ SameOutcome (Idle one) (Idle other) = SameReply one other
 SameOutcome (Dispatched one) (Dispatched other) = SameReply one other
 SameOutcome _ _ = ⊥
 
--- it wasn't dropped
+-- the event wasn't dropped
 abbrev pub IsKept : Outcome → Type 0
 IsKept Dropped = ⊥
 IsKept (Queried reply) = Unit {0}
@@ -61,12 +61,12 @@ pub record SameWay (one : Outcome) (notes : List Note) (new : State) (other : Ou
 told_same : (one other : Effects) → SameReply one other → cancels_told one ≡ cancels_told other
 told_same one other same = ap (λ (cancels : List Cancel). map Canceled cancels) same.cancels
 
--- what is told behind the same cancels is one
+-- the note behind the same cancels is one
 last_one : (cancels : List Cancel) (x y : Note) (rest more : List Happening) → map Told (map Canceled cancels ++ x ∷ []) ++ rest ≡ map Told (map Canceled cancels ++ y ∷ []) ++ more → x ≡ y
 last_one [] x y rest more e = cc
 last_one (cancel ∷ cancels) x y rest more e = last_one cancels x y rest more (cc)
 
--- what two events tell last, whose cancels are the same
+-- the last notes of two events with the same cancels
 told_last : (one other : Effects) (notes said : List Note) (x y : Note) (rest more : List Happening) → SameReply one other → notes ≡ cancels_told one ++ x ∷ [] → said ≡ cancels_told other ++ y ∷ [] → map Told notes ++ rest ≡ map Told said ++ more → x ≡ y
 told_last one other notes said x y rest more same is its e =
     let left : notes ≡ map Canceled other.cancels.items ++ x ∷ [] = is ∙ ap (λ (ns : List Note). ns ++ x ∷ []) (told_same one other same) in
@@ -87,7 +87,7 @@ abbrev planned_state : ℕ → State → PlanRecord → List Started → State
 planned_state now old plan started = record (beginning_all now started (marked_state now plan old)) { begun = started }
 
 module _ (steps : StepsOnce) where
-  -- what is handled of events that say the same, where neither is dropped and one list goes on from both
+  -- the results of events with the same content are the same, if neither is dropped and one list of happenings follows both
   handled_one : (moment : ℕ) (event other : Event) (old : State) (outcome said : Outcome) (notes heard : List Note) (new after : State) (rest more : List Happening) → SameEvent event other → is_query event ≡ is_query other → IsKept outcome → IsKept said
       → map Told notes ++ rest ≡ map Told heard ++ more → Handles moment event old outcome notes new → Handles moment other old said heard after → SameWay outcome notes new said heard after
   handled_one moment event other old Dropped said notes heard new after rest more same query kept enqueues e p q = absurd kept
@@ -148,7 +148,7 @@ module _ (steps : StepsOnce) where
             ∙ (ap (λ (begun : List Started). planned_state (max moment next.last) next chosen begun) one.1 ∙ sym right)));
       }
 
-  -- ---- what becomes due then
+  -- ---- the bytes that become due then
 
   same_sent : (one other : Effects) → SameReply one other → Alike (SendsAll one) (SendsAll other)
   same_sent one other same = subst (λ (cancels : List Cancel). Alike (SendsAll one) (EachOf cancels Sends)) same.cancels (fixed_each_of one.cancels.items Sends fixed_sends)
@@ -232,7 +232,7 @@ module _ (steps : StepsOnce) where
             ∙ (ap (λ (t : Bool). record l { core = q.state; undispatched = t }) (same_undispatched outcome said l.undispatched way.outcome) ∙ sym q.after)),
       )
 
-  -- an event and what its devices are sent, where it isn't dropped
+  -- an event that isn't dropped, and the bytes that it sends to devices
   happened_one : (moment : ℕ) (event other : Event) (outcome said : Outcome) (l : Ledger) (hs rest : List Happening) (a : Ledger) (ks more : List Happening) (b : Ledger) → SameEvent event other → is_query event ≡ is_query other → IsKept outcome → IsKept said
       → hs ++ rest ≡ ks ++ more → Happens moment event outcome l hs a → Happens moment other said l ks b → SameOutcome outcome said × (hs ≡ ks) × (a ≡ b)
   happened_one moment event other outcome said l hs rest a ks more b same query kept enqueues e p q =
@@ -240,7 +240,7 @@ module _ (steps : StepsOnce) where
       (λ left right both. decided_one moment event other outcome said l p.front left p.mid q.front right q.mid same query kept enqueues both p.first q.first)
       (λ way. same_orders outcome said way)
 
-  -- one that is dropped does nothing
+  -- a dropped event changes nothing
   dropped_one : (moment : ℕ) (event : Event) (l : Ledger) (hs : List Happening) (a : Ledger) → Happens moment event Dropped l hs a → (hs ≡ []) × (a ≡ l)
   dropped_one moment event l hs a it =
       let told : it.first.notes ≡ [] = it.first.handles.1 in
@@ -250,13 +250,13 @@ module _ (steps : StepsOnce) where
         it.second.1 ∙ (it.first.after ∙ ap (λ (s : State). record l { core = s }) core),
       )
 
-  -- what is found comes first
+  -- the choice of an event is its first happening
   found_first : (moment : ℕ) (event : Event) (outcome : Outcome) (l : Ledger) (hs : List Happening) (a : Ledger) → IsKept outcome → Happens moment event outcome l hs a → BeginsAs is_choice true hs
   found_first moment event outcome l hs a kept it =
       let left : it.front ≡ Chosen Found ∷ map Told it.first.notes = it.first.told ∙ ap (λ (xs : List Happening). xs ++ map Told it.first.notes) (found_kept outcome kept) in
       begins_just is_choice true (Chosen Found) (map Told it.first.notes ++ it.back) hs refl (it.whole ∙ ap (λ (xs : List Happening). xs ++ it.back) left)
 
-  -- ---- one that takes no memory, which isn't dropped
+  -- ---- an event that takes no memory, and isn't dropped
 
   light_kept : (moment : ℕ) (event : Event) (outcome : Outcome) (l : Ledger) (hs : List Happening) (a : Ledger) → TakesNoMemory event moment l.core → Happens moment event outcome l hs a → IsKept outcome
   light_kept moment event Dropped l hs a light it = it.first.handles.2 light
@@ -278,9 +278,9 @@ module _ (steps : StepsOnce) where
   pub fixed_tick : (moment : ℕ) → Fixed (Unanswered moment Is.Tick)
   fixed_tick moment = unanswered_alike moment Is.Tick Is.Tick refl refl (λ s. tt) (λ s. tt)
 
-  -- ---- one that is answered
+  -- ---- an event with an answer
 
-  -- an event, and what answers it: where it is dropped that is told first
+  -- an event and its answer; the drop of an event is told first
   pub answered_alike : (moment : ℕ) (event other : Event) (Q R : Option Effects → Rel) → SameEvent event other → is_query event ≡ is_query other → Begins is_choice false (Q None) → Begins is_choice false (R None) → Alike (Q None) (R None)
       → ((one two : Effects) → SameReply one two → Alike (Q (Some one)) (R (Some two)))
       → Alike (λ l hs a. (outcome : Outcome) × Then (Happens moment event outcome) (Q (reply_of outcome)) l hs a) (λ l hs a. (outcome : Outcome) × Then (Happens moment other outcome) (R (reply_of outcome)) l hs a)
@@ -313,7 +313,7 @@ module _ (steps : StepsOnce) where
       replies (Dispatched one) (Undispatched two) way = absurd way
       replies (Dispatched one) (Idle two) way = absurd way
 
-      -- one that is dropped, with what is told of it
+      -- a dropped event, with its note
       told_first : (x : Event) (S : Option Effects → Rel) → Begins is_choice false (S None) → (l : Ledger) (hs : List Happening) (a : Ledger) → Then (Happens moment x Dropped) (S None) l hs a → BeginsAs is_choice false hs
       told_first x S begins l hs a it =
           let none = dropped_one moment x l it.front it.mid it.first in

@@ -31,7 +31,7 @@ use Rattle.promises.specs.Exchanges.{Exchange, says_begun, says_exchange, IsAnsw
 no_false : false ≡ true → ⊥
 no_false is = cc
 
--- ---- the order of what is said
+-- ---- the order of elements
 
 none_front : (said later : List Said) → is_none (said ++ later) ≡ true → is_none said ≡ true
 none_front [] later is = refl
@@ -41,7 +41,7 @@ ends_front : (t : Bool) (said later : List Said) → (in_order Between (said ++ 
 ends_front true said later front is = none_front said later is
 ends_front false said later front is = front is
 
--- a front of what is in order is
+-- a front of elements in order is in order
 order_front : (place : Place) (said later : List Said) → in_order place (said ++ later) ≡ true → in_order place said ≡ true
 order_front place [] later is = refl
 order_front Between (HasHead closes ∷ said) later is = order_front (Headed closes) said later is
@@ -60,7 +60,7 @@ order_front (Within closes count) (HasByte byte ∷ said) later is = order_front
 order_front (Within closes count) (EndsBody ∷ said) later is = ends_front (is_last closes count) said later (order_front Between said later) is
 order_front (Within closes count) (IsRefused refusal ∷ said) later is = none_front said later is
 
--- what a stream says first is in order
+-- the elements that a stream says first are in order
 first_ordered : SaysInOrder → SaysSome → FirstStays → (stream : List ℕ) (said : List Said) → SaysFirst stream said → in_order Between said ≡ true
 first_ordered ordered some stays stream said first =
     let all = some stream in
@@ -69,7 +69,7 @@ first_ordered ordered some stays stream said first =
 
 -- ---- where a client is
 
--- where the front of an exchange leaves it
+-- the place after the front of an exchange
 abbrev place_of : Front → Place
 place_of Nothing = Between
 place_of (Begun closes true body) = Within closes (length body)
@@ -88,7 +88,7 @@ goes (Over front refusal) later = is_none later
 abbrev Leads : Mode → List Said → Type 0
 Leads mode said = (later : List Said) → in_order Between (said ++ later) ≡ goes mode later
 
--- what is kept of the front
+-- the kept part of the front
 abbrev Keeps : Front → Bool → List ℕ → Type 0
 Keeps Nothing closes body = Unit {0}
 Keeps (Begun also invites octets) closes body = (closes ≡ also) × (body ≡ octets)
@@ -110,13 +110,13 @@ leads_on mode now said more leads step later = ap (λ (xs : List Said). in_order
 
 -- ---- one item
 
--- it is no whole exchange yet
+-- the exchange isn't whole yet
 record Grows (mode now : Mode) (more : List Said) (asked : List Handled) (bytes : List ℕ) : Type 0 where
   says : says_mode mode ++ more ≡ says_mode now
   due : due_mode mode ++ bytes ≡ due_mode now
   none : asked ≡ []
 
--- it makes one whole
+-- the exchange becomes whole
 record Completes (mode now : Mode) (more : List Said) (asked : List Handled) (bytes : List ℕ) : Type 0 where
   whole : Exchange
   is : IsExchange whole
@@ -332,7 +332,7 @@ walked_none (Over front refusal) said heard same order = record {
 joined : {A : Type 0} (old more later now rest : List A) → old ++ more ≡ now → now ++ later ≡ rest → old ++ (more ++ later) ≡ rest
 joined old more later now rest one two = sym (append_assoc old more later) ∙ (ap (λ xs. xs ++ later) one ∙ two)
 
--- where what was there is whole now
+-- the item that was there in part is whole now
 parted : {A : Type 0} (old more later now one all rest : List A) → old ++ more ≡ one → now ≡ [] → now ++ later ≡ all ++ rest → old ++ (more ++ later) ≡ (one ++ all) ++ rest
 parted old more later now one all rest is none two =
     joined old more later one ((one ++ all) ++ rest) is (ap (λ xs. one ++ xs) (ap (λ xs. xs ++ later) (sym none) ∙ two) ∙ sym (append_assoc one all rest))
@@ -399,7 +399,7 @@ module _ (ordered : SaysInOrder) (some : SaysSome) (stays : FirstStays) where
 
   -- ---- the connections of a trace
 
-  -- an LPD client's acts, and those of a device, come to no talk of an IPP client
+  -- the acts of an LPD client, and of a device, lead to no talk of an IPP client
   no_lpd : (settings : ServerSettings) (items : List ItemRecord) (session : Option SessionState) (what : Step) (after : PeerRecord) → IsNext settings (Queue items session) what after → (items' : List ItemRecord) × (session' : Option SessionState) × (after ≡ Queue items' session')
   no_lpd settings items session what after (inl next) = (items ++ next.said ∷ [], next.session_after, next.is)
   no_lpd settings items session what after (inr is) = (items, session, is.1)
@@ -435,7 +435,7 @@ module _ (ordered : SaysInOrder) (some : SaysSome) (stays : FirstStays) where
         are = subst (λ (its : List Handled). AreExchanges said its e.due) (sym a.asked) (subst (λ (bytes : List ℕ). AreExchanges said (flat_map (λ (x : Act). x.asked) a.acts) bytes) (sym a.due) are);
       }
 
-  -- what an IPP client's acts led to before it broke
+  -- the result of an IPP client's acts before its connection broke
   last_http : (opening : State) (handled : List Handled) (after : PeerRecord) (said : List Said) (closes : Bool) (body : List ℕ) → IsLast opening handled after (Http said closes body) → (until : List Said) × (last : Bool) × (left : List ℕ) × (after ≡ Http until last left) × IsOneMore until said
   last_http opening handled (Http until last left) said closes body (inl is) = (until, last, left, refl, inl (sym (same_said until said last closes left body is)))
   last_http opening handled (Http until last left) said closes body (inr (state, what, of, next)) =

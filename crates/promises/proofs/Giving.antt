@@ -1,4 +1,4 @@
--- What is due on a client's connection by what it is answered.
+-- The bytes that are due on a client's connection by an answer.
 use Rattle.std.proofs.Common.{◌≡◌, ◌≢◌, ℕ, Bool, true, false, List, [], ◌∷◌, ◌++◌, refl, sym, ◌∙◌, ap, subst, append-nil, Option, Some, None, ◌⊎◌, inl, inr}
 use Rattle.std.specs.Prelude.{if◌then◌else◌}
 use Rattle.events.specs.declared.effects.Response.{Response}
@@ -30,7 +30,7 @@ use Rattle.promises.proofs.Sending.{IsClient, is_key, Ordered, ordered_still, Ca
 
 -- ---- calm parts
 
--- nothing is sent by it
+-- the part sends nothing
 abbrev pub Calms : Rel → Type 0
 Calms R = (l : Ledger) (hs : List Happening) (l' : Ledger) → R l hs l' → Calm l hs l'
 
@@ -68,7 +68,7 @@ pub record Gave (key : ℕ) (Q : Bool → List ℕ → Type 0) (l : Ledger) (hs 
 abbrev pub Gives : ℕ → (Bool → List ℕ → Type 0) → Rel → Type 0
 Gives key Q R = (l : Ledger) (hs : List Happening) (l' : Ledger) → R l hs l' → Gave key Q l hs l'
 
--- where each connection is as it was, nothing is
+-- if each connection is unchanged, nothing is sent
 pub gave_still : (key : ℕ) (Q : Bool → List ℕ → Type 0) (l : Ledger) (hs : List Happening) (l' : Ledger) → core_notes hs ≡ [] → l' ≡ l → ((closes : Bool) → Q closes []) → Gave key Q l hs l'
 gave_still key Q l hs l' silent same none = record {
   core = ap (λ (x : Ledger). x.core) same;
@@ -136,7 +136,7 @@ still_tells place id silent l hs l' it = (ap core_notes it.0 ∙ silent, it.1)
 pub still_found : (l : Ledger) (hs : List Happening) (l' : Ledger) → Chooses Found l hs l' → (core_notes hs ≡ []) × (l' ≡ l)
 still_found l hs l' it = (ap core_notes it.0, it.1)
 
--- it breaks, so that nothing is due on it
+-- the connection breaks, and no bytes become due on it
 pub gives_breaks_at : (key : ℕ) (Q : Bool → List ℕ → Type 0) (o : Option Entry) (l : Ledger) (hs : List Happening) (l' : Ledger) → l.entries key ≡ o → BreaksAt key o l hs l' → Gave key Q l hs l'
 gives_breaks_at key Q None l hs l' there it = record {
   core = ap (λ (x : Ledger). x.core) it.1;
@@ -155,7 +155,7 @@ gives_breaks_at key Q (Some d) l hs l' there it = gave_sets key Q d (broken d) l
 pub gives_breaks : (key : ℕ) (Q : Bool → List ℕ → Type 0) → Gives key Q (Breaks key)
 gives_breaks key Q l hs l' it = gives_breaks_at key Q (l.entries key) l hs l' refl it
 
--- these bytes
+-- exactly these bytes become due
 abbrev pub Just_these : List ℕ → Bool → List ℕ → Type 0
 Just_these bytes closes given = given ≡ bytes
 
@@ -187,7 +187,7 @@ gives_at refusable key bytes (Some d) l hs l' there it = gives_if d.broken (refu
 pub gives_enqueues : (key : ℕ) (bytes : List ℕ) → Gives key (Just_these bytes) (Enqueues key bytes)
 gives_enqueues key bytes l hs l' it = gives_at (needs_memory bytes) key bytes (l.entries key) l hs l' refl it
 
--- by what its request said of closing
+-- by the request's word about closing
 abbrev pub By_closing : (Bool → List ℕ) → Bool → List ℕ → Type 0
 By_closing bytes closes given = given ≡ bytes closes
 
@@ -204,7 +204,7 @@ gives_status key status request l hs l' it = gives_reply_at (λ closes. http_sta
 
 -- ---- answers
 
--- what becomes due by an answer of any kind
+-- the bytes that become due by an answer of any kind
 abbrev pub LooseIpp : Bool → ℕ → Response → List ℕ → Type 0
 LooseIpp closes request (answered.Ipp answer) bytes = ((spelt : List ℕ) × IsReply answer request spelt × (bytes ≡ http_reply closes spelt)) ⊎ (bytes ≡ http_status closes TemporaryError request)
 LooseIpp closes request (answered.Lpd answer) bytes = bytes ≡ []
@@ -228,7 +228,7 @@ Loose closes client.LpdJob None bytes = bytes ≡ 1 ∷ []
 Loose closes client.LpdCommand (Some reply) bytes = LooseLpd reply.answer bytes
 Loose closes client.LpdCommand None bytes = ⊥
 
--- where it is answered in its own way
+-- the same for an answer of the client's kind
 pub given_ipp : (closes : Bool) (request : ℕ) (answer : Response) (bytes : List ℕ) → IsTyped (client.Ipp request) answer → LooseIpp closes request answer bytes → GivenIpp closes request answer bytes
 given_ipp closes request (answered.Ipp answer) bytes of it = it
 given_ipp closes request (answered.Lpd answer) bytes of it = absurd of

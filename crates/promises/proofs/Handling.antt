@@ -1,4 +1,4 @@
--- What the core handles between one ledger and the next, and what is due on devices' connections by it.
+-- The events that the core handles between one ledger and the next, and the bytes that are due on devices' connections by them.
 use Rattle.std.proofs.Common.{◌≡◌, ◌≢◌, ◌<◌, ◌+◌, arith, ℕ, zero, suc, Bool, true, false, List, [], ◌∷◌, ◌++◌, refl, sym, ◌∙◌, ap, subst, append-nil, Option, Some, None, ◌⊎◌, inl, inr, append_assoc, All}
 use Rattle.std.specs.Prelude.{◌==◌, ◌||◌, if◌then◌else◌, map, max, slice_get, option_to_list, MatchOption}
 use Rattle.std.specs.List.{flat_map}
@@ -34,7 +34,7 @@ use Rattle.promises.specs.Answers.{Act, ClientTalk, AreActs, IsStateOf, is_asked
 use Rattle.promises.specs.Orders.{Handled, AreHandled, AreAt, cancel_for, start_for, orders_of, names, due_by}
 use Rattle.promises.proofs.Sending.{Counts, due_at, IsFresh, counts_device, same_key, not_key, Ordered, Calm, Good, good_sent, notes_append, sent_by, orders, Stays, IsLost, BreaksAs, lost_device}
 
--- ---- what is told of an event
+-- ---- the notes of an event
 
 told_cancels : (cancels : List Cancel) → core_notes (map Told (map Canceled cancels)) ≡ map Canceled cancels
 told_cancels [] = refl
@@ -68,7 +68,7 @@ found_silent (Dispatched reply) = refl
 
 -- ---- an event
 
--- one event came to the core, and this was sent
+-- one event came to the core, and its orders were sent
 pub record Handles_one (moment : ℕ) (event : Event) (outcome : Outcome) (l : Ledger) (hs : List Happening) (l' : Ledger) : Type 0 where
   pub handles : Handles moment event l.core outcome (core_notes hs) l'.core
   pub each : (key : ℕ) → Ordered (sent_by outcome l'.core) (l.entries key) (l'.entries key)
@@ -94,19 +94,19 @@ happened moment event outcome l hs l' good it =
 
 -- ---- several
 
--- whether a device said its name on a connection by one of these
+-- whether a device gave its name on a connection by one of these events
 abbrev pub has_named : ℕ → List Handled → Bool
 has_named device [] = false
 has_named device (it ∷ later) = names device it.named || has_named device later
 
--- on a device's connection is due what was due, and what was sent since; or all since its name
+-- the bytes due on a device's connection: the earlier bytes and the bytes sent since; or all bytes sent since its name
 abbrev pub CameWith : ℕ → List Handled → Option Entry → List ℕ → Type 0
 CameWith device handled x due = (Counts device x × (due ≡ due_by device (due_at x) handled)) ⊎ ((has_named device handled ≡ true) × (due ≡ due_by device [] handled))
 
 abbrev pub CameAs : ℕ → List Handled → Option Entry → Option Entry → Type 0
 CameAs device handled x y = CameWith device handled x (due_at y)
 
--- it broke at one of these: what is due on it is a front of what would be by then
+-- the connection broke at one of these events: the bytes due on it are a front of the bytes that would be due by then
 pub record Halted (device : ℕ) (handled : List Handled) (x : Option Entry) (due : List ℕ) : Type 0 where
   pub before : List Handled
   pub behind : List Handled
@@ -114,7 +114,7 @@ pub record Halted (device : ℕ) (handled : List Handled) (x : Option Entry) (du
   pub rest : List ℕ
   pub came : CameWith device before x (due ++ rest)
 
--- or it had broken before
+-- the connection broke at one of these events, or it had broken before
 abbrev pub LostAs : ℕ → List Handled → Option Entry → Option Entry → Type 0
 LostAs device handled x y = (IsLost device x × (due_at y ≡ due_at x)) ⊎ Halted device handled x (due_at y)
 
@@ -129,7 +129,7 @@ lost_by device handled sent x y sends (inr (counts, rest, due)) = inr (record {
   came = inl (counts, due ∙ sym sends);
 })
 
--- ---- what clients are answered by them
+-- ---- the answers to clients by these events
 
 -- a client's connection went on from another by these acts
 pub record Went (core : State) (key : ℕ) (handled : List Handled) (x : Option Entry) (e : Entry) : Type 0 where
@@ -143,7 +143,7 @@ pub record Went (core : State) (key : ℕ) (handled : List Handled) (x : Option 
   pub asked : asked_by key handled ≡ flat_map (λ (a : Act). a.asked) acts
   pub due : e.due ≡ before.due ++ flat_map (λ (a : Act). a.bytes) acts
 
--- or it was accepted since
+-- the connection went on by these acts, or it was accepted since
 abbrev pub TalkedAs : State → ℕ → List Handled → Option Entry → Entry → Type 0
 TalkedAs core key handled x e = Went core key handled x e ⊎ IsAnswered core key handled e
 
@@ -221,7 +221,7 @@ talked_then core mid key first later x y e run (inl w) before = by (before w.bef
 
 -- ---- where it broke
 
--- it had broken before; or it went on from another, and broke; or it was accepted since, and broke
+-- the connection had broken before; or it went on, and broke; or it was accepted since, and broke
 abbrev pub StopsAs : State → ℕ → List Handled → Option Entry → Entry → Type 0
 StopsAs core key handled x e =
     ((d : Entry) × (x ≡ Some d) × (d.broken ≡ true) × (d.talk ≡ e.talk) × (d.due ≡ e.due) × (asked_by key handled ≡ []))
@@ -249,7 +249,7 @@ broke_more core key first later since before base d e b talk due none = record {
   due = sym due ∙ b.due;
 }
 
--- it had gone on by other acts before
+-- the connection had gone on by other acts before
 broke_behind : (core mid : State) (key : ℕ) (first later since : List Handled) (before : PeerRecord) (base : List ℕ) (d e : Entry) (acts : List Act) → AreHandled core first mid → AreActs before acts d.talk → All (λ (a : Act). IsStateOf a.state core first) acts → asked_by key since ≡ flat_map (λ (a : Act). a.asked) acts
     → d.due ≡ base ++ flat_map (λ (a : Act). a.bytes) acts → BrokeAfter mid key later later d.talk d.due e → BrokeAfter core key (first ++ later) (since ++ later) before base e
 broke_behind core mid key first later since before base d e acts run are states asked due b = record {
@@ -310,7 +310,7 @@ stops_then core mid key first later x y e run client (inr (inr c)) talked stoppe
   };
 }))
 
--- it broke, or had broken, where these events weren't asked on it
+-- the connection broke, or had broken; these events weren't asked on it
 pub stops_still : (core : State) (key : ℕ) (handled : List Handled) (x y : Option Entry) → Stays x y → asked_by key handled ≡ [] → (e : Entry) → y ≡ Some e → ClientTalk e.talk → e.broken ≡ true → StopsAs core key handled x e
 stops_still core key handled x y stays none e is client broken =
     let d = stays e is client in
@@ -336,7 +336,7 @@ stops_still core key handled x y stays none e is client broken =
       },
     ))
 
--- it is what it was, where these events weren't asked on it
+-- the connection is unchanged if these events weren't asked on it
 pub talked_still : (core : State) (key : ℕ) (handled : List Handled) (x y : Option Entry) → Stays x y → asked_by key handled ≡ [] → (e : Entry) → y ≡ Some e → ClientTalk e.talk → e.broken ≡ false → TalkedAs core key handled x e
 talked_still core key handled x y stays none e is client sound =
     let d = stays e is client in
@@ -354,7 +354,7 @@ talked_still core key handled x y stays none e is client sound =
 
 -- ---- connections that were closed
 
--- what was due on a connection when it was closed, unless it broke: by the events until then
+-- the bytes due on a connection when it was closed, unless it broke: by the events until then
 pub record ClosedAs (l : Ledger) (handled : List Handled) (e : Entry) : Type 0 where
   pub key : ℕ
   pub before : List Handled
@@ -370,7 +370,7 @@ pub record AllClosed (l : Ledger) (handled : List Handled) (l' : Ledger) : Type 
   pub closed : l'.closed ≡ l.closed ++ more
   pub each : All (λ (it : Entry × Fate). ClosedAs l handled it.0) more
 
--- none was
+-- no connection was closed
 pub none_closed : (l : Ledger) (handled : List Handled) (l' : Ledger) → l'.closed ≡ l.closed → AllClosed l handled l'
 none_closed l handled l' same = record { more = []; closed = same ∙ sym (append-nil l.closed); each = All-nil (λ (it : Entry × Fate). ClosedAs l handled it.0) }
 
@@ -399,7 +399,7 @@ named_append device (it ∷ first) later = ap (λ (t : Bool). names device it.na
     or_assoc true y z = refl
     or_assoc false y z = refl
 
--- where a device said its name, what was due before doesn't count
+-- once a device gave its name, the bytes due before don't count
 pub due_named : (device : ℕ) (before other : List ℕ) (handled : List Handled) → has_named device handled ≡ true → due_by device before handled ≡ due_by device other handled
 due_named device before other [] is = cc
 due_named device before other (it ∷ later) is = by_name (names device it.named) (λ rest. due_named device (before ++ orders_of device it) (other ++ orders_of device it) later rest) is
@@ -612,7 +612,7 @@ front_nil : (bytes rest : List ℕ) → bytes ++ rest ≡ [] → bytes ≡ []
 front_nil [] rest is = refl
 front_nil (b ∷ bytes) rest is = cc
 
--- where nothing was due, and nothing is sent, nothing is due once it broke
+-- if no bytes were due and none are sent, no bytes are due once the connection broke
 lost_none : (sent : ℕ → List ℕ) (device : ℕ) (x y : Option Entry) → (IsLost device x → due_at x ≡ []) → (Counts device x → due_at x ≡ []) → sent device ≡ [] → BreaksAs sent device x y → due_at y ≡ []
 lost_none sent device x y lost due none (inl (was, same)) = same ∙ lost was
 lost_none sent device x y lost due none (inr (counts, rest, is)) = front_nil (due_at y) rest (is ∙ (ap (λ (bytes : List ℕ). bytes ++ sent device) (due counts) ∙ none))
@@ -640,7 +640,7 @@ awaits_event moment device key event outcome l front mid back l' hs whole p it n
       closed = it.closed ∙ p.closed;
     }
 
--- it says its name
+-- the device gives its name
 pub awaits_named : (moment device key : ℕ) (name : List ℕ) (outcome : Outcome) (l : Ledger) (front : List Happening) (mid : Ledger) (back : List Happening) (l' : Ledger) (hs : List Happening) → hs ≡ front ++ back
     → Awaits moment device key l front mid → Handles_one moment (Is.Report device (report.Hello name)) outcome mid back l' → Goes moment l hs l'
 awaits_named moment device key name outcome l front mid back l' hs whole p it = record {
@@ -744,7 +744,7 @@ beyond state now classes place [] device less = refl
 beyond state now classes place (it ∷ devices) device less =
     starts_cons state now classes place it devices device (beside state now classes place it device (λ same. omega (arith, less, same))) (beyond state now classes (suc place) devices device (omega (arith, less)))
 
--- none begins on a device that isn't free
+-- no job begins on a device that isn't free
 none_begins : (state : State) (now : ℕ) (classes : List PlannedClass) (change : Device → Device) → ((it : Device) → is_free now (change it) ≡ false) → (place device at : ℕ) (devices : List Device) → at ≡ place + device
     → flat_map (start_for at state) (starts_from now classes place (with_device device change devices)) ≡ []
 none_begins state now classes change never place zero at [] is = refl

@@ -98,7 +98,7 @@ there l key e heard is = subst IsHeardAt is (heard key)
 
 -- ---- reads, writes and closings
 
--- of its own connection by this, of others by what a part leaves alone
+-- for its own connection by this property, for other connections since the part leaves them alone
 by_key : (R : Rel) (key : ℕ) → ((other : ℕ) → other ≢ key → Leaves_it other R) → ((l : Ledger) (hs : List Happening) (l' : Ledger) → AllHeard l → R l hs l' → IsHeardAt (l'.entries key)) → Hears R
 by_key R key left own l hs l' heard it other = by (other == key) refl
   where

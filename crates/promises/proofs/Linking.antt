@@ -1,4 +1,4 @@
--- A turn, a call between turns, and a trace: what is due on the connections of devices and clients by them.
+-- A turn, a call between turns, and a trace: the bytes that are due on the connections of devices and clients by them.
 use Rattle.std.proofs.Common.{◌≡◌, ℕ, Bool, true, false, List, [], ◌∷◌, ◌++◌, length, take, refl, sym, ◌∙◌, ap, subst, append_assoc, Option, Some, None, inl, inr, All}
 use Rattle.std.specs.Prelude.{nat_lt}
 use Rattle.std.specs.List.{flat_map}
@@ -41,7 +41,7 @@ use Rattle.promises.proofs.Coming.{moves_serves}
 
 -- ---- reads
 
--- a connection changes in what no device notices
+-- a connection changes in parts that no device notices
 abbrev pub Keeping : Entry → Entry → Type 0
 Keeping d e = (e.talk ≡ d.talk) × (e.broken ≡ d.broken) × (e.due ≡ d.due)
 
@@ -159,7 +159,7 @@ opening_talks core door id key x e is of sound =
       due = ap (λ (y : Entry). y.due) (sym this);
     })
 
--- and it isn't broken
+-- the opening entry of a connection isn't broken
 pub opening_sound : (door : Door) (id : ℕ) (e : Entry) → Some (opening_entry door id) ≡ Some e → e.broken ≡ true → ⊥
 opening_sound door id e is broken = no_true e.broken broken (ap (λ (x : Entry). x.broken) (sym (one_entry (opening_entry door id) e is)))
 
@@ -307,7 +307,7 @@ module _ (opening : State) (trace : Trace) (l : Ledger) (runs : Runs trace (open
       by (inl (counts, due)) = absurd (subst (λ (y : Option Entry). Counts device y) none counts)
       by (inr (called, due)) = due
 
-  -- a front of what was sent until an earlier event
+  -- a front of the bytes sent until an earlier event
   front_more : (handled before behind : List Handled) (device : ℕ) (due : List ℕ) → handled ≡ before ++ behind → IsFrontSent before device due → IsFrontSent handled device due
   front_more handled before behind device due whole (first, later, same, rest, is) = (first, later ++ behind, whole ∙ (ap (λ (its : List Handled). its ++ behind) same ∙ append_assoc first later behind), rest, is)
 

@@ -20,7 +20,7 @@ use Rattle.promises.proofs.Giving.{at_here}
 
 -- ---- a device says its name
 
--- what is under a key, where another connection is there, and elsewhere
+-- the connection under a key once another connection is set there, and under each other key
 pub at_cases : (key : ℕ) (new : Entry) (entries : ℕ → Option Entry) (k : ℕ) → ((k ≡ key) × (at_key key (Some new) entries k ≡ Some new)) ⊎ ((k ≢ key) × (at_key key (Some new) entries k ≡ entries k))
 at_cases key new entries k = by (k == key) refl
   where
@@ -28,7 +28,7 @@ at_cases key new entries k = by (k == key) refl
     by true is = inl (same_key k key is, ap (λ (t : Bool). if t then Some new else entries k) is)
     by false is = inr (other_key k key is, ap (λ (t : Bool). if t then Some new else entries k) is)
 
--- one connection is this one, which has the device's name; of the others none has, and nothing was sent on them
+-- this connection has the device's name; no other connection has the name, and nothing was sent on the others
 pub record Alone (device key : ℕ) (new : Entry) (l l' : Ledger) : Type 0 where
   pub core : l'.core ≡ l.core
   pub closed : l'.closed ≡ l.closed
@@ -108,7 +108,7 @@ pub as_device : (ended : Bool) (device : ℕ) (o : Option Entry) → IsDeviceAs 
 as_device ended device None is = absurd is
 as_device ended device (Some e) is = is.0
 
--- it has no other connection
+-- the device has no other connection
 pub alone_now : (device key : ℕ) (new : Entry) (l l' : Ledger) → l' ≡ with_entry key new l → IsAlone device key l' → Alone device key new l l'
 alone_now device key new l l' after alone = record {
   core = ap (λ (x : Ledger). x.core) after;
@@ -123,7 +123,7 @@ alone_now device key new l l' after alone = record {
     by k (inl (same, is)) = inl (same, here k ∙ is)
     by k (inr (apart, is)) = inr (apart, subst (λ (o : Option Entry). Ordered (λ d. []) (l.entries k) o) (sym (here k ∙ is)) (ordered_still (l.entries k)), alone k apart)
 
--- its other connection gives way
+-- the device's other connection gives way
 pub alone_then : (device key old : ℕ) (new other : Entry) (l mid l' : Ledger) → Good l → mid ≡ with_entry key new l → old ≢ key → mid.entries old ≡ Some other → IsDevice device (mid.entries old) → l' ≡ with_entry old (given_up other) mid → Alone device key new l l'
 alone_then device key old new other l mid l' good begun apart there is after = record {
   core = ap (λ (x : Ledger). x.core) after ∙ ap (λ (x : Ledger). x.core) begun;

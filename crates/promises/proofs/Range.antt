@@ -1,4 +1,4 @@
--- The numbers, names and orders of a good plan are those of a text.
+-- The numbers, names and orders of a good plan are within the range of a text.
 use Rattle.std.proofs.Common.{◌≡◌, ◌==◌, ◌&&◌, ℕ, zero, suc, ◌+◌, ◌<◌, ◌≤◌, Bool, true, false, cond, IsTrue, List, [], ◌∷◌, length, map, filter, is_none, is_some, Option, Some, None, get_or, refl, sym, ap, ◌∙◌, subst, arith, All, Contains}
 use Rattle.std.specs.List.{concat}
 use Rattle.std.proofs.lemmas.Int.{ints}
@@ -57,7 +57,7 @@ falls_below : (top most : ℕ) (ps : List ℕ) → top ≤ suc most → FallsTo 
 falls_below top most [] le h = All-nil (λ n. n ≤ most)
 falls_below top most (p ∷ ps) le h = All-cons (λ n. n ≤ most) p ps (omega (arith, le, h.0)) (falls_below p most ps (omega (arith, le, h.0)) h.1)
 
--- what holds of what is read of each element holds of each element
+-- a property of a value of each element is a property of each element
 of_mapped : {A : Type 0} (P : ℕ → Type 0) (f : A → ℕ) (xs : List A) → All P (map f xs) → All (λ x. P (f x)) xs
 of_mapped P f [] h = All-nil (λ x. P (f x))
 of_mapped P f (x ∷ xs) h = All-cons (λ y. P (f y)) x xs (All-head P (f x) (map f xs) h) (of_mapped P f xs (All-tail P (f x) (map f xs) h))
@@ -72,7 +72,7 @@ from_one : (ids : List ℕ) → All IsJobId ids → RisesFrom 0 ids → RisesFro
 from_one [] all h = tt
 from_one (id ∷ ids) all h = ((All-head IsJobId id ids all).0, h.1)
 
--- ---- so many jobs in all
+-- ---- the number of all jobs
 
 count_one : (test : JobRecord → Bool) (job : JobRecord) (jobs : List JobRecord) → length (filter test (job ∷ jobs)) ≡ cond (test job) 1 0 + length (filter test jobs)
 count_one test job jobs = by (test job)
@@ -142,7 +142,7 @@ module _ (s : State) (now : ℕ) (plan : PlanRecord) (room : IsRoom s) (spool : 
   priorities : All (λ c. IsPriority c.priority) plan.classes
   priorities = of_mapped IsPriority (λ (c : PlannedClass). c.priority) plan.classes (λ k d below. (positive k d below, falls_below (suc HIGHEST_PRIORITY) HIGHEST_PRIORITY (map (λ class. class.priority) plan.classes) (omega arith) falls k d below))
 
-  -- a class, planned under so many waits
+  -- a class, planned with one wait for each device
   class_in_range : (waits : List ℕ) (c : PlannedClass) → length waits ≡ length s.settings.devices → IsPlannedBest s waits c → IsPriority c.priority → IsClassInRange (length s.settings.devices) c
   class_in_range waits c each h priority =
       let ids : All IsJobId c.problem.ids = subst (λ (xs : List ℕ). All IsJobId xs) (sym (ids_of_class s waits c h)) (filtered_ids (belongs s c.priority)) in

@@ -1,4 +1,4 @@
--- A trace is one run of the core, and tells it of each device what it said on its connections, and the end of each.
+-- A trace is one run of the core, and tells it the reports of each device on its connections, and the end of each connection.
 use Rattle.std.proofs.Common.{◌≡◌, ◌≢◌, ℕ, Bool, true, false, List, [], ◌∷◌, ◌++◌, length, take, refl, sym, ◌∙◌, ap, subst, append_assoc, append-nil, Option, Some, None, inl, inr, All}
 use Rattle.std.specs.Prelude.{◌==◌, if◌then◌else◌, nat_lt, slice_get}
 use Rattle.std.specs.List.{flat_map}
@@ -57,7 +57,7 @@ use Rattle.promises.proofs.Combining.{or_within, if_within, many_within, each_wi
 
 -- ---- from one ledger to the next
 
--- the core handled these, and was told by them what devices said on their connections
+-- the core handled these events, which told it the reports of devices on their connections
 -- in each state of a run these names are the devices' by its settings
 abbrev AreNames : (List ℕ → ℕ → Type 0) → State → List Came → Type 0
 AreNames Name opening came = (state : State) (name : List ℕ) (device : ℕ) → IsStateIn state opening came → slice_get (device_names state.settings) device ≡ Some name → Name name device
@@ -243,7 +243,7 @@ closes_first moment l hs l' it = closes_at moment Broken it.key it.entry l hs l'
 settles_in : (moment : ℕ) → Within true moment (Settles moment)
 settles_in moment l hs l' it = many_in true moment (ClosesFirst moment) (closes_first moment) l hs l' it.0
 
--- ---- what a connection asks
+-- ---- the asks of a connection
 
 not_reported : (who : Client) (device : ℕ) (it : Report) → EventOf who (Is.Report device it) → ⊥
 not_reported (client.Ipp request) device it own = own
@@ -290,7 +290,7 @@ fine_does moment key id (ask.Fault device) fine = calmly_in true moment (calms_t
 fresh_named : (device : ℕ) (e : Entry) → device_of e.talk ≡ Some device → FreshOf e
 fresh_named device e named reports is unbroken = absurd (no_both (device_of e.talk) device (ap device_of is) named)
 
--- what is under the keys once one was set
+-- the connections under the keys once one key was set
 set_here : (key : ℕ) (n : Entry) (l m : Ledger) → m ≡ with_entry key n l → m.entries key ≡ Some n
 set_here key n l m after = ap (λ (x : Ledger). x.entries key) after ∙ here key (Some n) l.entries key refl
 
@@ -386,7 +386,7 @@ unnamed_said (Http said closes body) = refl
 unnamed_said (Queue items session) = refl
 unnamed_said (Link reports device) = refl
 
--- it is turned away: it has another connection
+-- the connection is turned away: the device has another connection
 says_again : (moment device : ℕ) (name : List ℕ) (key id : ℕ) (d n : Entry) (l : Ledger) (front : List Happening) (m : Ledger) (back : List Happening) (l' : Ledger) (hs : List Happening) → hs ≡ front ++ back → core_notes front ≡ [] → Saying device name key d n l m
     → Then (GivesWay key) (Tells (DeviceRefused id (why.Connected device))) m back l' → Goes true moment l hs l'
 says_again moment device name key id d n l front m back l' hs whole silent s it =
@@ -422,7 +422,7 @@ both_told : (t : Bool) (one other : ReportRecord) → (if t then one ∷ other �
 both_told true one other = refl
 both_told false one other = refl
 
--- its old connection gives way, of which the core is told that it ended, and then its name
+-- the device's old connection gives way: the core is told its end, and then the name on the new connection
 says_over : (moment device : ℕ) (name : List ℕ) (key other : ℕ) (d n : Entry) (l : Ledger) (front : List Happening) (m : Ledger) (back : List Happening) (l' : Ledger) (hs : List Happening) → hs ≡ front ++ back → core_notes front ≡ [] → Saying device name key d n l m → HasOther true device key other m
     → Then (Chooses (On other)) (TakesOver moment other device name) m back l' → Goes true moment l hs l'
 says_over moment device name key other d n l front m back l' hs whole silent s has it = record {
@@ -524,7 +524,7 @@ greets_on moment device name key id d n l front m back l' hs whole silent s (inl
 greets_on moment device name key id d n l front m back l' hs whole silent s (inr (inl (other, has, it))) = says_over moment device name key other d n l front m back l' hs whole silent s has it
 greets_on moment device name key id d n l front m back l' hs whole silent s (inr (inr (other, has, it))) = says_again moment device name key id d n l front m back l' hs whole silent s it
 
--- ---- what is asked comes about
+-- ---- the asks come about
 
 fine_acts : (moment key id : ℕ) (what : Ask) (l : Ledger) (front : List Happening) (m : Ledger) (back : List Happening) (l' : Ledger) (hs : List Happening) → hs ≡ front ++ back → (a : Asks key id what l front m) → IsFine what → Grows a.entry a.new → ActsOn moment key id what m back l' → Goes true moment l hs l'
 fine_acts moment key id what l front m back l' hs whole a fine grows does =

@@ -1,4 +1,4 @@
--- What was acted on of an IPP client's stream is what its bytes say first.
+-- The elements of an IPP client's stream that were acted on are the elements that its bytes say first.
 use Rattle.std.proofs.Common.{◌≡◌, ℕ, zero, suc, Bool, true, false, List, [], ◌∷◌, ◌++◌, length, take, refl, sym, ap, subst, Option, Some, None, inl, inr, All}
 use Rattle.std.specs.Prelude.{◌==◌, nat_lt, if◌then◌else◌}
 use Rattle.base_types.specs.declared.limits.TheConstants.Limits.{CONNECTIONS}
@@ -113,7 +113,7 @@ there l key e first is = subst FirstAt is (first.here key)
 keeps_sets : (key : ℕ) (e : Entry) (l : Ledger) (hs : List Happening) (l' : Ledger) → AllFirst l → First e → Sets key e l hs l' → AllFirst l'
 keeps_sets key e l hs l' first is it = keeps_at key (Some e) l l' first is (ap (λ (x : Ledger). x.entries) it.1) (ap (λ (x : Ledger). x.closed) it.1)
 
--- by what is under a key
+-- by the connection under a key
 breaks_at : (key : ℕ) (o : Option Entry) (l : Ledger) (hs : List Happening) (l' : Ledger) → AllFirst l → FirstAt o → BreaksAt key o l hs l' → AllFirst l'
 breaks_at key None l hs l' first is it = keeps_nothing l hs l' first it
 breaks_at key (Some e) l hs l' first is it = keeps_sets key (broken e) l hs l' first is it
@@ -121,7 +121,7 @@ breaks_at key (Some e) l hs l' first is it = keeps_sets key (broken e) l hs l' f
 breaks_all : (key : ℕ) → Keeps (Breaks key)
 breaks_all key l hs l' first it = breaks_at key (l.entries key) l hs l' first (first.here key) it
 
--- ---- what a connection asks, and what comes of it
+-- ---- the asks of a connection, and their results
 
 -- more was read
 first_more : (read bytes : List ℕ) (talk : PeerRecord) → IsFirst read talk → IsFirst (read ++ bytes) talk

@@ -1,4 +1,4 @@
--- What is sent to devices between one ledger and the next: by which bytes the dues of their connections grow.
+-- The bytes sent to devices between one ledger and the next: those by which the due bytes of their connections grow.
 use Rattle.std.proofs.Common.{◌≡◌, ◌≢◌, ℕ, Bool, true, false, List, [], ◌∷◌, ◌++◌, refl, sym, ◌∙◌, ap, subst, append_assoc, append-nil, Option, Some, None, inl, inr, arith}
 use Rattle.std.specs.Prelude.{◌==◌, ◌⊎◌, if◌then◌else◌}
 use Rattle.std.specs.List.{flat_map}
@@ -28,7 +28,7 @@ abbrev pub Counts : ℕ → Option Entry → Type 0
 Counts device None = ⊥
 Counts device (Some e) = (device_of e.talk ≡ Some device) × (e.broken ≡ false)
 
--- or it broke since
+-- the connection has the device's name, and is broken
 abbrev pub IsLost : ℕ → Option Entry → Type 0
 IsLost device None = ⊥
 IsLost device (Some e) = (device_of e.talk ≡ Some device) × (e.broken ≡ true)
@@ -75,7 +75,7 @@ not_key k key apart = grind (arith, nat_tests, apart)
 pub no_bytes : ℕ → List ℕ
 no_bytes device = []
 
--- a client's connection is what it was, but for what it has read, what was taken, and that it may break
+-- a client's connection is unchanged, except that bytes may have been read or taken and that it may have broken
 abbrev pub Stays : Option Entry → Option Entry → Type 0
 Stays x y = (e : Entry) → y ≡ Some e → ClientTalk e.talk → (d : Entry) × (x ≡ Some d) × (d.talk ≡ e.talk) × (e.broken ≡ false → d.broken ≡ false) × (d.due ≡ e.due)
 
@@ -88,7 +88,7 @@ stays_then x y z p q e is client =
 pub one_entry : (d e : Entry) → Some d ≡ Some e → d ≡ e
 one_entry d e same = cc
 
--- where it is broken now it was before, with the same due; or it broke, and what is due on it is a front of what would be
+-- a broken connection was broken before, with the same bytes due; or it broke, and the bytes due on it are a front of the bytes that would be due
 abbrev pub BreaksAs : (ℕ → List ℕ) → ℕ → Option Entry → Option Entry → Type 0
 BreaksAs sent device x y = (IsLost device x × (due_at y ≡ due_at x)) ⊎ (Counts device x × (rest : List ℕ) × (due_at y ++ rest ≡ due_at x ++ sent device))
 
@@ -103,7 +103,7 @@ breaks_then sent more device x y z (inr (is, rest, due)) lost counts =
     let first = counts is in
     inr (first.0, rest, due ∙ (ap (λ (bytes : List ℕ). bytes ++ more device) first.1 ∙ append_assoc (due_at x) (sent device) (more device)))
 
--- from one connection under a key to the next: what was sent to each device
+-- from one connection under a key to the next: the bytes sent to each device
 pub record Ordered (sent : ℕ → List ℕ) (x y : Option Entry) : Type 0 where
   pub counts : (device : ℕ) → Counts device y → Counts device x × (due_at y ≡ due_at x ++ sent device)
   pub breaks : (device : ℕ) → IsLost device y → BreaksAs sent device x y
@@ -188,7 +188,7 @@ still_fresh (Queue items session) d e same due fresh = tt
 still_fresh (Link reports None) d e same due fresh = λ is. due ∙ fresh (sym same ∙ is)
 still_fresh (Link reports (Some device)) d e same due fresh = tt
 
--- a connection that changed in what no device notices
+-- a connection that changed in parts that no device notices
 pub ordered_keeps : (d e : Entry) → e.talk ≡ d.talk → e.broken ≡ d.broken → e.due ≡ d.due → Ordered (λ device. []) (Some d) (Some e)
 ordered_keeps d e talk same due = record {
   counts = λ device is. ((ap device_of (sym talk) ∙ is.0, sym same ∙ is.1), due ∙ sym (append-nil d.due));
@@ -271,7 +271,7 @@ calm_still l hs l' silent same = record {
   each = λ key. subst (λ (x : Ledger). Ordered (λ device. []) (l.entries key) (x.entries key)) (sym same) (ordered_still (l.entries key));
 }
 
--- nothing was sent, where each connection is as it was
+-- if each connection is unchanged, nothing was sent
 pub sent_still : (sent : ℕ → List ℕ) (l : Ledger) (hs : List Happening) (l' : Ledger) → core_notes hs ≡ [] → l' ≡ l → ((key : ℕ) → Unsent sent (l.entries key)) → Sent sent l hs l'
 sent_still sent l hs l' silent same none = record {
   core = ap (λ (x : Ledger). x.core) same;
@@ -305,7 +305,7 @@ calm_sets key d e l hs l' there here silent after = sent_sets (λ device. []) ke
 pub breaking : (e : Entry) → Ordered (λ device. []) (Some e) (Some (broken e))
 breaking e = ordered_broken (λ device. []) e (broken e) refl (λ device is. (is, refl)) (λ client. client) (λ client. (refl, refl))
 
--- ---- what is kept on a device's connection
+-- ---- bytes that are enqueued on a device's connection
 
 -- two open connections are two devices', and none has anything due before its name
 pub record Good (l : Ledger) : Type 0 where
@@ -385,7 +385,7 @@ enqueues_at : (refusable : Entry → Bool) (device key : ℕ) (bytes : List ℕ)
 enqueues_at refusable device key bytes None l hs l' there is others it = absurd is
 enqueues_at refusable device key bytes (Some e) l hs l' there is others it = enqueues_if e.broken (refusable e) device key bytes e l hs l' refl there is others it
 
--- what is kept by the device is sent to it, and to no other
+-- bytes enqueued for a device are sent to that device, and to no other
 pub enqueues_on : (refusable : Entry → Bool) (device : ℕ) (bytes : List ℕ) (l : Ledger) (hs : List Happening) (l' : Ledger) → Good l → EnqueuesOn refusable device bytes l hs l' → Sent (to_device device bytes) l hs l'
 enqueues_on refusable device bytes l hs l' good (inl (key, is, it)) =
     let begun : it.mid ≡ l = it.first.1 in
@@ -411,7 +411,7 @@ starts_each core (start ∷ starts) l hs l' is good it =
     let later = starts_each core starts it.mid it.back l' (first.core ∙ is) (good_sent (to_device start.device (job_bytes core start.job)) l it.front it.mid first good) it.second in
     sent_then (to_device start.device (job_bytes core start.job)) (λ device. flat_map (start_for device core) starts) l it.front it.mid it.back l' hs it.whole first later
 
--- what an event sends
+-- the bytes that an event sends to a device
 abbrev pub sent_by : Outcome → State → ℕ → List ℕ
 sent_by outcome core device = flat_map (cancel_for device) (canceled outcome) ++ flat_map (start_for device core) (began outcome core)
 

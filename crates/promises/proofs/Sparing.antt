@@ -1,4 +1,4 @@
--- What a part that concerns one connection does to another.
+-- The changes of one connection by a part that concerns another connection.
 use Rattle.std.proofs.Common.{◌≡◌, ◌≢◌, ℕ, zero, suc, Bool, true, false, List, [], ◌∷◌, ◌++◌, length, take, refl, sym, ◌∙◌, ap, subst, append_assoc, append-nil, Option, Some, None, ◌⊎◌, inl, inr}
 use Rattle.std.specs.Prelude.{◌==◌, nat_lt, if◌then◌else◌}
 use Rattle.base_types.specs.declared.report.Report.TheVariants as report
@@ -46,11 +46,11 @@ use Rattle.promises.proofs.Sending.{same_key}
 
 -- ---- one connection
 
--- it was closed, or is to be closed
+-- the connection was closed, or is to be closed
 abbrev pub IsOut : Option Entry → Type 0
 IsOut now = (now ≡ None) ⊎ ((e : Entry) × (now ≡ Some e) × (e.broken ≡ true))
 
--- what may become of a connection that a part doesn't concern
+-- the changes of a connection that a part doesn't concern
 pub record Left (x y : Option Entry) : Type 0 where
   pub none : x ≡ None → y ≡ None
   pub client : (e : Entry) → x ≡ Some e → e.broken ≡ false → device_of e.talk ≡ None → y ≡ Some e
@@ -88,7 +88,7 @@ left_then x y z p q = record {
     of_device e device sound talk (inl gone) = inl (still_out gone)
     of_device e device sound talk (inr (orders, is)) = more_due e orders (q.device (owing orders e) device is sound talk)
 
--- it breaks, where it is a device's
+-- a device's connection breaks
 left_out : (d : Entry) (device : ℕ) (y : Option Entry) → device_of d.talk ≡ Some device → IsOut y → Left (Some d) y
 left_out d device y named gone = record {
   none = λ is. cc;
@@ -329,7 +329,7 @@ closes_first other moment l hs l' it =
 pub left_settles : (other moment : ℕ) → Leaves_it other (Settles moment)
 left_settles other moment l hs l' it = left_many other (ClosesFirst moment) (closes_first other moment) l hs l' it.0
 
--- ---- what a connection asks
+-- ---- the asks of a connection
 
 gives_way_at : (other key device : ℕ) (o : Option Entry) (l : Ledger) (hs : List Happening) (l' : Ledger) → l.entries key ≡ o → (other ≡ key → IsDevice device o) → GivesWayAt key o l hs l' → Left (l.entries other) (l'.entries other)
 gives_way_at other key device None l hs l' there is it = left_nothing other l hs l' it

@@ -1,4 +1,4 @@
--- What becomes of a connection between one ledger and the next, and what the core was told of a device by then.
+-- The changes of a connection between one ledger and the next, and the reports of a device that the core was told by then.
 use Rattle.std.proofs.Common.{◌≡◌, ◌≢◌, ℕ, Bool, true, false, List, [], ◌∷◌, ◌++◌, map, filter, cond, refl, sym, ◌∙◌, ap, subst, append_assoc, append-nil, Option, Some, None, ◌⊎◌, inl, inr, All}
 use Rattle.std.specs.Prelude.{◌==◌, if◌then◌else◌}
 use Rattle.std.specs.List.{flat_map}
@@ -17,18 +17,18 @@ use Rattle.promises.proofs.Sending.{same_key, other_key, is_key, not_key, one_en
 
 -- ---- a connection
 
--- where no name was said, and it isn't broken, nothing was said
+-- a connection without a name that isn't broken has no report
 abbrev pub FreshOf : Entry → Type 0
 FreshOf e = (reports : List ReportRecord) → e.talk ≡ Link reports None → e.broken ≡ false → reports ≡ []
 
--- it bore no device's name, and bears none
+-- the connection had no device, and has none
 pub record Unnamed (d e : Entry) : Type 0 where
   pub sound : d.broken ≡ false
   pub before : device_of d.talk ≡ None
   pub after : device_of e.talk ≡ None
   pub fresh : FreshOf e
 
--- what becomes of it, but for what a device says on it
+-- the changes of a connection, except for the reports of a device on it
 pub record Grows (d e : Entry) : Type 0 where
   pub talk : (e.talk ≡ d.talk) ⊎ Unnamed d e
   pub broken : d.broken ≡ true → e.broken ≡ true
@@ -71,7 +71,7 @@ grows_then d e f g h = record { talk = by g.talk h.talk; broken = λ is. h.broke
     })
     by (inr u) (inr v) = inr (record { sound = u.sound; before = u.before; after = v.after; fresh = v.fresh })
 
--- one that bears a device's name goes on bearing it
+-- a connection with a device keeps the device
 pub named_stays : (device : ℕ) (d e : Entry) → device_of d.talk ≡ Some device → Grows d e → e.talk ≡ d.talk
 named_stays device d e named g = by g.talk
   where
@@ -86,7 +86,7 @@ broken_stays d e broken g = by g.talk
     by (inl same) = same
     by (inr u) = absurd (no_true d.broken broken u.sound)
 
--- one that was accepted
+-- a connection that was accepted
 pub record IsNew (e : Entry) : Type 0 where
   pub nameless : device_of e.talk ≡ None
   pub fresh : FreshOf e
@@ -122,7 +122,7 @@ kept_then (Some d) y z (e, is, g) q =
 pub kept_open : (d : Entry) (x y : Option Entry) → x ≡ Some d → Kept x y → Kept (Some d) y
 kept_open d x y there kept = subst (λ (o : Option Entry). Kept o y) there kept
 
--- none bears a device's name that didn't
+-- no connection has a device that it didn't have before
 pub named_was : (device : ℕ) (x y : Option Entry) → Kept x y → IsDevice device y → IsDevice device x
 named_was device None y (inl is) named = subst (IsDevice device) is named
 named_was device None y (inr (e, is, new)) named = absurd (no_both (device_of e.talk) device new.nameless (subst (IsDevice device) is named))
@@ -135,7 +135,7 @@ named_was device (Some d) y (e, is, g) named = by g.talk
     by (inl same) = ap device_of (sym same) ∙ now
     by (inr u) = absurd (no_both (device_of e.talk) device u.after now)
 
--- one that broke and bears no name stays, until it is closed
+-- a broken connection without a device stays, until it is closed
 abbrev pub Passes : Option Entry → Option Entry → Type 0
 Passes x y = (e : Entry) → x ≡ Some e → device_of e.talk ≡ None → e.broken ≡ true → (f : Entry) × (y ≡ Some f) × (f.talk ≡ e.talk) × (f.broken ≡ true)
 
@@ -144,7 +144,7 @@ kept_passes x y kept e there nameless broken =
     let it : Kept (Some e) y = kept_open e x y there kept in
     (it.0, it.1, broken_stays e it.0 broken it.2, it.2.broken broken)
 
--- one that bears a name, or isn't broken, is none of these
+-- a connection with a device, or an unbroken connection, isn't a broken connection without a device
 pub passes_named : (device : ℕ) (d : Entry) (x y : Option Entry) → x ≡ Some d → device_of d.talk ≡ Some device → Passes x y
 passes_named device d x y there named e is nameless broken =
     absurd (no_both (device_of d.talk) device (ap (λ (z : Entry). device_of z.talk) (one_entry d e (sym there ∙ is)) ∙ nameless) named)
@@ -152,7 +152,7 @@ passes_named device d x y there named e is nameless broken =
 pub passes_sound : (d : Entry) (x y : Option Entry) → x ≡ Some d → d.broken ≡ false → Passes x y
 passes_sound d x y there sound e is nameless broken = absurd (no_true d.broken (ap (λ (z : Entry). z.broken) (one_entry d e (sym there ∙ is)) ∙ broken) sound)
 
--- what a device said on its connection stands
+-- the reports of a device on its connection stay
 pub record Keeps (device : ℕ) (x y : Option Entry) : Type 0 where
   pub named : (now : List ReportRecord) (e : Entry) → x ≡ Some e → e.talk ≡ Link now (Some device) → (f : Entry) × (y ≡ Some f) × (f.talk ≡ Link now (Some device))
   pub was : IsDevice device y → IsDevice device x
@@ -244,7 +244,7 @@ past_more past talk now told whole said =
 closed_more : (device : ℕ) (closed : List (Entry × Fate)) (it : Entry × Fate) → filter (is_of device) (map talk_of (closed ++ it ∷ [])) ≡ filter (is_of device) (map talk_of closed) ++ filter (is_of device) (talk_of it ∷ [])
 closed_more device closed it = ap (filter (is_of device)) (map-append talk_of closed (it ∷ [])) ∙ filter-append (is_of device) (map talk_of closed) (talk_of it ∷ [])
 
--- one that broke is closed, or still open
+-- a broken connection is closed, or still open
 broken_left : (talk : PeerRecord) (key : ℕ) (e : Entry) (fate : Fate) (l : Ledger) → l.entries key ≡ Some e → HasBroken talk l → HasBroken talk (without key e fate l)
 broken_left talk key e fate l there (inl (k, d, at, is, broken)) =
     by_key k key
@@ -260,7 +260,7 @@ given_left device key e fate past l there all =
     All-weaker (λ (talk : PeerRecord). is_of device talk ≡ false → IsGivenUp talk l) (λ (talk : PeerRecord). is_of device talk ≡ false → IsGivenUp talk (without key e fate l))
     (λ talk up isnt. let it = up isnt in (it.0, broken_left talk key e fate l there it.1)) past all
 
--- what the core is told as a connection ends
+-- the reports that the core is told as a connection ends
 abbrev pub gone_told : ℕ → Option ℕ → List ReportRecord
 gone_told device None = []
 gone_told device (Some other) = if other == device then SaysGone ∷ [] else []
@@ -333,7 +333,7 @@ reported_left device key (Some other) e fate told l there is r = by (other == de
     by true same = left_named device key e fate told l there (is ∙ ap (λ (d : ℕ). Some d) (same_key other device same)) r
     by false apart = reported_as device told (told ++ []) (without key e fate l) (sym (append-nil told)) (left_other device key e fate told l there (ap (names device) is ∙ apart) r)
 
--- it is closed, and then nothing more changes of what devices say
+-- the connection is closed, and then no report of a device changes any more
 pub reported_closed : (device key : ℕ) (e : Entry) (fate : Fate) (told : List ReportRecord) (l m l' : Ledger) → l.entries key ≡ Some e → m ≡ without key e fate l → KeptAll m l' → IsReported device told l → IsReported device (told ++ gone_told device (device_of e.talk)) l'
 reported_closed device key e fate told l m l' there after kept r =
     reported_kept device (told ++ gone_told device (device_of e.talk)) m l' kept
@@ -361,7 +361,7 @@ nameless_none device o e there nameless is = no_both (device_of e.talk) device n
 same_reports : (one other : List ReportRecord) (device dev : ℕ) → Link one (Some device) ≡ Link other (Some dev) → one ≡ other
 same_reports one other device dev same = cc
 
--- one more report on its connection
+-- one more report on the device's connection
 pub record More (dev key : ℕ) (said : ReportRecord) (l l' : Ledger) : Type 0 where
   pub d : Entry
   pub f : Entry
@@ -464,7 +464,7 @@ reported_named device dev key name told l l' m alone others r = by (dev == devic
         (other_device device dev apart (l'.entries k) m.f (ap l'.entries same ∙ m.now) (ap device_of m.after)) (passes k))
         (λ other. kept_keeps device (l.entries k) (l'.entries k) (others k other))) r)
 
--- on another one: it gave up the one that it had
+-- on another connection: the device gave up the connection that it had
 pub record Over (dev key other : ℕ) (l l' : Ledger) : Type 0 where
   pub o : Entry
   pub g : Entry
@@ -531,7 +531,7 @@ reported_over device dev key other name told l l' m v r = by (dev == device) ref
         (nameless_none device (l'.entries k) v.g (ap l'.entries at ∙ v.now) nameless) (passes k))
         (λ far. kept_keeps device (l.entries k) (l'.entries k) (v.others k away far)))) r)
 
--- ---- what was read
+-- ---- the bytes that were read
 
 abbrev pub SoundAt : Option Entry → Type 0
 SoundAt None = Unit {0}
@@ -566,7 +566,7 @@ sound_left key e fate l there sound = record {
 pub first_read : (e : Entry) (read : List ℕ) (reports : List ReportRecord) → SaysFirst read reports → e.read ≡ read → said_on e.talk ≡ reports → IsRead e
 first_read e read reports says same said = (read, [], same ∙ sym (append-nil read), subst (λ (its : List ReportRecord). SaysFirst read its) (sym said) says)
 
--- nothing was said on it
+-- the connection has no report
 pub none_read : (e : Entry) → said_on e.talk ≡ [] → IsRead e
 none_read e said = first_read e e.read [] (record { next = false; left = e.read; leads = (refl, refl) }) refl said
 
@@ -583,7 +583,7 @@ greeted_grows Name d e g was device reports talk = by g.talk
     by (inl same) = was device reports (sym same ∙ talk)
     by (inr u) = absurd (no_both (device_of e.talk) device u.after (ap device_of talk))
 
--- one that bears no name
+-- a connection without a device
 pub greeted_nameless : (Name : List ℕ → ℕ → Type 0) (e : Entry) → device_of e.talk ≡ None → IsGreeted Name e
 greeted_nameless Name e nameless device reports talk = absurd (no_both (device_of e.talk) device nameless (ap device_of talk))
 

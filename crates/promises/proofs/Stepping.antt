@@ -1,4 +1,4 @@
--- What the next of a client's stream, and of a device's, comes to.
+-- The steps for the next item of a client's stream, and of a device's stream.
 use Rattle.std.proofs.Common.{◌≡◌, ℕ, Bool, false, List, [], ◌∷◌, ◌++◌, refl, sym, ◌∙◌, ap, subst, append-nil, Option, Some, None, ◌⊎◌, inl, inr}
 use Rattle.base_types.specs.Report.{ReportRecord, SaysHello, SaysMedia, SaysReady, SaysStop, SaysBusy, SaysPages, SaysDone, SaysFail, IsGone as SaysGone}
 use Rattle.settings_file.specs.Settings.{ServerSettings, device_named}
@@ -37,9 +37,9 @@ use Rattle.promises.proofs.Handling.{Goes, goes_calm}
 use Rattle.promises.proofs.Giving.{Calms, calms_refusal}
 use Rattle.promises.proofs.Moving.{moves_unanswered}
 
--- ---- what a connection asks
+-- ---- the asks of a connection
 
--- what a client asks of the server
+-- the asks of a client to the server
 abbrev pub IsClientAsk : Ask → Type 0
 IsClientAsk ask.Nothing = ⊥
 IsClientAsk (ask.Broke growth) = ⊥
@@ -189,7 +189,7 @@ pub record Names (what : Ask) (e new : Entry) : Type 0 where
   pub open_talk : FreshTalk new.talk new
   pub link : ClientTalk e.talk → ⊥
 
--- what a device's connection asks: it says its name, or it has, or it breaks
+-- the asks of a device's connection: an ask of a connection with a device, whose due bytes don't change, or the ask that gives the device's name
 abbrev pub DeviceAsks : Ask → Entry → Entry → Type 0
 DeviceAsks what e new = (IsDeviceAsk what × Ordered (λ device. []) (Some e) (Some new)) ⊎ Names what e new
 
@@ -199,7 +199,7 @@ talk_none talk reports is = ap device_of is
 pub link_fresh : (talk : PeerRecord) (reports : List ReportRecord) (e : Entry) → talk ≡ Link reports None → FreshTalk talk e → e.broken ≡ false → e.due ≡ []
 link_fresh talk reports e is fresh = subst (λ (t : PeerRecord). FreshTalk t e) is fresh
 
--- it breaks
+-- the connection breaks
 pub link_breaks : (what it : Ask) (e mid new : Entry) → what ≡ it → IsDeviceAsk it → new ≡ broken mid → mid.due ≡ e.due → ((device : ℕ) → device_of mid.talk ≡ Some device → device_of e.talk ≡ Some device) → (ClientTalk e.talk → ClientTalk mid.talk) → (ClientTalk mid.talk → ⊥) → DeviceAsks what e new
 link_breaks what it e mid new asks fine after due of_device of_client never =
     inl (subst IsDeviceAsk (sym asks) fine, subst (λ (x : Entry). Ordered (λ device. []) (Some e) (Some x)) (sym after) (ordered_broken (λ device. []) e (broken mid) refl (λ device named. (of_device device named, due)) of_client (λ client. absurd (never client))))

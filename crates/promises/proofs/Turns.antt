@@ -234,7 +234,7 @@ module _ (steps : StepsOnce) (queries : SameQueries) (asks : AsksOne) (bodies : 
 
   -- ---- traces
 
-  -- all of a list goes on with nothing
+  -- a relation that takes a whole list, with no rest behind it, has one end
   all_one : (R : Rel) → Fixed R → (l : Ledger) (hs : List Happening) (a b : Ledger) → R l hs a → R l hs b → a ≡ b
   all_one R r l hs a b p q = let it = r.one l hs [] a hs [] b refl p q in it.1
 

@@ -1,4 +1,4 @@
--- What a client asks the core is answered in its own way: IPP's requests by IPP's answers, LPD's jobs and commands by LPD's.
+-- A client's event has an answer of its kind: requests of IPP have answers of IPP, jobs and commands of LPD have answers of LPD.
 use Rattle.std.proofs.Common.{◌≡◌, ℕ, Bool, true, false, List, [], ◌∷◌, sym, subst, Option, Some, None, Result, Ok, Err, inl, inr}
 use Rattle.std.specs.Prelude.{if◌then◌else◌, not, drop, MatchOption, MatchResult}
 use Rattle.std.specs.Option.{option_map_or}

@@ -30,19 +30,20 @@ pub fn one_ledger()
 
 /// The core's events of a trace are one run, which tells exactly the listener's notes. On each open
 /// connection of a device that isn't broken, the bytes due are the run's orders for the device since it gave
-/// its name: the line of each cancel, and for each job that began on it the line and the documents as they
-/// were when the job began. On a connection that broke, a front of the orders is due.
+/// its name: the line of each cancel, and for each job that began on the device the line of the job, and its
+/// documents as they were when the job began. On a connection that broke, a front of the orders is due.
 pub fn devices_are_sent_their_orders()
     ensures { (opening : State) (trace : Trace) (ledger : Ledger) → Runs trace (opening_ledger opening) ledger → AreSent opening trace ledger }
 {}
 
 /// The core's events of a trace are one run. For each device the reports among the events that came in turns
-/// are those on its connections, one connection after another: its name, each further report in order, and
-/// that it is gone, when the connection was closed or the device had another connection; then the reports of
-/// the open connection. The connections that ended are exactly the closed connections of the device, in the
-/// order of their ends, and the connections that it gave up by another connection. The name is that of the
-/// device in the settings. The reports of a connection are a front of those that its bytes say: all of them,
-/// unless the connection is draining or broken.
+/// are the reports on its connections, one connection after another. An ended connection has the device's
+/// name, each further report in order, and then that the device is gone, since the connection was closed or
+/// the device had another connection. The reports of the open connection come last. The connections that
+/// ended are exactly the closed connections of the device, in the order of their ends, and the connections
+/// that it gave up by another connection. The name is that of the device in the settings. The reports of a
+/// connection are a front of those that its bytes say: all of them, unless the connection is draining or
+/// broken.
 pub fn devices_are_heard()
     ensures { (opening : State) (trace : Trace) (ledger : Ledger) → Runs trace (opening_ledger opening) ledger → AreHeard opening trace ledger }
 {}
@@ -52,7 +53,7 @@ pub fn devices_are_heard()
 /// body, an acknowledgement or a refusal, the reply that the run gave to an event that the connection asked
 /// for, or the status that memory for it was refused. The run's events that the connection asked for are
 /// exactly those of its acts, in order. On a connection that broke, the same holds for the acts before. On
-/// each open connection all that was read was acted on, unless it is draining or broken.
+/// each open connection all bytes that were read were acted on, unless the connection is draining or broken.
 pub fn clients_are_answered()
     ensures { (opening : State) (trace : Trace) (ledger : Ledger) → Runs trace (opening_ledger opening) ledger → AreAnswered opening trace ledger }
 {}

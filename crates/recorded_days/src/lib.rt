@@ -6,7 +6,7 @@
 //! in other ways. Nothing is proved of them, except that they are safe and end. The contract of a server is
 //! in `server`, and the lines are those of `traces`.
 //!
-//! Its rows are traces of `play_examples`.
+//! The rows of the crate are traces of `play_examples`.
 #![tactic(auto)]
 
 mod chart;

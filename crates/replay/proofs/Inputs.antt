@@ -1,4 +1,4 @@
--- What an input gives, and what is left of it.
+-- The bytes that an input gives, and the bytes that are left in it.
 use Rattle.std.proofs.Common.{◌≡◌, ℕ, Bool, List, Option, Some, None, IsNone, IfSome, IfOk, Result, Ok, Err, refl, sym, subst, inl, inr, take}
 use Rattle.std.specs.Result.{result_ok}
 use Rattle.std.specs.Io.KnownBytes.{Appends}
@@ -20,7 +20,7 @@ if_some_weaker (Some x) P Q f h = f x h
 pub input_gives : (texts : Bool) (before after : Option (List ℕ)) (trace lent : List ℕ) (said : Said) → IsWhole INPUT_BYTES before after trace → lent ≡ trace → TraceGives texts lent said → InputGives texts before after said
 input_gives texts before after trace lent said whole same gives = inl (trace, whole, subst (λ t. TraceGives texts t said) same gives)
 
--- what is due, where the program fails
+-- the due text, if the program fails
 pub due_left : (texts : Bool) (before after : Option (List ℕ)) (text : List ℕ) (due : Option ExitStatus)
     → IfSome due (λ status. InputGives texts before after (record { text = text; status = status })) → (IsNone due → InputLeaves texts before after text) → InputLeaves texts before after text
 due_left texts before after text None given left = left refl

@@ -1,4 +1,4 @@
--- What the calls of a server that is told a trace come to.
+-- The results of the calls of a server that plays a trace.
 use Rattle.std.proofs.Common.{◌≡◌, ◌<◌, ◌+◌, ℕ, Bool, true, false, All, List, [], ◌∷◌, ◌++◌, length, map, Option, Some, None, Result, IsOk, refl, sym, ap, ◌∙◌, inl, inr, subst, append_assoc, append-nil}
 use Rattle.std.specs.Prelude.{◌||◌}
 use Rattle.std.specs.declared.alloc.AllocError.{AllocError}
@@ -26,7 +26,7 @@ use Rattle.replay.proofs.Telling.{heard_alone, heard_beside, moved_beside, all_h
 
 -- ---- calls between turns
 
--- what was heard since was all printed
+-- all notes since were printed
 abbrev Printed : LogRecord → List ℕ → LogRecord → Type 0
 Printed log heard after = (log.heard ≡ Some heard) × (after ≡ record log { heard = Some [] })
 
@@ -83,7 +83,7 @@ no_turns old = record {
   connections = refl;
 }
 
--- what happened in some turns and one more
+-- the happenings of some turns and of one more
 all_more : (turns : List (List Happening)) (turn : List Happening) → all_turns (turns ++ turn ∷ []) ≡ all_turns turns ++ turn
 all_more [] turn = append-nil turn
 all_more (first ∷ turns) turn = ap (λ hs. first ++ hs) (all_more turns turn) ∙ sym (append_assoc first (all_turns turns) turn)
@@ -134,7 +134,7 @@ one_busy old mid new count after stirred busy t is next = record {
   takes = one_more old mid new busy.turns stirred busy.takes t;
 }
 
--- and then one in which none did
+-- turns with an answer other than Waiting, and then a turn without such an answer
 pub till_quiet : (old mid new : Play) (count : ℕ) (stirred : Bool) → AreBusy old mid count → TakesTurn mid new stirred → stirred ≡ false → count < most_turns → TakesTillQuiet old new
 till_quiet old mid new count stirred busy t is below = (
   busy.turns ++ t.turn ∷ [],
@@ -142,11 +142,11 @@ till_quiet old mid new count stirred busy t is below = (
   one_more old mid new busy.turns stirred busy.takes t,
 )
 
--- or as many as may be
+-- the most turns, each with an answer other than Waiting
 pub till_most : (old new : Play) (count : ℕ) → AreBusy old new count → count ≡ most_turns → TakesTillQuiet old new
 till_most old new count busy most = (busy.turns, record { busy = busy.turns; each = busy.each; ends = inr (busy.number ∙ most, refl) }, busy.takes)
 
--- what is printed of turns
+-- the text printed for turns
 pub ran : (old mid new : Play) (heard text : List ℕ) → IsReady old → TakesTillQuiet old mid → mid.wire.failed ≡ false → Printed mid.log heard new.log → text ≡ heard ++ connections_text mid.wire.memory.peers.items mid.connections.items
     → new.connections.items ≡ map (seen mid.wire.memory.peers.items) mid.connections.items → new.wire.memory.peers.items ≡ map emptied mid.wire.memory.peers.items → new.engine ≡ mid.engine → new.moment ≡ mid.moment → new.wire.failed ≡ mid.wire.failed
     → Does old new (λ actions. Turns old.log.texts old.log.names (standing old) actions text (standing new))
@@ -190,7 +190,7 @@ from_here old mid new s text is does = record {
 pub still_ready : (old mid : Play) (s : Standing) → Becomes old mid s → IsReady old → IsReady mid
 still_ready old mid s is ready = record { silent = ap (λ (l : LogRecord). l.heard) is.log ∙ ready.silent; prompt = is.prompt ∙ ready.prompt }
 
--- ---- what the calls of one step say, together
+-- ---- the contracts of the calls of one step, together
 
 pub marked_so : (xs cs ds : List Connection) (ps qs : List PeerState) → xs ≡ map (seen ps) ds → ps ≡ qs → ds ≡ cs → xs ≡ map (seen qs) cs
 marked_so xs cs ds ps qs is ep ed = is ∙ ap (λ p. map (seen p) ds) ep ∙ ap (map (seen qs)) ed

@@ -20,7 +20,7 @@ moves_nothing e opening trace stands = subst (λ t. StandsAt opening t e) (sym (
 pub moves_then : (a b c : EngineState) (first later : Trace) → Moves a first b → Moves b later c → Moves a (first ++ later) c
 moves_then a b c first later p q opening trace stands = subst (λ t. StandsAt opening t c) (append_assoc trace first later) (q opening (trace ++ first) (p opening trace stands))
 
--- What the lines before gave; what any lines give after them is, with that, what all give.
+-- The result of the lines before. With it, the result of any lines behind them is the result of all lines.
 pub record Reached (texts : Bool) (names : List (List ℕ)) (first : ℕ) (all : List (List ℕ)) (begun : Standing) (start : EngineState) (done : List ℕ) (number : ℕ) (rest : List (List ℕ)) (now : Standing) (engine : EngineState) : Type 0 where
   pub actions : Trace
   pub passed : List (List ℕ)
@@ -125,7 +125,7 @@ went_on play old new number next after lines rest before done out1 out2 bytes mo
       record { silent = ap (λ (l : LogRecord). l.heard) does.log ∙ ready.silent; prompt = does.prompt },
     )
 
--- what is known where the bytes were bad
+-- the result for bad bytes
 pub stood_still : (play old new : Play) (bytes out1 out2 : List ℕ) (is_line : Bool) → Acts old bytes out1 is_line new out2 → is_line ≡ false → old.log ≡ play.log → IsBad play.log.names bytes (standing old) × (out2 ≡ out1)
 stood_still play old new bytes out1 out2 is_line acts is same =
     let did : Acts old bytes out1 false new out2 = subst (λ b. Acts old bytes out1 b new out2) is acts in

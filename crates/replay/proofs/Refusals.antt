@@ -1,4 +1,4 @@
--- What the settings of a trace give.
+-- The result of the settings of a trace.
 use Rattle.std.proofs.Common.{◌≡◌, ℕ, suc, Bool, List, [], ◌++◌, Option, Some, MatchResult, Ok, sym, ap, subst, ◌∙◌, inl, inr}
 use Rattle.std.specs.Option.{ForSome}
 use Rattle.settings_file.specs.declared.fault.SettingsFault.TheVariants as code
@@ -43,7 +43,7 @@ trace_gives_no_settings texts trace named old out status unsplit is none said tw
 
 -- ---- settings that are good
 
--- what is printed after nothing
+-- the text printed behind an empty text
 alone : (before : List ℕ) (text : Said) → before ≡ [] → said_after before text ≡ text
 alone before text none = ap (λ b. said_after b text) none
 

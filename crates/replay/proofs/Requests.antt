@@ -82,7 +82,7 @@ says status unsupported groups reply answer = says_so status unsupported groups 
 says_something : (status : Status) (unsupported : List IppAttribute) (groups : List IppGroup) (reply : Effects) → Replies status unsupported groups reply → IsOfIpp reply.answer
 says_something status unsupported groups reply replies = says status unsupported groups reply replies.answer
 
--- what comes of checks has an answer, where what is done if none fails has one
+-- the result of checks has an answer, if the result without a failed check has an answer
 answers : {A : Type 0} (Done : A → Type 0) (now : ℕ) (old : State) (reply : Effects) (new : State) → ((a : A) → Done a → IsOfIpp reply.answer)
     → (asked : Result A _) → MatchResult asked Done (λ refusal. Refuses now old refusal reply new) → IsOfIpp reply.answer
 answers Done now old reply new each (Ok a) is = each a is

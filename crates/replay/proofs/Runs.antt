@@ -1,4 +1,4 @@
--- What the lines of a trace without connections give is given by one run of the core over their events.
+-- The result of the lines of a trace without connections is the result of one run of the core over their events.
 use Rattle.std.proofs.Common.{◌≡◌, ◌≢◌, ℕ, suc, Bool, true, false, List, [], ◌∷◌, ◌++◌, refl, ap, sym, ◌∙◌, subst, inl, inr, append-nil}
 use Rattle.std.specs.Prelude.{map, Some}
 use Rattle.std.specs.List.{concat}
@@ -60,7 +60,7 @@ run_after texts names first old new (timed ∷ events) (outcome ∷ outcomes) be
 run_after texts names first old new [] (outcome ∷ outcomes) before after none = absurd none
 run_after texts names first old new (timed ∷ events) [] before after none = absurd none
 
--- what a part does to the core
+-- the change of the core by a part
 abbrev Does : Bool → List (List ℕ) → Part → State → State → Type 0
 Does texts names part old new = Run (PrintsEach texts names) old [] part.events part.outcomes new part.heard
 
@@ -75,20 +75,20 @@ then_runs texts names (timed ∷ events) (outcome ∷ outcomes) before heard lat
 then_runs texts names [] (outcome ∷ outcomes) before heard later old mid new none runs = absurd none
 then_runs texts names (timed ∷ events) [] before heard later old mid new none runs = absurd none
 
--- ---- what is printed of an event
+-- ---- the text printed for an event
 
 notes_text : (texts : Bool) (names : List (List ℕ)) (notes : List Note) → happenings_text texts names (map Told notes) ≡ concat (map (note_text texts names) notes)
 notes_text texts names [] = refl
 notes_text texts names (note ∷ notes) = ap (λ t. note_text texts names note ++ t) (notes_text texts names notes)
 
--- of what isn't seen nothing is printed
+-- unseen happenings have no text
 seen_text : (texts : Bool) (names : List (List ℕ)) (hs : List Happening) → happenings_text texts names (seen hs) ≡ happenings_text texts names hs
 seen_text texts names [] = refl
 seen_text texts names (Polled poll ∷ hs) = seen_text texts names hs
 seen_text texts names (Told note ∷ hs) = ap (λ t. note_text texts names note ++ t) (seen_text texts names hs)
 seen_text texts names (Chosen choice ∷ hs) = seen_text texts names hs
 
--- an event, what it does, and what is printed after its reply
+-- an event, its step, and the text printed after its reply
 record Happened (texts : Bool) (names : List (List ℕ)) (event : Event) (moment : ℕ) (reply : Effects) (old : State) (text : List ℕ) (new : State) : Type 0 where
   part : Part
   is_one : IsOne event moment reply part
@@ -106,7 +106,7 @@ one_event texts names event moment reply old hs new it =
 
 -- ---- a body
 
--- what a body means, and what it does
+-- the meaning of a body, and its steps
 record BodyMeant (texts : Bool) (names : List (List ℕ)) (asked : ParsedRequest) (moment : ℕ) (old : State) (text : List ℕ) (new : State) : Type 0 where
   part : Part
   answer : List ℕ
@@ -141,7 +141,7 @@ some_line answer line replies = λ is. line_of line answer OutOfMemory is replie
 
 -- ---- a line
 
--- what the bytes of a line mean, and what they do
+-- the meaning of the bytes of a line, and their steps
 record IsMeant (texts : Bool) (names : List (List ℕ)) (bytes : List ℕ) (old : Standing) (before : State) (text : List ℕ) (new : Standing) (after : State) : Type 0 where
   line : Line
   is : IsLine names bytes line
@@ -158,7 +158,7 @@ unanswered texts names bytes event line reply old new before hs after text is pr
     let done = one_event texts names event old.moment reply before hs after one in
     record { line = line; is = is; part = done.part; answer = []; means = means done.part done.is_one; does = done.does; moment = moment; printed = printed ∙ done.printed }
 
--- a line is as well one of any other report that says the same
+-- a line of a report is also a line of each other report with the same content
 says_same : (names : List (List ℕ)) (text : List ℕ) (place : ℕ) (one other : Report) → report_of other ≡ report_of one → IsDeviceIn names text place one → IsDeviceIn names text place other
 says_same names text place one other same is = record { name = is.name; line = is.line; cut = is.cut; known = is.known; heard = is.heard ∙ ap (λ (r : ReportRecord). Some r) (sym same) }
 
@@ -203,14 +203,14 @@ is_none names bytes s plain (inr (line, is, early)) = absurd (never (may_come li
 
 -- ---- all lines
 
--- one run of the core from a state on, and what is printed of it
+-- one run of the core from a state on, and the text printed for the run
 record AreMeant (texts : Bool) (names : List (List ℕ)) (number : ℕ) (lines : List (List ℕ)) (moment : ℕ) (old : State) (said : Said) : Type 0 where
   part : Part
   new : State
   run : Run (PrintsEach texts names) old [] part.events part.outcomes new part.heard
   printed : LinesMean names number lines moment part said
 
--- what a line has to mean, where none speaks of a connection
+-- the meaning of a line in a trace without connections
 abbrev IsPlain : List (List ℕ) → List ℕ → Type 0
 IsPlain names bytes = (line : Line) → IsLine names bytes line → IsOfNoConnection line
 

@@ -1,4 +1,4 @@
--- What a log hears of what happens, and what the peers of a wire see of it.
+-- The notes of a log for happenings, and the bytes and answers of the peers of a wire for them.
 use Rattle.std.proofs.Common.{◌≡◌, ℕ, Bool, true, false, List, [], ◌∷◌, ◌++◌, Option, Some, None, refl, sym, ap, ◌∙◌, inl, inr, subst, append_assoc, append-nil, option_map}
 use Rattle.std.specs.Prelude.{◌||◌}
 use Rattle.std.specs.Option.{ForSome}
@@ -25,7 +25,7 @@ Listens old (Polled poll) new = new ≡ old
 Listens old (Told note) new = Hears old note new
 Listens old (Chosen choice) new = ⊥
 
--- what a log has heard of happenings, if it has lost nothing
+-- the notes of a log for happenings, if it has lost no note
 pub record HasHeard (old : LogRecord) (hs : List Happening) (new : LogRecord) : Type 0 where
   pub log : new ≡ record old { heard = new.heard }
   pub hears : ForSome new.heard (λ text. (before : List ℕ) × (old.heard ≡ Some before) × (text ≡ before ++ happenings_text old.texts old.names hs))
@@ -73,7 +73,7 @@ listens_beside old (Chosen choice) new none = absurd none
 pub heard_beside : (old new : TraceWire × LogRecord) (hs : List Happening) → Leads (both WirePolls Hears) old hs new → HasHeard old.1 hs new.1
 heard_beside old new hs leads = heard_all old.1 new.1 hs (leads_as (both WirePolls Hears) Listens (λ s. s.1) listens_beside old new hs leads)
 
--- all that was heard is what is printed, and after that the log is as it was
+-- all notes are printed, and then the log is as it was
 pub all_heard : (old new after : LogRecord) (hs : List Happening) (text : List ℕ) → HasHeard old hs new → old.heard ≡ Some [] → new.heard ≡ Some text → after ≡ record new { heard = Some [] } → (text ≡ happenings_text old.texts old.names hs) × (after ≡ old)
 all_heard old new after hs text told none some is =
     let heard = told.hears text some in
@@ -88,7 +88,7 @@ WireSees old (Polled poll) new = WirePolls old poll new
 WireSees old (Told note) new = new ≡ old
 WireSees old (Chosen choice) new = ⊥
 
--- what polls have moved, if all were prompt, and whether one came to something
+-- the bytes that polls have moved, if all polls were prompt, and whether one had an answer other than Waiting
 pub record HasMoved (old : TraceWire) (hs : List Happening) (new : TraceWire) : Type 0 where
   pub stirred : new.stirred ≡ (old.stirred || any_stirs hs)
   pub sees : new.failed ≡ false → (old.failed ≡ false) × Leads PeersSee old.memory.peers.items hs new.memory.peers.items

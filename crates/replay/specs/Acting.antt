@@ -26,7 +26,7 @@ standing p = record { moment = p.moment; connections = p.connections.items; peer
 abbrev pub Moves : EngineState → Trace → EngineState → Type 0
 Moves old actions new = (opening : State) (trace : Trace) → StandsAt opening trace old → StandsAt opening (trace ++ actions) new
 
--- all that was told was printed, and no poll of the wire has failed
+-- all notes were printed, and no poll of the wire has failed
 pub record IsReady (p : Play) : Type 0 where
   pub silent : p.log.heard ≡ Some []
   pub prompt : p.wire.failed ≡ false
@@ -45,7 +45,7 @@ pub record Becomes (old new : Play) (s : Standing) : Type 0 where
   pub prompt : new.wire.failed ≡ old.wire.failed
   pub stands : standing new ≡ s
 
--- the play took actions with this property, and printed all that was told
+-- the play took actions with this property, and printed all notes
 pub record Does (old new : Play) (Is : Trace → Type 0) : Type 0 where
   pub actions : Trace
   pub is : Is actions

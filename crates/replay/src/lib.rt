@@ -4,8 +4,8 @@
 //! status: those of a server that acts on the lines, over a wire in memory whose peers send the bytes of the
 //! trace. For a trace that is refused it returns the reason, which is printed as a sentence. If no line is
 //! about a connection, the output is that of one run of the core over the events of the lines
-//! ([`lines_are_one_run`]). The contract of the server is in `server`. The crate reads no command line. Its
-//! rows are traces of `play_examples`.
+//! ([`lines_are_one_run`]). The contract of the server is in `server`. The crate reads no command line. The
+//! rows of the crate are traces of `play_examples`.
 #![tactic(auto)]
 
 mod law;

@@ -3,14 +3,14 @@ use Rattle.std.proofs.Common.{◌≡◌, ◌+◌, ◌≤◌, ℕ, List, [], ◌+
 use Rattle.std.proofs.lemmas.List.{append-nil, length-append, length-drop, drop-drop, drop_at}
 use Rattle.octets.specs.Document.{IsFrontOf}
 
--- a front is no longer than what it is a front of
+-- a front of octets is no longer than these octets
 pub front_within : (piece octets : List ℕ) (start : ℕ) → start ≤ length octets → IsFrontOf piece (drop start octets) → start + length piece ≤ length octets
 front_within piece octets start low is = omega (arith, low, ap length is.front.1, length-append piece is.front.0, length-drop start octets)
 
 pub front_at_most : (piece octets : List ℕ) → IsFrontOf piece octets → length piece ≤ length octets
 front_at_most piece octets is = omega (arith, ap length is.front.1, length-append piece is.front.0)
 
--- a part, and a front of what is behind it
+-- a part, and a front of the octets behind it
 pub part_more : (octets part more : List ℕ) (start behind : ℕ) → IsFrontOf part (drop start octets) → behind ≡ start + length part → IsFrontOf more (drop behind octets) → IsFrontOf (part ++ more) (drop start octets)
 part_more octets part more start behind is next goes_on =
     let left = is.front.0 in

@@ -1,4 +1,4 @@
--- What the items of an array are, found one after another.
+-- The items of an array, found one after another.
 use Rattle.std.proofs.Common.{ℕ, List, ◌++◌, Option, option_map, Result, Ok}
 use Rattle.settings_file.specs.Fault.{Fault}
 use Rattle.text.specs.Steps.{◌>>=◌}

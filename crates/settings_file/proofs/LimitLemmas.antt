@@ -58,7 +58,7 @@ known_ok (Some name) rest a h = cc
 same_value : {A : Type 0} (a b : A) → (let left : Result A Fault = Ok a in left ≡ Ok b) → a ≡ b
 same_value a b h = cc
 
--- what a test let through
+-- a value that a test let through
 passed : {A : Type 0} (b : Bool) (a c : A) (f : Fault) → cond b (Ok a) (Err f) ≡ Ok c → (b ≡ true) × (a ≡ c)
 passed true a c f h = (refl, cc)
 passed false a c f h = cc
@@ -315,12 +315,12 @@ settings_read_ok : (o : Option Members) (settings : ServerSettings) → settings
 settings_read_ok None settings h = cc
 settings_read_ok (Some root) settings h = settings_in_ok root settings h
 
--- what a text gives is within the limits
+-- the settings of a text are within the limits
 pub settings_of_ok : (bytes : List ℕ) (settings : ServerSettings) → settings_of bytes ≡ Ok settings → MeetsLimits settings
 unfolding settings_of
 settings_of_ok bytes settings h = settings_read_ok (parse_document bytes) settings h
 
--- what the code gives of a text is within the limits
+-- the settings that the code gives for a text are within the limits
 pub limits_kept : (bytes : List ℕ) (given : Result ServerSettings SettingsFault) → Gives (λ s. s) given (settings_of bytes) → IfOk given MeetsLimits
 limits_kept bytes (Ok settings) h = settings_of_ok bytes settings h
 limits_kept bytes (Err e) h = tt

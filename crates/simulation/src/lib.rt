@@ -9,7 +9,7 @@
 //! then of their moments. Nothing is proved of the simulation, except that it is safe and ends. It reads no
 //! clock and no command line.
 //!
-//! Its rows are days of `play_examples`.
+//! The rows of the crate are days of `play_examples`.
 #![tactic(auto)]
 
 mod bytes;

@@ -59,7 +59,7 @@ impl Ahead {
         count
     }
 
-    /// Returns whether there is memory to read into. It is taken now, if it wasn't yet.
+    /// Returns whether there is memory to read into. The memory is taken now, if it wasn't taken yet.
     pub(crate) fn has_room(&mut self) -> bool {
         if self.bytes.is_empty() {
             self.start = 0;

@@ -54,8 +54,8 @@ impl Patience {
         self.came = 0;
     }
 
-    /// Counts `count` bytes of the peer. Its time begins anew with the first byte of a part, and after the
-    /// last.
+    /// Counts `count` bytes of the peer. The time of the peer begins anew with the first byte of a part, and
+    /// after the last byte of the part.
     pub(crate) fn came(&mut self, count: usize, moment: Moment)
         ensures { self.new ≡ after_coming count moment self.old }
     {

@@ -30,7 +30,7 @@ keyed_set id low next (e ∷ es) s w keyed is same =
     (λ t. let here = subst (λ (b : Bool). cond b (Some e.1) (lookup (nat_eq id) es) ≡ Some s) t is in cc)
     (λ t. keyed_set id e.0 next es s w keyed.3 (subst (λ (b : Bool). cond b (Some e.1) (lookup (nat_eq id) es) ≡ Some s) t is) same)
 
--- what a search by key finds is the job of that id
+-- the job that a search by key finds is the job of that id
 pub found_at : (id key next : ℕ) (es : List (ℕ × SpooledRecord)) (old : SpoolRecord) (o : Option SpooledRecord) → key ≡ id → Keyed es 0 next → record { jobs = jobs_of es; next = next } ≡ old → o ≡ lookup (nat_eq key) es → o ≡ spooled_at id old.jobs
 found_at id key next es old o same keyed view is =
     is

@@ -51,7 +51,7 @@ from_finished change Stopped now job is = absurd (true≢false (sym is))
 no_step : (change : JobChange) (now : ℕ) (s : SpooledRecord) → IsFinished s → job_after change now s.job ≡ None
 no_step change now s is = from_finished change s.job.state now s.job is
 
--- ---- what each call does to a job
+-- ---- the change of a job by each call
 
 pub same_keeps : KeepsFinished (λ s. s)
 same_keeps s is = is

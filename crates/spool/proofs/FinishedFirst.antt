@@ -1,4 +1,4 @@
--- What each call does leaves the jobs at the front finished.
+-- Each call leaves the jobs at the front finished.
 use Rattle.std.proofs.Common.{◌≡◌, ◌∙◌, ◌==◌, inl, inr, ℕ, zero, suc, ◌+◌, ◌<◌, ◌≤◌, Bool, true, false, cond, eqb, not, ◌&&◌, List, [], ◌∷◌, ◌++◌, length, map, take, drop, get_or, Some, refl, sym, ap, subst, arith, add-one, remove, slice_get, true≢false}
 use Rattle.std.specs.Prelude.{nat_eq}
 use Rattle.std.specs.List.{list_any}
@@ -48,7 +48,7 @@ first_behind zero (suc count) jobs behind first = absurd (omega (arith, behind))
 first_behind (suc place) (suc count) [] behind first = first
 first_behind (suc place) (suc count) (s ∷ jobs) behind first = (first.0, first_behind place count jobs (omega (arith, behind)) first.1)
 
--- one of them goes
+-- one of the jobs at the front is removed
 first_among : (place count : ℕ) (jobs : List SpooledRecord) → place ≤ count → AllFinished (suc count) jobs → AllFinished count (remove jobs place)
 first_among place zero jobs among first = tt
 first_among zero (suc count) [] among first = first
@@ -61,7 +61,7 @@ first_push zero jobs more first = tt
 first_push (suc count) [] more first = absurd first
 first_push (suc count) (s ∷ jobs) more first = (first.0, first_push count jobs more first.1)
 
--- one more is finished
+-- one more job at the front is finished
 next_finished : (count : ℕ) (jobs : List SpooledRecord) (s : SpooledRecord) → count < length jobs → s ≡ get_or jobs count s → is_finished s.job.state ≡ true → AllFinished count jobs → AllFinished (suc count) jobs
 next_finished count [] s inside is finished first = absurd (omega (arith, inside))
 next_finished zero (j ∷ jobs) s inside is finished first = (ap (λ (x : SpooledRecord). is_finished x.job.state) (sym is) ∙ finished, tt)
@@ -87,7 +87,7 @@ pub first_at : (f : SpooledRecord → SpooledRecord) → KeepsFinished f → (co
 first_at f keeps count place es s w is written first =
     rw (written, jobs_at place es s f is) (first_map_at place f keeps count (jobs_of es) first)
 
--- what stays finished at the front once the job at a place is gone
+-- the jobs at the front that stay finished once the job at a place is gone
 pub first_removed : (count now place : ℕ) (es : List (ℕ × SpooledRecord)) → (place < count → suc now ≡ count) → (count ≤ place → now ≡ count) → AllFinished count (jobs_of es) → AllFinished now (jobs_of (remove es place))
 first_removed count now place es among behind first = rw (jobs_remove place es) (elim (cases_lt place count) [
   | inl lt ↦ first_among place now (jobs_of es) (omega (arith, lt, among lt)) (subst (λ (n : ℕ). AllFinished n (jobs_of es)) (sym (among lt)) first)

@@ -1,4 +1,4 @@
--- What each call does to a job leaves it its id.
+-- The change of a job by each call leaves its id.
 use Rattle.std.proofs.Common.{◌≡◌, ◌==◌, ◌||◌, ◌∙◌, ℕ, Bool, true, false, cond, List, [], Option, Some, None, refl, ap, IfSome}
 use Rattle.std.specs.Prelude.{unwrap_or}
 use Rattle.std.specs.List.{list_any}
@@ -59,7 +59,7 @@ id_after Fail Processing now job = refl
 id_after Fail Stopped now job = refl
 id_after Fail _ now job = tt
 
--- what holds of two jobs holds of either
+-- a property of two jobs is a property of the job that a test chooses
 pub either : (P : SpooledRecord → Type 0) (b : Bool) (x y : SpooledRecord) → P x → P y → P (cond b x y)
 either P true x y of_x of_y = of_x
 either P false x y of_x of_y = of_y

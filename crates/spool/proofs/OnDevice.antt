@@ -21,9 +21,9 @@ use Rattle.spool.specs.Calls.{is_ready, marked_by}
 use Rattle.spool.proofs.Ids.{KeepsId, either, changed_id, told_id, expired_id, marked_id}
 use Rattle.spool.specs.OnDevice.{is_on_device, documents_at, Stays, AllStay, OthersStay}
 
--- ---- what is found of a job of an id, where the list is changed
+-- ---- the job of an id in a changed list
 
--- the first of a list, whose id is or isn't the one that is sought
+-- the first job of a list, whose id is or isn't the sought id
 first_is : (id : ℕ) (s : SpooledRecord) (jobs : List SpooledRecord) → (id == s.job.id) ≡ true → spooled_at id (s ∷ jobs) ≡ Some s
 first_is id s jobs is = ap (λ (b : Bool). cond b (Some s) (spooled_at id jobs)) is
 
@@ -171,7 +171,7 @@ stay_before jobs more id on =
     let s = there id jobs on in
     stays_from id jobs (jobs ++ more) s.0 s.0 s.1 (found_before id jobs more s.0 s.1) s.2 refl
 
--- ---- what each call does to a job
+-- ---- the change of a job by each call
 
 settled_same : (s : SpooledRecord) → s.on_device ≡ true → settled s ≡ s
 settled_same s on = ap (λ (b : Bool). cond b (record s { documents = [] }) s) (unsettled (is_finished s.job.state) s.on_device on)
@@ -210,7 +210,7 @@ marked_on paused stranded = record {
   documents = λ s on. either (λ y. y.documents ≡ s.documents) (is_ready paused s.job) (marked (list_any (λ e. e.job == s.job.id) stranded) s) s refl refl;
 }
 
--- what a device says that doesn't end the job
+-- a report of a device that doesn't end the job
 pub told_on : (says : DeviceSays) (now : ℕ) → is_end says ≡ false → KeepsOn (told says now)
 told_on says now goes_on =
     let keeps = changed_on (change_of says) now in

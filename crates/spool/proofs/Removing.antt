@@ -1,4 +1,4 @@
--- A job that isn't kept can go without a change of what is kept.
+-- A job that isn't kept can be removed without a change of the kept jobs.
 use Rattle.std.proofs.Common.{◌≡◌, ℕ, zero, suc, ◌+◌, ◌<◌, ◌≤◌, Bool, true, false, cond, not, ◌&&◌, ◌||◌, List, [], ◌∷◌, length, Option, Some, None, refl, sym, ◌∙◌, ap, arith, remove, get_or, position, filter, true≢false}
 use Rattle.std.specs.Prelude.{count_by, nat_lt}
 use Rattle.std.specs.List.{position_from}
@@ -40,7 +40,7 @@ later_than_itself s = grind (arith, nat_tests)
 later_than_later : (a b c : SpooledRecord) → is_later a b ≡ true → is_later b c ≡ true → is_later a c ≡ true
 later_than_later a b c ab bc = grind (arith, nat_tests, ab, bc)
 
--- ---- what is kept
+-- ---- the kept jobs
 
 also_later : (a b c : SpooledRecord) → is_later b c ≡ true → (is_settled a && is_later a b) ≡ true → (is_settled a && is_later a c) ≡ true
 also_later a b c bc ab = and_map (is_settled a) (is_later a b) (is_later a c) (λ l. later_than_later a b c l bc) ab
@@ -91,13 +91,13 @@ filter_same p q same [] = refl
 filter_same {X} p q same (x ∷ xs) =
     ap (λ (b : Bool). cond b (x ∷ filter p xs) (filter p xs)) (same x) ∙ ap (λ (ys : List X). cond (q x) (x ∷ ys) ys) (filter_same p q same xs)
 
--- a job that isn't kept can go without a change of what is kept
+-- a job that isn't kept can be removed without a change of the kept jobs
 pub retained_remove : (jobs : List SpooledRecord) (i : ℕ) (d : SpooledRecord) → i < length jobs → is_kept jobs (get_or jobs i d) ≡ false → retained (remove jobs i) ≡ retained jobs
 retained_remove jobs i d inside out =
     filter_same (is_kept (remove jobs i)) (is_kept jobs) (λ y. kept_same jobs i d y inside out) (remove jobs i)
     ∙ filter_removed (is_kept jobs) jobs i d inside out
 
--- ---- what a search for a job that isn't kept finds
+-- ---- the result of a search for a job that isn't kept
 
 none_step : {X : Type 0} (b : Bool) (i : ℕ) (x : X) (o : Option ℕ) (xs ys : List X) → cond (not b) (Some i) o ≡ None → (o ≡ None → ys ≡ xs) → cond b (x ∷ ys) ys ≡ x ∷ xs
 none_step true i x o xs ys none rest = ap (λ zs. x ∷ zs) (rest none)
@@ -129,7 +129,7 @@ spool_is now jobs next of_jobs of_next = λ i. record { jobs = of_jobs i; next =
 
 -- ---- where so few are finished that all are kept
 
--- one that isn't kept is settled
+-- a job that isn't kept is settled
 out_settled : (b c : Bool) → (not b || c) ≡ false → b ≡ true
 out_settled true c is = refl
 out_settled false c is = absurd (true≢false is)
@@ -138,7 +138,7 @@ later_settled : (a b : Bool) → (a && b) ≡ true → a ≡ true
 later_settled true b is = refl
 later_settled false b is = absurd (true≢false (sym is))
 
--- one that isn't kept has more settled ones beside it than are kept
+-- beside a job that isn't kept there are more settled jobs than are kept
 more_settled : (jobs : List SpooledRecord) (i : ℕ) (d : SpooledRecord) → i < length jobs → is_kept jobs (get_or jobs i d) ≡ false → FINISHED_JOBS_KEPT < count_by is_settled jobs
 more_settled jobs i d inside out =
     let x = get_or jobs i d in

@@ -1,4 +1,4 @@
--- What holds of every spool, from the entries of its map.
+-- Properties of every spool, from the entries of its map.
 use Rattle.std.proofs.Common.{◌≡◌, ℕ, zero, suc, ◌+◌, ◌<◌, ◌≤◌, List, [], ◌∷◌, map, length, subst, arith, add-one, slice_index, All}
 use Rattle.std.proofs.lemmas.List.Elements.{All-cons, All-nil}
 use Rattle.base_types.specs.Ranges.{IsJobId}

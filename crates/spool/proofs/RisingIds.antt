@@ -47,7 +47,7 @@ above_low low [] x h (k, below, is) = absurd (omega (arith, below))
 above_low low (y ∷ ys) x h (zero, below, is) = omega (arith, is, h.0)
 above_low low (y ∷ ys) x h (suc k, below, is) = omega (arith, h.0, above_low (suc y) ys x h.1 (k, omega (arith, below), is))
 
--- an id is that of the first job, if it passes, or of a later one that does
+-- an id is the id of the first job, if this job passes, or the id of a later job that passes
 pub head_or : (b : Bool) (job : JobRecord) (jobs : List JobRecord) (id : ℕ) → Contains (map (λ j. j.id) (cond b (job ∷ jobs) jobs)) id → ((b ≡ true) × (id ≡ job.id)) ⊎ Contains (map (λ j. j.id) jobs) id
 head_or true job jobs id (zero, below, is) = inl (refl, sym is)
 head_or true job jobs id (suc k, below, is) = inr (k, omega (arith, below), is)

@@ -1,4 +1,4 @@
--- What each call does to a job leaves it sound.
+-- The change of a job by each call leaves it sound.
 use Rattle.std.proofs.Common.{◌≡◌, ◌==◌, ◌||◌, ◌∙◌, ℕ, zero, suc, Bool, true, false, cond, eqb, List, [], ◌∷◌, ◌++◌, Option, Some, None, refl, sym, ap, subst, arith, remove, slice_get, length, All, IfSome, true≢false}
 use Rattle.std.specs.Prelude.{nat_eq, unwrap_or}
 use Rattle.std.specs.List.{list_any}
@@ -40,7 +40,7 @@ waiting_fits false false on job comes is free = (comes, is, free)
 waits : (on : Bool) (job : JobRecord) → on ≡ false → FitsState (waiting job).state (waiting job).incoming (waiting job).held on
 waits on job free = waiting_fits job.incoming job.held on job refl refl free
 
--- a job after a change, with what is known of whether a device has it
+-- a job after a change fits the answer to whether a device has the job
 abbrev Fits : JobRecord → Bool → Type 0
 Fits job on = FitsState job.state job.incoming job.held on
 
@@ -78,7 +78,7 @@ fits_after Fail Processing now job on is fits = refl
 fits_after Fail Stopped now job on is fits = refl
 fits_after Fail _ now job on is fits = tt
 
--- ---- what each call does to a job
+-- ---- the change of a job by each call
 
 settled_sound : (s : SpooledRecord) → IsSound s → IsSound (settled s)
 settled_sound s sound = either IsSound (is_settled s) (record s { documents = [] }) s sound sound

@@ -53,7 +53,7 @@ fewer_removed (suc place) (s ∷ jobs) = fewer_if false s s jobs (remove jobs pl
 
 -- ---- the entries of the map
 
--- no more jobs are unfinished than the limit
+-- at most the limit of jobs are unfinished
 abbrev pub AreFew : List (ℕ × SpooledRecord) → Type 0
 AreFew es = unfinished_jobs (jobs_of es) ≤ UNFINISHED_JOBS
 

@@ -7,7 +7,7 @@
 //! jobs to devices is not of this crate; the spool has only a flag for each job that says whether a device
 //! has it.
 //!
-//! Its rows are traces of `play_examples`.
+//! The rows of the crate are traces of `play_examples`.
 #![tactic(auto)]
 
 mod asker;

@@ -1,4 +1,4 @@
--- What the first line of bytes tells, also where more bytes follow.
+-- The result for the first line of bytes stays the same if more bytes follow.
 use Rattle.std.specs.Prelude.{ℕ, ◌≡◌, ◌==◌, ◌++◌, ◌<◌, ◌≤◌, true, false, List, length, Option, Some, None, position, slice_index_or}
 use Rattle.std.proofs.Common.{rules, arith, refl}
 use Rattle.std.proofs.lemmas.List.Quantifiers.{position-Some}
@@ -26,7 +26,7 @@ line_grown most bytes coming count is =
     let parts = whole_line most bytes count is in
     search (rules, position_before (λ byte. byte == 10) bytes coming count parts.0, parts.1)
 
--- so many bytes without a line feed
+-- at least `most` bytes, without a line feed among the first `most`
 pub record IsEndless (most : ℕ) (bytes : List ℕ) : Type 0 where
   pub many : most ≤ length bytes
   pub none : (place : ℕ) → place < most → (slice_index_or bytes place 0 == 10) ≡ false

@@ -15,13 +15,13 @@ position_before p xs ys i found =
     position_or_len_is p (xs ++ ys) i 0 (omega (arith, long)) (λ k low. rw (get_or_append_left xs ys 0 k (omega (arith, low, at.0))) (at.2 k low)) (λ _. rw (get_or_append_left xs ys 0 i at.0) at.1) in
     search (rules, same, long)
 
--- where none passes, each fails
+-- if no byte passes, each byte fails
 pub each_fails : (p : ℕ → Bool) (xs : List ℕ) → position p xs ≡ None → (k d : ℕ) → k < length xs → p (slice_index_or xs k d) ≡ false
 each_fails p xs absent k d low =
     let far : length xs ≤ position_or_len p xs = search rules in
     fails_before_first p xs k d (omega (arith, low, far))
 
--- where none passes among the first, none does before them, whatever follows
+-- if no byte among the first passes, the first byte that passes is behind them
 pub passes_late : (p : ℕ → Bool) (xs : List ℕ) (most i : ℕ) → ((k : ℕ) → k < most → p (slice_index_or xs k 0) ≡ false) → position p xs ≡ Some i → most ≤ i
 passes_late p xs most i fails found = late (cases_lt i most)
   where

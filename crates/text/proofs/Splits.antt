@@ -1,4 +1,4 @@
--- The text before the first byte that passes, and what the rest is cut into.
+-- The text before the first byte that passes, and the texts into which the rest is cut.
 use Rattle.std.specs.Prelude.{ℕ, ◌≡◌, ◌++◌, ◌+◌, ◌<◌, ◌≤◌, Bool, false, List, [], ◌∷◌, length, take, drop, Option, Some, None, position, slice_index_or}
 use Rattle.std.specs.List.{slice_split}
 use Rattle.std.proofs.Common.{rules, arith, refl}
@@ -27,7 +27,7 @@ parts_of p xs (part ∷ parts) count cut many = record { first = part; later = p
 pub parts : (p : ℕ → Bool) (xs : List ℕ) → Parts p xs
 parts p xs = parts_of p xs (slice_split p xs) _ refl (length-slice_split p xs)
 
--- where more follows, the first text is the same
+-- if more bytes follow, the first text is the same
 pub split_before : (p : ℕ → Bool) (xs ys : List ℕ) (i : ℕ) → position p xs ≡ Some i → slice_split p (xs ++ ys) ≡ take i xs ∷ slice_split p (drop (i + 1) xs ++ ys)
 split_before p xs ys i found =
     let at : i < length xs = search (rules, position-Some p xs i 0 found) in
@@ -35,7 +35,7 @@ split_before p xs ys i found =
     let rest : drop (i + 1) (xs ++ ys) ≡ drop (i + 1) xs ++ ys = drop-append-le (i + 1) xs ys (omega (arith, at)) in
     search (rules, split_at p (xs ++ ys) i (position_before p xs ys i found), first, rest)
 
--- where no byte passes among the first, the first text has at least these
+-- if no byte among the first passes, the first text has at least these bytes
 pub first_is_long : (p : ℕ → Bool) (xs : List ℕ) (n : ℕ) → n ≤ length xs → ((k : ℕ) → k < n → p (slice_index_or xs k 0) ≡ false) → (it : Parts p xs) × (n ≤ length it.first)
 first_is_long p xs n many fails = by_position (position p xs) refl
   where

@@ -100,7 +100,7 @@ pairs_back i (a ∷ b ∷ digits) bytes is low =
     let back_end : slice_index lower_digits (pair.0 % 16) ≡ b = ap (slice_index lower_digits) end ∙ written_back b second.0 lower rest.0 in
     rw (← whole, front, back_end) (ap (λ l. a ∷ b ∷ l) back)
 
--- what decodes, with no capital, are the written digits of bytes
+-- digits that can be decoded, without a capital, are the written digits of bytes
 pub written_of : (digits bytes : List ℕ) → decode_of digits ≡ Ok bytes → has_capital digits ≡ false → digits ≡ encode_lower bytes
 written_of digits bytes is low =
     let even = (decode_of-ok digits bytes is).0 in

@@ -63,7 +63,7 @@ no_name names said name rest cut unknown = no_device names said (λ place report
     let known : position (λ device. bytes_eq device name) names ≡ Some place = rw same.0 it.known in
     cc (sym known ∙ unknown))
 
--- what a line reports is found, or it reports nothing
+-- the report of a line is found, or the line has no report
 pub found_report : (line : List ℕ) (found : Option Report) → option_map report_of found ≡ reported_by line → Finds (IsReportIn line) found
 found_report line (Some report) is = sym is
 found_report line None is = λ report says. let no : None ≡ Some (report_of report) = is ∙ says in cc

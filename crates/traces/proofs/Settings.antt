@@ -8,7 +8,7 @@ use Rattle.std.proofs.lemmas.List.Folds.{list_all-append}
 use Rattle.traces.specs.Lines.{lines_of, is_stop, HasNoStop, IsFirst, IsOneLine, IsEnded, IsSplit}
 use Rattle.traces.proofs.Texts.{first_line, last_line, no_line, lines_joined}
 
--- these bytes of the trace are left, after so many lines, none of which is the stop
+-- these bytes of the trace are left behind `count` lines, none of which is the stop
 pub record Passed (trace rest : List ℕ) (count : ℕ) : Type 0 where
   pub settings : List ℕ
   pub joined : trace ≡ settings ++ rest
@@ -19,7 +19,7 @@ pub record Passed (trace rest : List ℕ) (count : ℕ) : Type 0 where
 pub passed_nothing : (trace : List ℕ) → Passed trace trace 0
 passed_nothing trace = record { settings = []; joined = refl; none = rw no_line refl; number = rw no_line refl; whole = inl (inl refl) }
 
--- bytes are left, so what is passed is whole
+-- if bytes are left, the passed lines are whole
 whole_before : (settings rest : List ℕ) → IsEnded settings ⊎ (rest ≡ []) → 0 < length rest → IsEnded settings
 whole_before settings rest (inl whole) some = whole
 whole_before settings rest (inr empty) some = absurd (omega (arith, ap length empty, some))

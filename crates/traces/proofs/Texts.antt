@@ -13,7 +13,7 @@ pub nothing_in : (bytes : List ℕ) → length bytes ≡ 0 → bytes ≡ []
 nothing_in [] none = refl
 nothing_in (byte ∷ bytes) none = absurd (omega (arith, none))
 
--- what stands before the last text keeps its texts, also the empty ones
+-- the texts before the last text are kept, also the empty texts
 end_after : (front : List (List ℕ)) (text : List ℕ) (more : List (List ℕ)) → without_end (front ++ (text ∷ more)) ≡ front ++ without_end (text ∷ more)
 unfolding without_end
 end_after [] text more = refl

@@ -7,8 +7,8 @@
 //! The connections of a trace have numbers of the trace's own ([`Connection`]). Their peers are in memory
 //! ([`wires::MemoryWire`]), and send the bytes of the trace. `docs/TRACES.md` describes each line.
 //!
-//! The playing of a trace, and so the order of the printed lines, is in other crates. Its rows are traces of
-//! `play_examples`.
+//! The playing of a trace, and so the order of the printed lines, is in other crates. The rows of the crate
+//! are traces of `play_examples`.
 #![tactic(auto)]
 
 mod line;

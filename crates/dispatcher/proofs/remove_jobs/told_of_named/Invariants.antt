@@ -3,7 +3,7 @@ use Rattle.listings.specs.Removal.{is_named, named_jobs}
 use Rattle.dispatcher.specs.RemoveJobs.{cancels_of_each}
 use Rattle.dispatcher.proofs.remove_jobs.told_of_named.Given as goal
 
--- those added, and those of the jobs that are left, are all
+-- the appended cancels and the cancels for the jobs that are left are all cancels
 abbrev pub invariant-loop-spooled : goal.invariant-loop-spooled
 invariant-loop-spooled l =
     l.cancels.items ++ cancels_of_each (map (λ s. s.job.id) (filter (λ s. is_named l.place l.request s.job) (drop l.spooled-index l.spooled-items))) l.room

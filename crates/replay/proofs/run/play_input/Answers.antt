@@ -4,7 +4,7 @@ use Rattle.program.specs.declared.exit_status.ExitStatus.{ExitStatus}
 use Rattle.replay.specs.Replay.{InputGives, InputLeaves}
 use Rattle.replay.proofs.run.play_input.Goals as goal
 
--- what there is to write where the output can't be written whole
+-- the text to be written where the output can't be written whole
 left_to_write : (texts : Bool) (before after : Option (List ℕ)) (due : List ℕ) (answer : Option ExitStatus) → IfSome answer (λ status. InputGives texts before after (record { text = due; status = status })) → (IsNone answer → InputLeaves texts before after due) → InputLeaves texts before after due
 left_to_write texts before after due None gives leaves = leaves refl
 left_to_write texts before after due (Some status) gives leaves = inr (inr (record { text = due; status = status }, gives, refl))

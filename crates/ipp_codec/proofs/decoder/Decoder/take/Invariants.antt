@@ -2,7 +2,7 @@ use Rattle.std.proofs.Common.{◌≡◌, ◌≤◌, ◌+◌, List, ℕ, ◌++◌
 use Rattle.ipp_codec.specs.Decoder.{TakesIn}
 use Rattle.ipp_codec.proofs.decoder.Decoder.take.Given as goal
 
--- what was taken of the piece
+-- the taken part of the piece
 abbrev pub invariant-loop-self : goal.invariant-loop-self
 invariant-loop-self l =
     (taken : List ℕ) × (l.piece ≡ taken ++ l.rest) × TakesIn l.fn.self taken l.self

@@ -4,7 +4,7 @@ use Rattle.std.specs.Option.{option_map_or}
 use Rattle.lpd.specs.Pending.{PendingRecord, JobFileRecord, prints, without}
 use Rattle.lpd.proofs.pending.Pending.drop_job.Goals as goal
 
--- a control file was taken, and what it prints left
+-- a control file was taken out, and the files that it prints left
 dropped : (before taken after : PendingRecord) (place : ℕ) (control : JobFileRecord) → Some control ≡ slice_get before.controls place → taken ≡ record before { controls = remove before.controls place }
     → after ≡ record taken { files = filter (λ file. not (prints control file)) taken.files } → after ≡ without place before
 dropped before taken after place control is left printed =
