@@ -27,7 +27,7 @@ use Rattle.attach_orders.specs.declared.order.JobNumbers.{JobNumbers}
 use Rattle.attach_orders.specs.declared.order.Order.{Order}
 use Rattle.attach_orders.specs.declared.order.Order.TheVariants.{Job, Cancel}
 use Rattle.attach_orders.specs.Line.{id_in, octets_in, copies_in, numbers_in, sides_in, finishings_in, job_said, cancel_said, described, said, order_in, above_zero}
-use Rattle.attach_orders.specs.Stream.{Said, Orders, HasOctet, InLine, Heard, with_front, octets_left, octets_after, line_heard, heard_from, orders_heard}
+use Rattle.attach_orders.specs.Stream.{OrderElement, Orders, HasOctet, InLine, ParsedOrders, with_front, octets_left, octets_after, line_parsed, parsed_from, orders_in}
 use Rattle.attach_orders.specs.Sent.{Wanted, ToPrint, ToCancel, sent, meant, IsWithin, AreWithin, all_sent, all_meant}
 use Rattle.attach_orders.proofs.Streams.{heard_then, line_whole, octets_first}
 
@@ -114,18 +114,18 @@ cancel_back id is =
     ap said words ∙ ap (λ (o : Option ℕ). option_map Cancel o) (id_back id is)
 
 -- a line that is one of the server's
-line_ordered : (line : List ℕ) (order : Order) (rest : List ℕ) → Lacks 10 line → length line ≤ 1000 → order_in line ≡ Some order → orders_heard (line ++ (10 ∷ rest)) ≡ with_front (Orders order ∷ []) (heard_from (octets_left (octets_after order)) rest)
+line_ordered : (line : List ℕ) (order : Order) (rest : List ℕ) → Lacks 10 line → length line ≤ 1000 → order_in line ≡ Some order → orders_in (line ++ (10 ∷ rest)) ≡ with_front (Orders order ∷ []) (parsed_from (octets_left (octets_after order)) rest)
 line_ordered line order rest lacks short says =
-    line_whole [] line rest lacks (omega (arith, short)) ∙ ap (λ (o : Option Order). with_front (line_heard o).said (heard_from (line_heard o).place rest)) says
+    line_whole [] line rest lacks (omega (arith, short)) ∙ ap (λ (o : Option Order). with_front (line_parsed o).said (parsed_from (line_parsed o).place rest)) says
 
-cancel_heard : (id : ℕ) → IsJobId id → orders_heard (cancel_line id) ≡ record { said = Orders (Cancel id) ∷ []; place = InLine [] }
+cancel_heard : (id : ℕ) → IsJobId id → orders_in (cancel_line id) ≡ record { said = Orders (Cancel id) ∷ []; place = InLine [] }
 cancel_heard id is =
     let fits : id < 2 ^ 64 = omega (arith, is.1) in
     let line = codes "CANCEL " ++ decimal id in
     let lacks : Lacks 10 line = joined_lacks 10 (codes "CANCEL ") (decimal id) (lacks_by (isnt 10) 10 refl (codes "CANCEL ") refl) (decimal_lacks 10 id refl fits) in
     let digits : length (decimal id) ≤ 10 = length-decimal-le 10 id (lit< tt) (omega (arith, is.1)) fits in
     let short : length line ≤ 1000 = omega (arith, digits, length-append (codes "CANCEL ") (decimal id)) in
-    ap (λ (b : List ℕ). orders_heard b) (sym (append_assoc (codes "CANCEL ") (decimal id) (10 ∷ [])))
+    ap (λ (b : List ℕ). orders_in b) (sym (append_assoc (codes "CANCEL ") (decimal id) (10 ∷ [])))
     ∙ line_ordered line (Cancel id) [] lacks short (cancel_back id is)
 
 -- ---- the line of a job
@@ -289,32 +289,32 @@ job_line_is id octets needs more =
     let all : job_line id octets needs ≡ on_line id octets needs ++ end = ap (behind (codes "JOB")) first ∙ sym (behind_then (codes "JOB") (behind a (behind b (behind c (behind s m)))) end) in
     ap (λ (t : List ℕ). t ++ more) all ∙ append_assoc (on_line id octets needs) end more
 
-octets_all : (octets : List ℕ) → heard_from (octets_left (length octets)) octets ≡ record { said = map HasOctet octets; place = InLine [] }
+octets_all : (octets : List ℕ) → parsed_from (octets_left (length octets)) octets ≡ record { said = map HasOctet octets; place = InLine [] }
 octets_all octets =
     let first = octets_first octets [] 0 in
-    let count : heard_from (octets_left (length octets)) (octets ++ []) ≡ with_front (map HasOctet octets) (heard_from (octets_left 0) []) = subst (λ (n : ℕ). heard_from (octets_left n) (octets ++ []) ≡ with_front (map HasOctet octets) (heard_from (octets_left 0) [])) (add-zero (length octets)) first in
-    ap (λ (b : List ℕ). heard_from (octets_left (length octets)) b) (sym (append-nil octets)) ∙ count
-    ∙ ap (λ (s : List Said). record { said = s; place = InLine [] }) (append-nil (map HasOctet octets))
+    let count : parsed_from (octets_left (length octets)) (octets ++ []) ≡ with_front (map HasOctet octets) (parsed_from (octets_left 0) []) = subst (λ (n : ℕ). parsed_from (octets_left n) (octets ++ []) ≡ with_front (map HasOctet octets) (parsed_from (octets_left 0) [])) (add-zero (length octets)) first in
+    ap (λ (b : List ℕ). parsed_from (octets_left (length octets)) b) (sym (append-nil octets)) ∙ count
+    ∙ ap (λ (s : List OrderElement). record { said = s; place = InLine [] }) (append-nil (map HasOctet octets))
 
-job_heard : (id : ℕ) (octets : List ℕ) (needs : JobNeeds) → IsWithin (ToPrint id octets needs) → orders_heard (sent (ToPrint id octets needs)) ≡ record { said = meant (ToPrint id octets needs); place = InLine [] }
+job_heard : (id : ℕ) (octets : List ℕ) (needs : JobNeeds) → IsWithin (ToPrint id octets needs) → orders_in (sent (ToPrint id octets needs)) ≡ record { said = meant (ToPrint id octets needs); place = InLine [] }
 job_heard id octets needs within =
     let is = within.0 in
     let few = within.1 in
     let some = within.2 in
     let media = within.3 in
     let short = job_short id (length octets) needs is few some media in
-    ap (λ (b : List ℕ). orders_heard b) (job_line_is id (length octets) needs octets)
+    ap (λ (b : List ℕ). orders_in b) (job_line_is id (length octets) needs octets)
     ∙ line_ordered (on_line id (length octets) needs) (job_of id (length octets) needs) octets short.lacks (omega (arith, short.few)) (job_back id (length octets) needs is few some media)
-    ∙ ap (λ (h : Heard). with_front (Orders (job_of id (length octets) needs) ∷ []) h) (octets_all octets)
+    ∙ ap (λ (h : ParsedOrders). with_front (Orders (job_of id (length octets) needs) ∷ []) h) (octets_all octets)
 
 -- ---- one after the other
 
-heard_one : (wanted : Wanted) → IsWithin wanted → orders_heard (sent wanted) ≡ record { said = meant wanted; place = InLine [] }
+heard_one : (wanted : Wanted) → IsWithin wanted → orders_in (sent wanted) ≡ record { said = meant wanted; place = InLine [] }
 heard_one (ToPrint id octets needs) within = job_heard id octets needs within
 heard_one (ToCancel id) within = cancel_heard id within
 
-pub heard_all : (wanted : List Wanted) → AreWithin wanted → orders_heard (all_sent wanted) ≡ record { said = all_meant wanted; place = InLine [] }
+pub heard_all : (wanted : List Wanted) → AreWithin wanted → orders_in (all_sent wanted) ≡ record { said = all_meant wanted; place = InLine [] }
 heard_all [] within = refl
 heard_all (first ∷ later) within =
     heard_then (InLine []) (sent first) (all_sent later) (record { said = meant first; place = InLine [] }) (heard_one first within.0)
-    ∙ ap (λ (h : Heard). with_front (meant first) h) (heard_all later within.1)
+    ∙ ap (λ (h : ParsedOrders). with_front (meant first) h) (heard_all later within.1)

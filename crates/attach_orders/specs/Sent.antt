@@ -6,7 +6,7 @@ use Rattle.base_types.specs.Forms.{is_media}
 use Rattle.base_types.specs.Ranges.{IsJobId, IsCopies}
 use Rattle.device_link.specs.Orders.{job_line, cancel_line}
 use Rattle.attach_orders.specs.declared.order.Order.TheVariants.{Job, Cancel}
-use Rattle.attach_orders.specs.Stream.{Said, Orders, HasOctet, InLine, orders_heard}
+use Rattle.attach_orders.specs.Stream.{OrderElement, Orders, HasOctet, InLine, orders_in}
 
 -- an order of the server to a device
 pub data Wanted : Type 0 where
@@ -19,7 +19,7 @@ sent (ToPrint job octets needs) = job_line job (length octets) needs ++ octets
 sent (ToCancel job) = cancel_line job
 
 -- the items that a device has to read
-abbrev pub meant : Wanted → List Said
+abbrev pub meant : Wanted → List OrderElement
 meant (ToPrint job octets needs) =
     Orders (Job (record { job = job; octets = length octets; copies = needs.copies; sides = needs.sides; finishings = needs.finishings; media = needs.media })) ∷ map HasOctet octets
 meant (ToCancel job) = Orders (Cancel job) ∷ []
@@ -37,10 +37,10 @@ abbrev pub all_sent : List Wanted → List ℕ
 all_sent [] = []
 all_sent (first ∷ later) = sent first ++ all_sent later
 
-abbrev pub all_meant : List Wanted → List Said
+abbrev pub all_meant : List Wanted → List OrderElement
 all_meant [] = []
 all_meant (first ∷ later) = meant first ++ all_meant later
 
 -- the bytes of orders are read as their items, and the next line may follow
-abbrev pub HeardAsMeant : Type 0
-HeardAsMeant = (wanted : List Wanted) → AreWithin wanted → orders_heard (all_sent wanted) ≡ record { said = all_meant wanted; place = InLine [] }
+abbrev pub ParsedAsMeant : Type 0
+ParsedAsMeant = (wanted : List Wanted) → AreWithin wanted → orders_in (all_sent wanted) ≡ record { said = all_meant wanted; place = InLine [] }

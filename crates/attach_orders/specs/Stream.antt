@@ -12,9 +12,9 @@ use Rattle.attach_orders.specs.declared.fault.OrderError.TheVariants.{Fault, Out
 use Rattle.attach_orders.specs.Line.{order_in}
 
 -- an element that the stream says: an order, or an octet of a job
-pub data Said : Type 0 where
-  Orders : Order → Said
-  HasOctet : ℕ → Said
+pub data OrderElement : Type 0 where
+  Orders : Order → OrderElement
+  HasOctet : ℕ → OrderElement
 
 -- the place in a stream: in a line, of which these bytes have come; in a job, of which this many octets are still to come; or at the first fault
 pub data Place : Type 0 where
@@ -22,14 +22,14 @@ pub data Place : Type 0 where
   InJob : ℕ → Place
   AtFault : OrderFault → Place
 
-pub record Heard : Type 0 where
-  pub said : List Said
+pub record ParsedOrders : Type 0 where
+  pub said : List OrderElement
   pub place : Place
 
-abbrev pub with_front : List Said → Heard → Heard
+abbrev pub with_front : List OrderElement → ParsedOrders → ParsedOrders
 with_front front later = record { said = front ++ later.said; place = later.place }
 
-abbrev pub silent : Place → Heard
+abbrev pub silent : Place → ParsedOrders
 silent place = record { said = []; place = place }
 
 abbrev pub octets_left : ℕ → Place
@@ -40,28 +40,28 @@ abbrev pub octets_after : Order → ℕ
 octets_after (Job job) = job.octets
 octets_after (Cancel id) = 0
 
-abbrev pub line_heard : Option Order → Heard
-line_heard None = silent (AtFault BadLine)
-line_heard (Some order) = record { said = Orders order ∷ []; place = octets_left (octets_after order) }
+abbrev pub line_parsed : Option Order → ParsedOrders
+line_parsed None = silent (AtFault BadLine)
+line_parsed (Some order) = record { said = Orders order ∷ []; place = octets_left (octets_after order) }
 
 -- a line and its line feed together have at most DEVICE_LINE_BYTES bytes
-abbrev pub line_grown : List ℕ → ℕ → Heard
+abbrev pub line_grown : List ℕ → ℕ → ParsedOrders
 line_grown line byte = if nat_lt (length line + 1) DEVICE_LINE_BYTES then silent (InLine (line ++ byte ∷ [])) else silent (AtFault LineTooLong)
 
 -- what the next byte says
-unfoldable pub byte_heard : Place → ℕ → Heard
-byte_heard (InLine line) byte = if byte == 10 then line_heard (order_in line) else line_grown line byte
-byte_heard (InJob count) byte = record { said = HasOctet byte ∷ []; place = octets_left (count - 1) }
-byte_heard (AtFault fault) byte = silent (AtFault fault)
+unfoldable pub byte_parsed : Place → ℕ → ParsedOrders
+byte_parsed (InLine line) byte = if byte == 10 then line_parsed (order_in line) else line_grown line byte
+byte_parsed (InJob count) byte = record { said = HasOctet byte ∷ []; place = octets_left (count - 1) }
+byte_parsed (AtFault fault) byte = silent (AtFault fault)
 
 -- what bytes say from a place on
-abbrev pub heard_from : Place → List ℕ → Heard
-heard_from place [] = silent place
-heard_from place (byte ∷ bytes) = with_front (byte_heard place byte).said (heard_from (byte_heard place byte).place bytes)
+abbrev pub parsed_from : Place → List ℕ → ParsedOrders
+parsed_from place [] = silent place
+parsed_from place (byte ∷ bytes) = with_front (byte_parsed place byte).said (parsed_from (byte_parsed place byte).place bytes)
 
 -- what a whole stream of bytes says
-abbrev pub orders_heard : List ℕ → Heard
-orders_heard stream = heard_from (InLine []) stream
+abbrev pub orders_in : List ℕ → ParsedOrders
+orders_in stream = parsed_from (InLine []) stream
 
 -- the state of a reader: the octets of a job that it lends, the bytes that aren't read, how many octets of a job are among these and those to come, and the fault, if there was one
 pub record ReaderState : Type 0 where
@@ -78,17 +78,17 @@ abbrev pub place_of : ReaderState → Place
 place_of reader = place_by reader.fault reader.octets
 
 -- The reader was fed this stream and has given this. The stream says that first, and then what its bytes say that the reader hasn't read.
-abbrev pub Stands : List ℕ → List Said → ReaderState → Type 0
-Stands stream given reader = orders_heard stream ≡ with_front given (heard_from (place_of reader) reader.rest)
+abbrev pub HasRead : List ℕ → List OrderElement → ReaderState → Type 0
+HasRead stream given reader = orders_in stream ≡ with_front given (parsed_from (place_of reader) reader.rest)
 
 -- the reader went from one state to another and gave this from its stream
-abbrev pub Advances : ReaderState → List Said → ReaderState → Type 0
-Advances old said new = (stream : List ℕ) (given : List Said) → Stands stream given old → Stands stream (given ++ said) new
+abbrev pub Advances : ReaderState → List OrderElement → ReaderState → Type 0
+Advances old said new = (stream : List ℕ) (given : List OrderElement) → HasRead stream given old → HasRead stream (given ++ said) new
 
 -- what an item says, with the part that the reader lends
-abbrev pub said_by : OrderItem → List ℕ → List Said
-said_by (item.Order order) part = Orders order ∷ []
-said_by item.Octets part = map HasOctet part
+abbrev pub elements_of : OrderItem → List ℕ → List OrderElement
+elements_of (item.Order order) part = Orders order ∷ []
+elements_of item.Octets part = map HasOctet part
 
 -- an upper bound on the items that a reader can still give
 abbrev pub work : ReaderState → ℕ
@@ -96,9 +96,9 @@ work reader = length reader.rest
 
 -- the answer of a reader, and its state then: an item, which the stream says next; or none, and then the stream says no more; or a fault; or refused memory
 abbrev pub Answers : ReaderState → Result (Option OrderItem) OrderError → ReaderState → Type 0
-Answers old (Ok (Some said)) new = Advances old (said_by said new.part) new
-Answers old (Ok None) new = (new ≡ old) × ((stream : List ℕ) (given : List Said) → Stands stream given old → (orders_heard stream).said ≡ given)
+Answers old (Ok (Some said)) new = Advances old (elements_of said new.part) new
+Answers old (Ok None) new = (new ≡ old) × ((stream : List ℕ) (given : List OrderElement) → HasRead stream given old → (orders_in stream).said ≡ given)
 Answers old (Err (Fault fault)) new =
     (new ≡ record old { fault = Some fault })
-    × ((stream : List ℕ) (given : List Said) → Stands stream given old → (orders_heard stream ≡ record { said = given; place = AtFault fault }) × Stands stream given new)
+    × ((stream : List ℕ) (given : List OrderElement) → HasRead stream given old → (orders_in stream ≡ record { said = given; place = AtFault fault }) × HasRead stream given new)
 Answers old (Err OutOfMemory) new = new ≡ old

@@ -3,7 +3,7 @@ ghost use Rattle.std.specs.Prelude.{◌≡◌, ◌≤◌, ◌<◌, ◌+◌, ◌-
 ghost use Rattle.text.specs.FirstLine.{first_line_of};
 ghost use Rattle.text.specs.declared.line.FirstLine.TheVariants.{Whole};
 ghost use Rattle.attach_orders.specs.Line.{order_in};
-ghost use Rattle.attach_orders.specs.Stream.{Said, Stands, Answers, work, octets_after};
+ghost use Rattle.attach_orders.specs.Stream.{OrderElement, HasRead, Answers, work, octets_after};
 
 use crate::fault::{OrderError, OrderFault};
 use crate::line::read_line;
@@ -50,7 +50,7 @@ fn octets_after(order: &Order) -> u32
 impl OrderReader {
     /// Creates the reader of a new connection.
     pub fn new(alloc: Global) -> OrderReader
-        ensures { Stands [] [] result }
+        ensures { HasRead [] [] result }
     {
         OrderReader {
             alloc,
@@ -66,7 +66,7 @@ impl OrderReader {
     ///
     /// The only error is out of memory: then none of the bytes is taken, and the part stays lent.
     pub fn feed(&mut self, piece: &[u8]) -> Result<(), AllocError>
-        ensures fed { OnOk result ((stream : List ℕ) (given : List Said) → Stands stream given self.old → Stands (stream ++ piece.now) given self.new) }
+        ensures fed { OnOk result ((stream : List ℕ) (given : List OrderElement) → HasRead stream given self.old → HasRead (stream ++ piece.now) given self.new) }
         ensures err { OnErr result (self.new ≡ self.old) }
         ensures over { IsSome self.old.fault → IsOk result × (self.new ≡ self.old) }
     {

@@ -8,9 +8,9 @@ use Rattle.base_types.specs.declared.report.Report.{Report}
 use Rattle.base_types.specs.Report.{ReportRecord, report_of, SaysReady, SaysStop, SaysPages, SaysDone, SaysFail}
 use Rattle.attachment.specs.declared.state.PrinterState.{PrinterState}
 use Rattle.attachment.specs.declared.state.PrinterState.TheVariants.{Running, Stopped}
-use Rattle.attachment.specs.Life.{Event, Links, Ordered, Came, Canceled, Sent, EndsCopy, Printed, Is, Says, Leads}
+use Rattle.attachment.specs.Life.{Event, Links, Ordered, Came, Canceled, Sent, EndsCopy, Printed, Is, Reported, Leads}
 use Rattle.attachment.specs.Promises.{AnswersOnce, SendsTheJob, HeedsCancel, TellsState}
-use Rattle.attachment.specs.State.{WorkRecord, AttachmentRecord, id_of, sending_of, heeded_of, told_of, Stands, Lives, unsaid, due_of, due_in, copy_sent_in, HasRoom, said_by, end_report, fail_report, pages_report, state_report, begun, with_came, with_sent, with_copy, with_cancel, changed}
+use Rattle.attachment.specs.State.{WorkRecord, AttachmentRecord, id_of, sending_of, heeded_of, told_of, IsAfter, Lives, unsaid, due_of, due_in, copy_sent_in, HasRoom, said_by, end_report, fail_report, pages_report, state_report, begun, with_came, with_sent, with_copy, with_cancel, changed}
 
 -- ---- one event more
 
@@ -34,10 +34,10 @@ lives_by old event new allows life stands = record {
 }
 
 lives_still : (at : AttachmentRecord) → Lives at [] at
-lives_still at life stands = subst (λ l. Stands l at) (sym (append-nil life)) stands
+lives_still at life stands = subst (λ l. IsAfter l at) (sym (append-nil life)) stands
 
 lives_then : (old mid new : AttachmentRecord) (first : Event) (later : List Event) → Lives old (first ∷ []) mid → Lives mid later new → Lives old (first ∷ later) new
-lives_then old mid new first later x y life stands = subst (λ l. Stands l new) (append_assoc life (first ∷ []) later) (y (life ++ first ∷ []) (x life stands))
+lives_then old mid new first later x y life stands = subst (λ l. IsAfter l new) (append_assoc life (first ∷ []) later) (y (life ++ first ∷ []) (x life stands))
 
 -- ---- the server
 
@@ -149,7 +149,7 @@ lives_set old printer = lives_by old (Is printer) _ (set_by old.work old.printer
 
 abbrev events_of : Option ReportRecord → List Event
 events_of None = []
-events_of (Some report) = Says report ∷ []
+events_of (Some report) = Reported report ∷ []
 
 said_events : (report : Option Report) (said : Option ReportRecord) → option_map report_of report ≡ said → said_by report ≡ events_of said
 said_events None said is = ap events_of is
@@ -157,14 +157,14 @@ said_events (Some report) said is = ap events_of is
 
 pages_by : (work : Option WorkRecord) (printer : PrinterState) (told : Option PrinterState) (printed : ℕ) → Lives (record { work = work; printer = printer; told = told }) (events_of (option_map (pages_report printed) work)) (record { work = work; printer = printer; told = told })
 pages_by None printer told printed = lives_still (record { work = None; printer = printer; told = told })
-pages_by (Some work) printer told printed = lives_by (record { work = Some work; printer = printer; told = told }) (Says (SaysPages work.job printed)) _ (record { answers = (refl, refl); sends = refl; heeds = refl; tells = refl })
+pages_by (Some work) printer told printed = lives_by (record { work = Some work; printer = printer; told = told }) (Reported (SaysPages work.job printed)) _ (record { answers = (refl, refl); sends = refl; heeds = refl; tells = refl })
 
 pub lives_pages : (at : AttachmentRecord) (report : Option Report) (printed : ℕ) → option_map report_of report ≡ option_map (pages_report printed) at.work → Lives at (said_by report) at
 lives_pages at report printed is = subst (λ (e : List Event). Lives at e at) (sym (said_events report (option_map (pages_report printed) at.work) is)) (pages_by at.work at.printer at.told printed)
 
 fail_by : (work : Option WorkRecord) (printer : PrinterState) (told : Option PrinterState) → Lives (record { work = work; printer = printer; told = told }) (events_of (option_map fail_report work)) (record { work = None; printer = printer; told = told })
 fail_by None printer told = lives_still (record { work = None; printer = printer; told = told })
-fail_by (Some work) printer told = lives_by (record { work = Some work; printer = printer; told = told }) (Says (SaysFail work.job)) _ (record { answers = (refl, refl); sends = refl; heeds = refl; tells = refl })
+fail_by (Some work) printer told = lives_by (record { work = Some work; printer = printer; told = told }) (Reported (SaysFail work.job)) _ (record { answers = (refl, refl); sends = refl; heeds = refl; tells = refl })
 
 pub lives_failed : (old : AttachmentRecord) (report : Option Report) → option_map report_of report ≡ option_map fail_report old.work → Lives old (said_by report) (record old { work = None })
 lives_failed old report is = subst (λ (e : List Event). Lives old e (record old { work = None })) (sym (said_events report (option_map fail_report old.work) is)) (fail_by old.work old.printer old.told)
@@ -176,7 +176,7 @@ record IsPrinted (life : List Event) (work : WorkRecord) (printer : PrinterState
   heeds : Leads HeedsCancel None life (Some (heeded_of work))
   tells : Leads TellsState unsaid life (record { printer = printer; told = told })
 
-printed_by : (life : List Event) (work : WorkRecord) (printer : PrinterState) (told : Option PrinterState) → Stands life (record { work = Some work; printer = printer; told = told }) → IsPrinted (life ++ Printed ∷ []) work printer told
+printed_by : (life : List Event) (work : WorkRecord) (printer : PrinterState) (told : Option PrinterState) → IsAfter life (record { work = Some work; printer = printer; told = told }) → IsPrinted (life ++ Printed ∷ []) work printer told
 printed_by life work printer told stands = record {
   answers = leads_then AnswersOnce None life _ Printed (Some work.job) stands.answers refl;
   sends = leads_then SendsTheJob None life _ Printed _ stands.sends refl;
@@ -184,20 +184,20 @@ printed_by life work printer told stands = record {
   tells = leads_then TellsState unsaid life _ Printed _ stands.tells refl;
 }
 
-ended_by : (life : List Event) (work : WorkRecord) (printer : PrinterState) (told : Option PrinterState) (all : Bool) → (work.copies == work.times) ≡ all → IsPrinted life work printer told → Stands (life ++ Says (if all then SaysDone work.job else SaysFail work.job) ∷ []) (record { work = None; printer = printer; told = told })
+ended_by : (life : List Event) (work : WorkRecord) (printer : PrinterState) (told : Option PrinterState) (all : Bool) → (work.copies == work.times) ≡ all → IsPrinted life work printer told → IsAfter (life ++ Reported (if all then SaysDone work.job else SaysFail work.job) ∷ []) (record { work = None; printer = printer; told = told })
 ended_by life work printer told true is at =
     let done : work.copies ≡ work.times = grind (arith, is) in
     record {
-      answers = leads_then AnswersOnce None life _ (Says (SaysDone work.job)) None at.answers (refl, refl);
-      sends = leads_then SendsTheJob None life _ (Says (SaysDone work.job)) None at.sends (done, refl, refl);
-      heeds = leads_then HeedsCancel None life _ (Says (SaysDone work.job)) None at.heeds refl;
-      tells = leads_then TellsState unsaid life _ (Says (SaysDone work.job)) _ at.tells refl;
+      answers = leads_then AnswersOnce None life _ (Reported (SaysDone work.job)) None at.answers (refl, refl);
+      sends = leads_then SendsTheJob None life _ (Reported (SaysDone work.job)) None at.sends (done, refl, refl);
+      heeds = leads_then HeedsCancel None life _ (Reported (SaysDone work.job)) None at.heeds refl;
+      tells = leads_then TellsState unsaid life _ (Reported (SaysDone work.job)) _ at.tells refl;
     }
 ended_by life work printer told false is at = record {
-  answers = leads_then AnswersOnce None life _ (Says (SaysFail work.job)) None at.answers (refl, refl);
-  sends = leads_then SendsTheJob None life _ (Says (SaysFail work.job)) None at.sends refl;
-  heeds = leads_then HeedsCancel None life _ (Says (SaysFail work.job)) None at.heeds refl;
-  tells = leads_then TellsState unsaid life _ (Says (SaysFail work.job)) _ at.tells refl;
+  answers = leads_then AnswersOnce None life _ (Reported (SaysFail work.job)) None at.answers (refl, refl);
+  sends = leads_then SendsTheJob None life _ (Reported (SaysFail work.job)) None at.sends refl;
+  heeds = leads_then HeedsCancel None life _ (Reported (SaysFail work.job)) None at.heeds refl;
+  tells = leads_then TellsState unsaid life _ (Reported (SaysFail work.job)) _ at.tells refl;
 }
 
 nothing_printed : (printer : PrinterState) (told : Option PrinterState) → Lives (record { work = None; printer = printer; told = told }) (Printed ∷ []) (record { work = None; printer = printer; told = told })
@@ -207,7 +207,7 @@ finish_by : (work : Option WorkRecord) (printer : PrinterState) (told : Option P
 finish_by None printer told = nothing_printed printer told
 finish_by (Some work) printer told = λ life stands.
     let new : AttachmentRecord = record { work = None; printer = printer; told = told } in
-    subst (λ l. Stands l new) (append_assoc life (Printed ∷ []) (Says (end_report work) ∷ [])) (ended_by (life ++ Printed ∷ []) work printer told (work.copies == work.times) refl (printed_by life work printer told stands))
+    subst (λ l. IsAfter l new) (append_assoc life (Printed ∷ []) (Reported (end_report work) ∷ [])) (ended_by (life ++ Printed ∷ []) work printer told (work.copies == work.times) refl (printed_by life work printer told stands))
 
 pub lives_finished : (old : AttachmentRecord) (report : Option Report) → option_map report_of report ≡ option_map end_report old.work → Lives old (Printed ∷ said_by report) (record old { work = None })
 lives_finished old report is = subst (λ (e : List Event). Lives old (Printed ∷ e) (record old { work = None })) (sym (said_events report (option_map end_report old.work) is)) (finish_by old.work old.printer old.told)
@@ -217,11 +217,11 @@ IsState SaysReady = Unit {0}
 IsState SaysStop = Unit {0}
 IsState report = ⊥
 
-says_state : (work : Option WorkRecord) (printer : PrinterState) (told new : Option PrinterState) (report : ReportRecord) → TellsState (record { printer = printer; told = told }) (Says report) (record { printer = printer; told = new }) → IsState report → Lives (record { work = work; printer = printer; told = told }) (Says report ∷ []) (record { work = work; printer = printer; told = new })
-says_state None printer told new SaysReady tells is = lives_by _ (Says SaysReady) _ (record { answers = refl; sends = refl; heeds = refl; tells = tells })
-says_state None printer told new SaysStop tells is = lives_by _ (Says SaysStop) _ (record { answers = refl; sends = refl; heeds = refl; tells = tells })
-says_state (Some work) printer told new SaysReady tells is = lives_by _ (Says SaysReady) _ (record { answers = refl; sends = refl; heeds = refl; tells = tells })
-says_state (Some work) printer told new SaysStop tells is = lives_by _ (Says SaysStop) _ (record { answers = refl; sends = refl; heeds = refl; tells = tells })
+says_state : (work : Option WorkRecord) (printer : PrinterState) (told new : Option PrinterState) (report : ReportRecord) → TellsState (record { printer = printer; told = told }) (Reported report) (record { printer = printer; told = new }) → IsState report → Lives (record { work = work; printer = printer; told = told }) (Reported report ∷ []) (record { work = work; printer = printer; told = new })
+says_state None printer told new SaysReady tells is = lives_by _ (Reported SaysReady) _ (record { answers = refl; sends = refl; heeds = refl; tells = tells })
+says_state None printer told new SaysStop tells is = lives_by _ (Reported SaysStop) _ (record { answers = refl; sends = refl; heeds = refl; tells = tells })
+says_state (Some work) printer told new SaysReady tells is = lives_by _ (Reported SaysReady) _ (record { answers = refl; sends = refl; heeds = refl; tells = tells })
+says_state (Some work) printer told new SaysStop tells is = lives_by _ (Reported SaysStop) _ (record { answers = refl; sends = refl; heeds = refl; tells = tells })
 says_state work printer told new report tells is = absurd is
 
 tell_by : (work : Option WorkRecord) (printer : PrinterState) (told : Option PrinterState) → Lives (record { work = work; printer = printer; told = told }) (events_of (state_report printer told)) (record { work = work; printer = printer; told = Some printer })

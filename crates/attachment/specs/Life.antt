@@ -21,7 +21,7 @@ pub data Event : Type 0 where
   -- the printer runs, or stops
   Is : PrinterState → Event
   -- a report to the server
-  Says : ReportRecord → Event
+  Reported : ReportRecord → Event
 
 -- a life leads from one state to another, event by event
 abbrev pub Leads : {P : Type 0} → (P → Event → P → Type 0) → P → List Event → P → Type 0

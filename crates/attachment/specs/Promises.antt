@@ -3,16 +3,16 @@ use Rattle.std.specs.Prelude.{ℕ, ◌≡◌, ◌+◌, ◌<◌, ◌≤◌, ◌==
 use Rattle.base_types.specs.Report.{SaysReady, SaysStop, SaysPages, SaysDone, SaysFail}
 use Rattle.attachment.specs.declared.state.PrinterState.{PrinterState}
 use Rattle.attachment.specs.declared.state.PrinterState.TheVariants.{Running, Stopped}
-use Rattle.attachment.specs.Life.{Event, Links, Ordered, Came, Canceled, Sent, EndsCopy, Printed, Is, Says}
+use Rattle.attachment.specs.Life.{Event, Links, Ordered, Came, Canceled, Sent, EndsCopy, Printed, Is, Reported}
 
 -- ---- each job is answered once: between a job and the next there is exactly one DONE or FAIL with the job's id, and each PAGES before it has that id too. The state is the job that isn't answered yet.
 
 abbrev pub AnswersOnce : Option ℕ → Event → Option ℕ → Type 0
 AnswersOnce asked Links next = next ≡ None
 AnswersOnce asked (Ordered job octets times) next = (asked ≡ None) × (next ≡ Some job)
-AnswersOnce asked (Says (SaysDone job)) next = (asked ≡ Some job) × (next ≡ None)
-AnswersOnce asked (Says (SaysFail job)) next = (asked ≡ Some job) × (next ≡ None)
-AnswersOnce asked (Says (SaysPages job printed)) next = (asked ≡ Some job) × (next ≡ asked)
+AnswersOnce asked (Reported (SaysDone job)) next = (asked ≡ Some job) × (next ≡ None)
+AnswersOnce asked (Reported (SaysFail job)) next = (asked ≡ Some job) × (next ≡ None)
+AnswersOnce asked (Reported (SaysPages job printed)) next = (asked ≡ Some job) × (next ≡ asked)
 AnswersOnce asked event next = next ≡ asked
 
 -- ---- the octets that are sent are the job's: the octets of each copy as they came, in order, and the next copy once the copy before is sent; DONE is reported once the job was sent in all its copies, and is printed.
@@ -38,8 +38,8 @@ JobSends job (Came octets) next = (length (job.came ++ octets) ≤ job.octets) �
 JobSends job (Sent octets) next = (job.copies < job.times) × AreNext octets job.sent job.came × (next ≡ Some (record job { sent = job.sent + length octets }))
 JobSends job EndsCopy next = (job.copies < job.times) × (job.sent ≡ job.octets) × (next ≡ Some (record job { sent = 0; copies = job.copies + 1 }))
 JobSends job Printed next = next ≡ Some (record job { printed = true })
-JobSends job (Says (SaysDone id)) next = (job.copies ≡ job.times) × (job.printed ≡ true) × (next ≡ None)
-JobSends job (Says (SaysFail id)) next = next ≡ None
+JobSends job (Reported (SaysDone id)) next = (job.copies ≡ job.times) × (job.printed ≡ true) × (next ≡ None)
+JobSends job (Reported (SaysFail id)) next = next ≡ None
 JobSends job event next = next ≡ Some job
 
 -- no octet comes or is sent without a job
@@ -67,8 +67,8 @@ abbrev pub JobHeeds : Heeded → Event → Option Heeded → Type 0
 JobHeeds at Links next = next ≡ None
 JobHeeds at (Canceled job) next = next ≡ Some (canceled_if job at)
 JobHeeds at (Sent octets) next = (at.canceled ≡ false) × (next ≡ Some at)
-JobHeeds at (Says (SaysDone job)) next = next ≡ None
-JobHeeds at (Says (SaysFail job)) next = next ≡ None
+JobHeeds at (Reported (SaysDone job)) next = next ≡ None
+JobHeeds at (Reported (SaysFail job)) next = next ≡ None
 JobHeeds at event next = next ≡ Some at
 
 abbrev pub HeedsCancel : Option Heeded → Event → Option Heeded → Type 0
@@ -85,6 +85,6 @@ pub record Told : Type 0 where
 abbrev pub TellsState : Told → Event → Told → Type 0
 TellsState at Links next = next ≡ record at { told = None }
 TellsState at (Is printer) next = next ≡ record at { printer = printer }
-TellsState at (Says SaysReady) next = (at.printer ≡ Running) × (at.told ≡ Some Running → ⊥) × (next ≡ record at { told = Some Running })
-TellsState at (Says SaysStop) next = (at.printer ≡ Stopped) × (at.told ≡ Some Stopped → ⊥) × (next ≡ record at { told = Some Stopped })
+TellsState at (Reported SaysReady) next = (at.printer ≡ Running) × (at.told ≡ Some Running → ⊥) × (next ≡ record at { told = Some Running })
+TellsState at (Reported SaysStop) next = (at.printer ≡ Stopped) × (at.told ≡ Some Stopped → ⊥) × (next ≡ record at { told = Some Stopped })
 TellsState at event next = next ≡ at

@@ -4,7 +4,7 @@ use Rattle.base_types.specs.declared.report.Report.{Report}
 use Rattle.base_types.specs.Report.{ReportRecord, report_of, SaysReady, SaysStop, SaysPages, SaysDone, SaysFail}
 use Rattle.attachment.specs.declared.state.PrinterState.{PrinterState}
 use Rattle.attachment.specs.declared.state.PrinterState.TheVariants.{Running, Stopped}
-use Rattle.attachment.specs.Life.{Event, Says, Leads}
+use Rattle.attachment.specs.Life.{Event, Reported, Leads}
 use Rattle.attachment.specs.Promises.{Sending, Heeded, Told, AnswersOnce, SendsTheJob, HeedsCancel, TellsState}
 
 -- a job in hand: the number of its octets and those that have come, how often it is to be sent and was sent, how many octets of this copy are sent, and whether it is canceled
@@ -39,7 +39,7 @@ abbrev pub unsaid : Told
 unsaid = record { printer = Running; told = None }
 
 -- this life led to the attachment's state, and keeps each promise
-pub record Stands (life : List Event) (at : AttachmentRecord) : Type 0 where
+pub record IsAfter (life : List Event) (at : AttachmentRecord) : Type 0 where
   pub answers : Leads AnswersOnce None life (option_map id_of at.work)
   pub sends : Leads SendsTheJob None life (option_map sending_of at.work)
   pub heeds : Leads HeedsCancel None life (option_map heeded_of at.work)
@@ -47,7 +47,7 @@ pub record Stands (life : List Event) (at : AttachmentRecord) : Type 0 where
 
 -- these events lead the attachment on, for each life before
 abbrev pub Lives : AttachmentRecord → List Event → AttachmentRecord → Type 0
-Lives old events new = (life : List Event) → Stands life old → Stands (life ++ events) new
+Lives old events new = (life : List Event) → IsAfter life old → IsAfter (life ++ events) new
 
 -- the octets of a job that may be sent
 abbrev pub due_of : WorkRecord → List ℕ
@@ -76,7 +76,7 @@ HasRoom (Some work) count = length work.came + count ≤ work.octets
 
 abbrev pub said_by : Option Report → List Event
 said_by None = []
-said_by (Some report) = Says (report_of report) ∷ []
+said_by (Some report) = Reported (report_of report) ∷ []
 
 -- a job that the printer has printed is done if it was sent as often as it was to be
 abbrev pub end_report : WorkRecord → ReportRecord

@@ -2,7 +2,7 @@
 ghost use Rattle.std.specs.Prelude.{ℕ, ◌≡◌, ◌<◌, ◌≤◌, ◌++◌, [], ◌∷◌, None, Some, IfSome, OnOk, OnErr, true, take, length, option_map};
 ghost use Rattle.base_types.specs.Report.{report_of};
 ghost use Rattle.attachment.specs.Life.{Links, Ordered, Came, Canceled, Sent, EndsCopy, Printed, Is};
-ghost use Rattle.attachment.specs.State.{Stands, Lives, HasRoom, copy_sent_in, is_sent_in, due_in, end_report, fail_report, pages_report, state_report, id_of, said_by, begun, with_came, with_sent, with_copy, with_cancel, changed};
+ghost use Rattle.attachment.specs.State.{IsAfter, Lives, HasRoom, copy_sent_in, is_sent_in, due_in, end_report, fail_report, pages_report, state_report, id_of, said_by, begun, with_came, with_sent, with_copy, with_cancel, changed};
 
 use crate::state::PrinterState;
 use crate::work::Work;
@@ -31,7 +31,7 @@ impl Model for Attachment {
 impl Attachment {
     /// Creates an attachment. Its printer counts as running.
     pub fn new(alloc: Global) -> Attachment
-        ensures { Stands [] result }
+        ensures { IsAfter [] result }
     {
         Attachment {
             alloc,

@@ -7,9 +7,9 @@ use Rattle.settings_file.specs.Settings.{ServerSettings, device_named}
 use Rattle.device_link.specs.Stream as Link
 use Rattle.http_front.specs.declared.item.HttpItem.{HttpItem}
 use Rattle.http_front.specs.declared.item.HttpItem.TheVariants as item
-use Rattle.http_front.specs.Stream.{Said, HasHead, Invites, HasByte, EndsBody, IsRefused, said_by}
+use Rattle.http_front.specs.Stream.{HttpElement, HasHead, Invites, HasByte, EndsBody, IsRefused, elements_of}
 use Rattle.http_front.specs.Stream as Http
-use Rattle.lpd.specs.Items.{CommandRecord, ListsShort, ListsLong, RemovesJobs, ItemRecord, Says, Aborts, Announces, HasFile}
+use Rattle.lpd.specs.Items.{CommandRecord, ListsShort, ListsLong, RemovesJobs, ItemRecord, HasCommand, Aborts, Announces, HasFile}
 use Rattle.lpd.specs.Stream as Lpd
 use Rattle.lpd.specs.Session.{SessionState, SentRecord}
 use Rattle.events.specs.declared.event.Event.{Event}
@@ -30,9 +30,9 @@ use Rattle.connections.specs.declared.step.Step.{Step}
 use Rattle.connections.specs.declared.step.Step.TheVariants as step
 use Rattle.connections.specs.Session.{Hearing, Goes, Stops, Submits, Commands, heard, file_lost, is_queue}
 use Rattle.connections.specs.Commands.{SubmitsJob, IsCommand}
-use Rattle.connections.specs.Entry.{PeerRecord, Http as OfIpp, Queue as OfLpd, Link as OfDevice, Entry, talking, finishing}
+use Rattle.connections.specs.Entry.{PeerRecord, Http as OfIpp, Queue as OfLpd, Link as OfDevice, Entry, with_progress, finishing}
 use Rattle.connections.specs.Steps.{silent, no_memory, asked_step, EndsBody as EndsSo, StepsIpp, closes_after, body_after, byte_due, refused, AsksAs, AsksForFile, StepsLpd, StepsHello, StepsDevice, faulty, due_bytes}
-use Rattle.connections.specs.Asking.{HearsIpp, HearsItem, FindsFault, LosesLine, HearsReport, FindsLinkFault, Hears, Owes, StepsTo, AsksNext}
+use Rattle.connections.specs.Asking.{IppItemComes, LpdItemComes, FindsFault, LosesLine, ReportComes, FindsLinkFault, ItemComes, Owes, StepsTo, AsksNext}
 use Rattle.connections.specs.Choice.{part_taken, part_heard, part_of, Loss, OfGrowth, OfPart, OfBody, lost_of, SameAsk}
 
 -- the laws of the elements of streams and of the contents of bodies
@@ -160,14 +160,14 @@ abbrev said_long : Option ℕ → ℕ
 said_long None = 1
 said_long (Some long) = long
 
-long_is : (it : HttpItem) (part : List ℕ) → length (said_by it part) ≡ said_long (part_taken it part)
+long_is : (it : HttpItem) (part : List ℕ) → length (elements_of it part) ≡ said_long (part_taken it part)
 long_is (item.Head closes) part = refl
 long_is item.Continue part = refl
 long_is item.BodyPart part = length-map part HasByte
 long_is item.BodyEnd part = refl
 long_is (item.Refuse refusal) part = refl
 
-abbrev item_said : List Said → HttpItem
+abbrev item_said : List HttpElement → HttpItem
 item_said (HasHead closes ∷ later) = item.Head closes
 item_said (Invites ∷ later) = item.Continue
 item_said (EndsBody ∷ later) = item.BodyEnd
@@ -175,18 +175,18 @@ item_said (IsRefused refusal ∷ later) = item.Refuse refusal
 item_said (HasByte byte ∷ later) = item.BodyPart
 item_said [] = item.BodyPart
 
-abbrev item_of : Option ℕ → List Said → HttpItem
+abbrev item_of : Option ℕ → List HttpElement → HttpItem
 item_of None said = item_said said
 item_of (Some long) said = item.BodyPart
 
-item_is : (it : HttpItem) (part : List ℕ) → item_of (part_taken it part) (said_by it part) ≡ it
+item_is : (it : HttpItem) (part : List ℕ) → item_of (part_taken it part) (elements_of it part) ≡ it
 item_is (item.Head closes) part = refl
 item_is item.Continue part = refl
 item_is item.BodyPart part = refl
 item_is item.BodyEnd part = refl
 item_is (item.Refuse refusal) part = refl
 
-abbrev bytes_said : List Said → List ℕ
+abbrev bytes_said : List HttpElement → List ℕ
 bytes_said [] = []
 bytes_said (HasByte byte ∷ later) = byte ∷ bytes_said later
 bytes_said (HasHead closes ∷ later) = []
@@ -199,14 +199,14 @@ bytes_are [] = refl
 bytes_are (byte ∷ part) = ap (λ (bytes : List ℕ). byte ∷ bytes) (bytes_are part)
 
 -- the entry after an item that says this
-abbrev after_item : HttpItem → List Said → Entry → List Said → Bool → List ℕ → Step → Entry
-after_item it told e said closes body what = talking (OfIpp (said ++ told) (closes_after it closes) (body_after it what (bytes_said told) body)) e
+abbrev after_item : HttpItem → List HttpElement → Entry → List HttpElement → Bool → List ℕ → Step → Entry
+after_item it told e said closes body what = with_progress (OfIpp (said ++ told) (closes_after it closes) (body_after it what (bytes_said told) body)) e
 
-after_is : (it : HttpItem) (part : List ℕ) (e : Entry) (said : List Said) (closes : Bool) (body : List ℕ) (what : Step)
-    → talking (OfIpp (said ++ said_by it part) (closes_after it closes) (body_after it what part body)) e ≡ after_item it (said_by it part) e said closes body what
+after_is : (it : HttpItem) (part : List ℕ) (e : Entry) (said : List HttpElement) (closes : Bool) (body : List ℕ) (what : Step)
+    → with_progress (OfIpp (said ++ elements_of it part) (closes_after it closes) (body_after it what part body)) e ≡ after_item it (elements_of it part) e said closes body what
 after_is (item.Head next) part e said closes body what = refl
 after_is item.Continue part e said closes body what = refl
-after_is item.BodyPart part e said closes body what = ap (λ (bytes : List ℕ). talking (OfIpp (said ++ map HasByte part) closes (body_after item.BodyPart what bytes body)) e) (sym (bytes_are part))
+after_is item.BodyPart part e said closes body what = ap (λ (bytes : List ℕ). with_progress (OfIpp (said ++ map HasByte part) closes (body_after item.BodyPart what bytes body)) e) (sym (bytes_are part))
 after_is item.BodyEnd part e said closes body what = refl
 after_is (item.Refuse refusal) part e said closes body what = refl
 
@@ -239,7 +239,7 @@ part_agrees comes comes' after (inr a) (inl b) = no_memory_agrees comes comes' (
 part_agrees comes comes' after (inr a) (inr b) = agree_at comes comes' no_memory (after comes) (after comes') (after no_memory) a b (ap after a) (ap after b)
 
 -- two steps of one item agree
-item_agrees : Laws → (it : HttpItem) (told : List Said) (e : Entry) (said : List Said) (closes : Bool) (body : List ℕ) (comes comes' : Step) → StepsIpp it closes body comes → StepsIpp it closes body comes'
+item_agrees : Laws → (it : HttpItem) (told : List HttpElement) (e : Entry) (said : List HttpElement) (closes : Bool) (body : List ℕ) (comes comes' : Step) → StepsIpp it closes body comes → StepsIpp it closes body comes'
     → Agree comes (after_item it told e said closes body comes) comes' (after_item it told e said closes body comes')
 item_agrees laws (item.Head next) told e said closes body comes comes' a b = agree_at comes comes' silent _ _ (after_item (item.Head next) told e said closes body silent) a b refl refl
 item_agrees laws item.Continue told e said closes body comes comes' a b = agree_at comes comes' (step.Due due.Continue false) _ _ (after_item item.Continue told e said closes body silent) a b refl refl
@@ -247,19 +247,19 @@ item_agrees laws item.BodyPart told e said closes body comes comes' a b = part_a
 item_agrees laws item.BodyEnd told e said closes body comes comes' a b = ends_agree laws closes body comes comes' (after_item item.BodyEnd told e said closes body silent) a b
 item_agrees laws (item.Refuse refusal) told e said closes body comes comes' a b = agree_at comes comes' (step.Due (due.Refusal refusal) true) _ _ (after_item (item.Refuse refusal) told e said closes body silent) a b refl refl
 
-ipp_agrees : Laws → (e : Entry) (said : List Said) (closes : Bool) (body : List ℕ) (comes comes' : Step) (mid mid' : Entry) (a : HearsIpp e said closes body comes mid) (b : HearsIpp e said closes body comes' mid')
+ipp_agrees : Laws → (e : Entry) (said : List HttpElement) (closes : Bool) (body : List ℕ) (comes comes' : Step) (mid mid' : Entry) (a : IppItemComes e said closes body comes mid) (b : IppItemComes e said closes body comes' mid')
     → part_taken a.item a.part ≡ part_taken b.item b.part → Agree comes mid comes' mid'
 ipp_agrees laws e said closes body comes comes' mid mid' a b parts =
-    let long : length (said_by a.item a.part) ≡ length (said_by b.item b.part) = long_is a.item a.part ∙ ap said_long parts ∙ sym (long_is b.item b.part) in
-    let all : length (said ++ said_by a.item a.part) ≡ length (said ++ said_by b.item b.part) = length-append said (said_by a.item a.part) ∙ ap (λ (n : ℕ). length said + n) long ∙ sym (length-append said (said_by b.item b.part)) in
-    let told : said_by b.item b.part ≡ said_by a.item a.part = append_cancel_left said (said_by b.item b.part) (said_by a.item a.part) (sym (laws.http e.read (said ++ said_by a.item a.part) (said ++ said_by b.item b.part) a.next b.next all)) in
-    let same : b.item ≡ a.item = sym (item_is b.item b.part) ∙ ap (λ (o : Option ℕ). item_of o (said_by b.item b.part)) (sym parts) ∙ ap (λ (s : List Said). item_of (part_taken a.item a.part) s) told ∙ item_is a.item a.part in
+    let long : length (elements_of a.item a.part) ≡ length (elements_of b.item b.part) = long_is a.item a.part ∙ ap said_long parts ∙ sym (long_is b.item b.part) in
+    let all : length (said ++ elements_of a.item a.part) ≡ length (said ++ elements_of b.item b.part) = length-append said (elements_of a.item a.part) ∙ ap (λ (n : ℕ). length said + n) long ∙ sym (length-append said (elements_of b.item b.part)) in
+    let told : elements_of b.item b.part ≡ elements_of a.item a.part = append_cancel_left said (elements_of b.item b.part) (elements_of a.item a.part) (sym (laws.http e.read (said ++ elements_of a.item a.part) (said ++ elements_of b.item b.part) a.next b.next all)) in
+    let same : b.item ≡ a.item = sym (item_is b.item b.part) ∙ ap (λ (o : Option ℕ). item_of o (elements_of b.item b.part)) (sym parts) ∙ ap (λ (s : List HttpElement). item_of (part_taken a.item a.part) s) told ∙ item_is a.item a.part in
     let there : StepsIpp a.item closes body comes' = subst (λ (it : HttpItem). StepsIpp it closes body comes') same b.comes in
-    let at : mid ≡ after_item a.item (said_by a.item a.part) e said closes body comes = a.after ∙ after_is a.item a.part e said closes body comes in
-    let at' : mid' ≡ after_item a.item (said_by a.item a.part) e said closes body comes' =
-    b.after ∙ after_is b.item b.part e said closes body comes' ∙ ap (λ (s : List Said). after_item b.item s e said closes body comes') told ∙ ap (λ (it : HttpItem). after_item it (said_by a.item a.part) e said closes body comes') same in
+    let at : mid ≡ after_item a.item (elements_of a.item a.part) e said closes body comes = a.after ∙ after_is a.item a.part e said closes body comes in
+    let at' : mid' ≡ after_item a.item (elements_of a.item a.part) e said closes body comes' =
+    b.after ∙ after_is b.item b.part e said closes body comes' ∙ ap (λ (s : List HttpElement). after_item b.item s e said closes body comes') told ∙ ap (λ (it : HttpItem). after_item it (elements_of a.item a.part) e said closes body comes') same in
     subst (λ (m : Entry). Agree comes m comes' mid') (sym at)
-    (subst (λ (m : Entry). Agree comes (after_item a.item (said_by a.item a.part) e said closes body comes) comes' m) (sym at') (item_agrees laws a.item (said_by a.item a.part) e said closes body comes comes' a.comes there))
+    (subst (λ (m : Entry). Agree comes (after_item a.item (elements_of a.item a.part) e said closes body comes) comes' m) (sym at') (item_agrees laws a.item (elements_of a.item a.part) e said closes body comes comes' a.comes there))
 
 -- ---- an LPD client
 
@@ -362,7 +362,7 @@ files_agree hearing before comes comes' after after' entry (inr a) (inr b) = ask
 
 lpd_agrees : (queues : List ℕ → Bool) (before : Option SessionState) (said : ItemRecord) (comes comes' : Step) (after after' : Option SessionState) (entry : Option SessionState → Entry) → StepsLpd queues before said comes after → StepsLpd queues before said comes' after' → Agree comes (entry after) comes' (entry after')
 lpd_agrees queues before (HasFile contents) comes comes' after after' entry a b = files_agree (heard queues before (HasFile contents)) before comes comes' after after' entry a b
-lpd_agrees queues before (Says command) comes comes' after after' entry a b = asks_agree (heard queues before (Says command)) comes comes' after after' entry a b
+lpd_agrees queues before (HasCommand command) comes comes' after after' entry a b = asks_agree (heard queues before (HasCommand command)) comes comes' after after' entry a b
 lpd_agrees queues before Aborts comes comes' after after' entry a b = asks_agree (heard queues before Aborts) comes comes' after after' entry a b
 lpd_agrees queues before (Announces head) comes comes' after after' entry a b = asks_agree (heard queues before (Announces head)) comes comes' after after' entry a b
 
@@ -373,7 +373,7 @@ file_no_line hearing before comes after (inr a) loss x is = not_input loss (asks
 
 item_no_line : (queues : List ℕ → Bool) (before : Option SessionState) (said : ItemRecord) (comes : Step) (after : Option SessionState) → StepsLpd queues before said comes after → (loss : Option Loss) → Loses comes loss → loss ≡ Some (OfGrowth growth.Input) → ⊥
 item_no_line queues before (HasFile contents) comes after a loss x is = file_no_line (heard queues before (HasFile contents)) before comes after a loss x is
-item_no_line queues before (Says command) comes after a loss x is = not_input loss (asks_usual (heard queues before (Says command)) comes after a loss x) is
+item_no_line queues before (HasCommand command) comes after a loss x is = not_input loss (asks_usual (heard queues before (HasCommand command)) comes after a loss x) is
 item_no_line queues before Aborts comes after a loss x is = not_input loss (asks_usual (heard queues before Aborts) comes after a loss x) is
 item_no_line queues before (Announces head) comes after a loss x is = not_input loss (asks_usual (heard queues before (Announces head)) comes after a loss x) is
 
@@ -384,18 +384,18 @@ last_one xs x y is = let ends : x ∷ [] ≡ y ∷ [] = append_cancel_left xs (x
 one_longer : {X : Type 0} (xs : List X) (x y : X) → length (xs ++ x ∷ []) ≡ length (xs ++ y ∷ [])
 one_longer xs x y = length-append xs (x ∷ []) ∙ sym (length-append xs (y ∷ []))
 
-items_agree : Laws → (queues : List ℕ → Bool) (e : Entry) (items : List ItemRecord) (session : Option SessionState) (comes comes' : Step) (mid mid' : Entry) → HearsItem queues e items session comes mid → HearsItem queues e items session comes' mid' → Agree comes mid comes' mid'
+items_agree : Laws → (queues : List ℕ → Bool) (e : Entry) (items : List ItemRecord) (session : Option SessionState) (comes comes' : Step) (mid mid' : Entry) → LpdItemComes queues e items session comes mid → LpdItemComes queues e items session comes' mid' → Agree comes mid comes' mid'
 items_agree laws queues e items session comes comes' mid mid' a b =
     let same : b.said ≡ a.said = last_one items b.said a.said (laws.lpd e.read (items ++ b.said ∷ []) (items ++ a.said ∷ []) b.next a.next (one_longer items b.said a.said)) in
     let there : StepsLpd queues session a.said comes' b.session_after = subst (λ (x : ItemRecord). StepsLpd queues session x comes' b.session_after) same b.comes in
-    let at' : mid' ≡ talking (OfLpd (items ++ a.said ∷ []) b.session_after) e = b.after ∙ ap (λ (x : ItemRecord). talking (OfLpd (items ++ x ∷ []) b.session_after) e) same in
+    let at' : mid' ≡ with_progress (OfLpd (items ++ a.said ∷ []) b.session_after) e = b.after ∙ ap (λ (x : ItemRecord). with_progress (OfLpd (items ++ x ∷ []) b.session_after) e) same in
     subst (λ (m : Entry). Agree comes m comes' mid') (sym a.after)
-    (subst (λ (m : Entry). Agree comes (talking (OfLpd (items ++ a.said ∷ []) a.session_after) e) comes' m) (sym at')
-    (lpd_agrees queues session a.said comes comes' a.session_after b.session_after (λ after. talking (OfLpd (items ++ a.said ∷ []) after) e) a.comes there))
+    (subst (λ (m : Entry). Agree comes (with_progress (OfLpd (items ++ a.said ∷ []) a.session_after) e) comes' m) (sym at')
+    (lpd_agrees queues session a.said comes comes' a.session_after b.session_after (λ after. with_progress (OfLpd (items ++ a.said ∷ []) after) e) a.comes there))
 
 -- an item, a fault, or no memory for a line
 abbrev NextItem : (List ℕ → Bool) → Entry → List ItemRecord → Option SessionState → Step → Entry → Type 0
-NextItem queues e items session comes mid = HearsItem queues e items session comes mid ⊎ (FindsFault e items comes mid ⊎ LosesLine e comes mid)
+NextItem queues e items session comes mid = LpdItemComes queues e items session comes mid ⊎ (FindsFault e items comes mid ⊎ LosesLine e comes mid)
 
 refused_usual : (comes : Step) → comes ≡ refused → (loss : Option Loss) → Loses comes loss → IsUsual loss
 refused_usual comes is loss x = loses_usual comes refused loss is x due_usual
@@ -441,18 +441,18 @@ device_usual named None (SaysHello name) comes after a loss x = hello_usual name
 device_usual named None said comes after a loss x = absurd a
 device_usual named (Some device) said comes after a loss x = reported_usual device said comes a.0 loss x
 
-reports_agree : Laws → (named : List ℕ → Option ℕ) (e : Entry) (reports : List ReportRecord) (device : Option ℕ) (comes comes' : Step) (mid mid' : Entry) → HearsReport named e reports device comes mid → HearsReport named e reports device comes' mid' → Agree comes mid comes' mid'
+reports_agree : Laws → (named : List ℕ → Option ℕ) (e : Entry) (reports : List ReportRecord) (device : Option ℕ) (comes comes' : Step) (mid mid' : Entry) → ReportComes named e reports device comes mid → ReportComes named e reports device comes' mid' → Agree comes mid comes' mid'
 reports_agree laws named e reports device comes comes' mid mid' a b =
     let same : b.said ≡ a.said = last_one reports b.said a.said (laws.link e.read (reports ++ b.said ∷ []) (reports ++ a.said ∷ []) b.next a.next (one_longer reports b.said a.said)) in
     let there : StepsDevice named device a.said comes' b.device_after = subst (λ (x : ReportRecord). StepsDevice named device x comes' b.device_after) same b.comes in
-    let at' : mid' ≡ talking (OfDevice (reports ++ a.said ∷ []) b.device_after) e = b.after ∙ ap (λ (x : ReportRecord). talking (OfDevice (reports ++ x ∷ []) b.device_after) e) same in
+    let at' : mid' ≡ with_progress (OfDevice (reports ++ a.said ∷ []) b.device_after) e = b.after ∙ ap (λ (x : ReportRecord). with_progress (OfDevice (reports ++ x ∷ []) b.device_after) e) same in
     subst (λ (m : Entry). Agree comes m comes' mid') (sym a.after)
-    (subst (λ (m : Entry). Agree comes (talking (OfDevice (reports ++ a.said ∷ []) a.device_after) e) comes' m) (sym at')
-    (device_agrees named device a.said comes comes' a.device_after b.device_after (λ after. talking (OfDevice (reports ++ a.said ∷ []) after) e) a.comes there))
+    (subst (λ (m : Entry). Agree comes (with_progress (OfDevice (reports ++ a.said ∷ []) a.device_after) e) comes' m) (sym at')
+    (device_agrees named device a.said comes comes' a.device_after b.device_after (λ after. with_progress (OfDevice (reports ++ a.said ∷ []) after) e) a.comes there))
 
 -- a report, a fault, or no memory for a line
 abbrev NextReport : (List ℕ → Option ℕ) → Entry → List ReportRecord → Option ℕ → Step → Entry → Type 0
-NextReport named e reports device comes mid = HearsReport named e reports device comes mid ⊎ (FindsLinkFault e reports device comes mid ⊎ LosesLine e comes mid)
+NextReport named e reports device comes mid = ReportComes named e reports device comes mid ⊎ (FindsLinkFault e reports device comes mid ⊎ LosesLine e comes mid)
 
 faulty_usual : (device : Option ℕ) (comes : Step) → comes ≡ faulty device → (loss : Option Loss) → Loses comes loss → IsUsual loss
 faulty_usual device comes is loss x = loses_usual comes (faulty device) loss is x (λ loss none. inl none)
@@ -470,8 +470,8 @@ link_agrees laws named e reports device comes comes' mid mid' (inr (inr a)) (inr
 
 -- ---- each peer
 
-hears_agree : Laws → (settings : ServerSettings) (talk : PeerRecord) (e : Entry) (comes comes' : Step) (mid mid' : Entry) (a : Hears settings talk e comes mid) (b : Hears settings talk e comes' mid')
-    → part_heard settings talk e comes mid a ≡ part_heard settings talk e comes' mid' b → Agree comes mid comes' mid'
+hears_agree : Laws → (settings : ServerSettings) (progress : PeerRecord) (e : Entry) (comes comes' : Step) (mid mid' : Entry) (a : ItemComes settings progress e comes mid) (b : ItemComes settings progress e comes' mid')
+    → part_heard settings progress e comes mid a ≡ part_heard settings progress e comes' mid' b → Agree comes mid comes' mid'
 hears_agree laws settings (OfIpp said closes body) e comes comes' mid mid' a b parts = ipp_agrees laws e said closes body comes comes' mid mid' a b parts
 hears_agree laws settings (OfLpd items session) e comes comes' mid mid' a b parts = queue_agrees laws (is_queue settings) e items session comes comes' mid mid' a b
 hears_agree laws settings (OfDevice reports device) e comes comes' mid mid' a b parts = link_agrees laws (device_named settings) e reports device comes comes' mid mid' a b
@@ -479,4 +479,4 @@ hears_agree laws settings (OfDevice reports device) e comes comes' mid mid' a b 
 pub asks_one : Laws → (settings : ServerSettings) (e : Entry) (what said : Ask) (new after : Entry) (one : AsksNext settings what e new) (other : AsksNext settings said e after)
     → part_of one ≡ part_of other → lost_of what ≡ lost_of said → SameAsk what said × (new ≡ after)
 asks_one laws settings e what said new after one other parts lost =
-    hears_agree laws settings e.talk e one.comes other.comes one.mid other.mid one.hears other.hears parts what said new after one.steps other.steps lost
+    hears_agree laws settings e.progress e one.comes other.comes one.mid other.mid one.hears other.hears parts what said new after one.steps other.steps lost

@@ -9,7 +9,7 @@ use Rattle.connections.specs.declared.connection.Fed.TheVariants as how
 use Rattle.connections.specs.declared.peer.Peer.{Peer}
 use Rattle.connections.specs.declared.step.Step.{Step}
 use Rattle.connections.specs.declared.step.Step.TheVariants as step
-use Rattle.connections.specs.Entry.{PeerRecord, Entry, waiting, talking, reading, finishing, broken, owing, needs_memory}
+use Rattle.connections.specs.Entry.{PeerRecord, Entry, waiting, with_progress, reading, finishing, broken, owing, needs_memory}
 use Rattle.connections.specs.Steps.{due_bytes}
 use Rattle.connections.specs.Asking.{StepsTo, Asking, Feeds}
 use Rattle.connections.specs.Peers.{NextPeer, IsFedPeer}
@@ -41,31 +41,31 @@ more_due e c bytes f = sym (append_assoc e.taken c.output bytes) ∙ ap (λ (o :
 -- ---- a step
 
 -- the result of a step of a connection whose peer is now `p`
-takes : (e : Entry) (talk : PeerRecord) (c d : ConnectionState) (p : Peer) (what : Step) (asked : Ask) → RepresentsConnection e c → e.broken ≡ false → FitsPeer e.read talk true p → (Goes what → FitsPeer e.read talk false p) → Takes what (with_peer p c) asked d
-    → (new : Entry) × StepsTo what (talking talk e) asked new × RepresentsConnection new d
-takes e talk c d p (step.Due due last) asked f whole off on (inl (is, now)) =
-    let new : Entry = owing (due_bytes due) (finishing last (talking talk e)) in
-    let on' : FitsPeer e.read talk e.broken p = subst (λ (b : Bool). FitsPeer e.read talk b p) (sym whole) (on tt) in (
-      owing (due_bytes due) (finishing last (talking talk e)),
+takes : (e : Entry) (progress : PeerRecord) (c d : ConnectionState) (p : Peer) (what : Step) (asked : Ask) → RepresentsConnection e c → e.broken ≡ false → FitsPeer e.read progress true p → (Goes what → FitsPeer e.read progress false p) → Takes what (with_peer p c) asked d
+    → (new : Entry) × StepsTo what (with_progress progress e) asked new × RepresentsConnection new d
+takes e progress c d p (step.Due due last) asked f whole off on (inl (is, now)) =
+    let new : Entry = owing (due_bytes due) (finishing last (with_progress progress e)) in
+    let on' : FitsPeer e.read progress e.broken p = subst (λ (b : Bool). FitsPeer e.read progress b p) (sym whole) (on tt) in (
+      owing (due_bytes due) (finishing last (with_progress progress e)),
       inl (is, refl),
       subst (λ (k : ConnectionState). RepresentsConnection new k) (sym now) (record { id = f.id; peer = on'; ended = f.ended; draining = refl; broken = f.broken; due = more_due e c (due_bytes due) f }),
     )
-takes e talk c d p (step.Due due last) asked f whole off on (inr (is, full, now)) =
-    let new : Entry = broken (finishing last (talking talk e)) in (
-      broken (finishing last (talking talk e)),
+takes e progress c d p (step.Due due last) asked f whole off on (inr (is, full, now)) =
+    let new : Entry = broken (finishing last (with_progress progress e)) in (
+      broken (finishing last (with_progress progress e)),
       inr (is, grows (due_bytes due) e c f full, refl),
       subst (λ (k : ConnectionState). RepresentsConnection new k) (sym now) (record { id = f.id; peer = off; ended = f.ended; draining = refl; broken = refl; due = f.due }),
     )
-takes e talk c d p (step.Asks ask last) asked f whole off on (is, now) =
-    let new : Entry = finishing last (talking talk e) in
-    let on' : FitsPeer e.read talk e.broken p = subst (λ (b : Bool). FitsPeer e.read talk b p) (sym whole) (on tt) in (
-      finishing last (talking talk e),
+takes e progress c d p (step.Asks ask last) asked f whole off on (is, now) =
+    let new : Entry = finishing last (with_progress progress e) in
+    let on' : FitsPeer e.read progress e.broken p = subst (λ (b : Bool). FitsPeer e.read progress b p) (sym whole) (on tt) in (
+      finishing last (with_progress progress e),
       (is, refl),
       subst (λ (k : ConnectionState). RepresentsConnection new k) (sym now) (record { id = f.id; peer = on'; ended = f.ended; draining = refl; broken = f.broken; due = f.due }),
     )
-takes e talk c d p (step.Breaks ask) asked f whole off on (is, now) =
-    let new : Entry = broken (talking talk e) in (
-      broken (talking talk e),
+takes e progress c d p (step.Breaks ask) asked f whole off on (is, now) =
+    let new : Entry = broken (with_progress progress e) in (
+      broken (with_progress progress e),
       (is, refl),
       subst (λ (k : ConnectionState). RepresentsConnection new k) (sym now) (record { id = f.id; peer = off; ended = f.ended; draining = f.draining; broken = refl; due = f.due }),
     )
@@ -84,15 +84,15 @@ pub asks : (settings : ServerSettings) (what : Step) (asked : Ask) (c d : Connec
 asks settings what asked c d p counts next takes_ e f =
     let counts' : (e.draining || e.broken) ≡ false = counts_as e c false f counts in
     let whole : e.broken ≡ false = right_false e.draining e.broken counts' in
-    let h = heard settings e c.peer p what (subst (λ (b : Bool). FitsPeer e.read e.talk b c.peer) whole f.peer) next in
-    let t = takes e h.talk c d p what asked f whole h.broken h.whole takes_ in
-    (t.0, record { counts = counts'; comes = what; mid = talking h.talk e; hears = h.hears; steps = t.1 }, t.2)
+    let h = heard settings e c.peer p what (subst (λ (b : Bool). FitsPeer e.read e.progress b c.peer) whole f.peer) next in
+    let t = takes e h.progress c d p what asked f whole h.broken h.whole takes_ in
+    (t.0, record { counts = counts'; comes = what; mid = with_progress h.progress e; hears = h.hears; steps = t.1 }, t.2)
 
 pub rests : (settings : ServerSettings) (c d : ConnectionState) (p : Peer) → (c.draining || c.broken) ≡ false → NextPeer settings None c.peer p → d ≡ with_peer p c → Becomes (Asking settings None) c d
 rests settings c d p counts next is e f =
     let whole : e.broken ≡ false = right_false e.draining e.broken (counts_as e c false f counts) in
-    let h = rested settings e.read e.talk c.peer p (subst (λ (b : Bool). FitsPeer e.read e.talk b c.peer) whole f.peer) next in
-    let peer : FitsPeer e.read e.talk e.broken p = subst (λ (b : Bool). FitsPeer e.read e.talk b p) (sym whole) h.1 in
+    let h = rested settings e.read e.progress c.peer p (subst (λ (b : Bool). FitsPeer e.read e.progress b c.peer) whole f.peer) next in
+    let peer : FitsPeer e.read e.progress e.broken p = subst (λ (b : Bool). FitsPeer e.read e.progress b p) (sym whole) h.1 in
     (e, (inr h.0, refl), subst (λ (k : ConnectionState). RepresentsConnection e k) (sym is) (record { id = f.id; peer = peer; ended = f.ended; draining = f.draining; broken = f.broken; due = f.due }))
 
 pub counts_no_more : (settings : ServerSettings) (c d : ConnectionState) → (c.draining || c.broken) ≡ true → d ≡ c → Becomes (Asking settings None) c d
@@ -103,5 +103,5 @@ pub fed : (piece : List ℕ) (c d : ConnectionState) (p : Peer) → c.draining �
 fed piece c d p counts feeds is e f = (
   reading piece e,
   (sym f.draining ∙ counts, refl),
-  subst (λ (k : ConnectionState). RepresentsConnection (reading piece e) k) (sym is) (record { id = f.id; peer = fed_peer e.read piece e.talk e.broken c.peer p f.peer feeds; ended = f.ended; draining = f.draining; broken = f.broken; due = f.due }),
+  subst (λ (k : ConnectionState). RepresentsConnection (reading piece e) k) (sym is) (record { id = f.id; peer = fed_peer e.read piece e.progress e.broken c.peer p f.peer feeds; ended = f.ended; draining = f.draining; broken = f.broken; due = f.due }),
 )

@@ -15,7 +15,7 @@ use Rattle.connections.specs.declared.step.Step.{Step}
 use Rattle.connections.specs.declared.step.Step.TheVariants as step
 use Rattle.connections.specs.States.{IppClientState}
 use Rattle.connections.specs.Steps.{due_bytes}
-use Rattle.connections.specs.Peers.{HearsIpp, NextPeer, work}
+use Rattle.connections.specs.Peers.{HandlesIpp, NextPeer, work}
 use Rattle.connections.specs.Connections.{ConnectionState, load, with_peer, is_draining, is_broken, is_kept, Takes}
 
 at_most : (x : Bool) (n : ℕ) → (if x then 0 else n) ≤ n
@@ -62,24 +62,24 @@ takes_last (step.Due due last) asked c d p ends (inr (is, full, now)) = load_as 
 takes_last (step.Asks ask last) asked c d p ends (is, now) = load_as (is_draining last (with_peer p c)) d 0 now (off_last last c.broken (1 + work p) ends)
 takes_last (step.Breaks ask) asked c d p ends (is, now) = load_as (is_broken (with_peer p c)) d 0 now (off_broken c.draining (1 + work p))
 
-part_reader : (what : Step) (t u : IppClientState) → HearsIpp item.BodyPart what t u → u.reader ≡ t.reader
+part_reader : (what : Step) (t u : IppClientState) → HandlesIpp item.BodyPart what t u → u.reader ≡ t.reader
 part_reader (step.Due due last) t u it = ap (λ (x : IppClientState). x.reader) it.1
 part_reader (step.Asks ask last) t u it = absurd it
 part_reader (step.Breaks ask) t u it = ap (λ (x : IppClientState). x.reader) it.1
 
-item_reader : (what : Step) (it : HttpItem) (t u : IppClientState) → HearsIpp it what t u → u.reader ≡ t.reader
+item_reader : (what : Step) (it : HttpItem) (t u : IppClientState) → HandlesIpp it what t u → u.reader ≡ t.reader
 item_reader what (item.Head closes) t u (is, same, begun) = ap (λ (x : IppClientState). x.reader) same
 item_reader what item.Continue t u (is, same) = ap (λ (x : IppClientState). x.reader) same
 item_reader what item.BodyPart t u hears = part_reader what t u hears
 item_reader what item.BodyEnd t u (same, begun, ends) = ap (λ (x : IppClientState). x.reader) same
 item_reader what (item.Refuse refusal) t u (is, same) = ap (λ (x : IppClientState). x.reader) same
 
-part_untold : (what : Step) (t u : IppClientState) → HearsIpp item.BodyPart what t u → u.untold ≡ t.untold
+part_untold : (what : Step) (t u : IppClientState) → HandlesIpp item.BodyPart what t u → u.untold ≡ t.untold
 part_untold (step.Due due last) t u it = ap (λ (x : IppClientState). x.untold) it.1
 part_untold (step.Asks ask last) t u it = absurd it
 part_untold (step.Breaks ask) t u it = ap (λ (x : IppClientState). x.untold) it.1
 
-item_untold : (what : Step) (it : HttpItem) (t u : IppClientState) → HearsIpp it what t u → u.untold ≡ t.untold
+item_untold : (what : Step) (it : HttpItem) (t u : IppClientState) → HandlesIpp it what t u → u.untold ≡ t.untold
 item_untold what (item.Head closes) t u (is, same, begun) = ap (λ (x : IppClientState). x.untold) same
 item_untold what item.Continue t u (is, same) = ap (λ (x : IppClientState). x.untold) same
 item_untold what item.BodyPart t u hears = part_untold what t u hears

@@ -15,7 +15,7 @@ use Rattle.device_link.specs.Stream.{LinkState}
 use Rattle.device_link.specs.Stream as Link
 use Rattle.http_front.specs.declared.item.HttpItem.{HttpItem}
 use Rattle.http_front.specs.declared.item.HttpItem.TheVariants as item
-use Rattle.http_front.specs.Stream.{HttpState, Said, HasByte, said_by, Exchanges}
+use Rattle.http_front.specs.Stream.{HttpState, HttpElement, HasByte, elements_of, Exchanges}
 use Rattle.http_front.specs.Stream as Http
 use Rattle.lpd.specs.declared.fault.LpdError.{LpdError}
 use Rattle.lpd.specs.declared.fault.LpdError.TheVariants as lpd
@@ -30,11 +30,11 @@ use Rattle.connections.specs.declared.step.Step.{Step}
 use Rattle.connections.specs.declared.step.Step.TheVariants as step
 use Rattle.connections.specs.States.{IppClientState, LpdClientState, DeviceState}
 use Rattle.connections.specs.Session.{is_queue}
-use Rattle.connections.specs.Entry.{PeerRecord, Entry, talking}
+use Rattle.connections.specs.Entry.{PeerRecord, Entry, with_progress}
 use Rattle.connections.specs.Entry as entry
 use Rattle.connections.specs.Steps.{StepsDevice, StepsHello, silent, step_of}
-use Rattle.connections.specs.Peers.{with_http, with_lpd, with_link, HearsIpp, HearsWholeItem, HearsWholeReport, IsNewIpp, IsFedIpp, NextIpp, NextLpd, NextDevice, NextPeer, IsFedPeer, link_step, Greets, ComesOf}
-use Rattle.connections.specs.Asking.{HearsIpp as NextItem, HearsItem, FindsFault, HearsReport, FindsLinkFault, Hears, IsHeardAs}
+use Rattle.connections.specs.Peers.{with_http, with_lpd, with_link, HandlesIpp, HandlesLpdIfAny, HandlesReportIfAny, IsNewIpp, IsFedIpp, NextIpp, NextLpd, NextDevice, NextPeer, IsFedPeer, link_step, Greets, ComesOf}
+use Rattle.connections.specs.Asking.{IppItemComes as NextItem, LpdItemComes, FindsFault, ReportComes, FindsLinkFault, ItemComes, IsHeardAs}
 use Rattle.connections.specs.Representation.{FitsIpp, FitsLpd, FitsDevice, FitsPeer}
 
 -- the step for the first fault of an LPD client's stream, or for the lack of memory for a line
@@ -43,7 +43,7 @@ next_failed queues t u (lpd.Fault fault) answers is = inr (inl (fault, answers, 
 next_failed queues t u lpd.OutOfMemory answers is = inr (inr (answers, refl, is))
 
 -- the item taken off the stream, if it is whole
-pub item_heard : (queues : List ℕ → Bool) (t u : LpdClientState) (reader : LpdState) (it : Option LpdItem) (what : Option Step) → Lpd.Answers t.reader (Ok it) reader → (IsSome it → Lpd.work reader < Lpd.work t.reader) → HearsWholeItem queues it what (with_lpd reader t) u → NextLpd queues what t u
+pub item_heard : (queues : List ℕ → Bool) (t u : LpdClientState) (reader : LpdState) (it : Option LpdItem) (what : Option Step) → Lpd.Answers t.reader (Ok it) reader → (IsSome it → Lpd.work reader < Lpd.work t.reader) → HandlesLpdIfAny queues it what (with_lpd reader t) u → NextLpd queues what t u
 item_heard queues t u reader None None answers falls hears =
     let same : reader ≡ u.reader = sym (ap (λ (x : LpdClientState). x.reader) hears) in
     (subst (λ (r : LpdState). Lpd.Answers t.reader (Ok None) r) same answers, hears ∙ ap (λ (r : LpdState). with_lpd r t) same)
@@ -51,7 +51,7 @@ item_heard queues t u reader (Some it) (Some what) answers falls hears = inl (it
 item_heard queues t u reader None (Some what) answers falls hears = absurd hears
 item_heard queues t u reader (Some it) None answers falls hears = absurd hears
 
-pub report_heard : (named : List ℕ → Option ℕ) (t u : DeviceState) (reader : LinkState) (it : Option Report) (what : Option Step) → Link.Answers t.reader (Ok it) reader → (IsSome it → Link.work reader < Link.work t.reader) → HearsWholeReport named it what (with_link reader t) u → NextDevice named what t u
+pub report_heard : (named : List ℕ → Option ℕ) (t u : DeviceState) (reader : LinkState) (it : Option Report) (what : Option Step) → Link.Answers t.reader (Ok it) reader → (IsSome it → Link.work reader < Link.work t.reader) → HandlesReportIfAny named it what (with_link reader t) u → NextDevice named what t u
 report_heard named t u reader None None answers falls hears =
     let same : reader ≡ u.reader = sym (ap (λ (x : DeviceState). x.reader) hears) in
     (subst (λ (r : LinkState). Link.Answers t.reader (Ok None) r) same answers, hears ∙ ap (λ (r : LinkState). with_link r t) same)
@@ -71,130 +71,130 @@ Goes (step.Asks ask last) = Unit {0}
 Goes (step.Breaks ask) = ⊥
 
 -- the elements of a broken connection's peer count no more
-pub broken_peer : (read : List ℕ) (talk : PeerRecord) (off : Bool) (p : Peer) → FitsPeer read talk off p → FitsPeer read talk true p
-broken_peer read talk off (of.Ipp t) f = f
-broken_peer read talk off (of.Lpd t) f = f
-broken_peer read talk off (of.Device t) f = record { reports = f.reports; is = f.is; linked = λ no. let never : true ≡ false = no in cc }
+pub broken_peer : (read : List ℕ) (progress : PeerRecord) (off : Bool) (p : Peer) → FitsPeer read progress off p → FitsPeer read progress true p
+broken_peer read progress off (of.Ipp t) f = f
+broken_peer read progress off (of.Lpd t) f = f
+broken_peer read progress off (of.Device t) f = record { reports = f.reports; is = f.is; linked = λ no. let never : true ≡ false = no in cc }
 
 -- the next of a stream was acted on, and the entry says so
-pub record Heard (settings : ServerSettings) (e : Entry) (what : Step) (p : Peer) : Type 0 where
-  pub talk : PeerRecord
-  pub hears : Hears settings e.talk e what (talking talk e)
-  pub broken : FitsPeer e.read talk true p
-  pub whole : Goes what → FitsPeer e.read talk false p
+pub record HasCome (settings : ServerSettings) (e : Entry) (what : Step) (p : Peer) : Type 0 where
+  pub progress : PeerRecord
+  pub hears : ItemComes settings e.progress e what (with_progress progress e)
+  pub broken : FitsPeer e.read progress true p
+  pub whole : Goes what → FitsPeer e.read progress false p
 
 -- ---- an IPP client
 
-fits_ipp : (read : List ℕ) (said : List Said) (closes : Bool) (body : List ℕ) (reader : HttpState) (u : IppClientState) → Http.Stands read said reader → u.reader ≡ reader → u.closes ≡ closes → Body.Heard body u.body → FitsIpp read (entry.Http said closes body) u
+fits_ipp : (read : List ℕ) (said : List HttpElement) (closes : Bool) (body : List ℕ) (reader : HttpState) (u : IppClientState) → Http.HasRead read said reader → u.reader ≡ reader → u.closes ≡ closes → Body.HasRead body u.body → FitsIpp read (entry.Http said closes body) u
 fits_ipp read said closes body reader u stands same is heard = record {
   said = said;
   body = body;
   untold = [];
   is = ap (λ (x : Bool). entry.Http said x body) (sym is);
   told = λ off. refl;
-  stands = subst (λ (xs : List Said). Http.Stands read xs u.reader) (sym (append-nil said)) (subst (λ (r : HttpState). Http.Stands read said r) (sym same) stands);
-  heard = subst (λ (xs : List ℕ). Body.Heard xs u.body) (sym (append-nil body)) heard;
+  stands = subst (λ (xs : List HttpElement). Http.HasRead read xs u.reader) (sym (append-nil said)) (subst (λ (r : HttpState). Http.HasRead read said r) (sym same) stands);
+  heard = subst (λ (xs : List ℕ). Body.HasRead xs u.body) (sym (append-nil body)) heard;
 }
 
 -- all that the body was fed was told
-stands_told : (read : List ℕ) (talk : PeerRecord) (t : IppClientState) (f : FitsIpp read talk t) → t.untold ≡ false → Http.Stands read f.said t.reader
-stands_told read talk t f off =
-    let none : Http.Stands read (f.said ++ map HasByte []) t.reader = subst (λ (xs : List ℕ). Http.Stands read (f.said ++ map HasByte xs) t.reader) (f.told off) f.stands in
-    subst (λ (xs : List Said). Http.Stands read xs t.reader) (append-nil f.said) none
+stands_told : (read : List ℕ) (progress : PeerRecord) (t : IppClientState) (f : FitsIpp read progress t) → t.untold ≡ false → Http.HasRead read f.said t.reader
+stands_told read progress t f off =
+    let none : Http.HasRead read (f.said ++ map HasByte []) t.reader = subst (λ (xs : List ℕ). Http.HasRead read (f.said ++ map HasByte xs) t.reader) (f.told off) f.stands in
+    subst (λ (xs : List HttpElement). Http.HasRead read xs t.reader) (append-nil f.said) none
 
-heard_told : (read : List ℕ) (talk : PeerRecord) (t : IppClientState) (f : FitsIpp read talk t) → t.untold ≡ false → Body.Heard f.body t.body
-heard_told read talk t f off =
-    let none : Body.Heard (f.body ++ []) t.body = subst (λ (xs : List ℕ). Body.Heard (f.body ++ xs) t.body) (f.told off) f.heard in
-    subst (λ (xs : List ℕ). Body.Heard xs t.body) (append-nil f.body) none
+heard_told : (read : List ℕ) (progress : PeerRecord) (t : IppClientState) (f : FitsIpp read progress t) → t.untold ≡ false → Body.HasRead f.body t.body
+heard_told read progress t f off =
+    let none : Body.HasRead (f.body ++ []) t.body = subst (λ (xs : List ℕ). Body.HasRead (f.body ++ xs) t.body) (f.told off) f.heard in
+    subst (λ (xs : List ℕ). Body.HasRead xs t.body) (append-nil f.body) none
 
-says_first : (read : List ℕ) (said : List Said) (reader : HttpState) → Http.Stands read said reader → Http.SaysFirst read said
+says_first : (read : List ℕ) (said : List HttpElement) (reader : HttpState) → Http.HasRead read said reader → Http.ParsesFirst read said
 says_first read said reader stands = record { next = reader.awaited; left = stands.left; leads = stands.leads }
 
 -- the step for an item
-abbrev Comes : Entry → List Said → Bool → List ℕ → Step → IppClientState → Type 0
-Comes e said closes body what u = (talk : PeerRecord) × NextItem e said closes body what (talking talk e) × FitsIpp e.read talk u
+abbrev Comes : Entry → List HttpElement → Bool → List ℕ → Step → IppClientState → Type 0
+Comes e said closes body what u = (progress : PeerRecord) × NextItem e said closes body what (with_progress progress e) × FitsIpp e.read progress u
 
-part_comes : (e : Entry) (said : List Said) (t u : IppClientState) (body : List ℕ) (reader : HttpState) (what : Step) → Http.Stands e.read (said ++ said_by item.BodyPart reader.part) reader → Body.Heard body t.body → HearsIpp item.BodyPart what (with_http reader t) u → Comes e said t.closes body what u
+part_comes : (e : Entry) (said : List HttpElement) (t u : IppClientState) (body : List ℕ) (reader : HttpState) (what : Step) → Http.HasRead e.read (said ++ elements_of item.BodyPart reader.part) reader → Body.HasRead body t.body → HandlesIpp item.BodyPart what (with_http reader t) u → Comes e said t.closes body what u
 part_comes e said t u body reader (step.Due due last) stands heard it = (
-  entry.Http (said ++ said_by item.BodyPart reader.part) t.closes (body ++ reader.part),
-  record { item = item.BodyPart; part = reader.part; next = says_first e.read (said ++ said_by item.BodyPart reader.part) reader stands; comes = inl it.0; after = refl },
-  fits_ipp e.read (said ++ said_by item.BodyPart reader.part) t.closes (body ++ reader.part) reader u stands (ap (λ (x : IppClientState). x.reader) it.1) (ap (λ (x : IppClientState). x.closes) it.1) (it.2 body heard),
+  entry.Http (said ++ elements_of item.BodyPart reader.part) t.closes (body ++ reader.part),
+  record { item = item.BodyPart; part = reader.part; next = says_first e.read (said ++ elements_of item.BodyPart reader.part) reader stands; comes = inl it.0; after = refl },
+  fits_ipp e.read (said ++ elements_of item.BodyPart reader.part) t.closes (body ++ reader.part) reader u stands (ap (λ (x : IppClientState). x.reader) it.1) (ap (λ (x : IppClientState). x.closes) it.1) (it.2 body heard),
 )
 part_comes e said t u body reader (step.Asks ask last) stands heard it = absurd it
 part_comes e said t u body reader (step.Breaks ask) stands heard it = (
-  entry.Http (said ++ said_by item.BodyPart reader.part) t.closes body,
-  record { item = item.BodyPart; part = reader.part; next = says_first e.read (said ++ said_by item.BodyPart reader.part) reader stands; comes = inr it.0; after = refl },
-  fits_ipp e.read (said ++ said_by item.BodyPart reader.part) t.closes body reader u stands (ap (λ (x : IppClientState). x.reader) it.1) (ap (λ (x : IppClientState). x.closes) it.1) (subst (λ (x : IppClientState). Body.Heard body x.body) (sym it.1) heard),
+  entry.Http (said ++ elements_of item.BodyPart reader.part) t.closes body,
+  record { item = item.BodyPart; part = reader.part; next = says_first e.read (said ++ elements_of item.BodyPart reader.part) reader stands; comes = inr it.0; after = refl },
+  fits_ipp e.read (said ++ elements_of item.BodyPart reader.part) t.closes body reader u stands (ap (λ (x : IppClientState). x.reader) it.1) (ap (λ (x : IppClientState). x.closes) it.1) (subst (λ (x : IppClientState). Body.HasRead body x.body) (sym it.1) heard),
 )
 
-item_comes : (e : Entry) (said : List Said) (t u : IppClientState) (body : List ℕ) (reader : HttpState) (what : Step) (it : HttpItem) → Http.Stands e.read (said ++ said_by it reader.part) reader → Body.Heard body t.body → HearsIpp it what (with_http reader t) u → Comes e said t.closes body what u
+item_comes : (e : Entry) (said : List HttpElement) (t u : IppClientState) (body : List ℕ) (reader : HttpState) (what : Step) (it : HttpItem) → Http.HasRead e.read (said ++ elements_of it reader.part) reader → Body.HasRead body t.body → HandlesIpp it what (with_http reader t) u → Comes e said t.closes body what u
 item_comes e said t u body reader what (item.Head closes) stands heard (is, same, begun) = (
-  entry.Http (said ++ said_by (item.Head closes) reader.part) closes [],
-  record { item = item.Head closes; part = reader.part; next = says_first e.read (said ++ said_by (item.Head closes) reader.part) reader stands; comes = is; after = refl },
-  fits_ipp e.read (said ++ said_by (item.Head closes) reader.part) closes [] reader u stands (ap (λ (x : IppClientState). x.reader) same) (ap (λ (x : IppClientState). x.closes) same) begun,
+  entry.Http (said ++ elements_of (item.Head closes) reader.part) closes [],
+  record { item = item.Head closes; part = reader.part; next = says_first e.read (said ++ elements_of (item.Head closes) reader.part) reader stands; comes = is; after = refl },
+  fits_ipp e.read (said ++ elements_of (item.Head closes) reader.part) closes [] reader u stands (ap (λ (x : IppClientState). x.reader) same) (ap (λ (x : IppClientState). x.closes) same) begun,
 )
 item_comes e said t u body reader what item.Continue stands heard (is, same) = (
-  entry.Http (said ++ said_by item.Continue reader.part) t.closes body,
-  record { item = item.Continue; part = reader.part; next = says_first e.read (said ++ said_by item.Continue reader.part) reader stands; comes = is; after = refl },
-  fits_ipp e.read (said ++ said_by item.Continue reader.part) t.closes body reader u stands (ap (λ (x : IppClientState). x.reader) same) (ap (λ (x : IppClientState). x.closes) same) (subst (λ (x : IppClientState). Body.Heard body x.body) (sym same) heard),
+  entry.Http (said ++ elements_of item.Continue reader.part) t.closes body,
+  record { item = item.Continue; part = reader.part; next = says_first e.read (said ++ elements_of item.Continue reader.part) reader stands; comes = is; after = refl },
+  fits_ipp e.read (said ++ elements_of item.Continue reader.part) t.closes body reader u stands (ap (λ (x : IppClientState). x.reader) same) (ap (λ (x : IppClientState). x.closes) same) (subst (λ (x : IppClientState). Body.HasRead body x.body) (sym same) heard),
 )
 item_comes e said t u body reader what item.BodyPart stands heard it = part_comes e said t u body reader what stands heard it
 item_comes e said t u body reader what item.BodyEnd stands heard (same, begun, ends) = (
-  entry.Http (said ++ said_by item.BodyEnd reader.part) t.closes [],
-  record { item = item.BodyEnd; part = reader.part; next = says_first e.read (said ++ said_by item.BodyEnd reader.part) reader stands; comes = ends body heard; after = refl },
-  fits_ipp e.read (said ++ said_by item.BodyEnd reader.part) t.closes [] reader u stands (ap (λ (x : IppClientState). x.reader) same) (ap (λ (x : IppClientState). x.closes) same) begun,
+  entry.Http (said ++ elements_of item.BodyEnd reader.part) t.closes [],
+  record { item = item.BodyEnd; part = reader.part; next = says_first e.read (said ++ elements_of item.BodyEnd reader.part) reader stands; comes = ends body heard; after = refl },
+  fits_ipp e.read (said ++ elements_of item.BodyEnd reader.part) t.closes [] reader u stands (ap (λ (x : IppClientState). x.reader) same) (ap (λ (x : IppClientState). x.closes) same) begun,
 )
 item_comes e said t u body reader what (item.Refuse refusal) stands heard (is, same) = (
-  entry.Http (said ++ said_by (item.Refuse refusal) reader.part) t.closes body,
-  record { item = item.Refuse refusal; part = reader.part; next = says_first e.read (said ++ said_by (item.Refuse refusal) reader.part) reader stands; comes = is; after = refl },
-  fits_ipp e.read (said ++ said_by (item.Refuse refusal) reader.part) t.closes body reader u stands (ap (λ (x : IppClientState). x.reader) same) (ap (λ (x : IppClientState). x.closes) same) (subst (λ (x : IppClientState). Body.Heard body x.body) (sym same) heard),
+  entry.Http (said ++ elements_of (item.Refuse refusal) reader.part) t.closes body,
+  record { item = item.Refuse refusal; part = reader.part; next = says_first e.read (said ++ elements_of (item.Refuse refusal) reader.part) reader stands; comes = is; after = refl },
+  fits_ipp e.read (said ++ elements_of (item.Refuse refusal) reader.part) t.closes body reader u stands (ap (λ (x : IppClientState). x.reader) same) (ap (λ (x : IppClientState). x.closes) same) (subst (λ (x : IppClientState). Body.HasRead body x.body) (sym same) heard),
 )
 
-heard_ipp : (settings : ServerSettings) (e : Entry) (t u : IppClientState) (what : Step) → FitsIpp e.read e.talk t → NextIpp (Some what) t u → Heard settings e what (of.Ipp u)
+heard_ipp : (settings : ServerSettings) (e : Entry) (t u : IppClientState) (what : Step) → FitsIpp e.read e.progress t → NextIpp (Some what) t u → HasCome settings e what (of.Ipp u)
 heard_ipp settings e t u what f (inl (on, is, same)) =
     let fits : FitsIpp e.read (entry.Http (f.said ++ map HasByte f.untold) t.closes (f.body ++ f.untold)) u =
-    fits_ipp e.read (f.said ++ map HasByte f.untold) t.closes (f.body ++ f.untold) t.reader u f.stands (ap (λ (x : IppClientState). x.reader) same) (ap (λ (x : IppClientState). x.closes) same) (subst (λ (x : IppClientState). Body.Heard (f.body ++ f.untold) x.body) (sym same) f.heard) in
-    let next : NextItem e f.said t.closes f.body silent (talking (entry.Http (f.said ++ map HasByte f.untold) t.closes (f.body ++ f.untold)) e) = record {
+    fits_ipp e.read (f.said ++ map HasByte f.untold) t.closes (f.body ++ f.untold) t.reader u f.stands (ap (λ (x : IppClientState). x.reader) same) (ap (λ (x : IppClientState). x.closes) same) (subst (λ (x : IppClientState). Body.HasRead (f.body ++ f.untold) x.body) (sym same) f.heard) in
+    let next : NextItem e f.said t.closes f.body silent (with_progress (entry.Http (f.said ++ map HasByte f.untold) t.closes (f.body ++ f.untold)) e) = record {
       item = item.BodyPart;
       part = f.untold;
       next = says_first e.read (f.said ++ map HasByte f.untold) t.reader f.stands;
       comes = inl refl;
       after = refl;
     } in
-    let heard : Heard settings e silent (of.Ipp u) = record {
-      talk = entry.Http (f.said ++ map HasByte f.untold) t.closes (f.body ++ f.untold);
-      hears = subst (λ (k : PeerRecord). Hears settings k e silent (talking (entry.Http (f.said ++ map HasByte f.untold) t.closes (f.body ++ f.untold)) e)) (sym f.is) next;
+    let heard : HasCome settings e silent (of.Ipp u) = record {
+      progress = entry.Http (f.said ++ map HasByte f.untold) t.closes (f.body ++ f.untold);
+      hears = subst (λ (k : PeerRecord). ItemComes settings k e silent (with_progress (entry.Http (f.said ++ map HasByte f.untold) t.closes (f.body ++ f.untold)) e)) (sym f.is) next;
       broken = fits;
       whole = λ goes. fits;
     } in
-    subst (λ (w : Step). Heard settings e w (of.Ipp u)) (sym is) heard
+    subst (λ (w : Step). HasCome settings e w (of.Ipp u)) (sym is) heard
 heard_ipp settings e t u what f (inr (off, (it, reader, answers, falls, hears))) =
-    let c = item_comes e f.said t u f.body reader what it (answers.0 e.read f.said (stands_told e.read e.talk t f off)) (heard_told e.read e.talk t f off) hears in
-    record { talk = c.0; hears = subst (λ (k : PeerRecord). Hears settings k e what (talking c.0 e)) (sym f.is) c.1; broken = c.2; whole = λ goes. c.2 }
+    let c = item_comes e f.said t u f.body reader what it (answers.0 e.read f.said (stands_told e.read e.progress t f off)) (heard_told e.read e.progress t f off) hears in
+    record { progress = c.0; hears = subst (λ (k : PeerRecord). ItemComes settings k e what (with_progress c.0 e)) (sym f.is) c.1; broken = c.2; whole = λ goes. c.2 }
 
 -- ---- an LPD client
 
-heard_lpd : (settings : ServerSettings) (e : Entry) (t u : LpdClientState) (what : Step) → FitsLpd e.read e.talk t → NextLpd (is_queue settings) (Some what) t u → Heard settings e what (of.Lpd u)
+heard_lpd : (settings : ServerSettings) (e : Entry) (t u : LpdClientState) (what : Step) → FitsLpd e.read e.progress t → NextLpd (is_queue settings) (Some what) t u → HasCome settings e what (of.Lpd u)
 heard_lpd settings e t u what f (inl (it, reader, answers, falls, (same, comes))) =
     let items : List ItemRecord = f.items ++ item_record it reader.file ∷ [] in
-    let stands : Lpd.Stands e.read items reader = answers e.read f.items f.stands in
-    let fits : FitsLpd e.read (entry.Queue (f.items ++ item_record it reader.file ∷ []) u.session) u = record { items = f.items ++ item_record it reader.file ∷ []; is = refl; stands = subst (λ (r : LpdState). Lpd.Stands e.read (f.items ++ item_record it reader.file ∷ []) r) (sym same) stands } in
-    let next : HearsItem (is_queue settings) e f.items t.session what (talking (entry.Queue (f.items ++ item_record it reader.file ∷ []) u.session) e) = record {
+    let stands : Lpd.HasRead e.read items reader = answers e.read f.items f.stands in
+    let fits : FitsLpd e.read (entry.Queue (f.items ++ item_record it reader.file ∷ []) u.session) u = record { items = f.items ++ item_record it reader.file ∷ []; is = refl; stands = subst (λ (r : LpdState). Lpd.HasRead e.read (f.items ++ item_record it reader.file ∷ []) r) (sym same) stands } in
+    let next : LpdItemComes (is_queue settings) e f.items t.session what (with_progress (entry.Queue (f.items ++ item_record it reader.file ∷ []) u.session) e) = record {
       said = item_record it reader.file;
       session_after = u.session;
       next = record { next = reader.awaited; left = stands.left; leads = stands.leads };
       comes = comes;
       after = refl;
     } in
-    record { talk = entry.Queue (f.items ++ item_record it reader.file ∷ []) u.session; hears = subst (λ (k : PeerRecord). Hears settings k e what (talking (entry.Queue (f.items ++ item_record it reader.file ∷ []) u.session) e)) (sym f.is) (inl next); broken = fits; whole = λ goes. fits }
+    record { progress = entry.Queue (f.items ++ item_record it reader.file ∷ []) u.session; hears = subst (λ (k : PeerRecord). ItemComes settings k e what (with_progress (entry.Queue (f.items ++ item_record it reader.file ∷ []) u.session) e)) (sym f.is) (inl next); broken = fits; whole = λ goes. fits }
 heard_lpd settings e t u what f (inr (inl (fault, answers, comes, is))) =
     let found = answers.1 e.read f.items f.stands in
-    let fits : FitsLpd e.read e.talk u = record { items = f.items; is = f.is ∙ sym (ap (λ (x : LpdClientState). entry.Queue f.items x.session) is); stands = found.1 } in
-    let next : FindsFault e f.items what (talking e.talk e) = record { fault = fault; is = found.0; comes = comes; after = refl } in
-    record { talk = e.talk; hears = subst (λ (k : PeerRecord). Hears settings k e what (talking e.talk e)) (sym f.is) (inr (inl next)); broken = fits; whole = λ goes. fits }
+    let fits : FitsLpd e.read e.progress u = record { items = f.items; is = f.is ∙ sym (ap (λ (x : LpdClientState). entry.Queue f.items x.session) is); stands = found.1 } in
+    let next : FindsFault e f.items what (with_progress e.progress e) = record { fault = fault; is = found.0; comes = comes; after = refl } in
+    record { progress = e.progress; hears = subst (λ (k : PeerRecord). ItemComes settings k e what (with_progress e.progress e)) (sym f.is) (inr (inl next)); broken = fits; whole = λ goes. fits }
 heard_lpd settings e t u what f (inr (inr (answers, comes, is))) =
-    let fits : FitsLpd e.read e.talk u = record { items = f.items; is = f.is ∙ sym (ap (λ (x : LpdClientState). entry.Queue f.items x.session) is); stands = subst (λ (r : LpdState). Lpd.Stands e.read f.items r) (sym answers.0) f.stands } in
-    record { talk = e.talk; hears = subst (λ (k : PeerRecord). Hears settings k e what (talking e.talk e)) (sym f.is) (inr (inr (comes, refl))); broken = fits; whole = λ goes. fits }
+    let fits : FitsLpd e.read e.progress u = record { items = f.items; is = f.is ∙ sym (ap (λ (x : LpdClientState). entry.Queue f.items x.session) is); stands = subst (λ (r : LpdState). Lpd.HasRead e.read f.items r) (sym answers.0) f.stands } in
+    record { progress = e.progress; hears = subst (λ (k : PeerRecord). ItemComes settings k e what (with_progress e.progress e)) (sym f.is) (inr (inr (comes, refl))); broken = fits; whole = λ goes. fits }
 
 -- ---- a device
 
@@ -214,7 +214,7 @@ first_is_hello (Some (SaysDone job)) r is = cc
 first_is_hello (Some (SaysFail job)) r is = cc
 first_is_hello (Some IsGone) r is = cc
 
-hello_first : (read : List ℕ) (r : ReportRecord) (reader : LinkState) → Link.Stands read (r ∷ []) reader → IsHello r
+hello_first : (read : List ℕ) (r : ReportRecord) (reader : LinkState) → Link.HasRead read (r ∷ []) reader → IsHello r
 hello_first read r reader stands =
     let front = stands.leads.1 in
     first_is_hello (said (words_of (strip_carriage_return (take front.count read)))) r front.says
@@ -239,9 +239,9 @@ first_comes named (reported.Done job) what after hello greets = absurd hello
 first_comes named (reported.Fail job) what after hello greets = absurd hello
 first_comes named reported.Gone what after hello greets = absurd hello
 
-report_comes : (named : List ℕ → Option ℕ) (read : List ℕ) (given : List ReportRecord) (device : Option ℕ) (it : Report) (reader : LinkState) (what : Step) (after : Option ℕ) → (device ≡ None → given ≡ []) → Link.Stands read (given ++ report_of it ∷ []) reader → ComesOf named device it what after → Comes_of named device (report_of it) what after
+report_comes : (named : List ℕ → Option ℕ) (read : List ℕ) (given : List ReportRecord) (device : Option ℕ) (it : Report) (reader : LinkState) (what : Step) (after : Option ℕ) → (device ≡ None → given ≡ []) → Link.HasRead read (given ++ report_of it ∷ []) reader → ComesOf named device it what after → Comes_of named device (report_of it) what after
 report_comes named read given None it reader what after unnamed stands comes =
-    let only : Link.Stands read (report_of it ∷ []) reader = subst (λ (rs : List ReportRecord). Link.Stands read (rs ++ report_of it ∷ []) reader) (unnamed refl) stands in
+    let only : Link.HasRead read (report_of it ∷ []) reader = subst (λ (rs : List ReportRecord). Link.HasRead read (rs ++ report_of it ∷ []) reader) (unnamed refl) stands in
     first_comes named it what after (hello_first read (report_of it) reader only) comes
 report_comes named read given (Some device) it reader what after unnamed stands (is, some) = record {
   steps = ((it, refl, is), some);
@@ -251,12 +251,12 @@ report_comes named read given (Some device) it reader what after unnamed stands 
 off_device : (read : List ℕ) (reports : List ReportRecord) (u : DeviceState) → FitsDevice read (entry.Link reports u.device) true u
 off_device read reports u = record { reports = reports; is = refl; linked = λ no. let never : true ≡ false = no in cc }
 
-heard_device : (settings : ServerSettings) (e : Entry) (t u : DeviceState) (what : Step) → FitsDevice e.read e.talk false t → NextDevice (device_named settings) (Some what) t u → Heard settings e what (of.Device u)
+heard_device : (settings : ServerSettings) (e : Entry) (t u : DeviceState) (what : Step) → FitsDevice e.read e.progress false t → NextDevice (device_named settings) (Some what) t u → HasCome settings e what (of.Device u)
 heard_device settings e t u what f (inl (it, reader, answers, falls, (same, comes))) =
     let linked = f.linked refl in
-    let stands : Link.Stands e.read (f.reports ++ report_of it ∷ []) reader = answers e.read f.reports linked.stands in
+    let stands : Link.HasRead e.read (f.reports ++ report_of it ∷ []) reader = answers e.read f.reports linked.stands in
     let c = report_comes (device_named settings) e.read f.reports t.device it reader what u.device linked.unnamed stands comes in
-    let next : HearsReport (device_named settings) e f.reports t.device what (talking (entry.Link (f.reports ++ report_of it ∷ []) u.device) e) = record {
+    let next : ReportComes (device_named settings) e f.reports t.device what (with_progress (entry.Link (f.reports ++ report_of it ∷ []) u.device) e) = record {
       said = report_of it;
       device_after = u.device;
       next = record { next = reader.greeted; left = stands.left; leads = stands.leads };
@@ -264,37 +264,37 @@ heard_device settings e t u what f (inl (it, reader, answers, falls, (same, come
       after = refl;
     } in
     record {
-      talk = entry.Link (f.reports ++ report_of it ∷ []) u.device;
-      hears = subst (λ (k : PeerRecord). Hears settings k e what (talking (entry.Link (f.reports ++ report_of it ∷ []) u.device) e)) (sym f.is) (inl next);
+      progress = entry.Link (f.reports ++ report_of it ∷ []) u.device;
+      hears = subst (λ (k : PeerRecord). ItemComes settings k e what (with_progress (entry.Link (f.reports ++ report_of it ∷ []) u.device) e)) (sym f.is) (inl next);
       broken = off_device e.read (f.reports ++ report_of it ∷ []) u;
       whole = λ goes. record {
         reports = f.reports ++ report_of it ∷ [];
         is = refl;
-        linked = λ on. record { stands = subst (λ (r : LinkState). Link.Stands e.read (f.reports ++ report_of it ∷ []) r) (sym same) stands; unnamed = λ none. absurd (c.goes goes none) };
+        linked = λ on. record { stands = subst (λ (r : LinkState). Link.HasRead e.read (f.reports ++ report_of it ∷ []) r) (sym same) stands; unnamed = λ none. absurd (c.goes goes none) };
       };
     }
 heard_device settings e t u what f (inr (inl (fault, answers, comes, is))) =
     let found = answers.1 e.read f.reports (f.linked refl).stands in
-    let talk : e.talk ≡ entry.Link f.reports u.device = f.is ∙ sym (ap (λ (x : DeviceState). entry.Link f.reports x.device) is) in
-    let next : FindsLinkFault e f.reports t.device what (talking e.talk e) = record { fault = fault; is = found.0; comes = comes; after = refl } in
+    let progress : e.progress ≡ entry.Link f.reports u.device = f.is ∙ sym (ap (λ (x : DeviceState). entry.Link f.reports x.device) is) in
+    let next : FindsLinkFault e f.reports t.device what (with_progress e.progress e) = record { fault = fault; is = found.0; comes = comes; after = refl } in
     record {
-      talk = e.talk;
-      hears = subst (λ (k : PeerRecord). Hears settings k e what (talking e.talk e)) (sym f.is) (inr (inl next));
-      broken = record { reports = f.reports; is = talk; linked = λ no. let never : true ≡ false = no in cc };
+      progress = e.progress;
+      hears = subst (λ (k : PeerRecord). ItemComes settings k e what (with_progress e.progress e)) (sym f.is) (inr (inl next));
+      broken = record { reports = f.reports; is = progress; linked = λ no. let never : true ≡ false = no in cc };
       whole = λ goes. absurd (subst Goes comes goes);
     }
 heard_device settings e t u what f (inr (inr (answers, comes, is))) =
-    let talk : e.talk ≡ entry.Link f.reports u.device = f.is ∙ sym (ap (λ (x : DeviceState). entry.Link f.reports x.device) is) in
+    let progress : e.progress ≡ entry.Link f.reports u.device = f.is ∙ sym (ap (λ (x : DeviceState). entry.Link f.reports x.device) is) in
     record {
-      talk = e.talk;
-      hears = subst (λ (k : PeerRecord). Hears settings k e what (talking e.talk e)) (sym f.is) (inr (inr (comes, refl)));
-      broken = record { reports = f.reports; is = talk; linked = λ no. let never : true ≡ false = no in cc };
+      progress = e.progress;
+      hears = subst (λ (k : PeerRecord). ItemComes settings k e what (with_progress e.progress e)) (sym f.is) (inr (inr (comes, refl)));
+      broken = record { reports = f.reports; is = progress; linked = λ no. let never : true ≡ false = no in cc };
       whole = λ goes. absurd (subst Goes comes goes);
     }
 
 -- ---- any of them
 
-pub heard : (settings : ServerSettings) (e : Entry) (x y : Peer) (what : Step) → FitsPeer e.read e.talk false x → NextPeer settings (Some what) x y → Heard settings e what y
+pub heard : (settings : ServerSettings) (e : Entry) (x y : Peer) (what : Step) → FitsPeer e.read e.progress false x → NextPeer settings (Some what) x y → HasCome settings e what y
 heard settings e (of.Ipp t) (of.Ipp u) what f next = heard_ipp settings e t u what f next
 heard settings e (of.Lpd t) (of.Lpd u) what f next = heard_lpd settings e t u what f next
 heard settings e (of.Device t) (of.Device u) what f next = heard_device settings e t u what f next
@@ -306,18 +306,18 @@ heard settings e (of.Device t) (of.Ipp u) what f next = absurd next
 heard settings e (of.Device t) (of.Lpd u) what f next = absurd next
 
 -- the bytes that are left have no whole item
-pub rested : (settings : ServerSettings) (read : List ℕ) (talk : PeerRecord) (x y : Peer) → FitsPeer read talk false x → NextPeer settings None x y → IsHeardAs read talk × FitsPeer read talk false y
-rested settings read talk (of.Ipp t) (of.Ipp u) f (off, answers, is) =
-    let all : Exchanges read f.said = answers.1 read f.said (stands_told read talk t f off) in
-    let stands : Http.Stands read f.said u.reader = subst (λ (xs : List Said). Http.Stands read xs u.reader) (append-nil f.said) (answers.0 read f.said (stands_told read talk t f off)) in
-    let heard : Body.Heard f.body u.body = subst (λ (v : IppClientState). Body.Heard f.body v.body) (sym is) (heard_told read talk t f off) in
+pub rested : (settings : ServerSettings) (read : List ℕ) (progress : PeerRecord) (x y : Peer) → FitsPeer read progress false x → NextPeer settings None x y → IsHeardAs read progress × FitsPeer read progress false y
+rested settings read progress (of.Ipp t) (of.Ipp u) f (off, answers, is) =
+    let all : Exchanges read f.said = answers.1 read f.said (stands_told read progress t f off) in
+    let stands : Http.HasRead read f.said u.reader = subst (λ (xs : List HttpElement). Http.HasRead read xs u.reader) (append-nil f.said) (answers.0 read f.said (stands_told read progress t f off)) in
+    let heard : Body.HasRead f.body u.body = subst (λ (v : IppClientState). Body.HasRead f.body v.body) (sym is) (heard_told read progress t f off) in
     let fits : FitsIpp read (entry.Http f.said t.closes f.body) u = fits_ipp read f.said t.closes f.body u.reader u stands refl (ap (λ (v : IppClientState). v.closes) is) heard in
     (subst (λ (k : PeerRecord). IsHeardAs read k) (sym f.is) all, subst (λ (k : PeerRecord). FitsIpp read k u) (sym f.is) fits)
-rested settings read talk (of.Lpd t) (of.Lpd u) f (answers, is) =
+rested settings read progress (of.Lpd t) (of.Lpd u) f (answers, is) =
     let all : LpdItems read f.items Open = answers.1 read f.items f.stands in
     let same : entry.Queue f.items t.session ≡ entry.Queue f.items u.session = sym (ap (λ (v : LpdClientState). entry.Queue f.items v.session) is) in
-    (subst (λ (k : PeerRecord). IsHeardAs read k) (sym f.is) all, record { items = f.items; is = f.is ∙ same; stands = subst (λ (r : LpdState). Lpd.Stands read f.items r) (sym answers.0) f.stands })
-rested settings read talk (of.Device t) (of.Device u) f (answers, is) =
+    (subst (λ (k : PeerRecord). IsHeardAs read k) (sym f.is) all, record { items = f.items; is = f.is ∙ same; stands = subst (λ (r : LpdState). Lpd.HasRead read f.items r) (sym answers.0) f.stands })
+rested settings read progress (of.Device t) (of.Device u) f (answers, is) =
     let linked = f.linked refl in
     let all = answers.1 read f.reports linked.stands in
     let same : entry.Link f.reports t.device ≡ entry.Link f.reports u.device = sym (ap (λ (v : DeviceState). entry.Link f.reports v.device) is) in (
@@ -325,22 +325,22 @@ rested settings read talk (of.Device t) (of.Device u) f (answers, is) =
       record {
         reports = f.reports;
         is = f.is ∙ same;
-        linked = λ whole. record { stands = subst (λ (r : LinkState). Link.Stands read f.reports r) (sym answers.0) linked.stands; unnamed = λ none. linked.unnamed (sym (ap (λ (v : DeviceState). v.device) is) ∙ none) };
+        linked = λ whole. record { stands = subst (λ (r : LinkState). Link.HasRead read f.reports r) (sym answers.0) linked.stands; unnamed = λ none. linked.unnamed (sym (ap (λ (v : DeviceState). v.device) is) ∙ none) };
       },
     )
-rested settings read talk (of.Ipp t) (of.Lpd u) f it = absurd it
-rested settings read talk (of.Ipp t) (of.Device u) f it = absurd it
-rested settings read talk (of.Lpd t) (of.Ipp u) f it = absurd it
-rested settings read talk (of.Lpd t) (of.Device u) f it = absurd it
-rested settings read talk (of.Device t) (of.Ipp u) f it = absurd it
-rested settings read talk (of.Device t) (of.Lpd u) f it = absurd it
+rested settings read progress (of.Ipp t) (of.Lpd u) f it = absurd it
+rested settings read progress (of.Ipp t) (of.Device u) f it = absurd it
+rested settings read progress (of.Lpd t) (of.Ipp u) f it = absurd it
+rested settings read progress (of.Lpd t) (of.Device u) f it = absurd it
+rested settings read progress (of.Device t) (of.Ipp u) f it = absurd it
+rested settings read progress (of.Device t) (of.Lpd u) f it = absurd it
 
 map_bytes : (xs ys : List ℕ) → map HasByte xs ++ map HasByte ys ≡ map HasByte (xs ++ ys)
 map_bytes [] ys = refl
-map_bytes (x ∷ xs) ys = ap (λ (zs : List Said). HasByte x ∷ zs) (map_bytes xs ys)
+map_bytes (x ∷ xs) ys = ap (λ (zs : List HttpElement). HasByte x ∷ zs) (map_bytes xs ys)
 
-fed_ipp : (read piece : List ℕ) (talk : PeerRecord) (t u : IppClientState) → FitsIpp read talk t → IsFedIpp piece t u → FitsIpp (read ++ piece) talk u
-fed_ipp read piece talk t u f (inl (is, stands)) =
+fed_ipp : (read piece : List ℕ) (progress : PeerRecord) (t u : IppClientState) → FitsIpp read progress t → IsFedIpp piece t u → FitsIpp (read ++ piece) progress u
+fed_ipp read piece progress t u f (inl (is, stands)) =
     let same : entry.Http f.said t.closes f.body ≡ entry.Http f.said u.closes f.body = sym (ap (λ (v : IppClientState). entry.Http f.said v.closes f.body) is) in
     record {
       said = f.said;
@@ -349,42 +349,42 @@ fed_ipp read piece talk t u f (inl (is, stands)) =
       is = f.is ∙ same;
       told = λ off. f.told (sym (ap (λ (v : IppClientState). v.untold) is) ∙ off);
       stands = stands read (f.said ++ map HasByte f.untold) f.stands;
-      heard = subst (λ (v : IppClientState). Body.Heard (f.body ++ f.untold) v.body) (sym is) f.heard;
+      heard = subst (λ (v : IppClientState). Body.HasRead (f.body ++ f.untold) v.body) (sym is) f.heard;
     }
-fed_ipp read piece talk t u f (inr (is, stands, heard)) =
+fed_ipp read piece progress t u f (inr (is, stands, heard)) =
     let same : entry.Http f.said t.closes f.body ≡ entry.Http f.said u.closes f.body = sym (ap (λ (v : IppClientState). entry.Http f.said v.closes f.body) is) in
     let on : u.untold ≡ true = ap (λ (v : IppClientState). v.untold) is in
     let said : (f.said ++ map HasByte f.untold) ++ map HasByte piece ≡ f.said ++ map HasByte (f.untold ++ piece) =
-    append_assoc f.said (map HasByte f.untold) (map HasByte piece) ∙ ap (λ (xs : List Said). f.said ++ xs) (map_bytes f.untold piece) in
+    append_assoc f.said (map HasByte f.untold) (map HasByte piece) ∙ ap (λ (xs : List HttpElement). f.said ++ xs) (map_bytes f.untold piece) in
     record {
       said = f.said;
       body = f.body;
       untold = f.untold ++ piece;
       is = f.is ∙ same;
       told = λ off. let never : true ≡ false = sym on ∙ off in cc;
-      stands = subst (λ (xs : List Said). Http.Stands (read ++ piece) xs u.reader) said (stands read (f.said ++ map HasByte f.untold) f.stands);
-      heard = subst (λ (xs : List ℕ). Body.Heard xs u.body) (append_assoc f.body f.untold piece) (heard (f.body ++ f.untold) f.heard);
+      stands = subst (λ (xs : List HttpElement). Http.HasRead (read ++ piece) xs u.reader) said (stands read (f.said ++ map HasByte f.untold) f.stands);
+      heard = subst (λ (xs : List ℕ). Body.HasRead xs u.body) (append_assoc f.body f.untold piece) (heard (f.body ++ f.untold) f.heard);
     }
 
 -- a piece was fed
-pub fed_peer : (read piece : List ℕ) (talk : PeerRecord) (off : Bool) (x y : Peer) → FitsPeer read talk off x → IsFedPeer piece x y → FitsPeer (read ++ piece) talk off y
-fed_peer read piece talk off (of.Ipp t) (of.Ipp u) f fed = fed_ipp read piece talk t u f fed
-fed_peer read piece talk off (of.Lpd t) (of.Lpd u) f (is, stands) =
+pub fed_peer : (read piece : List ℕ) (progress : PeerRecord) (off : Bool) (x y : Peer) → FitsPeer read progress off x → IsFedPeer piece x y → FitsPeer (read ++ piece) progress off y
+fed_peer read piece progress off (of.Ipp t) (of.Ipp u) f fed = fed_ipp read piece progress t u f fed
+fed_peer read piece progress off (of.Lpd t) (of.Lpd u) f (is, stands) =
     let same : entry.Queue f.items t.session ≡ entry.Queue f.items u.session = sym (ap (λ (v : LpdClientState). entry.Queue f.items v.session) is) in
     record { items = f.items; is = f.is ∙ same; stands = stands read f.items f.stands }
-fed_peer read piece talk off (of.Device t) (of.Device u) f (is, stands) =
+fed_peer read piece progress off (of.Device t) (of.Device u) f (is, stands) =
     let same : entry.Link f.reports t.device ≡ entry.Link f.reports u.device = sym (ap (λ (v : DeviceState). entry.Link f.reports v.device) is) in
     record {
       reports = f.reports;
       is = f.is ∙ same;
       linked = λ whole. record { stands = stands read f.reports (f.linked whole).stands; unnamed = λ none. (f.linked whole).unnamed (sym (ap (λ (v : DeviceState). v.device) is) ∙ none) };
     }
-fed_peer read piece talk off (of.Ipp t) (of.Lpd u) f it = absurd it
-fed_peer read piece talk off (of.Ipp t) (of.Device u) f it = absurd it
-fed_peer read piece talk off (of.Lpd t) (of.Ipp u) f it = absurd it
-fed_peer read piece talk off (of.Lpd t) (of.Device u) f it = absurd it
-fed_peer read piece talk off (of.Device t) (of.Ipp u) f it = absurd it
-fed_peer read piece talk off (of.Device t) (of.Lpd u) f it = absurd it
+fed_peer read piece progress off (of.Ipp t) (of.Lpd u) f it = absurd it
+fed_peer read piece progress off (of.Ipp t) (of.Device u) f it = absurd it
+fed_peer read piece progress off (of.Lpd t) (of.Ipp u) f it = absurd it
+fed_peer read piece progress off (of.Lpd t) (of.Device u) f it = absurd it
+fed_peer read piece progress off (of.Device t) (of.Ipp u) f it = absurd it
+fed_peer read piece progress off (of.Device t) (of.Lpd u) f it = absurd it
 
 -- a client of which nothing was read
 pub new_ipp : (t : IppClientState) → IsNewIpp t → FitsIpp [] (entry.Http [] false []) t

@@ -2,7 +2,7 @@
 use Rattle.std.specs.Prelude.{ℕ, ◌≡◌, ◌⊎◌, ◌||◌, Bool, true, false, List, [], ◌∷◌, ◌++◌, Option, Some, None}
 use Rattle.base_types.specs.Report.{ReportRecord}
 use Rattle.settings_file.specs.Settings.{ServerSettings, device_named}
-use Rattle.http_front.specs.Stream.{Said, said_by, Exchanges}
+use Rattle.http_front.specs.Stream.{HttpElement, elements_of, Exchanges}
 use Rattle.http_front.specs.Stream as Http
 use Rattle.http_front.specs.declared.item.HttpItem.{HttpItem}
 use Rattle.lpd.specs.declared.fault.LpdFault.{LpdFault}
@@ -21,26 +21,26 @@ use Rattle.connections.specs.declared.ask.Growth.TheVariants as growth
 use Rattle.connections.specs.declared.step.Step.{Step}
 use Rattle.connections.specs.declared.step.Step.TheVariants as step
 use Rattle.connections.specs.Session.{is_queue}
-use Rattle.connections.specs.Entry.{PeerRecord, Http as OfIpp, Queue as OfLpd, Link as OfDevice, Entry, talking, reading, finishing, broken, owing, needs_memory}
+use Rattle.connections.specs.Entry.{PeerRecord, Http as OfIpp, Queue as OfLpd, Link as OfDevice, Entry, with_progress, reading, finishing, broken, owing, needs_memory}
 use Rattle.connections.specs.Steps.{StepsIpp, closes_after, body_after, StepsLpd, StepsDevice, refused, faulty, no_memory, due_bytes}
 
 -- ---- the next item of a stream, behind the items that were acted on
 
 -- the next item of an IPP client
-pub record HearsIpp (e : Entry) (said : List Said) (closes : Bool) (body : List ℕ) (what : Step) (mid : Entry) : Type 0 where
+pub record IppItemComes (e : Entry) (said : List HttpElement) (closes : Bool) (body : List ℕ) (what : Step) (mid : Entry) : Type 0 where
   pub item : HttpItem
   pub part : List ℕ
-  pub next : Http.SaysFirst e.read (said ++ said_by item part)
+  pub next : Http.ParsesFirst e.read (said ++ elements_of item part)
   pub comes : StepsIpp item closes body what
-  pub after : mid ≡ talking (OfIpp (said ++ said_by item part) (closes_after item closes) (body_after item what part body)) e
+  pub after : mid ≡ with_progress (OfIpp (said ++ elements_of item part) (closes_after item closes) (body_after item what part body)) e
 
 -- the next item of an LPD client
-pub record HearsItem (queues : List ℕ → Bool) (e : Entry) (items : List ItemRecord) (session : Option SessionState) (what : Step) (mid : Entry) : Type 0 where
+pub record LpdItemComes (queues : List ℕ → Bool) (e : Entry) (items : List ItemRecord) (session : Option SessionState) (what : Step) (mid : Entry) : Type 0 where
   pub said : ItemRecord
   pub session_after : Option SessionState
-  pub next : Lpd.SaysFirst e.read (items ++ said ∷ [])
+  pub next : Lpd.ParsesFirst e.read (items ++ said ∷ [])
   pub comes : StepsLpd queues session said what session_after
-  pub after : mid ≡ talking (OfLpd (items ++ said ∷ []) session_after) e
+  pub after : mid ≡ with_progress (OfLpd (items ++ said ∷ []) session_after) e
 
 -- a fault of an LPD client's stream
 pub record FindsFault (e : Entry) (items : List ItemRecord) (what : Step) (mid : Entry) : Type 0 where
@@ -54,12 +54,12 @@ abbrev pub LosesLine : Entry → Step → Entry → Type 0
 LosesLine e what mid = (what ≡ no_memory) × (mid ≡ e)
 
 -- the next report of a device
-pub record HearsReport (named : List ℕ → Option ℕ) (e : Entry) (reports : List ReportRecord) (device : Option ℕ) (what : Step) (mid : Entry) : Type 0 where
+pub record ReportComes (named : List ℕ → Option ℕ) (e : Entry) (reports : List ReportRecord) (device : Option ℕ) (what : Step) (mid : Entry) : Type 0 where
   pub said : ReportRecord
   pub device_after : Option ℕ
-  pub next : Link.SaysFirst e.read (reports ++ said ∷ [])
+  pub next : Link.ParsesFirst e.read (reports ++ said ∷ [])
   pub comes : StepsDevice named device said what device_after
-  pub after : mid ≡ talking (OfDevice (reports ++ said ∷ []) device_after) e
+  pub after : mid ≡ with_progress (OfDevice (reports ++ said ∷ []) device_after) e
 
 -- a fault of a device's stream
 pub record FindsLinkFault (e : Entry) (reports : List ReportRecord) (device : Option ℕ) (what : Step) (mid : Entry) : Type 0 where
@@ -69,10 +69,10 @@ pub record FindsLinkFault (e : Entry) (reports : List ReportRecord) (device : Op
   pub after : mid ≡ e
 
 -- the next item of a stream is acted on, with its step
-abbrev pub Hears : ServerSettings → PeerRecord → Entry → Step → Entry → Type 0
-Hears settings (OfIpp said closes body) e what mid = HearsIpp e said closes body what mid
-Hears settings (OfLpd items session) e what mid = HearsItem (is_queue settings) e items session what mid ⊎ (FindsFault e items what mid ⊎ LosesLine e what mid)
-Hears settings (OfDevice reports device) e what mid = HearsReport (device_named settings) e reports device what mid ⊎ (FindsLinkFault e reports device what mid ⊎ LosesLine e what mid)
+abbrev pub ItemComes : ServerSettings → PeerRecord → Entry → Step → Entry → Type 0
+ItemComes settings (OfIpp said closes body) e what mid = IppItemComes e said closes body what mid
+ItemComes settings (OfLpd items session) e what mid = LpdItemComes (is_queue settings) e items session what mid ⊎ (FindsFault e items what mid ⊎ LosesLine e what mid)
+ItemComes settings (OfDevice reports device) e what mid = ReportComes (device_named settings) e reports device what mid ⊎ (FindsLinkFault e reports device what mid ⊎ LosesLine e what mid)
 
 -- ---- the result of a step
 
@@ -97,14 +97,14 @@ IsHeardAs read (OfDevice reports device) = device_reports read ≡ record { repo
 
 -- the connection is draining or broken, or all bytes that it read were acted on
 abbrev pub IsHeard : Entry → Type 0
-IsHeard e = ((e.draining || e.broken) ≡ true) ⊎ IsHeardAs e.read e.talk
+IsHeard e = ((e.draining || e.broken) ≡ true) ⊎ IsHeardAs e.read e.progress
 
 -- a connection that is neither draining nor broken has an ask
 pub record AsksNext (settings : ServerSettings) (what : Ask) (e new : Entry) : Type 0 where
   pub counts : (e.draining || e.broken) ≡ false
   pub comes : Step
   pub mid : Entry
-  pub hears : Hears settings e.talk e comes mid
+  pub hears : ItemComes settings e.progress e comes mid
   pub steps : StepsTo comes mid what new
 
 -- the connection has this ask, or no ask

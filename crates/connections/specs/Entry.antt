@@ -1,7 +1,7 @@
 -- A connection since it was accepted, as whole lists: all bytes that were read, the part of them that was acted on, all bytes that were due and all bytes that were taken. The lists aren't stored.
 use Rattle.std.specs.Prelude.{ℕ, nat_lt, Bool, true, false, List, [], ◌++◌, length, drop, Option, None}
 use Rattle.base_types.specs.Report.{ReportRecord}
-use Rattle.http_front.specs.Stream.{Said}
+use Rattle.http_front.specs.Stream.{HttpElement}
 use Rattle.lpd.specs.Items.{ItemRecord}
 use Rattle.lpd.specs.Session.{SessionState}
 use Rattle.send_queues.specs.declared.queue.TheConstants.{RESERVED_BYTES}
@@ -11,7 +11,7 @@ use Rattle.wires.specs.declared.wire.Door.TheVariants.{Ipp, Lpd, Devices}
 -- the part of a connection's bytes that was acted on, and the state that the server keeps for the rest
 pub data PeerRecord : Type 0 where
   -- the items; whether the connection closes after the reply to the current request; the current request's body so far
-  Http : (said : List Said) (closes : Bool) (body : List ℕ) → PeerRecord
+  Http : (said : List HttpElement) (closes : Bool) (body : List ℕ) → PeerRecord
   -- the items, and the files of a queue while jobs are received
   Queue : (items : List ItemRecord) (session : Option SessionState) → PeerRecord
   -- the reports, and the device that gave its name
@@ -39,7 +39,7 @@ pub record Entry : Type 0 where
   pub id : ℕ
   -- all bytes that were read and weren't discarded
   pub read : List ℕ
-  pub talk : PeerRecord
+  pub progress : PeerRecord
   -- the input of the connection has ended
   pub ended : Bool
   -- bytes that are read from now on are discarded; the connection closes once all due bytes were taken
@@ -50,7 +50,7 @@ pub record Entry : Type 0 where
   pub due : List ℕ
 
 abbrev pub opening_entry : Door → ℕ → Entry
-opening_entry door id = record { id = id; read = []; talk = opening_peer door; ended = false; draining = false; broken = false; taken = []; due = [] }
+opening_entry door id = record { id = id; read = []; progress = opening_peer door; ended = false; draining = false; broken = false; taken = []; due = [] }
 
 -- the bytes that are due and weren't taken
 abbrev pub waiting : Entry → List ℕ
@@ -59,8 +59,8 @@ waiting e = drop (length e.taken) e.due
 -- ---- changes
 
 -- items were acted on
-abbrev pub talking : PeerRecord → Entry → Entry
-talking talk e = record e { talk = talk }
+abbrev pub with_progress : PeerRecord → Entry → Entry
+with_progress progress e = record e { progress = progress }
 
 -- a piece was read
 abbrev pub reading : List ℕ → Entry → Entry
@@ -89,7 +89,7 @@ unnamed (Link reports device) = Link reports None
 
 -- the device that gave its name on the connection has another connection: the old connection is to be closed as by a fault
 abbrev pub given_up : Entry → Entry
-given_up e = record e { talk = unnamed e.talk; broken = true }
+given_up e = record e { progress = unnamed e.progress; broken = true }
 
 -- the waiting bytes and the new bytes together exceed what a connection reserves when it is accepted
 abbrev pub needs_memory : List ℕ → Entry → Bool

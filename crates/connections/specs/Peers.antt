@@ -17,7 +17,7 @@ use Rattle.lpd.specs.Stream.{LpdState}
 use Rattle.lpd.specs.Stream as Lpd
 use Rattle.http_front.specs.declared.item.HttpItem.{HttpItem}
 use Rattle.http_front.specs.declared.item.HttpItem.TheVariants as item
-use Rattle.http_front.specs.Stream.{HttpState, Said, HasByte}
+use Rattle.http_front.specs.Stream.{HttpState, HttpElement, HasByte}
 use Rattle.http_front.specs.Stream as Http
 use Rattle.ipp_operations.specs.Reader.{ReaderState}
 use Rattle.ipp_operations.specs.Reader as Body
@@ -37,7 +37,7 @@ use Rattle.wires.specs.declared.wire.Door.TheVariants as door
 
 -- a client of which nothing was read yet
 abbrev pub IsNewIpp : IppClientState → Type 0
-IsNewIpp t = Http.Stands [] [] t.reader × (t.closes ≡ false) × Body.Heard [] t.body × (t.untold ≡ false)
+IsNewIpp t = Http.HasRead [] [] t.reader × (t.closes ≡ false) × Body.HasRead [] t.body × (t.untold ≡ false)
 
 abbrev pub with_http : HttpState → IppClientState → IppClientState
 with_http reader t = record t { reader = reader }
@@ -47,14 +47,14 @@ with_body body t = record t { body = body }
 
 -- a piece was fed to the reader
 abbrev pub FeedsReader : List ℕ → IppClientState → IppClientState → Type 0
-FeedsReader piece t u = (u ≡ with_http u.reader t) × ((stream : List ℕ) (given : List Said) → Http.Stands stream given t.reader → Http.Stands (stream ++ piece) given u.reader)
+FeedsReader piece t u = (u ≡ with_http u.reader t) × ((stream : List ℕ) (given : List HttpElement) → Http.HasRead stream given t.reader → Http.HasRead (stream ++ piece) given u.reader)
 
 -- a piece is bytes of a body, and was fed to the body at once; a later step tells of it
 abbrev pub FeedsBody : List ℕ → IppClientState → IppClientState → Type 0
 FeedsBody piece t u =
     (u ≡ record t { reader = u.reader; body = u.body; untold = true })
-    × ((stream : List ℕ) (given : List Said) → Http.Stands stream given t.reader → Http.Stands (stream ++ piece) (given ++ map HasByte piece) u.reader)
-    × ((bytes : List ℕ) → Body.Heard bytes t.body → Body.Heard (bytes ++ piece) u.body)
+    × ((stream : List ℕ) (given : List HttpElement) → Http.HasRead stream given t.reader → Http.HasRead (stream ++ piece) (given ++ map HasByte piece) u.reader)
+    × ((bytes : List ℕ) → Body.HasRead bytes t.body → Body.HasRead (bytes ++ piece) u.body)
 
 -- a piece was fed
 abbrev pub IsFedIpp : List ℕ → IppClientState → IppClientState → Type 0
@@ -62,29 +62,29 @@ IsFedIpp piece t u = FeedsReader piece t u ⊎ FeedsBody piece t u
 
 -- a request begins, with an empty body so far
 abbrev pub BeginsIpp : Bool → Step → IppClientState → IppClientState → Type 0
-BeginsIpp closes what t u = (what ≡ silent) × (u ≡ record t { closes = closes; body = u.body }) × Body.Heard [] u.body
+BeginsIpp closes what t u = (what ≡ silent) × (u ≡ record t { closes = closes; body = u.body }) × Body.HasRead [] u.body
 
 -- the last part of the body was read, or memory for it is refused
 abbrev pub TakesPart : Step → IppClientState → IppClientState → Type 0
-TakesPart (step.Due due last) t u = (step.Due due last ≡ silent) × (u ≡ with_body u.body t) × ((bytes : List ℕ) → Body.Heard bytes t.body → Body.Heard (bytes ++ t.reader.part) u.body)
+TakesPart (step.Due due last) t u = (step.Due due last ≡ silent) × (u ≡ with_body u.body t) × ((bytes : List ℕ) → Body.HasRead bytes t.body → Body.HasRead (bytes ++ t.reader.part) u.body)
 TakesPart (step.Asks ask last) t u = ⊥
 TakesPart (step.Breaks ask) t u = (step.Breaks ask ≡ no_memory) × (u ≡ t)
 
 -- the body was taken out, and an empty one is in its place
 abbrev pub LosesBody : ReaderState → IppClientState → IppClientState → Type 0
-LosesBody body t u = (body ≡ t.body) × (u ≡ with_body u.body t) × Body.Heard [] u.body
+LosesBody body t u = (body ≡ t.body) × (u ≡ with_body u.body t) × Body.HasRead [] u.body
 
 -- the body is whole
 abbrev pub EndsIpp : Step → IppClientState → IppClientState → Type 0
-EndsIpp what t u = (u ≡ with_body u.body t) × Body.Heard [] u.body × ((bytes : List ℕ) → Body.Heard bytes t.body → EndsBody t.closes bytes what)
+EndsIpp what t u = (u ≡ with_body u.body t) × Body.HasRead [] u.body × ((bytes : List ℕ) → Body.HasRead bytes t.body → EndsBody t.closes bytes what)
 
 -- the step and the state after an item
-abbrev pub HearsIpp : HttpItem → Step → IppClientState → IppClientState → Type 0
-HearsIpp (item.Head closes) what t u = BeginsIpp closes what t u
-HearsIpp item.Continue what t u = (what ≡ step.Due due.Continue false) × (u ≡ t)
-HearsIpp item.BodyPart what t u = TakesPart what t u
-HearsIpp item.BodyEnd what t u = EndsIpp what t u
-HearsIpp (item.Refuse refusal) what t u = (what ≡ step.Due (due.Refusal refusal) true) × (u ≡ t)
+abbrev pub HandlesIpp : HttpItem → Step → IppClientState → IppClientState → Type 0
+HandlesIpp (item.Head closes) what t u = BeginsIpp closes what t u
+HandlesIpp item.Continue what t u = (what ≡ step.Due due.Continue false) × (u ≡ t)
+HandlesIpp item.BodyPart what t u = TakesPart what t u
+HandlesIpp item.BodyEnd what t u = EndsIpp what t u
+HandlesIpp (item.Refuse refusal) what t u = (what ≡ step.Due (due.Refusal refusal) true) × (u ≡ t)
 
 -- a step tells of the bytes that the body was fed before
 abbrev pub TellsBody : Step → IppClientState → IppClientState → Type 0
@@ -94,7 +94,7 @@ TellsBody what t u = (t.untold ≡ true) × (what ≡ silent) × (u ≡ record t
 abbrev pub TakesItem : Step → IppClientState → IppClientState → Type 0
 TakesItem what t u =
     (said : HttpItem) × (reader : HttpState)
-    × Http.Answers t.reader (Some said) reader × (Http.work reader < Http.work t.reader) × HearsIpp said what (with_http reader t) u
+    × Http.Answers t.reader (Some said) reader × (Http.work reader < Http.work t.reader) × HandlesIpp said what (with_http reader t) u
 
 -- the next item, if one is whole, was taken off the stream and acted on; before it a step tells of the bytes that the body was fed
 abbrev pub NextIpp : Option Step → IppClientState → IppClientState → Type 0
@@ -104,42 +104,42 @@ NextIpp (Some what) t u = TellsBody what t u ⊎ ((t.untold ≡ false) × TakesI
 -- ---- an LPD client
 
 abbrev pub IsNewLpd : LpdClientState → Type 0
-IsNewLpd t = Lpd.Stands [] [] t.reader × (t.session ≡ None)
+IsNewLpd t = Lpd.HasRead [] [] t.reader × (t.session ≡ None)
 
 abbrev pub with_lpd : LpdState → LpdClientState → LpdClientState
 with_lpd reader t = record t { reader = reader }
 
 abbrev pub IsFedLpd : List ℕ → LpdClientState → LpdClientState → Type 0
-IsFedLpd piece t u = (u ≡ with_lpd u.reader t) × ((stream : List ℕ) (given : List ItemRecord) → Lpd.Stands stream given t.reader → Lpd.Stands (stream ++ piece) given u.reader)
+IsFedLpd piece t u = (u ≡ with_lpd u.reader t) × ((stream : List ℕ) (given : List ItemRecord) → Lpd.HasRead stream given t.reader → Lpd.HasRead (stream ++ piece) given u.reader)
 
 -- the step and the state after an item
-abbrev pub HearsLpd : (List ℕ → Bool) → LpdItem → Step → LpdClientState → LpdClientState → Type 0
-HearsLpd queues said what t u = (u.reader ≡ t.reader) × StepsLpd queues t.session (item_record said t.reader.file) what u.session
+abbrev pub HandlesLpd : (List ℕ → Bool) → LpdItem → Step → LpdClientState → LpdClientState → Type 0
+HandlesLpd queues said what t u = (u.reader ≡ t.reader) × StepsLpd queues t.session (item_record said t.reader.file) what u.session
 
 -- the same for an item that may be incomplete
-abbrev pub HearsWholeItem : (List ℕ → Bool) → Option LpdItem → Option Step → LpdClientState → LpdClientState → Type 0
-HearsWholeItem queues None None t u = u ≡ t
-HearsWholeItem queues (Some said) (Some what) t u = HearsLpd queues said what t u
-HearsWholeItem queues _ _ t u = ⊥
+abbrev pub HandlesLpdIfAny : (List ℕ → Bool) → Option LpdItem → Option Step → LpdClientState → LpdClientState → Type 0
+HandlesLpdIfAny queues None None t u = u ≡ t
+HandlesLpdIfAny queues (Some said) (Some what) t u = HandlesLpd queues said what t u
+HandlesLpdIfAny queues _ _ t u = ⊥
 
 -- the next item was taken off the stream and acted on; or a fault was found; or memory for a line is refused
 abbrev pub NextLpd : (List ℕ → Bool) → Option Step → LpdClientState → LpdClientState → Type 0
 NextLpd queues None t u = Lpd.Answers t.reader (Ok None) u.reader × (u ≡ with_lpd u.reader t)
 NextLpd queues (Some what) t u =
-    ((said : LpdItem) × (reader : LpdState) × Lpd.Answers t.reader (Ok (Some said)) reader × (Lpd.work reader < Lpd.work t.reader) × HearsLpd queues said what (with_lpd reader t) u)
+    ((said : LpdItem) × (reader : LpdState) × Lpd.Answers t.reader (Ok (Some said)) reader × (Lpd.work reader < Lpd.work t.reader) × HandlesLpd queues said what (with_lpd reader t) u)
     ⊎ (((fault : LpdFault) × Lpd.Answers t.reader (Err (lpd.Fault fault)) u.reader × (what ≡ refused) × (u ≡ with_lpd u.reader t))
     ⊎ (Lpd.Answers t.reader (Err lpd.OutOfMemory) u.reader × (what ≡ no_memory) × (u ≡ with_lpd u.reader t)))
 
 -- ---- a device
 
 abbrev pub IsNewDevice : DeviceState → Type 0
-IsNewDevice t = Link.Stands [] [] t.reader × (t.device ≡ None)
+IsNewDevice t = Link.HasRead [] [] t.reader × (t.device ≡ None)
 
 abbrev pub with_link : LinkState → DeviceState → DeviceState
 with_link reader t = record t { reader = reader }
 
 abbrev pub IsFedDevice : List ℕ → DeviceState → DeviceState → Type 0
-IsFedDevice piece t u = (u ≡ with_link u.reader t) × ((stream : List ℕ) (given : List ReportRecord) → Link.Stands stream given t.reader → Link.Stands (stream ++ piece) given u.reader)
+IsFedDevice piece t u = (u ≡ with_link u.reader t) × ((stream : List ℕ) (given : List ReportRecord) → Link.HasRead stream given t.reader → Link.HasRead (stream ++ piece) given u.reader)
 
 abbrev pub link_step : LinkError → Option ℕ → Step
 link_step (link.Fault fault) device = faulty device
@@ -155,20 +155,20 @@ abbrev pub ComesOf : (List ℕ → Option ℕ) → Option ℕ → Report → Ste
 ComesOf named None said what after = Greets named said what after
 ComesOf named (Some device) said what after = (what ≡ step.Asks (ask.Report device said) false) × (after ≡ Some device)
 
-abbrev pub HearsDevice : (List ℕ → Option ℕ) → Report → Step → DeviceState → DeviceState → Type 0
-HearsDevice named said what t u = (u.reader ≡ t.reader) × ComesOf named t.device said what u.device
+abbrev pub HandlesReport : (List ℕ → Option ℕ) → Report → Step → DeviceState → DeviceState → Type 0
+HandlesReport named said what t u = (u.reader ≡ t.reader) × ComesOf named t.device said what u.device
 
 -- the same for a report that may be incomplete
-abbrev pub HearsWholeReport : (List ℕ → Option ℕ) → Option Report → Option Step → DeviceState → DeviceState → Type 0
-HearsWholeReport named None None t u = u ≡ t
-HearsWholeReport named (Some said) (Some what) t u = HearsDevice named said what t u
-HearsWholeReport named _ _ t u = ⊥
+abbrev pub HandlesReportIfAny : (List ℕ → Option ℕ) → Option Report → Option Step → DeviceState → DeviceState → Type 0
+HandlesReportIfAny named None None t u = u ≡ t
+HandlesReportIfAny named (Some said) (Some what) t u = HandlesReport named said what t u
+HandlesReportIfAny named _ _ t u = ⊥
 
 -- the next report was taken off the stream and acted on; or a fault was found; or memory for a line is refused
 abbrev pub NextDevice : (List ℕ → Option ℕ) → Option Step → DeviceState → DeviceState → Type 0
 NextDevice named None t u = Link.Answers t.reader (Ok None) u.reader × (u ≡ with_link u.reader t)
 NextDevice named (Some what) t u =
-    ((said : Report) × (reader : LinkState) × Link.Answers t.reader (Ok (Some said)) reader × (Link.work reader < Link.work t.reader) × HearsDevice named said what (with_link reader t) u)
+    ((said : Report) × (reader : LinkState) × Link.Answers t.reader (Ok (Some said)) reader × (Link.work reader < Link.work t.reader) × HandlesReport named said what (with_link reader t) u)
     ⊎ (((fault : LinkFault) × Link.Answers t.reader (Err (link.Fault fault)) u.reader × (what ≡ faulty t.device) × (u ≡ with_link u.reader t))
     ⊎ (Link.Answers t.reader (Err link.OutOfMemory) u.reader × (what ≡ no_memory) × (u ≡ with_link u.reader t)))
 

@@ -2,7 +2,7 @@
 use Rattle.std.specs.Prelude.{ℕ, ◌≡◌, Bool, false, List, [], ◌++◌, map, None}
 use Rattle.base_types.specs.Report.{ReportRecord}
 use Rattle.device_link.specs.Stream as Link
-use Rattle.http_front.specs.Stream.{Said, HasByte}
+use Rattle.http_front.specs.Stream.{HttpElement, HasByte}
 use Rattle.http_front.specs.Stream as Http
 use Rattle.lpd.specs.Items.{ItemRecord}
 use Rattle.lpd.specs.Stream as Lpd
@@ -15,41 +15,41 @@ use Rattle.connections.specs.declared.peer.Peer.{Peer}
 use Rattle.connections.specs.declared.peer.Peer.TheVariants as of
 
 -- the reader of an IPP client has been fed all bytes read, and the parser of its body the body so far
-pub record FitsIpp (read : List ℕ) (talk : PeerRecord) (t : IppClientState) : Type 0 where
-  pub said : List Said
+pub record FitsIpp (read : List ℕ) (progress : PeerRecord) (t : IppClientState) : Type 0 where
+  pub said : List HttpElement
   pub body : List ℕ
   -- bytes that the body was fed, of which no step has told yet
   pub untold : List ℕ
-  pub is : talk ≡ entry.Http said t.closes body
+  pub is : progress ≡ entry.Http said t.closes body
   pub told : t.untold ≡ false → untold ≡ []
-  pub stands : Http.Stands read (said ++ map HasByte untold) t.reader
-  pub heard : Body.Heard (body ++ untold) t.body
+  pub stands : Http.HasRead read (said ++ map HasByte untold) t.reader
+  pub heard : Body.HasRead (body ++ untold) t.body
 
 -- the reader of an LPD client has been fed all bytes read
-pub record FitsLpd (read : List ℕ) (talk : PeerRecord) (t : LpdClientState) : Type 0 where
+pub record FitsLpd (read : List ℕ) (progress : PeerRecord) (t : LpdClientState) : Type 0 where
   pub items : List ItemRecord
-  pub is : talk ≡ entry.Queue items t.session
-  pub stands : Lpd.Stands read items t.reader
+  pub is : progress ≡ entry.Queue items t.session
+  pub stands : Lpd.HasRead read items t.reader
 
 -- the reader of a device has been fed all bytes read; a device without a name gave no reports
 pub record IsLinked (read : List ℕ) (reports : List ReportRecord) (t : DeviceState) : Type 0 where
-  pub stands : Link.Stands read reports t.reader
+  pub stands : Link.HasRead read reports t.reader
   pub unnamed : t.device ≡ None → reports ≡ []
 
 -- a device's record fits its entry; on a broken connection the reader is free
-pub record FitsDevice (read : List ℕ) (talk : PeerRecord) (broken : Bool) (t : DeviceState) : Type 0 where
+pub record FitsDevice (read : List ℕ) (progress : PeerRecord) (broken : Bool) (t : DeviceState) : Type 0 where
   pub reports : List ReportRecord
-  pub is : talk ≡ entry.Link reports t.device
+  pub is : progress ≡ entry.Link reports t.device
   pub linked : broken ≡ false → IsLinked read reports t
 
 abbrev pub FitsPeer : List ℕ → PeerRecord → Bool → Peer → Type 0
-FitsPeer read talk broken (of.Ipp t) = FitsIpp read talk t
-FitsPeer read talk broken (of.Lpd t) = FitsLpd read talk t
-FitsPeer read talk broken (of.Device t) = FitsDevice read talk broken t
+FitsPeer read progress broken (of.Ipp t) = FitsIpp read progress t
+FitsPeer read progress broken (of.Lpd t) = FitsLpd read progress t
+FitsPeer read progress broken (of.Device t) = FitsDevice read progress broken t
 
 pub record RepresentsConnection (e : Entry) (c : ConnectionState) : Type 0 where
   pub id : c.id ≡ e.id
-  pub peer : FitsPeer e.read e.talk e.broken c.peer
+  pub peer : FitsPeer e.read e.progress e.broken c.peer
   pub ended : c.ended ≡ e.ended
   pub draining : c.draining ≡ e.draining
   pub broken : c.broken ≡ e.broken

@@ -8,7 +8,7 @@ use Rattle.http_front.specs.declared.item.HttpItem.{HttpItem}
 use Rattle.http_front.specs.declared.item.HttpItem.TheVariants as item
 use Rattle.lpd.specs.declared.fault.LpdError.{LpdError}
 use Rattle.lpd.specs.declared.fault.LpdError.TheVariants as fault
-use Rattle.lpd.specs.Items.{ItemRecord, Says, Aborts, Announces, HasFile}
+use Rattle.lpd.specs.Items.{ItemRecord, HasCommand, Aborts, Announces, HasFile}
 use Rattle.lpd.specs.Session.{SessionState}
 use Rattle.events.specs.declared.status.Status.{Status}
 use Rattle.ipp_operations.specs.declared.parsed_request.ParsedRequest.{ParsedRequest}
@@ -126,7 +126,7 @@ AsksForFile hearing before what after = IsFileLost before what after ⊎ AsksAs 
 -- the step for an item, and the session after it, where is_queue says which queues there are
 abbrev pub StepsLpd : (List ℕ → Bool) → Option SessionState → ItemRecord → Step → Option SessionState → Type 0
 StepsLpd is_queue before (HasFile contents) what after = AsksForFile (heard is_queue before (HasFile contents)) before what after
-StepsLpd is_queue before (Says command) what after = AsksAs (heard is_queue before (Says command)) what after
+StepsLpd is_queue before (HasCommand command) what after = AsksAs (heard is_queue before (HasCommand command)) what after
 StepsLpd is_queue before Aborts what after = AsksAs (heard is_queue before Aborts) what after
 StepsLpd is_queue before (Announces head) what after = AsksAs (heard is_queue before (Announces head)) what after
 

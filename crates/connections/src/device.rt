@@ -2,7 +2,7 @@
 ghost use Rattle.std.specs.Prelude.{◌≡◌, OnOk, OnErr, Some, None, false};
 ghost use Rattle.settings_file.specs.Settings.{device_named};
 ghost use Rattle.connections.specs.Steps.{StepsHello};
-ghost use Rattle.connections.specs.Peers.{IsNewDevice, IsFedDevice, NextDevice, HearsDevice, HearsWholeReport, link_step};
+ghost use Rattle.connections.specs.Peers.{IsNewDevice, IsFedDevice, NextDevice, HandlesReport, HandlesReportIfAny, link_step};
 
 use crate::ask::{Ask, Growth};
 use crate::step::Step;
@@ -75,7 +75,7 @@ impl Device {
 
     /// Returns the step for a report that was just taken off the stream, if it is whole.
     fn hear_whole(&mut self, report: Option<Report>, settings: &Settings) -> Option<Step>
-        ensures { HearsWholeReport (device_named settings.now) report result self.old self.new }
+        ensures { HandlesReportIfAny (device_named settings.now) report result self.old self.new }
     {
         match report {
             Some(report) => Some(self.hear(report, settings)),
@@ -85,7 +85,7 @@ impl Device {
 
     /// Returns the step for a report.
     fn hear(&mut self, report: Report, settings: &Settings) -> Step
-        ensures { HearsDevice (device_named settings.now) report result self.old self.new }
+        ensures { HandlesReport (device_named settings.now) report result self.old self.new }
     {
         match self.device {
             Some(device) => asks(Ask::Report(device, report)),
@@ -96,7 +96,7 @@ impl Device {
     /// Returns the step for the first report, which has to be a name.
     fn greet(&mut self, report: Report, settings: &Settings) -> Step
         requires { self.old.device ≡ None }
-        ensures { HearsDevice (device_named settings.now) report result self.old self.new }
+        ensures { HandlesReport (device_named settings.now) report result self.old self.new }
     {
         match report {
             Report::Hello(name) => self.meet(name, settings),

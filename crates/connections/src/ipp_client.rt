@@ -2,9 +2,9 @@
 ghost use Rattle.std.specs.Prelude.{◌≡◌, OnOk, OnErr, List, ℕ, length, true};
 ghost use Rattle.http_front.specs.Stream.{AwaitsBody};
 ghost use Rattle.ipp_operations.specs.ParsedRequest.{Asks};
-ghost use Rattle.ipp_operations.specs.Reader.{Heard};
+ghost use Rattle.ipp_operations.specs.Reader.{HasRead};
 ghost use Rattle.connections.specs.Steps.{EndsBody, asked_step};
-ghost use Rattle.connections.specs.Peers.{IsNewIpp, IsFedIpp, FeedsReader, FeedsBody, NextIpp, TellsBody, HearsIpp, BeginsIpp, TakesPart, EndsIpp, LosesBody};
+ghost use Rattle.connections.specs.Peers.{IsNewIpp, IsFedIpp, FeedsReader, FeedsBody, NextIpp, TellsBody, HandlesIpp, BeginsIpp, TakesPart, EndsIpp, LosesBody};
 
 use crate::ask::{Ask, Client, Growth};
 use crate::step::{Due, Step};
@@ -127,7 +127,7 @@ impl IppClient {
 
     /// Returns the step for an item that was just taken off the stream.
     fn hear(&mut self, item: HttpItem) -> Step
-        ensures { HearsIpp item result self.old self.new }
+        ensures { HandlesIpp item result self.old self.new }
     {
         match item {
             HttpItem::Head { closes } => self.begin(closes),
@@ -184,7 +184,7 @@ fn due(due: Due, last: bool) -> Step
 /// Returns the step for a whole body. A body under 8 bytes is answered 400, and the connection drains (RFC
 /// 8010, section 3.1.1).
 fn whole_step(closes: bool, body: &mut RequestParser) -> Step
-    ensures { (bytes : List ℕ) → Heard bytes body.old → EndsBody closes bytes result }
+    ensures { (bytes : List ℕ) → HasRead bytes body.old → EndsBody closes bytes result }
 {
     let Some(request) = body.request_id() else {
         return due(Due::Refusal(HttpRejection::BadRequest), true);

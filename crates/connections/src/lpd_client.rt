@@ -1,12 +1,12 @@
 //! An LPD client: commands, and the files of jobs (RFC 1179).
 ghost use Rattle.std.specs.Prelude.{◌≡◌, OnOk, OnErr, Some, None, true, false};
-ghost use Rattle.lpd.specs.Items.{item_record, command_record, Says, Aborts, Announces, HasFile, ReceivesJob};
+ghost use Rattle.lpd.specs.Items.{item_record, command_record, HasCommand, Aborts, Announces, HasFile, ReceivesJob};
 ghost use Rattle.lpd.specs.Pending.{first_complete};
 ghost use Rattle.lpd.specs.Session.{sent_at};
 ghost use Rattle.connections.specs.Session.{heard, on_command, on_file, on_complete, on_job, is_queue};
 ghost use Rattle.connections.specs.Commands.{SubmitsJob};
 ghost use Rattle.connections.specs.Steps.{AsksAs, AsksForFile, StepsLpd, byte_due, step_of};
-ghost use Rattle.connections.specs.Peers.{IsNewLpd, IsFedLpd, NextLpd, HearsWholeItem};
+ghost use Rattle.connections.specs.Peers.{IsNewLpd, IsFedLpd, NextLpd, HandlesLpdIfAny};
 
 use crate::ask::{Ask, Client, Growth, Part};
 use crate::step::{Due, Step};
@@ -78,7 +78,7 @@ impl LpdClient {
 
     /// Returns the step for an item that was just taken off the stream, if it is whole.
     fn hear_whole(&mut self, item: Option<LpdItem>, settings: &Settings) -> Option<Step>
-        ensures { HearsWholeItem (is_queue settings.now) item result self.old self.new }
+        ensures { HandlesLpdIfAny (is_queue settings.now) item result self.old self.new }
     {
         match item {
             Some(item) => Some(self.hear(item, settings)),
@@ -101,7 +101,7 @@ impl LpdClient {
 
     /// Acts on a command. In a session, a command is ignored.
     fn hear_command(&mut self, command: LpdCommand, settings: &Settings) -> Step
-        ensures asks { AsksAs (heard (is_queue settings.now) self.old.session (Says (command_record command))) result self.new.session }
+        ensures asks { AsksAs (heard (is_queue settings.now) self.old.session (HasCommand (command_record command))) result self.new.session }
         ensures reader { self.new.reader ≡ self.old.reader }
     {
         if self.session.is_some() {

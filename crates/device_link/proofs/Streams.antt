@@ -12,7 +12,7 @@ use Rattle.device_link.specs.declared.fault.LinkFault.{LinkFault}
 use Rattle.device_link.specs.declared.fault.LinkFault.TheVariants.{BadLine, LineTooLong}
 use Rattle.device_link.specs.declared.fault.LinkError.TheVariants.{Fault}
 use Rattle.device_link.specs.Line.{report_in}
-use Rattle.device_link.specs.Stream.{Ending, Unfinished, Faulty, Heard, LinkState, SaysAtFront, Leads, SaysFirst, IsLeft, Stands, Answers, ahead, device_reports, heard_on, silence, with_front, heard_after, heard_in}
+use Rattle.device_link.specs.Stream.{Ending, Unfinished, Faulty, ParsedLines, LinkState, ParsesAtFront, Leads, ParsesFirst, IsLeft, HasRead, Answers, ahead, device_reports, parsed_on, silence, with_front, parsed_after, parsed_in}
 use Rattle.text.specs.Parts.{texts_of}
 use Rattle.text.specs.FirstLine.{first_line_of}
 use Rattle.text.specs.declared.line.FirstLine.{FirstLine}
@@ -20,28 +20,28 @@ use Rattle.text.specs.declared.line.FirstLine.TheVariants as Front
 use Rattle.text.proofs.FirstLines.{whole_line, line_grown, unfinished_line, endless_line, endless_grown}
 use Rattle.text.proofs.Splits.{parts, split_before, split_nowhere, first_is_long}
 
-heard_first_of : (greeted : Bool) (line : List ℕ) (texts next : List ℕ) (more : List (List ℕ)) (parts : List (List ℕ)) → length line < DEVICE_LINE_BYTES → parts ≡ next ∷ more → heard_in greeted (line ∷ parts) ≡ heard_after (report_in greeted line) (heard_in true parts)
+heard_first_of : (greeted : Bool) (line : List ℕ) (texts next : List ℕ) (more : List (List ℕ)) (parts : List (List ℕ)) → length line < DEVICE_LINE_BYTES → parts ≡ next ∷ more → parsed_in greeted (line ∷ parts) ≡ parsed_after (report_in greeted line) (parsed_in true parts)
 heard_first_of greeted line texts next more parts short cut = rw cut (search (rules, short))
 
 -- a whole line is heard before the bytes behind it
-pub heard_line : (greeted : Bool) (bytes coming : List ℕ) (count : ℕ) → first_line_of DEVICE_LINE_BYTES bytes ≡ Front.Whole count → heard_in greeted (texts_of (bytes ++ coming)) ≡ heard_after (report_in greeted (take count bytes)) (heard_in true (texts_of (drop (count + 1) bytes ++ coming)))
+pub heard_line : (greeted : Bool) (bytes coming : List ℕ) (count : ℕ) → first_line_of DEVICE_LINE_BYTES bytes ≡ Front.Whole count → parsed_in greeted (texts_of (bytes ++ coming)) ≡ parsed_after (report_in greeted (take count bytes)) (parsed_in true (texts_of (drop (count + 1) bytes ++ coming)))
 heard_line greeted bytes coming count line =
     let later = parts (λ byte. byte == 10) (drop (count + 1) bytes ++ coming) in
     let whole = whole_line DEVICE_LINE_BYTES bytes count line in
     let short : length (take count bytes) < DEVICE_LINE_BYTES = search (rules, whole.1) in
     rw (split_before (λ byte. byte == 10) bytes coming count whole.0) (heard_first_of greeted (take count bytes) [] later.first later.later (texts_of (drop (count + 1) bytes ++ coming)) short later.cut)
 
-heard_long : (greeted : Bool) (text : List ℕ) (later : List (List ℕ)) → DEVICE_LINE_BYTES ≤ length text → heard_in greeted (text ∷ later) ≡ silence (Faulty LineTooLong)
+heard_long : (greeted : Bool) (text : List ℕ) (later : List (List ℕ)) → DEVICE_LINE_BYTES ≤ length text → parsed_in greeted (text ∷ later) ≡ silence (Faulty LineTooLong)
 heard_long greeted text [] long = search (rules, long)
 heard_long greeted text (next ∷ more) long = search (rules, long)
 
-pub heard_too_long : (greeted : Bool) (bytes coming : List ℕ) → first_line_of DEVICE_LINE_BYTES bytes ≡ Front.TooLong → heard_in greeted (texts_of (bytes ++ coming)) ≡ silence (Faulty LineTooLong)
+pub heard_too_long : (greeted : Bool) (bytes coming : List ℕ) → first_line_of DEVICE_LINE_BYTES bytes ≡ Front.TooLong → parsed_in greeted (texts_of (bytes ++ coming)) ≡ silence (Faulty LineTooLong)
 heard_too_long greeted bytes coming long =
     let endless = endless_grown DEVICE_LINE_BYTES bytes coming (endless_line DEVICE_LINE_BYTES bytes long) in
     let it = first_is_long (λ byte. byte == 10) (bytes ++ coming) DEVICE_LINE_BYTES endless.many endless.none in
     rw it.0.cut (heard_long greeted it.0.first it.0.later it.1)
 
-pub heard_nothing : (greeted : Bool) (bytes : List ℕ) → first_line_of DEVICE_LINE_BYTES bytes ≡ Front.Unfinished → heard_in greeted (texts_of bytes) ≡ silence Unfinished
+pub heard_nothing : (greeted : Bool) (bytes : List ℕ) → first_line_of DEVICE_LINE_BYTES bytes ≡ Front.Unfinished → parsed_in greeted (texts_of bytes) ≡ silence Unfinished
 heard_nothing greeted bytes begun =
     let parts = unfinished_line DEVICE_LINE_BYTES bytes begun in
     rw (split_nowhere (λ byte. byte == 10) bytes parts.0) (search (rules, parts.1))
@@ -52,7 +52,7 @@ leads_then : (greeted : Bool) (bytes : List ℕ) (first : List ReportRecord) (b 
 leads_then greeted bytes [] b mid later next left x y = subst (λ (q : Bool). Leads q bytes later next left) x.0 (subst (λ (r : List ℕ). Leads b r later next left) x.1 y)
 leads_then greeted bytes (report ∷ first) b mid later next left x y = (x.0, x.1, leads_then true x.0 first b mid later next left x.2 y)
 
-line_more : (greeted : Bool) (bytes more : List ℕ) (report : ReportRecord) (rest : List ℕ) → SaysAtFront greeted bytes report rest → SaysAtFront greeted (bytes ++ more) report (rest ++ more)
+line_more : (greeted : Bool) (bytes more : List ℕ) (report : ReportRecord) (rest : List ℕ) → ParsesAtFront greeted bytes report rest → ParsesAtFront greeted (bytes ++ more) report (rest ++ more)
 line_more greeted bytes more report rest x =
     let at = whole_line DEVICE_LINE_BYTES bytes x.count x.line in
     let within : x.count < length bytes = search (rules, position-Some (λ byte. byte == 10) bytes x.count 0 at.0) in
@@ -69,45 +69,45 @@ leads_more : (greeted : Bool) (bytes more : List ℕ) (reports : List ReportReco
 leads_more greeted bytes more [] next left x = (x.0, ap (λ l. l ++ more) x.1)
 leads_more greeted bytes more (report ∷ reports) next left x = (x.0 ++ more, line_more greeted bytes more report x.0 x.1, leads_more true x.0 more reports next left x.2)
 
-with_none : (heard : Heard) → with_front [] heard ≡ heard
+with_none : (heard : ParsedLines) → with_front [] heard ≡ heard
 with_none heard = refl
 
 -- the reports of bytes: the reports that they say first, and then the reports of the bytes that are left
-heard_leads : (greeted : Bool) (bytes coming : List ℕ) (reports : List ReportRecord) (next : Bool) (left : List ℕ) → Leads greeted bytes reports next left → heard_in greeted (texts_of (bytes ++ coming)) ≡ with_front reports (heard_in next (texts_of (left ++ coming)))
-heard_leads greeted bytes coming [] next left x = rw (x.0, x.1) (sym (with_none (heard_in greeted (texts_of (bytes ++ coming)))))
+heard_leads : (greeted : Bool) (bytes coming : List ℕ) (reports : List ReportRecord) (next : Bool) (left : List ℕ) → Leads greeted bytes reports next left → parsed_in greeted (texts_of (bytes ++ coming)) ≡ with_front reports (parsed_in next (texts_of (left ++ coming)))
+heard_leads greeted bytes coming [] next left x = rw (x.0, x.1) (sym (with_none (parsed_in greeted (texts_of (bytes ++ coming)))))
 heard_leads greeted bytes coming (report ∷ reports) next left x =
     let later = heard_leads true x.0 coming reports next left x.2 in
     let front = heard_line greeted bytes coming x.1.count x.1.line in
-    let says : heard_after (report_in greeted (take x.1.count bytes)) (heard_in true (texts_of (drop (x.1.count + 1) bytes ++ coming))) ≡ with_front (report ∷ []) (heard_in true (texts_of (x.0 ++ coming))) = rw (x.1.says, x.1.rest_is) refl in
-    front ∙ says ∙ ap (λ (h : Heard). with_front (report ∷ []) h) later
+    let says : parsed_after (report_in greeted (take x.1.count bytes)) (parsed_in true (texts_of (drop (x.1.count + 1) bytes ++ coming))) ≡ with_front (report ∷ []) (parsed_in true (texts_of (x.0 ++ coming))) = rw (x.1.says, x.1.rest_is) refl in
+    front ∙ says ∙ ap (λ (h : ParsedLines). with_front (report ∷ []) h) later
 
 -- ---- a fault stays
 
 faulty_same : (fault other : LinkFault) → silence (Faulty other) ≡ silence (Faulty fault) → other ≡ fault
-faulty_same fault other is = let endings : Faulty other ≡ Faulty fault = ap (λ (h : Heard). h.ending) is in (cc)
+faulty_same fault other is = let endings : Faulty other ≡ Faulty fault = ap (λ (h : ParsedLines). h.ending) is in (cc)
 
-no_report : (report : ReportRecord) (later : Heard) (fault : LinkFault) → with_front (report ∷ []) later ≡ silence (Faulty fault) → ⊥
-no_report report later fault is = let none : report ∷ later.reports ≡ [] = ap (λ (h : Heard). h.reports) is in (cc)
+no_report : (report : ReportRecord) (later : ParsedLines) (fault : LinkFault) → with_front (report ∷ []) later ≡ silence (Faulty fault) → ⊥
+no_report report later fault is = let none : report ∷ later.reports ≡ [] = ap (λ (h : ParsedLines). h.reports) is in (cc)
 
-after_stays : (said : Option ReportRecord) (later grown : Heard) (fault : LinkFault) → heard_after said later ≡ silence (Faulty fault) → heard_after said grown ≡ silence (Faulty fault)
+after_stays : (said : Option ReportRecord) (later grown : ParsedLines) (fault : LinkFault) → parsed_after said later ≡ silence (Faulty fault) → parsed_after said grown ≡ silence (Faulty fault)
 after_stays None later grown fault is = is
 after_stays (Some report) later grown fault is = absurd (no_report report later fault is)
 
-faulty_by : (greeted : Bool) (bytes more : List ℕ) (fault : LinkFault) (front : FirstLine) → first_line_of DEVICE_LINE_BYTES bytes ≡ front → heard_in greeted (texts_of bytes) ≡ silence (Faulty fault) → heard_in greeted (texts_of (bytes ++ more)) ≡ silence (Faulty fault)
+faulty_by : (greeted : Bool) (bytes more : List ℕ) (fault : LinkFault) (front : FirstLine) → first_line_of DEVICE_LINE_BYTES bytes ≡ front → parsed_in greeted (texts_of bytes) ≡ silence (Faulty fault) → parsed_in greeted (texts_of (bytes ++ more)) ≡ silence (Faulty fault)
 faulty_by greeted bytes more fault (Front.Whole count) line is =
     let here = heard_line greeted bytes [] count line in
-    let same : heard_in greeted (texts_of (bytes ++ [])) ≡ silence (Faulty fault) = subst (λ (b : List ℕ). heard_in greeted (texts_of b) ≡ silence (Faulty fault)) (sym (append-nil bytes)) is in
+    let same : parsed_in greeted (texts_of (bytes ++ [])) ≡ silence (Faulty fault) = subst (λ (b : List ℕ). parsed_in greeted (texts_of b) ≡ silence (Faulty fault)) (sym (append-nil bytes)) is in
     heard_line greeted bytes more count line ∙ after_stays (report_in greeted (take count bytes)) _ _ fault (sym here ∙ same)
 faulty_by greeted bytes more fault Front.TooLong line is =
     let here = heard_too_long greeted bytes [] line in
-    let same : heard_in greeted (texts_of (bytes ++ [])) ≡ silence (Faulty fault) = subst (λ (b : List ℕ). heard_in greeted (texts_of b) ≡ silence (Faulty fault)) (sym (append-nil bytes)) is in
+    let same : parsed_in greeted (texts_of (bytes ++ [])) ≡ silence (Faulty fault) = subst (λ (b : List ℕ). parsed_in greeted (texts_of b) ≡ silence (Faulty fault)) (sym (append-nil bytes)) is in
     heard_too_long greeted bytes more line ∙ (sym here ∙ same)
 faulty_by greeted bytes more fault Front.Unfinished line is =
     let no : silence Unfinished ≡ silence (Faulty fault) = sym (heard_nothing greeted bytes line) ∙ is in
-    let endings : Unfinished ≡ Faulty fault = ap (λ (h : Heard). h.ending) no in
+    let endings : Unfinished ≡ Faulty fault = ap (λ (h : ParsedLines). h.ending) no in
     absurd (cc endings)
 
-faulty_more : (greeted : Bool) (bytes more : List ℕ) (fault : LinkFault) → heard_in greeted (texts_of bytes) ≡ silence (Faulty fault) → heard_in greeted (texts_of (bytes ++ more)) ≡ silence (Faulty fault)
+faulty_more : (greeted : Bool) (bytes more : List ℕ) (fault : LinkFault) → parsed_in greeted (texts_of bytes) ≡ silence (Faulty fault) → parsed_in greeted (texts_of (bytes ++ more)) ≡ silence (Faulty fault)
 faulty_more greeted bytes more fault is = faulty_by greeted bytes more fault (first_line_of DEVICE_LINE_BYTES bytes) refl is
 
 -- ---- pieces
@@ -116,7 +116,7 @@ left_fed : (fault : Option LinkFault) (greeted : Bool) (rest left piece : List �
 left_fed (Some fault) greeted rest left piece is = faulty_more greeted left piece fault is
 left_fed None greeted rest left piece is = ap (λ l. l ++ piece) is
 
-stands_fed : (stream : List ℕ) (given : List ReportRecord) (piece : List ℕ) (reader : LinkState) → Stands stream given reader → Stands (stream ++ piece) given (record reader { rest = reader.rest ++ piece })
+stands_fed : (stream : List ℕ) (given : List ReportRecord) (piece : List ℕ) (reader : LinkState) → HasRead stream given reader → HasRead (stream ++ piece) given (record reader { rest = reader.rest ++ piece })
 stands_fed stream given piece reader stands = record {
   left = stands.left ++ piece;
   leads = leads_more false stream piece given reader.greeted stands.left stands.leads;
@@ -124,8 +124,8 @@ stands_fed stream given piece reader stands = record {
 }
 
 -- a piece of which nothing is read yet
-pub fed_by : (old new : LinkState) (piece : List ℕ) (answer : Result (Unit {0}) AllocError) → OnOk answer (new ≡ record old { rest = old.rest ++ piece }) → OnOk answer ((stream : List ℕ) (given : List ReportRecord) → Stands stream given old → Stands (stream ++ piece) given new)
-fed_by old new piece (Ok done) is = λ stream given stands. subst (λ n. Stands (stream ++ piece) given n) (sym is) (stands_fed stream given piece old stands)
+pub fed_by : (old new : LinkState) (piece : List ℕ) (answer : Result (Unit {0}) AllocError) → OnOk answer (new ≡ record old { rest = old.rest ++ piece }) → OnOk answer ((stream : List ℕ) (given : List ReportRecord) → HasRead stream given old → HasRead (stream ++ piece) given new)
+fed_by old new piece (Ok done) is = λ stream given stands. subst (λ n. HasRead (stream ++ piece) given n) (sym is) (stands_fed stream given piece old stands)
 fed_by old new piece (Err error) is = tt
 
 left_still : (fault : Option LinkFault) (greeted : Bool) (rest left piece : List ℕ) → IsSome fault → IsLeft fault greeted rest left → IsLeft fault greeted rest (left ++ piece)
@@ -133,7 +133,7 @@ left_still (Some fault) greeted rest left piece some is = faulty_more greeted le
 left_still None greeted rest left piece some is = absurd (let no : false ≡ true = some in (cc))
 
 -- after a fault nothing counts
-pub stands_still : (stream : List ℕ) (given : List ReportRecord) (piece : List ℕ) (reader : LinkState) → IsSome reader.fault → Stands stream given reader → Stands (stream ++ piece) given reader
+pub stands_still : (stream : List ℕ) (given : List ReportRecord) (piece : List ℕ) (reader : LinkState) → IsSome reader.fault → HasRead stream given reader → HasRead (stream ++ piece) given reader
 stands_still stream given piece reader faulty stands = record {
   left = stands.left ++ piece;
   leads = leads_more false stream piece given reader.greeted stands.left stands.leads;
@@ -143,19 +143,19 @@ stands_still stream given piece reader faulty stands = record {
 -- ---- answers
 
 -- the reports of a stream that a reader has read up to the bytes that are left
-heard_so : (stream : List ℕ) (given : List ReportRecord) (next : Bool) (left : List ℕ) (ending : Ending) → Leads false stream given next left → heard_in next (texts_of left) ≡ silence ending → device_reports stream ≡ record { reports = given; ending = ending }
+heard_so : (stream : List ℕ) (given : List ReportRecord) (next : Bool) (left : List ℕ) (ending : Ending) → Leads false stream given next left → parsed_in next (texts_of left) ≡ silence ending → device_reports stream ≡ record { reports = given; ending = ending }
 heard_so stream given next left ending leads is =
-    let all : heard_in false (texts_of (stream ++ [])) ≡ with_front given (heard_in next (texts_of (left ++ []))) = heard_leads false stream [] given next left leads in
-    let here : heard_in false (texts_of stream) ≡ with_front given (heard_in next (texts_of left)) = subst (λ (b : List ℕ). heard_in false (texts_of b) ≡ with_front given (heard_in next (texts_of left))) (append-nil stream) (subst (λ (l : List ℕ). heard_in false (texts_of (stream ++ [])) ≡ with_front given (heard_in next (texts_of l))) (append-nil left) all) in
+    let all : parsed_in false (texts_of (stream ++ [])) ≡ with_front given (parsed_in next (texts_of (left ++ []))) = heard_leads false stream [] given next left leads in
+    let here : parsed_in false (texts_of stream) ≡ with_front given (parsed_in next (texts_of left)) = subst (λ (b : List ℕ). parsed_in false (texts_of b) ≡ with_front given (parsed_in next (texts_of left))) (append-nil stream) (subst (λ (l : List ℕ). parsed_in false (texts_of (stream ++ [])) ≡ with_front given (parsed_in next (texts_of l))) (append-nil left) all) in
     let none : with_front given (silence ending) ≡ record { reports = given; ending = ending } = ap (λ (r : List ReportRecord). record { reports = r; ending = ending }) (append-nil given) in
-    here ∙ ap (λ (h : Heard). with_front given h) is ∙ none
+    here ∙ ap (λ (h : ParsedLines). with_front given h) is ∙ none
 
 -- the answer for the line of a report
 pub answers_report : (old : LinkState) (count : ℕ) (report : Report) → old.fault ≡ None → first_line_of DEVICE_LINE_BYTES old.rest ≡ Front.Whole count → report_in old.greeted (take count old.rest) ≡ Some (report_of report) → Answers old (Ok (Some report)) (record { rest = drop (count + 1) old.rest; greeted = true; fault = None })
 answers_report old count report faultless line says stream given stands =
     let same : stands.left ≡ old.rest = subst (λ (f : Option LinkFault). IsLeft f old.greeted old.rest stands.left) faultless stands.kept in
     let here : Leads false stream given old.greeted old.rest = subst (λ (l : List ℕ). Leads false stream given old.greeted l) same stands.leads in
-    let at : SaysAtFront old.greeted old.rest (report_of report) (drop (count + 1) old.rest) = record { count = count; line = line; says = says; rest_is = refl } in
+    let at : ParsesAtFront old.greeted old.rest (report_of report) (drop (count + 1) old.rest) = record { count = count; line = line; says = says; rest_is = refl } in
     let on : Leads old.greeted old.rest (report_of report ∷ []) true (drop (count + 1) old.rest) = (drop (count + 1) old.rest, at, (refl, refl)) in
     record { left = drop (count + 1) old.rest; leads = leads_then false stream given old.greeted old.rest (report_of report ∷ []) true (drop (count + 1) old.rest) here on; kept = refl }
 
@@ -166,7 +166,7 @@ report_falls bytes count line =
     omega (arith, within, length-drop (count + 1) bytes)
 
 -- the answer for a fault at the front of the bytes that are left
-fault_stands : (old : LinkState) (fault : LinkFault) → ((left : List ℕ) → IsLeft old.fault old.greeted old.rest left → heard_in old.greeted (texts_of left) ≡ silence (Faulty fault)) → Answers old (Err (Fault fault)) (record old { fault = Some fault })
+fault_stands : (old : LinkState) (fault : LinkFault) → ((left : List ℕ) → IsLeft old.fault old.greeted old.rest left → parsed_in old.greeted (texts_of left) ≡ silence (Faulty fault)) → Answers old (Err (Fault fault)) (record old { fault = Some fault })
 fault_stands old fault faulty = (
   refl,
   λ stream given stands.
@@ -176,22 +176,22 @@ fault_stands old fault faulty = (
       ),
 )
 
-answers_fault : (old : LinkState) (fault : LinkFault) → old.fault ≡ None → heard_in old.greeted (texts_of old.rest) ≡ silence (Faulty fault) → Answers old (Err (Fault fault)) (record old { fault = Some fault })
+answers_fault : (old : LinkState) (fault : LinkFault) → old.fault ≡ None → parsed_in old.greeted (texts_of old.rest) ≡ silence (Faulty fault) → Answers old (Err (Fault fault)) (record old { fault = Some fault })
 answers_fault old fault faultless faulty =
     fault_stands old fault
     (λ left kept.
     let same : left ≡ old.rest = subst (λ (f : Option LinkFault). IsLeft f old.greeted old.rest left) faultless kept in
-    subst (λ (l : List ℕ). heard_in old.greeted (texts_of l) ≡ silence (Faulty fault)) (sym same) faulty)
+    subst (λ (l : List ℕ). parsed_in old.greeted (texts_of l) ≡ silence (Faulty fault)) (sym same) faulty)
 
 pub answers_bad_line : (old : LinkState) (count : ℕ) → old.fault ≡ None → first_line_of DEVICE_LINE_BYTES old.rest ≡ Front.Whole count → report_in old.greeted (take count old.rest) ≡ None → Answers old (Err (Fault BadLine)) (record old { fault = Some BadLine })
 answers_bad_line old count faultless line says =
     let front = heard_line old.greeted old.rest [] count line in
-    let silent : heard_in old.greeted (texts_of (old.rest ++ [])) ≡ silence (Faulty BadLine) = front ∙ rw says refl in
-    answers_fault old BadLine faultless (subst (λ (b : List ℕ). heard_in old.greeted (texts_of b) ≡ silence (Faulty BadLine)) (append-nil old.rest) silent)
+    let silent : parsed_in old.greeted (texts_of (old.rest ++ [])) ≡ silence (Faulty BadLine) = front ∙ rw says refl in
+    answers_fault old BadLine faultless (subst (λ (b : List ℕ). parsed_in old.greeted (texts_of b) ≡ silence (Faulty BadLine)) (append-nil old.rest) silent)
 
 pub answers_too_long : (old : LinkState) → old.fault ≡ None → first_line_of DEVICE_LINE_BYTES old.rest ≡ Front.TooLong → Answers old (Err (Fault LineTooLong)) (record old { fault = Some LineTooLong })
 answers_too_long old faultless long =
-    answers_fault old LineTooLong faultless (subst (λ (b : List ℕ). heard_in old.greeted (texts_of b) ≡ silence (Faulty LineTooLong)) (append-nil old.rest) (heard_too_long old.greeted old.rest [] long))
+    answers_fault old LineTooLong faultless (subst (λ (b : List ℕ). parsed_in old.greeted (texts_of b) ≡ silence (Faulty LineTooLong)) (append-nil old.rest) (heard_too_long old.greeted old.rest [] long))
 
 pub answers_again : (old : LinkState) (fault : LinkFault) → old.fault ≡ Some fault → Answers old (Err (Fault fault)) old
 answers_again old fault faulty =
@@ -205,40 +205,40 @@ answers_nothing old faultless begun = (
   refl,
   λ stream given stands.
       let same : stands.left ≡ old.rest = subst (λ (f : Option LinkFault). IsLeft f old.greeted old.rest stands.left) faultless stands.kept in
-      let here : heard_in old.greeted (texts_of stands.left) ≡ silence Unfinished = subst (λ (l : List ℕ). heard_in old.greeted (texts_of l) ≡ silence Unfinished) (sym same) (heard_nothing old.greeted old.rest begun) in
+      let here : parsed_in old.greeted (texts_of stands.left) ≡ silence Unfinished = subst (λ (l : List ℕ). parsed_in old.greeted (texts_of l) ≡ silence Unfinished) (sym same) (heard_nothing old.greeted old.rest begun) in
       heard_so stream given old.greeted stands.left Unfinished stands.leads here,
 )
 
 -- ---- laws
 
-heard_left : (fault : Option LinkFault) (greeted : Bool) (rest left coming : List ℕ) → IsLeft fault greeted rest left → heard_in greeted (texts_of (left ++ coming)) ≡ heard_on fault greeted (rest ++ coming)
+heard_left : (fault : Option LinkFault) (greeted : Bool) (rest left coming : List ℕ) → IsLeft fault greeted rest left → parsed_in greeted (texts_of (left ++ coming)) ≡ parsed_on fault greeted (rest ++ coming)
 heard_left (Some fault) greeted rest left coming is = faulty_more greeted left coming fault is
-heard_left None greeted rest left coming is = ap (λ (l : List ℕ). heard_in greeted (texts_of (l ++ coming))) is
+heard_left None greeted rest left coming is = ap (λ (l : List ℕ). parsed_in greeted (texts_of (l ++ coming))) is
 
-pub hears_rest : (stream coming : List ℕ) (given : List ReportRecord) (reader : LinkState) → Stands stream given reader → device_reports (stream ++ coming) ≡ with_front given (ahead reader coming)
+pub hears_rest : (stream coming : List ℕ) (given : List ReportRecord) (reader : LinkState) → HasRead stream given reader → device_reports (stream ++ coming) ≡ with_front given (ahead reader coming)
 hears_rest stream coming given reader stands =
     heard_leads false stream coming given reader.greeted stands.left stands.leads
-    ∙ ap (λ (h : Heard). with_front given h) (heard_left reader.fault reader.greeted reader.rest stands.left coming stands.kept)
+    ∙ ap (λ (h : ParsedLines). with_front given h) (heard_left reader.fault reader.greeted reader.rest stands.left coming stands.kept)
 
-pub first_stays : (stream more : List ℕ) (first : List ReportRecord) → SaysFirst stream first → (later : Heard) × (device_reports (stream ++ more) ≡ with_front first later)
-first_stays stream more first x = (heard_in x.next (texts_of (x.left ++ more)), heard_leads false stream more first x.next x.left x.leads)
+pub first_stays : (stream more : List ℕ) (first : List ReportRecord) → ParsesFirst stream first → (later : ParsedLines) × (device_reports (stream ++ more) ≡ with_front first later)
+first_stays stream more first x = (parsed_in x.next (texts_of (x.left ++ more)), heard_leads false stream more first x.next x.left x.leads)
 
 -- the reports of a stream begin with the reports that it says first
-begins_so : (stream : List ℕ) (first : List ReportRecord) → SaysFirst stream first → (later : Heard) × (device_reports stream ≡ with_front first later)
+begins_so : (stream : List ℕ) (first : List ReportRecord) → ParsesFirst stream first → (later : ParsedLines) × (device_reports stream ≡ with_front first later)
 begins_so stream first x =
     let all = first_stays stream [] first x in
     (all.0, subst (λ (b : List ℕ). device_reports b ≡ with_front first all.0) (append-nil stream) all.1)
 
-pub first_one : (stream : List ℕ) (one other : List ReportRecord) → SaysFirst stream one → SaysFirst stream other → length one ≡ length other → one ≡ other
+pub first_one : (stream : List ℕ) (one other : List ReportRecord) → ParsesFirst stream one → ParsesFirst stream other → length one ≡ length other → one ≡ other
 first_one stream one other x y long =
     let a = begins_so stream one x in
     let b = begins_so stream other y in
-    let all : one ++ a.0.reports ≡ other ++ b.0.reports = ap (λ (h : Heard). h.reports) (sym a.1 ∙ b.1) in
+    let all : one ++ a.0.reports ≡ other ++ b.0.reports = ap (λ (h : ParsedLines). h.reports) (sym a.1 ∙ b.1) in
     sym (take-append_seam one a.0.reports) ∙ ap (λ (r : List ReportRecord). take (length one) r) all ∙ ap (λ n. take n (other ++ b.0.reports)) long ∙ take-append_seam other b.0.reports
 
-pub none_follows : (stream : List ℕ) (reports : List ReportRecord) (said : ReportRecord) (ending : Ending) → SaysFirst stream (reports ++ said ∷ []) → device_reports stream ≡ record { reports = reports; ending = ending } → ⊥
+pub none_follows : (stream : List ℕ) (reports : List ReportRecord) (said : ReportRecord) (ending : Ending) → ParsesFirst stream (reports ++ said ∷ []) → device_reports stream ≡ record { reports = reports; ending = ending } → ⊥
 none_follows stream reports said ending x is =
     let a = begins_so stream (reports ++ said ∷ []) x in
-    let all : (reports ++ said ∷ []) ++ a.0.reports ≡ reports = ap (λ (h : Heard). h.reports) (sym a.1 ∙ is) in
+    let all : (reports ++ said ∷ []) ++ a.0.reports ≡ reports = ap (λ (h : ParsedLines). h.reports) (sym a.1 ∙ is) in
     let long : length ((reports ++ said ∷ []) ++ a.0.reports) ≡ length reports = ap (λ (r : List ReportRecord). length r) all in
     omega (arith, long, length-append (reports ++ said ∷ []) a.0.reports, length-append reports (said ∷ []))

@@ -16,35 +16,35 @@ pub data Ending : Type 0 where
   Unfinished : Ending
   Faulty : LinkFault → Ending
 
-pub record Heard : Type 0 where
+pub record ParsedLines : Type 0 where
   pub reports : List ReportRecord
   pub ending : Ending
 
-abbrev pub silence : Ending → Heard
+abbrev pub silence : Ending → ParsedLines
 silence ending = record { reports = []; ending = ending }
 
 -- these reports, in front of the later reports
-abbrev pub with_front : List ReportRecord → Heard → Heard
+abbrev pub with_front : List ReportRecord → ParsedLines → ParsedLines
 with_front reports later = record { reports = reports ++ later.reports; ending = later.ending }
 
 -- the report of a line, in front of the later reports; a line that isn't a report is a fault, and the end
-abbrev pub heard_after : Option ReportRecord → Heard → Heard
-heard_after None later = silence (Faulty BadLine)
-heard_after (Some report) later = with_front (report ∷ []) later
+abbrev pub parsed_after : Option ReportRecord → ParsedLines → ParsedLines
+parsed_after None later = silence (Faulty BadLine)
+parsed_after (Some report) later = with_front (report ∷ []) later
 
 -- the reports in the texts between line feeds; the last text isn't a whole line yet
-abbrev pub heard_in : Bool → List (List ℕ) → Heard
-heard_in greeted [] = silence Unfinished
-heard_in greeted (rest ∷ []) = if fits rest then silence Unfinished else silence (Faulty LineTooLong)
-heard_in greeted (line ∷ next ∷ more) =
-    if fits line then heard_after (report_in greeted line) (heard_in true (next ∷ more)) else silence (Faulty LineTooLong)
+abbrev pub parsed_in : Bool → List (List ℕ) → ParsedLines
+parsed_in greeted [] = silence Unfinished
+parsed_in greeted (rest ∷ []) = if fits rest then silence Unfinished else silence (Faulty LineTooLong)
+parsed_in greeted (line ∷ next ∷ more) =
+    if fits line then parsed_after (report_in greeted line) (parsed_in true (next ∷ more)) else silence (Faulty LineTooLong)
 
 -- the reports of a whole stream of bytes
-abbrev pub device_reports : List ℕ → Heard
-device_reports stream = heard_in false (texts_of stream)
+abbrev pub device_reports : List ℕ → ParsedLines
+device_reports stream = parsed_in false (texts_of stream)
 
 -- a whole line at the front is a report, and these bytes are behind it
-pub record SaysAtFront (greeted : Bool) (bytes : List ℕ) (report : ReportRecord) (rest : List ℕ) : Type 0 where
+pub record ParsesAtFront (greeted : Bool) (bytes : List ℕ) (report : ReportRecord) (rest : List ℕ) : Type 0 where
   pub count : ℕ
   pub line : first_line_of DEVICE_LINE_BYTES bytes ≡ Whole count
   pub says : report_in greeted (take count bytes) ≡ Some report
@@ -53,10 +53,10 @@ pub record SaysAtFront (greeted : Bool) (bytes : List ℕ) (report : ReportRecor
 -- the bytes say these reports, and lead to these bytes left; `next` says whether the device has given its name then
 abbrev pub Leads : Bool → List ℕ → List ReportRecord → Bool → List ℕ → Type 0
 Leads greeted bytes [] next left = (next ≡ greeted) × (left ≡ bytes)
-Leads greeted bytes (report ∷ reports) next left = (rest : List ℕ) × SaysAtFront greeted bytes report rest × Leads true rest reports next left
+Leads greeted bytes (report ∷ reports) next left = (rest : List ℕ) × ParsesAtFront greeted bytes report rest × Leads true rest reports next left
 
 -- the stream says these reports first, for all bytes that may follow
-pub record SaysFirst (stream : List ℕ) (reports : List ReportRecord) : Type 0 where
+pub record ParsesFirst (stream : List ℕ) (reports : List ReportRecord) : Type 0 where
   pub next : Bool
   pub left : List ℕ
   pub leads : Leads false stream reports next left
@@ -67,21 +67,21 @@ pub record LinkState : Type 0 where
   pub greeted : Bool
   pub fault : Option LinkFault
 
-abbrev pub heard_on : Option LinkFault → Bool → List ℕ → Heard
-heard_on (Some fault) greeted bytes = silence (Faulty fault)
-heard_on None greeted bytes = heard_in greeted (texts_of bytes)
+abbrev pub parsed_on : Option LinkFault → Bool → List ℕ → ParsedLines
+parsed_on (Some fault) greeted bytes = silence (Faulty fault)
+parsed_on None greeted bytes = parsed_in greeted (texts_of bytes)
 
 -- the reports that a reader's state says of its bytes and of these behind them
-abbrev pub ahead : LinkState → List ℕ → Heard
-ahead reader coming = heard_on reader.fault reader.greeted (reader.rest ++ coming)
+abbrev pub ahead : LinkState → List ℕ → ParsedLines
+ahead reader coming = parsed_on reader.fault reader.greeted (reader.rest ++ coming)
 
 -- the bytes that are left of a stream: those that the reader hasn't read. After a fault the reader keeps none, and the bytes that are left begin with that fault
 abbrev pub IsLeft : Option LinkFault → Bool → List ℕ → List ℕ → Type 0
-IsLeft (Some fault) greeted rest left = heard_in greeted (texts_of left) ≡ silence (Faulty fault)
+IsLeft (Some fault) greeted rest left = parsed_in greeted (texts_of left) ≡ silence (Faulty fault)
 IsLeft None greeted rest left = left ≡ rest
 
 -- The reader was fed this stream and has given these reports. The stream says them first, and leads to the state of the reader, with the bytes that are left.
-pub record Stands (stream : List ℕ) (given : List ReportRecord) (reader : LinkState) : Type 0 where
+pub record HasRead (stream : List ℕ) (given : List ReportRecord) (reader : LinkState) : Type 0 where
   pub left : List ℕ
   pub leads : Leads false stream given reader.greeted left
   pub kept : IsLeft reader.fault reader.greeted reader.rest left
@@ -93,28 +93,28 @@ work reader = length reader.rest
 -- the answer of a reader, and its state then: a report, which the stream says next; or no report, and then the stream says no more; or a fault; or refused memory
 abbrev pub Answers : LinkState → Result (Option Report) LinkError → LinkState → Type 0
 Answers old (Ok (Some report)) new =
-    (stream : List ℕ) (given : List ReportRecord) → Stands stream given old → Stands stream (given ++ report_of report ∷ []) new
+    (stream : List ℕ) (given : List ReportRecord) → HasRead stream given old → HasRead stream (given ++ report_of report ∷ []) new
 Answers old (Ok None) new =
-    (new ≡ old) × ((stream : List ℕ) (given : List ReportRecord) → Stands stream given old → device_reports stream ≡ record { reports = given; ending = Unfinished })
+    (new ≡ old) × ((stream : List ℕ) (given : List ReportRecord) → HasRead stream given old → device_reports stream ≡ record { reports = given; ending = Unfinished })
 Answers old (Err (Fault fault)) new =
     (new ≡ record old { fault = Some fault })
-    × ((stream : List ℕ) (given : List ReportRecord) → Stands stream given old → (device_reports stream ≡ record { reports = given; ending = Faulty fault }) × Stands stream given new)
+    × ((stream : List ℕ) (given : List ReportRecord) → HasRead stream given old → (device_reports stream ≡ record { reports = given; ending = Faulty fault }) × HasRead stream given new)
 Answers old (Err OutOfMemory) new = new ≡ old
 
 -- ---- laws
 
 -- the reports that a stream says first are a front of the reports of the stream with more bytes behind it
 abbrev pub FirstStays : Type 0
-FirstStays = (stream more : List ℕ) (first : List ReportRecord) → SaysFirst stream first → (later : Heard) × (device_reports (stream ++ more) ≡ with_front first later)
+FirstStays = (stream more : List ℕ) (first : List ReportRecord) → ParsesFirst stream first → (later : ParsedLines) × (device_reports (stream ++ more) ≡ with_front first later)
 
 -- two fronts of a stream's reports are equal if their lengths are equal
 abbrev pub FirstIsOne : Type 0
-FirstIsOne = (stream : List ℕ) (one other : List ReportRecord) → SaysFirst stream one → SaysFirst stream other → length one ≡ length other → one ≡ other
+FirstIsOne = (stream : List ℕ) (one other : List ReportRecord) → ParsesFirst stream one → ParsesFirst stream other → length one ≡ length other → one ≡ other
 
 -- a stream says no report behind all of its reports
 abbrev pub NoneFollows : Type 0
-NoneFollows = (stream : List ℕ) (reports : List ReportRecord) (said : ReportRecord) (ending : Ending) → SaysFirst stream (reports ++ said ∷ []) → device_reports stream ≡ record { reports = reports; ending = ending } → ⊥
+NoneFollows = (stream : List ℕ) (reports : List ReportRecord) (said : ReportRecord) (ending : Ending) → ParsesFirst stream (reports ++ said ∷ []) → device_reports stream ≡ record { reports = reports; ending = ending } → ⊥
 
 -- a whole stream says the reports that a reader has given, and then the reports that the reader's state says of its bytes and of the bytes that follow
-abbrev pub HearsTheRest : Type 0
-HearsTheRest = (stream coming : List ℕ) (given : List ReportRecord) (reader : LinkState) → Stands stream given reader → device_reports (stream ++ coming) ≡ with_front given (ahead reader coming)
+abbrev pub ParsesTheRest : Type 0
+ParsesTheRest = (stream coming : List ℕ) (given : List ReportRecord) (reader : LinkState) → HasRead stream given reader → device_reports (stream ++ coming) ≡ with_front given (ahead reader coming)

@@ -1,5 +1,5 @@
 //! Laws of a device's stream, as contracts of functions that do nothing.
-ghost use Rattle.device_link.specs.Stream.{FirstIsOne, NoneFollows, FirstStays, HearsTheRest};
+ghost use Rattle.device_link.specs.Stream.{FirstIsOne, NoneFollows, FirstStays, ParsesTheRest};
 
 /// Two fronts of a stream's reports are equal if their lengths are equal, and a stream says no report behind
 /// all of its reports.
@@ -13,5 +13,5 @@ pub fn one_front()
 /// follow.
 pub fn given_first()
     ensures first { FirstStays }
-    ensures rest { HearsTheRest }
+    ensures rest { ParsesTheRest }
 {}

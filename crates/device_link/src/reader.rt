@@ -2,7 +2,7 @@
 ghost use Rattle.std.specs.Prelude.{◌≡◌, ◌<◌, ◌+◌, ◌++◌, [], List, ℕ, None, Some, Err, true, IsOk, IsSome, IfOk, IfSome, OnOk, OnErr, option_map, take, drop, length as length_of};
 ghost use Rattle.base_types.specs.Report.{ReportRecord, report_of};
 ghost use Rattle.device_link.specs.Line.{report_in};
-ghost use Rattle.device_link.specs.Stream.{Stands, Answers, work};
+ghost use Rattle.device_link.specs.Stream.{HasRead, Answers, work};
 ghost use Rattle.text.specs.FirstLine.{first_line_of};
 ghost use Rattle.text.specs.declared.line.FirstLine.TheVariants.{Whole};
 
@@ -34,7 +34,7 @@ impl Model for LinkReader {
 impl LinkReader {
     /// Creates the reader of a new connection.
     pub fn new(alloc: Global) -> LinkReader
-        ensures { Stands [] [] result }
+        ensures { HasRead [] [] result }
     {
         LinkReader {
             alloc,
@@ -48,7 +48,7 @@ impl LinkReader {
     ///
     /// The only error is out of memory, and none of the bytes is taken then.
     pub fn feed(&mut self, piece: &[u8]) -> Result<(), AllocError>
-        ensures fed { OnOk result ((stream : List ℕ) (given : List ReportRecord) → Stands stream given self.old → Stands (stream ++ piece.now) given self.new) }
+        ensures fed { OnOk result ((stream : List ℕ) (given : List ReportRecord) → HasRead stream given self.old → HasRead (stream ++ piece.now) given self.new) }
         ensures err { OnErr result (self.new ≡ self.old) }
         ensures over { IsSome self.old.fault → IsOk result × (self.new ≡ self.old) }
     {

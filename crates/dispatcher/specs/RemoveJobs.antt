@@ -2,7 +2,7 @@
 use Rattle.std.specs.Prelude.{ℕ, ◌≡◌, if◌then◌else◌, List, []}
 use Rattle.std.specs.List.{flat_map}
 use Rattle.job_objects.specs.Job.{JobRecord}
-use Rattle.events.specs.declared.effects.Response.TheVariants as Says
+use Rattle.events.specs.declared.effects.Response.TheVariants as responds
 use Rattle.events.specs.declared.effects.Cancel.{Cancel}
 use Rattle.events.specs.declared.effects.Effects.{Effects}
 use Rattle.dispatcher.specs.CancelJob.{cancels_of}
@@ -25,7 +25,7 @@ told_of request old = cancels_of_each (removed_jobs request old) old
 
 -- The reply has no response, and there is one state after it. If no job is removed, only the last moment changes.
 pub record RemovesJobs (now : ℕ) (request : RemoveJobs) (old : State) (reply : Effects) (new : State) : Type 0 where
-  pub unanswered : reply.answer ≡ Says.Nothing
+  pub unanswered : reply.answer ≡ responds.Nothing
   pub cancels : reply.cancels.items ≡ told_of request old
   pub documents : reply.documents.items ≡ []
   pub state : new ≡ canceling_each now request.agent (removed_jobs request old) old

@@ -4,7 +4,7 @@ use Rattle.base_types.specs.declared.report.Report.{Report}
 use Rattle.events.specs.declared.event.Event.{Event}
 use Rattle.events.specs.declared.event.Event.TheVariants as Is
 use Rattle.events.specs.declared.effects.Effects.{Effects}
-use Rattle.events.specs.declared.effects.Response.TheVariants as Says
+use Rattle.events.specs.declared.effects.Response.TheVariants as responds
 use Rattle.dispatcher.specs.Checks.{named_job, named_printer}
 use Rattle.dispatcher.specs.PrintJob.{PrintsJob, asked_of}
 use Rattle.dispatcher.specs.ValidateJob.{ValidatesJob}
@@ -26,13 +26,13 @@ use Rattle.print_room.specs.Jobs.{expiring}
 
 -- the reply to a device's report has no response
 pub record Reported (now device : ℕ) (report : Report) (old : State) (reply : Effects) (new : State) : Type 0 where
-  pub unanswered : reply.answer ≡ Says.Nothing
+  pub unanswered : reply.answer ≡ responds.Nothing
   pub cancels : reply.cancels.items ≡ []
   pub reports : Reports now device report old reply.documents.items new
 
 -- The reply to a tick has no response. The tick aborts the jobs whose documents stopped coming, and may forget the oldest of the finished jobs.
 pub record Ticks (now : ℕ) (old : State) (reply : Effects) (new : State) : Type 0 where
-  pub unanswered : reply.answer ≡ Says.Nothing
+  pub unanswered : reply.answer ≡ responds.Nothing
   pub cancels : reply.cancels.items ≡ []
   pub documents : reply.documents.items ≡ []
   pub state : new ≡ expiring now old

@@ -2,16 +2,16 @@
 use Rattle.std.specs.Prelude.{◌≡◌, List, []}
 use Rattle.ipp_codec.specs.Message.{IppAttribute, IppGroup}
 use Rattle.events.specs.declared.effects.Response.{Response}
-use Rattle.events.specs.declared.effects.Response.TheVariants as Says
+use Rattle.events.specs.declared.effects.Response.TheVariants as responds
 use Rattle.events.specs.declared.effects.LpdResponse.{LpdResponse}
 use Rattle.events.specs.declared.effects.Effects.{Effects}
 use Rattle.events.specs.declared.status.Status.{Status}
 
 -- the response has exactly this status, these unsupported attributes and these groups
 abbrev pub IsResponse : Status → List IppAttribute → List IppGroup → Response → Type 0
-IsResponse status unsupported groups (Says.Ipp answer) = (answer.status ≡ status) × (answer.unsupported ≡ unsupported) × (answer.groups ≡ groups)
-IsResponse status unsupported groups (Says.Lpd answer) = ⊥
-IsResponse status unsupported groups Says.Nothing = ⊥
+IsResponse status unsupported groups (responds.Ipp answer) = (answer.status ≡ status) × (answer.unsupported ≡ unsupported) × (answer.groups ≡ groups)
+IsResponse status unsupported groups (responds.Lpd answer) = ⊥
+IsResponse status unsupported groups responds.Nothing = ⊥
 
 -- effects with this response, no cancels and no documents
 pub record Replies (status : Status) (unsupported : List IppAttribute) (groups : List IppGroup) (reply : Effects) : Type 0 where
@@ -21,6 +21,6 @@ pub record Replies (status : Status) (unsupported : List IppAttribute) (groups :
 
 -- effects with this response for an LPD client, no cancels and no documents
 pub record AnswersLpd (said : LpdResponse) (reply : Effects) : Type 0 where
-  pub answer : reply.answer ≡ Says.Lpd said
+  pub answer : reply.answer ≡ responds.Lpd said
   pub cancels : reply.cancels.items ≡ []
   pub documents : reply.documents.items ≡ []

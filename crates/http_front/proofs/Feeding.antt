@@ -5,7 +5,7 @@ use Rattle.std.specs.declared.alloc.AllocError.{AllocError}
 use Rattle.http_front.specs.declared.awaited.Awaited.{Awaited}
 use Rattle.http_front.specs.declared.awaited.Following.{Following}
 use Rattle.http_front.specs.declared.awaited.Awaited.TheVariants.{Head, Invitation, Body, Size, Trailer, Nothing}
-use Rattle.http_front.specs.Stream.{Said, HasByte, Goes, Waits, SaysIn, Says, Exchanges, LeadsIn, Leads, SaysFirst, HttpState, IsOver, Stands, HasLeft, AwaitsBody, past_body}
+use Rattle.http_front.specs.Stream.{HttpElement, HasByte, Goes, Waits, ParsesIn, Parses, Exchanges, LeadsIn, Leads, ParsesFirst, HttpState, IsOver, HasRead, HasLeft, AwaitsBody, past_body}
 use Rattle.http_front.proofs.Steps.{says_then, lends}
 use Rattle.http_front.proofs.Laws.{stays_in, said_first, leads_more}
 
@@ -14,7 +14,7 @@ kept_fed reader left piece (inl over) = inl over
 kept_fed reader left piece (inr same) = inr (ap (λ l. l ++ piece) same)
 
 -- a piece of which nothing is read yet
-pub stands_fed : (stream : List ℕ) (given : List Said) (piece : List ℕ) (reader : HttpState) → Stands stream given reader → Stands (stream ++ piece) given (record { part = []; rest = reader.rest ++ piece; awaited = reader.awaited })
+pub stands_fed : (stream : List ℕ) (given : List HttpElement) (piece : List ℕ) (reader : HttpState) → HasRead stream given reader → HasRead (stream ++ piece) given (record { part = []; rest = reader.rest ++ piece; awaited = reader.awaited })
 stands_fed stream given piece reader stands = record {
   left = stands.left ++ piece;
   leads = (stands.leads.0, leads_more stands.leads.0 Head stream piece given reader.awaited stands.left stands.leads.1);
@@ -22,38 +22,38 @@ stands_fed stream given piece reader stands = record {
 }
 
 -- a reader that awaits nothing
-pub stands_still : (stream : List ℕ) (given : List Said) (piece : List ℕ) (reader : HttpState) → IsOver reader → Stands stream given reader → Stands (stream ++ piece) given reader
+pub stands_still : (stream : List ℕ) (given : List HttpElement) (piece : List ℕ) (reader : HttpState) → IsOver reader → HasRead stream given reader → HasRead (stream ++ piece) given reader
 stands_still stream given piece reader over stands = record {
   left = stands.left ++ piece;
   leads = (stands.leads.0, leads_more stands.leads.0 Head stream piece given reader.awaited stands.left stands.leads.1);
   kept = inl over;
 }
 
-pub fed_by : (old new : HttpState) (piece : List ℕ) (answer : Result (Unit {0}) AllocError) → OnOk answer (new ≡ record { part = []; rest = old.rest ++ piece; awaited = old.awaited }) → OnOk answer ((stream : List ℕ) (given : List Said) → Stands stream given old → Stands (stream ++ piece) given new)
-fed_by old new piece (Ok done) is = λ stream given stands. subst (λ n. Stands (stream ++ piece) given n) (sym is) (stands_fed stream given piece old stands)
+pub fed_by : (old new : HttpState) (piece : List ℕ) (answer : Result (Unit {0}) AllocError) → OnOk answer (new ≡ record { part = []; rest = old.rest ++ piece; awaited = old.awaited }) → OnOk answer ((stream : List ℕ) (given : List HttpElement) → HasRead stream given old → HasRead (stream ++ piece) given new)
+fed_by old new piece (Ok done) is = λ stream given stands. subst (λ n. HasRead (stream ++ piece) given n) (sym is) (stands_fed stream given piece old stands)
 fed_by old new piece (Err error) is = tt
 
 -- laws of the elements that were given
 
-nothing_in : (steps : ℕ) (bytes other : List ℕ) (said : List Said) → SaysIn steps Nothing bytes said → SaysIn steps Nothing other said
+nothing_in : (steps : ℕ) (bytes other : List ℕ) (said : List HttpElement) → ParsesIn steps Nothing bytes said → ParsesIn steps Nothing other said
 nothing_in zero bytes other said says = says
 nothing_in (suc steps) bytes other said says = absurd (let no : Goes says.0 says.1 says.2 ≡ Waits = says.4 in (cc))
 
-says_of : (reader : HttpState) (left coming : List ℕ) (said : List Said) → (IsOver reader ⊎ (left ≡ reader.rest)) → (steps : ℕ) → SaysIn steps reader.awaited (reader.rest ++ coming) said → SaysIn steps reader.awaited (left ++ coming) said
+says_of : (reader : HttpState) (left coming : List ℕ) (said : List HttpElement) → (IsOver reader ⊎ (left ≡ reader.rest)) → (steps : ℕ) → ParsesIn steps reader.awaited (reader.rest ++ coming) said → ParsesIn steps reader.awaited (left ++ coming) said
 says_of reader left coming said (inl over) steps says =
-    let here : SaysIn steps Nothing (reader.rest ++ coming) said = subst (λ (a : Awaited). SaysIn steps a (reader.rest ++ coming) said) over says in
-    subst (λ (a : Awaited). SaysIn steps a (left ++ coming) said) (sym over) (nothing_in steps (reader.rest ++ coming) (left ++ coming) said here)
-says_of reader left coming said (inr same) steps says = subst (λ (l : List ℕ). SaysIn steps reader.awaited (l ++ coming) said) (sym same) says
+    let here : ParsesIn steps Nothing (reader.rest ++ coming) said = subst (λ (a : Awaited). ParsesIn steps a (reader.rest ++ coming) said) over says in
+    subst (λ (a : Awaited). ParsesIn steps a (left ++ coming) said) (sym over) (nothing_in steps (reader.rest ++ coming) (left ++ coming) said here)
+says_of reader left coming said (inr same) steps says = subst (λ (l : List ℕ). ParsesIn steps reader.awaited (l ++ coming) said) (sym same) says
 
-pub hears_rest : (stream coming : List ℕ) (given said : List Said) (reader : HttpState) → Stands stream given reader → Says reader.awaited (reader.rest ++ coming) said → Exchanges (stream ++ coming) (given ++ said)
+pub hears_rest : (stream coming : List ℕ) (given said : List HttpElement) (reader : HttpState) → HasRead stream given reader → Parses reader.awaited (reader.rest ++ coming) said → Exchanges (stream ++ coming) (given ++ said)
 hears_rest stream coming given said reader stands says =
     let first = leads_more stands.leads.0 Head stream coming given reader.awaited stands.left stands.leads.1 in
     says_then stands.leads.0 says.0 Head (stream ++ coming) given reader.awaited (stands.left ++ coming) said first (says_of reader stands.left coming said stands.kept says.0 says.1)
 
-pub first_stays : (stream more : List ℕ) (first said : List Said) → SaysFirst stream first → Exchanges (stream ++ more) said → (later : List Said) × (said ≡ first ++ later)
+pub first_stays : (stream more : List ℕ) (first said : List HttpElement) → ParsesFirst stream first → Exchanges (stream ++ more) said → (later : List HttpElement) × (said ≡ first ++ later)
 first_stays stream more first said x y = stays_in x.leads.0 y.0 Head stream more first x.next x.left said x.leads.1 y.1
 
-pub all_stays : (stream more : List ℕ) (given said : List Said) → Exchanges stream given → Exchanges (stream ++ more) said → (later : List Said) × (said ≡ given ++ later)
+pub all_stays : (stream more : List ℕ) (given said : List HttpElement) → Exchanges stream given → Exchanges (stream ++ more) said → (later : List HttpElement) × (said ≡ given ++ later)
 all_stays stream more given said x y =
     let first = said_first x.0 Head stream given x.1 in
     stays_in x.0 y.0 Head stream more given first.0 first.1 said first.2 y.1
@@ -68,21 +68,21 @@ drop_whole : (xs : List ℕ) → drop (length xs) xs ≡ []
 drop_whole [] = refl
 drop_whole (x ∷ xs) = drop_whole xs
 
-part_heard : (old : HttpState) (left : ℕ) (next : Following) (stream : List ℕ) (given : List Said) (piece : List ℕ) → old.awaited ≡ Body left next → old.rest ≡ [] → length piece ≤ left → Stands stream given old → Stands (stream ++ piece) (given ++ map HasByte piece) (record { part = []; rest = []; awaited = Body (left - length piece) next })
+part_heard : (old : HttpState) (left : ℕ) (next : Following) (stream : List ℕ) (given : List HttpElement) (piece : List ℕ) → old.awaited ≡ Body left next → old.rest ≡ [] → length piece ≤ left → HasRead stream given old → HasRead (stream ++ piece) (given ++ map HasByte piece) (record { part = []; rest = []; awaited = Body (left - length piece) next })
 part_heard old left next stream given piece is none fits stands =
-    let fed : Stands (stream ++ piece) given (record { part = []; rest = old.rest ++ piece; awaited = old.awaited }) = stands_fed stream given piece old stands in
-    let here : Stands (stream ++ piece) given (record { part = []; rest = piece; awaited = Body left next }) =
-    subst (λ (a : Awaited). Stands (stream ++ piece) given (record { part = []; rest = piece; awaited = a })) is
-    (subst (λ (r : List ℕ). Stands (stream ++ piece) given (record { part = []; rest = r ++ piece; awaited = old.awaited })) none fed) in
-    let lent : Stands (stream ++ piece) (given ++ map HasByte (take (length piece) piece)) (record { part = take (length piece) piece; rest = drop (length piece) piece; awaited = Body (left - length piece) next }) =
+    let fed : HasRead (stream ++ piece) given (record { part = []; rest = old.rest ++ piece; awaited = old.awaited }) = stands_fed stream given piece old stands in
+    let here : HasRead (stream ++ piece) given (record { part = []; rest = piece; awaited = Body left next }) =
+    subst (λ (a : Awaited). HasRead (stream ++ piece) given (record { part = []; rest = piece; awaited = a })) is
+    (subst (λ (r : List ℕ). HasRead (stream ++ piece) given (record { part = []; rest = r ++ piece; awaited = old.awaited })) none fed) in
+    let lent : HasRead (stream ++ piece) (given ++ map HasByte (take (length piece) piece)) (record { part = take (length piece) piece; rest = drop (length piece) piece; awaited = Body (left - length piece) next }) =
     lends (record { part = []; rest = piece; awaited = Body left next }) left next (length piece) refl (omega arith) fits (stream ++ piece) given here in
-    let said : Stands (stream ++ piece) (given ++ map HasByte piece) (record { part = take (length piece) piece; rest = drop (length piece) piece; awaited = Body (left - length piece) next }) =
-    subst (λ (p : List ℕ). Stands (stream ++ piece) (given ++ map HasByte p) (record { part = take (length piece) piece; rest = drop (length piece) piece; awaited = Body (left - length piece) next })) (take_whole piece) lent in
-    let ended : Stands (stream ++ piece) (given ++ map HasByte piece) (record { part = take (length piece) piece; rest = []; awaited = Body (left - length piece) next }) =
-    subst (λ (r : List ℕ). Stands (stream ++ piece) (given ++ map HasByte piece) (record { part = take (length piece) piece; rest = r; awaited = Body (left - length piece) next })) (drop_whole piece) said in
+    let said : HasRead (stream ++ piece) (given ++ map HasByte piece) (record { part = take (length piece) piece; rest = drop (length piece) piece; awaited = Body (left - length piece) next }) =
+    subst (λ (p : List ℕ). HasRead (stream ++ piece) (given ++ map HasByte p) (record { part = take (length piece) piece; rest = drop (length piece) piece; awaited = Body (left - length piece) next })) (take_whole piece) lent in
+    let ended : HasRead (stream ++ piece) (given ++ map HasByte piece) (record { part = take (length piece) piece; rest = []; awaited = Body (left - length piece) next }) =
+    subst (λ (r : List ℕ). HasRead (stream ++ piece) (given ++ map HasByte piece) (record { part = take (length piece) piece; rest = r; awaited = Body (left - length piece) next })) (drop_whole piece) said in
     record { left = ended.left; leads = ended.leads; kept = ended.kept }
 
-heard_by : (old : HttpState) (awaited : Awaited) (stream : List ℕ) (given : List Said) (piece : List ℕ) → old.awaited ≡ awaited → old.rest ≡ [] → HasLeft (length piece) awaited → Stands stream given old → Stands (stream ++ piece) (given ++ map HasByte piece) (record { part = []; rest = []; awaited = past_body (length piece) awaited })
+heard_by : (old : HttpState) (awaited : Awaited) (stream : List ℕ) (given : List HttpElement) (piece : List ℕ) → old.awaited ≡ awaited → old.rest ≡ [] → HasLeft (length piece) awaited → HasRead stream given old → HasRead (stream ++ piece) (given ++ map HasByte piece) (record { part = []; rest = []; awaited = past_body (length piece) awaited })
 heard_by old (Body left next) stream given piece is none fits stands = part_heard old left next stream given piece is none fits stands
 heard_by old Head stream given piece is none fits stands = absurd fits
 heard_by old (Invitation framing closes) stream given piece is none fits stands = absurd fits
@@ -91,9 +91,9 @@ heard_by old (Trailer last) stream given piece is none fits stands = absurd fits
 heard_by old Nothing stream given piece is none fits stands = absurd fits
 
 -- so many bytes of a body were given as they came
-pub body_heard : (old new : HttpState) (count : ℕ) (stream : List ℕ) (given : List Said) (piece : List ℕ) → AwaitsBody count old → new ≡ record { part = []; rest = []; awaited = past_body count old.awaited } → length piece ≡ count → Stands stream given old → Stands (stream ++ piece) (given ++ map HasByte piece) new
+pub body_heard : (old new : HttpState) (count : ℕ) (stream : List ℕ) (given : List HttpElement) (piece : List ℕ) → AwaitsBody count old → new ≡ record { part = []; rest = []; awaited = past_body count old.awaited } → length piece ≡ count → HasRead stream given old → HasRead (stream ++ piece) (given ++ map HasByte piece) new
 body_heard old new count stream given piece awaits is long stands =
     let fits : HasLeft (length piece) old.awaited = subst (λ (n : ℕ). HasLeft n old.awaited) (sym long) awaits.1 in
-    let heard : Stands (stream ++ piece) (given ++ map HasByte piece) (record { part = []; rest = []; awaited = past_body (length piece) old.awaited }) = heard_by old old.awaited stream given piece refl awaits.0 fits stands in
-    subst (λ (n : HttpState). Stands (stream ++ piece) (given ++ map HasByte piece) n) (sym is)
-    (subst (λ (n : ℕ). Stands (stream ++ piece) (given ++ map HasByte piece) (record { part = []; rest = []; awaited = past_body n old.awaited })) long heard)
+    let heard : HasRead (stream ++ piece) (given ++ map HasByte piece) (record { part = []; rest = []; awaited = past_body (length piece) old.awaited }) = heard_by old old.awaited stream given piece refl awaits.0 fits stands in
+    subst (λ (n : HttpState). HasRead (stream ++ piece) (given ++ map HasByte piece) n) (sym is)
+    (subst (λ (n : ℕ). HasRead (stream ++ piece) (given ++ map HasByte piece) (record { part = []; rest = []; awaited = past_body n old.awaited })) long heard)

@@ -21,7 +21,7 @@ use Rattle.http_front.specs.declared.reader.Step.TheVariants as step
 use Rattle.http_front.specs.Section.{section_in}
 use Rattle.http_front.specs.Chunk.{IsSizeOf, chunk_end}
 use Rattle.http_front.specs.Head.{Asks}
-use Rattle.http_front.specs.Stream.{Said, is_last, HasHead, Invites, EndsBody, IsRefused, Front, Goes, Waits, FrontIs, AtHead, HeadIn, SizeIn, begun, body_by, after_head, after_body, begins_head, is_line_end, sized, chunk_front, trailer_front, HttpState, Advances, Steps, rank, work}
+use Rattle.http_front.specs.Stream.{HttpElement, is_last, HasHead, Invites, EndsBody, IsRefused, Front, Goes, Waits, FrontIs, AtHead, HeadIn, SizeIn, begun, body_by, after_head, after_body, begins_head, is_line_end, sized, chunk_front, trailer_front, HttpState, Advances, Steps, rank, work}
 use Rattle.http_front.proofs.Steps.{advance}
 use Rattle.http_front.proofs.Sections.{section_within, section_some}
 
@@ -29,7 +29,7 @@ use Rattle.http_front.proofs.Sections.{section_within, section_some}
 abbrev pub behind : HttpState → ℕ → Awaited → HttpState
 behind old count next = record { part = []; rest = drop count old.rest; awaited = next }
 
-goes : (old : HttpState) (awaited : Awaited) (said : List Said) (count : ℕ) (next : Awaited) → old.awaited ≡ awaited → FrontIs awaited old.rest (Goes said (drop count old.rest) next) → Advances old said (behind old count next)
+goes : (old : HttpState) (awaited : Awaited) (said : List HttpElement) (count : ℕ) (next : Awaited) → old.awaited ≡ awaited → FrontIs awaited old.rest (Goes said (drop count old.rest) next) → Advances old said (behind old count next)
 goes old awaited said count next is front = advance old said (behind old count next) (subst (λ a. FrontIs a old.rest (Goes said (drop count old.rest) next)) (sym is) front)
 
 shorter : (bytes : List ℕ) (count : ℕ) → 0 < count → count ≤ length bytes → length (drop count bytes) < length bytes
@@ -152,7 +152,7 @@ refuses_long_size old room closes is line = (
 )
 
 -- which front a size makes
-sized_as : (old : HttpState) (count room : ℕ) (closes : Bool) (size : Option ℕ) (said : List Said) (next : Awaited) → old.awaited ≡ Size room closes → first_line_of HTTP_CHUNK_LINE_BYTES old.rest ≡ Whole count → IsSizeOf (take (count + 1) old.rest) size → ((rest : List ℕ) → sized size room closes rest ≡ Goes said rest next) → Advances old said (behind old (count + 1) next)
+sized_as : (old : HttpState) (count room : ℕ) (closes : Bool) (size : Option ℕ) (said : List HttpElement) (next : Awaited) → old.awaited ≡ Size room closes → first_line_of HTTP_CHUNK_LINE_BYTES old.rest ≡ Whole count → IsSizeOf (take (count + 1) old.rest) size → ((rest : List ℕ) → sized size room closes rest ≡ Goes said rest next) → Advances old said (behind old (count + 1) next)
 sized_as old count room closes size said next is line tells same =
     goes old (Size room closes) said (count + 1) next is
     (subst (λ front. FrontIs (Size room closes) old.rest front) (same (drop (count + 1) old.rest)) (size_front old.rest count room closes size line tells))

@@ -22,7 +22,7 @@ use Rattle.http_front.specs.declared.chunk.ChunkEnd.TheVariants as end
 use Rattle.http_front.specs.Section.{section_in}
 use Rattle.http_front.specs.Chunk.{IsSizeOf, chunk_end}
 use Rattle.http_front.specs.Head.{judged, Asks}
-use Rattle.http_front.specs.Stream.{Said, EndsBody, after_body, Front, Goes, Waits, FrontIs, HeadIn, SizeIn, begun, sized, chunk_front, following, byte_of, trailer_front, is_line_end, SaysIn, LeadsIn, is_last}
+use Rattle.http_front.specs.Stream.{HttpElement, EndsBody, after_body, Front, Goes, Waits, FrontIs, HeadIn, SizeIn, begun, sized, chunk_front, following, byte_of, trailer_front, is_line_end, ParsesIn, LeadsIn, is_last}
 use Rattle.http_front.proofs.Sections.{section_whole, section_within, section_long}
 use Rattle.http_front.proofs.Fronts.{size_within, broken_grown, whole_grown}
 
@@ -71,13 +71,13 @@ front_one Nothing bytes a b x y = x ∙ sym y
 
 -- the front stays where more comes
 
-pub goes_is : (said told : List Said) (rest left : List ℕ) (next after : Awaited) → Goes said rest next ≡ Goes told left after → (said ≡ told) × (rest ≡ left) × (next ≡ after)
+pub goes_is : (said told : List HttpElement) (rest left : List ℕ) (next after : Awaited) → Goes said rest next ≡ Goes told left after → (said ≡ told) × (rest ≡ left) × (next ≡ after)
 goes_is said told rest left next after same = ((cc), (cc), (cc))
 
 abbrev MoreOf : List ℕ → Front → Front → Type 0
-MoreOf more front grown = (said : List Said) (rest : List ℕ) (next : Awaited) → Goes said rest next ≡ front → Goes said (rest ++ more) next ≡ grown
+MoreOf more front grown = (said : List HttpElement) (rest : List ℕ) (next : Awaited) → Goes said rest next ≡ front → Goes said (rest ++ more) next ≡ grown
 
-goes_more : (more : List ℕ) (told : List Said) (left : List ℕ) (after : Awaited) → MoreOf more (Goes told left after) (Goes told (left ++ more) after)
+goes_more : (more : List ℕ) (told : List HttpElement) (left : List ℕ) (after : Awaited) → MoreOf more (Goes told left after) (Goes told (left ++ more) after)
 goes_more more told left after said rest next is =
     let parts = goes_is said told rest left next after is in
     rw (parts.0, parts.1, parts.2) refl
@@ -96,7 +96,7 @@ begun_more : (asked : Result Request HttpRejection) (bytes more : List ℕ) → 
 begun_more (Ok request) bytes more = goes_more more _ bytes _
 begun_more (Err refusal) bytes more = goes_more more _ bytes _
 
-head_more : (bytes more : List ℕ) (line : FirstLine) (said : List Said) (rest : List ℕ) (next : Awaited) → section_in HTTP_HEAD_BYTES bytes ≡ line → HeadIn bytes line (Goes said rest next) → HeadIn (bytes ++ more) (section_in HTTP_HEAD_BYTES (bytes ++ more)) (Goes said (rest ++ more) next)
+head_more : (bytes more : List ℕ) (line : FirstLine) (said : List HttpElement) (rest : List ℕ) (next : Awaited) → section_in HTTP_HEAD_BYTES bytes ≡ line → HeadIn bytes line (Goes said rest next) → HeadIn (bytes ++ more) (section_in HTTP_HEAD_BYTES (bytes ++ more)) (Goes said (rest ++ more) next)
 head_more bytes more (Whole count) said rest next lines x =
     let within = section_within HTTP_HEAD_BYTES bytes count lines in
     let first : take count (bytes ++ more) ≡ take count bytes = take-append-le count bytes more within in
@@ -112,7 +112,7 @@ sized_more None room closes bytes more = goes_more more _ bytes _
 sized_more (Some size) room closes bytes more =
     if_more more (size == 0) _ _ _ _ (goes_more more _ bytes _) (if_more more (nat_le size room) _ _ _ _ (goes_more more _ bytes _) (goes_more more _ bytes _))
 
-size_more : (bytes more : List ℕ) (room : ℕ) (closes : Bool) (line : FirstLine) (said : List Said) (rest : List ℕ) (next : Awaited) → first_line_of HTTP_CHUNK_LINE_BYTES bytes ≡ line → SizeIn bytes room closes line (Goes said rest next) → SizeIn (bytes ++ more) room closes (first_line_of HTTP_CHUNK_LINE_BYTES (bytes ++ more)) (Goes said (rest ++ more) next)
+size_more : (bytes more : List ℕ) (room : ℕ) (closes : Bool) (line : FirstLine) (said : List HttpElement) (rest : List ℕ) (next : Awaited) → first_line_of HTTP_CHUNK_LINE_BYTES bytes ≡ line → SizeIn bytes room closes line (Goes said rest next) → SizeIn (bytes ++ more) room closes (first_line_of HTTP_CHUNK_LINE_BYTES (bytes ++ more)) (Goes said (rest ++ more) next)
 size_more bytes more room closes (Whole count) said rest next line x =
     let inside = size_within bytes count line in
     let within : count + 1 ≤ length bytes = omega (arith, inside) in
@@ -156,7 +156,7 @@ by_case : (t : Bool) (P Q P' Q' : Type 0) → (P → P') → (Q → Q') → Matc
 by_case true P Q P' Q' p q x = p x
 by_case false P Q P' Q' p q x = q x
 
-front_more : (awaited : Awaited) (bytes more : List ℕ) (said : List Said) (rest : List ℕ) (next : Awaited) → FrontIs awaited bytes (Goes said rest next) → FrontIs awaited (bytes ++ more) (Goes said (rest ++ more) next)
+front_more : (awaited : Awaited) (bytes more : List ℕ) (said : List HttpElement) (rest : List ℕ) (next : Awaited) → FrontIs awaited bytes (Goes said rest next) → FrontIs awaited (bytes ++ more) (Goes said (rest ++ more) next)
 front_more Head [] more said rest next x = absurd (let no : Goes said rest next ≡ Waits = x in (cc))
 front_more Head (byte ∷ bytes) more said rest next x =
     by_case (is_line_end byte) _ _ _ _ (goes_more more [] bytes Head said rest next) (head_more (byte ∷ bytes) more (section_in HTTP_HEAD_BYTES (byte ∷ bytes)) said rest next refl) x
@@ -168,7 +168,7 @@ front_more Nothing bytes more said rest next x = absurd (let no : Goes said rest
 
 -- whole streams
 
-pub stays_in : (n m : ℕ) (awaited : Awaited) (bytes more : List ℕ) (given : List Said) (next : Awaited) (left : List ℕ) (said : List Said) → LeadsIn n awaited bytes given next left → SaysIn m awaited (bytes ++ more) said → (later : List Said) × (said ≡ given ++ later)
+pub stays_in : (n m : ℕ) (awaited : Awaited) (bytes more : List ℕ) (given : List HttpElement) (next : Awaited) (left : List ℕ) (said : List HttpElement) → LeadsIn n awaited bytes given next left → ParsesIn m awaited (bytes ++ more) said → (later : List HttpElement) × (said ≡ given ++ later)
 stays_in zero m awaited bytes more given next left said x y = (said, rw x.0 refl)
 stays_in (suc n) zero awaited bytes more given next left said x y = absurd (
     let no : Goes x.0 (x.1 ++ more) x.2 ≡ Waits = front_one awaited (bytes ++ more) _ _ (front_more awaited bytes more x.0 x.1 x.2 x.4) y.1 in
@@ -176,44 +176,44 @@ stays_in (suc n) zero awaited bytes more given next left said x y = absurd (
     )
 stays_in (suc n) (suc m) awaited bytes more given next left said x y =
     let same = goes_is _ _ _ _ _ _ (front_one awaited (bytes ++ more) (Goes x.0 (x.1 ++ more) x.2) (Goes y.0 y.1 y.2) (front_more awaited bytes more x.0 x.1 x.2 x.4) y.4) in
-    let tail : SaysIn m x.2 (x.1 ++ more) y.3 = subst (λ a. SaysIn m a (x.1 ++ more) y.3) (sym same.2) (subst (λ b. SaysIn m y.2 b y.3) (sym same.1) y.6) in
+    let tail : ParsesIn m x.2 (x.1 ++ more) y.3 = subst (λ a. ParsesIn m a (x.1 ++ more) y.3) (sym same.2) (subst (λ b. ParsesIn m y.2 b y.3) (sym same.1) y.6) in
     let later = stays_in n m x.2 x.1 more x.3 next left y.3 x.6 tail in
     (later.0, y.5 ∙ ap (λ s. s ++ y.3) (sym same.0) ∙ ap (λ s. x.0 ++ s) later.1 ∙ sym (append_assoc x.0 x.3 later.0) ∙ ap (λ s. s ++ later.0) (sym x.5))
 
 -- the elements that all of the bytes say are said first
-pub said_first : (n : ℕ) (awaited : Awaited) (bytes : List ℕ) (said : List Said) → SaysIn n awaited bytes said → (next : Awaited) × (left : List ℕ) × LeadsIn n awaited bytes said next left
+pub said_first : (n : ℕ) (awaited : Awaited) (bytes : List ℕ) (said : List HttpElement) → ParsesIn n awaited bytes said → (next : Awaited) × (left : List ℕ) × LeadsIn n awaited bytes said next left
 said_first zero awaited bytes said x = (awaited, bytes, (x.0, refl, refl))
 said_first (suc n) awaited bytes said x =
     let tail = said_first n x.2 x.1 x.3 x.6 in
     (tail.0, tail.1, (x.0, x.1, x.2, x.3, x.4, x.5, tail.2))
 
-pub leads_more : (n : ℕ) (awaited : Awaited) (bytes more : List ℕ) (said : List Said) (next : Awaited) (left : List ℕ) → LeadsIn n awaited bytes said next left → LeadsIn n awaited (bytes ++ more) said next (left ++ more)
+pub leads_more : (n : ℕ) (awaited : Awaited) (bytes more : List ℕ) (said : List HttpElement) (next : Awaited) (left : List ℕ) → LeadsIn n awaited bytes said next left → LeadsIn n awaited (bytes ++ more) said next (left ++ more)
 leads_more zero awaited bytes more said next left x = (x.0, x.1, ap (λ l. l ++ more) x.2)
 leads_more (suc n) awaited bytes more said next left x =
     (x.0, x.1 ++ more, x.2, x.3, front_more awaited bytes more x.0 x.1 x.2 x.4, x.5, leads_more n x.2 x.1 more x.3 next left x.6)
 
-pub says_one : (n m : ℕ) (awaited : Awaited) (bytes : List ℕ) (given said : List Said) → SaysIn n awaited bytes given → SaysIn m awaited bytes said → given ≡ said
+pub says_one : (n m : ℕ) (awaited : Awaited) (bytes : List ℕ) (given said : List HttpElement) → ParsesIn n awaited bytes given → ParsesIn m awaited bytes said → given ≡ said
 says_one zero zero awaited bytes given said x y = x.0 ∙ sym y.0
 says_one zero (suc m) awaited bytes given said x y = absurd (let no : Goes y.0 y.1 y.2 ≡ Waits = front_one awaited bytes _ _ y.4 x.1 in (cc))
 says_one (suc n) zero awaited bytes given said x y = absurd (let no : Goes x.0 x.1 x.2 ≡ Waits = front_one awaited bytes _ _ x.4 y.1 in (cc))
 says_one (suc n) (suc m) awaited bytes given said x y =
     let same = goes_is _ _ _ _ _ _ (front_one awaited bytes (Goes x.0 x.1 x.2) (Goes y.0 y.1 y.2) x.4 y.4) in
-    let tail : SaysIn m x.2 x.1 y.3 = subst (λ a. SaysIn m a x.1 y.3) (sym same.2) (subst (λ b. SaysIn m y.2 b y.3) (sym same.1) y.6) in
+    let tail : ParsesIn m x.2 x.1 y.3 = subst (λ a. ParsesIn m a x.1 y.3) (sym same.2) (subst (λ b. ParsesIn m y.2 b y.3) (sym same.1) y.6) in
     x.5 ∙ ap (λ s. s ++ x.3) same.0 ∙ ap (λ s. y.0 ++ s) (says_one n m x.2 x.1 x.3 y.3 x.6 tail) ∙ sym y.5
 
-none_of : (said : List Said) → length said ≡ 0 → said ≡ []
+none_of : (said : List HttpElement) → length said ≡ 0 → said ≡ []
 none_of [] same = refl
 none_of (one ∷ more) same = absurd (omega (arith, same))
 
 -- of one length bytes say one thing first
-pub leads_one : (n m : ℕ) (awaited : Awaited) (bytes : List ℕ) (one other : List Said) (next : Awaited) (left : List ℕ) (after : Awaited) (behind : List ℕ) → LeadsIn n awaited bytes one next left → LeadsIn m awaited bytes other after behind → length one ≡ length other → one ≡ other
-leads_one zero m awaited bytes one other next left after behind x y same = x.0 ∙ sym (none_of other (sym same ∙ ap (λ (s : List Said). length s) x.0))
-leads_one (suc n) zero awaited bytes one other next left after behind x y same = none_of one (same ∙ ap (λ (s : List Said). length s) y.0) ∙ sym y.0
+pub leads_one : (n m : ℕ) (awaited : Awaited) (bytes : List ℕ) (one other : List HttpElement) (next : Awaited) (left : List ℕ) (after : Awaited) (behind : List ℕ) → LeadsIn n awaited bytes one next left → LeadsIn m awaited bytes other after behind → length one ≡ length other → one ≡ other
+leads_one zero m awaited bytes one other next left after behind x y same = x.0 ∙ sym (none_of other (sym same ∙ ap (λ (s : List HttpElement). length s) x.0))
+leads_one (suc n) zero awaited bytes one other next left after behind x y same = none_of one (same ∙ ap (λ (s : List HttpElement). length s) y.0) ∙ sym y.0
 leads_one (suc n) (suc m) awaited bytes one other next left after behind x y same =
     let front = goes_is _ _ _ _ _ _ (front_one awaited bytes (Goes x.0 x.1 x.2) (Goes y.0 y.1 y.2) x.4 y.4) in
     let tail : LeadsIn m x.2 x.1 y.3 after behind = subst (λ a. LeadsIn m a x.1 y.3 after behind) (sym front.2) (subst (λ b. LeadsIn m y.2 b y.3 after behind) (sym front.1) y.6) in
     let is : one ≡ y.0 ++ x.3 = x.5 ∙ ap (λ s. s ++ x.3) front.0 in
-    let long : length one ≡ length y.0 + length x.3 = ap (λ (s : List Said). length s) is ∙ length-append y.0 x.3 in
-    let long' : length other ≡ length y.0 + length y.3 = ap (λ (s : List Said). length s) y.5 ∙ length-append y.0 y.3 in
+    let long : length one ≡ length y.0 + length x.3 = ap (λ (s : List HttpElement). length s) is ∙ length-append y.0 x.3 in
+    let long' : length other ≡ length y.0 + length y.3 = ap (λ (s : List HttpElement). length s) y.5 ∙ length-append y.0 y.3 in
     let later : length x.3 ≡ length y.3 = omega (arith, long, long', same) in
     is ∙ ap (λ s. y.0 ++ s) (leads_one n m x.2 x.1 x.3 y.3 next left after behind x.6 tail later) ∙ sym y.5

@@ -18,7 +18,7 @@ use Rattle.http_front.specs.declared.chunk.ChunkEnd.{ChunkEnd}
 use Rattle.http_front.specs.declared.chunk.ChunkEnd.TheVariants as end
 use Rattle.http_front.specs.Section.{section_in}
 use Rattle.http_front.specs.Chunk.{chunk_end}
-use Rattle.http_front.specs.Stream.{Said, HasHead, Invites, HasByte, EndsBody, IsRefused, Front, Goes, Waits, FrontIs, AtHead, HeadIn, SizeIn, begun, refused, sized, chunk_front, following, byte_of, trailer_front, is_line_end, is_last, after_head, after_body, body_by, SaysIn}
+use Rattle.http_front.specs.Stream.{HttpElement, HasHead, Invites, HasByte, EndsBody, IsRefused, Front, Goes, Waits, FrontIs, AtHead, HeadIn, SizeIn, begun, refused, sized, chunk_front, following, byte_of, trailer_front, is_line_end, is_last, after_head, after_body, body_by, ParsesIn}
 use Rattle.http_front.specs.Order.{Place, Between, Headed, Within, in_order, is_none}
 use Rattle.http_front.proofs.Laws.{goes_is}
 
@@ -42,13 +42,13 @@ Allows (Within closes told) (Trailer last) = last ≡ is_last closes told
 Allows place awaited = ⊥
 
 -- the later elements are in order at each place that the awaited part allows
-abbrev Later : Awaited → List Said → Type 0
+abbrev Later : Awaited → List HttpElement → Type 0
 Later next later = ((place : Place) → Allows place next → in_order place later ≡ true) × (next ≡ Nothing → later ≡ [])
 
 abbrev OrderOf : Place → Front → Type 0
-OrderOf place front = (said : List Said) (rest : List ℕ) (next : Awaited) → Goes said rest next ≡ front → (later : List Said) → Later next later → in_order place (said ++ later) ≡ true
+OrderOf place front = (said : List HttpElement) (rest : List ℕ) (next : Awaited) → Goes said rest next ≡ front → (later : List HttpElement) → Later next later → in_order place (said ++ later) ≡ true
 
-goes_order : (place : Place) (told : List Said) (left : List ℕ) (after : Awaited) → ((later : List Said) → Later after later → in_order place (told ++ later) ≡ true) → OrderOf place (Goes told left after)
+goes_order : (place : Place) (told : List HttpElement) (left : List ℕ) (after : Awaited) → ((later : List HttpElement) → Later after later → in_order place (told ++ later) ≡ true) → OrderOf place (Goes told left after)
 goes_order place told left after holds said rest next is later ok =
     let parts = goes_is said told rest left next after is in
     let there : Later after later = subst (λ n. Later n later) parts.2 ok in
@@ -57,7 +57,7 @@ goes_order place told left after holds said rest next is later ok =
 waits_order : (place : Place) → OrderOf place Waits
 waits_order place said rest next is later ok = absurd (let no : Goes said rest next ≡ Waits = is in (cc))
 
-last_order : (place : Place) (refusal : HttpRejection) (later : List Said) → later ≡ [] → in_order place (IsRefused refusal ∷ later) ≡ true
+last_order : (place : Place) (refusal : HttpRejection) (later : List HttpElement) → later ≡ [] → in_order place (IsRefused refusal ∷ later) ≡ true
 last_order Between refusal later is = rw is refl
 last_order (Headed closes) refusal later is = rw is refl
 last_order (Within closes told) refusal later is = rw is refl
@@ -83,7 +83,7 @@ begun_order : (asked : Result Request HttpRejection) (bytes : List ℕ) → Orde
 begun_order (Ok request) bytes = goes_order Between (HasHead request.closes ∷ []) bytes (after_head request) (λ later ok. ok.0 (Headed request.closes) (allows_after request.invites request.framing request.closes))
 begun_order (Err refusal) bytes = refused_order Between refusal bytes
 
-head_order : (bytes : List ℕ) (line : FirstLine) (said : List Said) (rest : List ℕ) (next : Awaited) → HeadIn bytes line (Goes said rest next) → (later : List Said) → Later next later → in_order Between (said ++ later) ≡ true
+head_order : (bytes : List ℕ) (line : FirstLine) (said : List HttpElement) (rest : List ℕ) (next : Awaited) → HeadIn bytes line (Goes said rest next) → (later : List HttpElement) → Later next later → in_order Between (said ++ later) ≡ true
 head_order bytes (Whole count) said rest next x later ok = begun_order x.0 (drop count bytes) said rest next x.2 later ok
 head_order bytes TooLong said rest next x later ok = refused_order Between HeadTooLarge bytes said rest next x later ok
 head_order bytes Unfinished said rest next x later ok = waits_order Between said rest next x later ok
@@ -92,7 +92,7 @@ by_case : (t : Bool) (P Q C : Type 0) → (P → C) → (Q → C) → MatchBool 
 by_case true P Q C p q x = p x
 by_case false P Q C p q x = q x
 
-at_head_order : (bytes : List ℕ) (said : List Said) (rest : List ℕ) (next : Awaited) → AtHead bytes (Goes said rest next) → (later : List Said) → Later next later → in_order Between (said ++ later) ≡ true
+at_head_order : (bytes : List ℕ) (said : List HttpElement) (rest : List ℕ) (next : Awaited) → AtHead bytes (Goes said rest next) → (later : List HttpElement) → Later next later → in_order Between (said ++ later) ≡ true
 at_head_order [] said rest next x later ok = waits_order Between said rest next x later ok
 at_head_order (byte ∷ bytes) said rest next x later ok =
     by_case (is_line_end byte) (Goes said rest next ≡ Goes [] bytes Head) (HeadIn (byte ∷ bytes) (section_in HTTP_HEAD_BYTES (byte ∷ bytes)) (Goes said rest next)) (in_order Between (said ++ later) ≡ true)
@@ -102,8 +102,8 @@ at_head_order (byte ∷ bytes) said rest next x later ok =
 -- a place within an exchange, of whose body `told` bytes were said
 record Inside (place : Place) (closes : Bool) (told : ℕ) : Type 0 where
   allows : (awaited : Awaited) → Allows (Within closes told) awaited → Allows place awaited
-  ends : (later : List Said) → (if is_last closes told then is_none later else in_order Between later) ≡ true → in_order place (EndsBody ∷ later) ≡ true
-  byte : (byte : ℕ) (later : List Said) → in_order (Within closes (told + 1)) later ≡ true → in_order place (HasByte byte ∷ later) ≡ true
+  ends : (later : List HttpElement) → (if is_last closes told then is_none later else in_order Between later) ≡ true → in_order place (EndsBody ∷ later) ≡ true
+  byte : (byte : ℕ) (later : List HttpElement) → in_order (Within closes (told + 1)) later ≡ true → in_order place (HasByte byte ∷ later) ≡ true
 
 headed_allows : (closes : Bool) (awaited : Awaited) → Allows (Within closes 0) awaited → Allows (Headed closes) awaited
 headed_allows closes Head ok = absurd ok
@@ -141,7 +141,7 @@ at_trailer (Headed closes) last ok = record { closes = closes; told = 0; inside 
 at_trailer (Within closes told) last ok = record { closes = closes; told = told; inside = within closes told; allowed = ok }
 
 -- nothing follows the last exchange
-after_order : (last : Bool) (later : List Said) → Later (after_body last) later → (if last then is_none later else in_order Between later) ≡ true
+after_order : (last : Bool) (later : List HttpElement) → Later (after_body last) later → (if last then is_none later else in_order Between later) ≡ true
 after_order true later ok = rw (ok.1 refl) refl
 after_order false later ok = ok.0 Between tt
 
@@ -197,7 +197,7 @@ sized_order place room also at (Some size) bytes =
     (λ fits. goes_order place [] bytes (Body size (Chunk (room - size) also)) (λ later ok. ok.0 place (at.inside.allows (Body size (Chunk (room - size) also)) (at.allowed.0, room_left at.told size room HTTP_BODY_BYTES fits at.allowed.1))))
     (λ large. refused_order place ContentTooLarge bytes))
 
-size_order : (place : Place) (bytes : List ℕ) (room : ℕ) (also : Bool) → At place (Size room also) → (line : FirstLine) (said : List Said) (rest : List ℕ) (next : Awaited) → SizeIn bytes room also line (Goes said rest next) → (later : List Said) → Later next later → in_order place (said ++ later) ≡ true
+size_order : (place : Place) (bytes : List ℕ) (room : ℕ) (also : Bool) → At place (Size room also) → (line : FirstLine) (said : List HttpElement) (rest : List ℕ) (next : Awaited) → SizeIn bytes room also line (Goes said rest next) → (later : List HttpElement) → Later next later → in_order place (said ++ later) ≡ true
 size_order place bytes room also at (Whole count) said rest next x later ok = sized_order place room also at x.0 (drop (count + 1) bytes) said rest next x.2 later ok
 size_order place bytes room also at TooLong said rest next x later ok = refused_order place BadRequest bytes said rest next x later ok
 size_order place bytes room also at Unfinished said rest next x later ok = waits_order place said rest next x later ok
@@ -221,7 +221,7 @@ invited_order (Headed closes) framing also ok bytes =
     (λ later after. after.0 (Within closes 0) (subst (λ (b : Bool). Allows (Within b 0) (body_by framing also)) ok (allows_body_by framing also).1))
 invited_order (Within closes told) framing also ok bytes = absurd ok
 
-front_order : (place : Place) (awaited : Awaited) (bytes : List ℕ) (said : List Said) (rest : List ℕ) (next : Awaited) → Allows place awaited → FrontIs awaited bytes (Goes said rest next) → (later : List Said) → Later next later → in_order place (said ++ later) ≡ true
+front_order : (place : Place) (awaited : Awaited) (bytes : List ℕ) (said : List HttpElement) (rest : List ℕ) (next : Awaited) → Allows place awaited → FrontIs awaited bytes (Goes said rest next) → (later : List HttpElement) → Later next later → in_order place (said ++ later) ≡ true
 front_order place Head bytes said rest next allowed x later ok =
     subst (λ p. in_order p (said ++ later) ≡ true) (sym (head_place place allowed)) (at_head_order bytes said rest next x later ok)
 front_order place (Invitation framing closes) bytes said rest next allowed x later ok = invited_order place framing closes allowed bytes said rest next x later ok
@@ -232,7 +232,7 @@ front_order place (Trailer last) bytes said rest next allowed x later ok =
     trailer_order place last (at_trailer place last allowed) bytes (section_in HTTP_TRAILER_BYTES bytes) said rest next x later ok
 front_order place Nothing bytes said rest next allowed x later ok = waits_order place said rest next x later ok
 
-nothing_said : (steps : ℕ) (bytes : List ℕ) (said : List Said) → SaysIn steps Nothing bytes said → said ≡ []
+nothing_said : (steps : ℕ) (bytes : List ℕ) (said : List HttpElement) → ParsesIn steps Nothing bytes said → said ≡ []
 nothing_said zero bytes said x = x.0
 nothing_said (suc steps) bytes said x = absurd (let no : Goes x.0 x.1 x.2 ≡ Waits = x.4 in (cc))
 
@@ -241,8 +241,8 @@ none_order Between = refl
 none_order (Headed closes) = refl
 none_order (Within closes told) = refl
 
-pub order_in : (steps : ℕ) (place : Place) (awaited : Awaited) (bytes : List ℕ) (said : List Said) → Allows place awaited → SaysIn steps awaited bytes said → in_order place said ≡ true
+pub order_in : (steps : ℕ) (place : Place) (awaited : Awaited) (bytes : List ℕ) (said : List HttpElement) → Allows place awaited → ParsesIn steps awaited bytes said → in_order place said ≡ true
 order_in zero place awaited bytes said allowed x = rw x.0 (none_order place)
 order_in (suc steps) place awaited bytes said allowed x =
-    let ok : Later x.2 x.3 = (λ p allowed. order_in steps p x.2 x.1 x.3 allowed x.6, λ over. nothing_said steps x.1 x.3 (subst (λ a. SaysIn steps a x.1 x.3) over x.6)) in
+    let ok : Later x.2 x.3 = (λ p allowed. order_in steps p x.2 x.1 x.3 allowed x.6, λ over. nothing_said steps x.1 x.3 (subst (λ a. ParsesIn steps a x.1 x.3) over x.6)) in
     subst (λ s. in_order place s ≡ true) (sym x.5) (front_order place awaited bytes x.0 x.1 x.2 allowed x.4 x.3 ok)

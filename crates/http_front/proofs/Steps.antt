@@ -5,11 +5,11 @@ use Rattle.std.proofs.lemmas.List.{append_assoc, append-nil, take-append-drop, l
 use Rattle.http_front.specs.declared.awaited.Awaited.{Awaited}
 use Rattle.http_front.specs.declared.awaited.Awaited.TheVariants.{Head, Body, Nothing}
 use Rattle.http_front.specs.declared.awaited.Following.{Following}
-use Rattle.http_front.specs.Stream.{Said, HasByte, Goes, Waits, FrontIs, body_front, SaysIn, Says, Exchanges, LeadsIn, Leads, HttpState, IsOver, Stands, Advances, work}
+use Rattle.http_front.specs.Stream.{HttpElement, HasByte, Goes, Waits, FrontIs, body_front, ParsesIn, Parses, Exchanges, LeadsIn, Leads, HttpState, IsOver, HasRead, Advances, work}
 
 -- one after the other
 
-pub leads_then : (n m : ℕ) (a : Awaited) (bytes : List ℕ) (first : List Said) (b : Awaited) (mid : List ℕ) (later : List Said) (c : Awaited) (left : List ℕ) → LeadsIn n a bytes first b mid → LeadsIn m b mid later c left → Leads a bytes (first ++ later) c left
+pub leads_then : (n m : ℕ) (a : Awaited) (bytes : List ℕ) (first : List HttpElement) (b : Awaited) (mid : List ℕ) (later : List HttpElement) (c : Awaited) (left : List ℕ) → LeadsIn n a bytes first b mid → LeadsIn m b mid later c left → Leads a bytes (first ++ later) c left
 leads_then zero m a bytes first b mid later c left x y =
     let on : LeadsIn m a bytes later c left = subst (λ q. LeadsIn m q bytes later c left) x.1 (subst (λ r. LeadsIn m b r later c left) x.2 y) in
     subst (λ s. Leads a bytes (s ++ later) c left) (sym x.0) (m, on)
@@ -17,41 +17,41 @@ leads_then (suc n) m a bytes first b mid later c left x y =
     let r = leads_then n m x.2 x.1 x.3 b mid later c left x.6 y in
     (suc r.0, (x.0, x.1, x.2, x.3 ++ later, x.4, ap (λ s. s ++ later) x.5 ∙ append_assoc x.0 x.3 later, r.1))
 
-pub says_then : (n m : ℕ) (a : Awaited) (bytes : List ℕ) (first : List Said) (b : Awaited) (mid : List ℕ) (later : List Said) → LeadsIn n a bytes first b mid → SaysIn m b mid later → Says a bytes (first ++ later)
+pub says_then : (n m : ℕ) (a : Awaited) (bytes : List ℕ) (first : List HttpElement) (b : Awaited) (mid : List ℕ) (later : List HttpElement) → LeadsIn n a bytes first b mid → ParsesIn m b mid later → Parses a bytes (first ++ later)
 says_then zero m a bytes first b mid later x y =
-    let on : SaysIn m a bytes later = subst (λ q. SaysIn m q bytes later) x.1 (subst (λ r. SaysIn m b r later) x.2 y) in
-    subst (λ s. Says a bytes (s ++ later)) (sym x.0) (m, on)
+    let on : ParsesIn m a bytes later = subst (λ q. ParsesIn m q bytes later) x.1 (subst (λ r. ParsesIn m b r later) x.2 y) in
+    subst (λ s. Parses a bytes (s ++ later)) (sym x.0) (m, on)
 says_then (suc n) m a bytes first b mid later x y =
     let r = says_then n m x.2 x.1 x.3 b mid later x.6 y in
     (suc r.0, (x.0, x.1, x.2, x.3 ++ later, x.4, ap (λ s. s ++ later) x.5 ∙ append_assoc x.0 x.3 later, r.1))
 
-leads_one : (a : Awaited) (bytes : List ℕ) (said : List Said) (b : Awaited) (left : List ℕ) → FrontIs a bytes (Goes said left b) → Leads a bytes said b left
+leads_one : (a : Awaited) (bytes : List ℕ) (said : List HttpElement) (b : Awaited) (left : List ℕ) → FrontIs a bytes (Goes said left b) → Leads a bytes said b left
 leads_one a bytes said b left front = (suc zero, (said, left, b, [], front, sym (append-nil said), (refl, refl, refl)))
 
 -- a reader for which something counts goes on
-on_from : (stream : List ℕ) (given : List Said) (old : HttpState) (left : List ℕ) (said : List Said) (new : HttpState) → (IsOver old → ⊥) → Leads old.awaited old.rest said new.awaited new.rest → Leads Head stream given old.awaited left → (IsOver old ⊎ (left ≡ old.rest)) → Stands stream (given ++ said) new
+on_from : (stream : List ℕ) (given : List HttpElement) (old : HttpState) (left : List ℕ) (said : List HttpElement) (new : HttpState) → (IsOver old → ⊥) → Leads old.awaited old.rest said new.awaited new.rest → Leads Head stream given old.awaited left → (IsOver old ⊎ (left ≡ old.rest)) → HasRead stream (given ++ said) new
 on_from stream given old left said new counts on leads (inl over) = absurd (counts over)
 on_from stream given old left said new counts on leads (inr same) =
     let here : LeadsIn leads.0 Head stream given old.awaited old.rest = subst (λ l. LeadsIn leads.0 Head stream given old.awaited l) same leads.1 in
     record { left = new.rest; leads = leads_then leads.0 on.0 Head stream given old.awaited old.rest said new.awaited new.rest here on.1; kept = inr refl }
 
-advance_by : (old : HttpState) (said : List Said) (new : HttpState) → (IsOver old → ⊥) → Leads old.awaited old.rest said new.awaited new.rest → Advances old said new
+advance_by : (old : HttpState) (said : List HttpElement) (new : HttpState) → (IsOver old → ⊥) → Leads old.awaited old.rest said new.awaited new.rest → Advances old said new
 advance_by old said new counts on stream given stands = on_from stream given old stands.left said new counts on stands.leads stands.kept
 
-not_over : (old : HttpState) (said : List Said) (rest : List ℕ) (next : Awaited) → FrontIs old.awaited old.rest (Goes said rest next) → IsOver old → ⊥
+not_over : (old : HttpState) (said : List HttpElement) (rest : List ℕ) (next : Awaited) → FrontIs old.awaited old.rest (Goes said rest next) → IsOver old → ⊥
 not_over old said rest next front over =
     let no : Goes said rest next ≡ Waits = subst (λ (a : Awaited). FrontIs a old.rest (Goes said rest next)) over front in
     (cc)
 
-pub advance : (old : HttpState) (said : List Said) (new : HttpState) → FrontIs old.awaited old.rest (Goes said new.rest new.awaited) → Advances old said new
+pub advance : (old : HttpState) (said : List HttpElement) (new : HttpState) → FrontIs old.awaited old.rest (Goes said new.rest new.awaited) → Advances old said new
 advance old said new front = advance_by old said new (not_over old said new.rest new.awaited front) (leads_one old.awaited old.rest said new.awaited new.rest front)
 
 pub advances_nothing : (old : HttpState) → Advances old [] old
-advances_nothing old stream given stands = subst (λ g. Stands stream g old) (sym (append-nil given)) stands
+advances_nothing old stream given stands = subst (λ g. HasRead stream g old) (sym (append-nil given)) stands
 
-pub advances_then : (old mid new : HttpState) (said : List Said) → Advances old [] mid → Advances mid said new → Advances old said new
+pub advances_then : (old mid new : HttpState) (said : List HttpElement) → Advances old [] mid → Advances mid said new → Advances old said new
 advances_then old mid new said first second stream given stands =
-    second stream given (subst (λ g. Stands stream g mid) (append-nil given) (first stream given stands))
+    second stream given (subst (λ g. HasRead stream g mid) (append-nil given) (first stream given stands))
 
 -- the front is not known yet
 
@@ -59,11 +59,11 @@ waits_in : (old : HttpState) (left : List ℕ) → FrontIs old.awaited old.rest 
 waits_in old left waits (inl over) = subst (λ (a : Awaited). FrontIs a left Waits) (sym over) refl
 waits_in old left waits (inr same) = subst (λ (bytes : List ℕ). FrontIs old.awaited bytes Waits) (sym same) waits
 
-pub tells_all : (old : HttpState) → FrontIs old.awaited old.rest Waits → (stream : List ℕ) (given : List Said) → Stands stream given old → Exchanges stream given
+pub tells_all : (old : HttpState) → FrontIs old.awaited old.rest Waits → (stream : List ℕ) (given : List HttpElement) → HasRead stream given old → Exchanges stream given
 tells_all old waits stream given stands =
     let here : FrontIs old.awaited stands.left Waits = waits_in old stands.left waits stands.kept in
-    let says : Says Head stream (given ++ []) = says_then stands.leads.0 zero Head stream given old.awaited stands.left [] stands.leads.1 (refl, here) in
-    subst (λ said. Says Head stream said) (append-nil given) says
+    let says : Parses Head stream (given ++ []) = says_then stands.leads.0 zero Head stream given old.awaited stands.left [] stands.leads.1 (refl, here) in
+    subst (λ said. Parses Head stream said) (append-nil given) says
 
 -- a part of a body, byte by byte
 

@@ -27,7 +27,7 @@ use Rattle.http_front.specs.declared.reader.Step.TheVariants as step
 use Rattle.http_front.specs.Section.{section_in}
 use Rattle.http_front.specs.Chunk.{IsSizeOf, chunk_end}
 use Rattle.http_front.specs.Head.{Asks, judged}
-use Rattle.http_front.specs.Stream.{Said, Waits, FrontIs, body_front, body_by, after_head, after_body, begins_head, is_last, said_by, Exchanges, HttpState, Stands, Steps, work}
+use Rattle.http_front.specs.Stream.{HttpElement, Waits, FrontIs, body_front, body_by, after_head, after_body, begins_head, is_last, elements_of, Exchanges, HttpState, HasRead, Steps, work}
 use Rattle.http_front.proofs.Fronts.{behind, rank_passed, waits_blank, passes_blank, waits_head, refuses_long, refuses_head, takes_head, invites, waits_size, refuses_long_size, refuses_size, last_size, large_size, some_size, waits_chunk, breaks_chunk, ends_chunk, ends_body, waits_trailer, refuses_trailer, ends_trailer}
 use Rattle.http_front.proofs.Steps.{tells_all, lends, lends_less}
 use Rattle.http_front.proofs.Deciding.{Decided, request_decides, chunk_decides}
@@ -164,27 +164,27 @@ step_by old Nothing is = (step.Waits, old, (refl, subst (λ (a : Awaited). Front
 
 -- ---- one step after another
 
-abbrev SaysOn : List ℕ → List Said → Type 0
-SaysOn stream given = (later : List Said) × Exchanges stream (given ++ later)
+abbrev SaysOn : List ℕ → List HttpElement → Type 0
+SaysOn stream given = (later : List HttpElement) × Exchanges stream (given ++ later)
 
-says_behind : (stream : List ℕ) (given said : List Said) → SaysOn stream (given ++ said) → SaysOn stream given
-says_behind stream given said on = (said ++ on.0, subst (λ (s : List Said). Exchanges stream s) (append_assoc given said on.0) on.1)
+says_behind : (stream : List ℕ) (given said : List HttpElement) → SaysOn stream (given ++ said) → SaysOn stream given
+says_behind stream given said on = (said ++ on.0, subst (λ (s : List HttpElement). Exchanges stream s) (append_assoc given said on.0) on.1)
 
-by_step : (old : HttpState) (stream : List ℕ) (given : List Said) → Stands stream given old → ((new : HttpState) (said : List Said) → work new < work old → Stands stream (given ++ said) new → SaysOn stream (given ++ said)) → (answer : Step) (new : HttpState) → Steps old answer new → SaysOn stream given
+by_step : (old : HttpState) (stream : List ℕ) (given : List HttpElement) → HasRead stream given old → ((new : HttpState) (said : List HttpElement) → work new < work old → HasRead stream (given ++ said) new → SaysOn stream (given ++ said)) → (answer : Step) (new : HttpState) → Steps old answer new → SaysOn stream given
 by_step old stream given stands again (step.Gives it) new went =
-    let said = said_by it new.part in
+    let said = elements_of it new.part in
     says_behind stream given said (again new said went.2 (went.0 stream given stands))
 by_step old stream given stands again step.Passes new went = says_behind stream given [] (again new [] (rank_passed old new went.1) (went.0 stream given stands))
-by_step old stream given stands again step.Waits new went = ([], subst (λ (s : List Said). Exchanges stream s) (sym (append-nil given)) (tells_all old went.1 stream given stands))
+by_step old stream given stands again step.Waits new went = ([], subst (λ (s : List HttpElement). Exchanges stream s) (sym (append-nil given)) (tells_all old went.1 stream given stands))
 
-says_in : (bound : ℕ) (old : HttpState) → work old < bound → (stream : List ℕ) (given : List Said) → Stands stream given old → SaysOn stream given
+says_in : (bound : ℕ) (old : HttpState) → work old < bound → (stream : List ℕ) (given : List HttpElement) → HasRead stream given old → SaysOn stream given
 says_in zero old less stream given stands = absurd (omega (arith, less))
 says_in (suc bound) old less stream given stands =
     let it = step_by old old.awaited refl in
     by_step old stream given stands (λ new said lower on. says_in bound new (omega (arith, less, lower)) stream (given ++ said) on) it.0 it.1 it.2
 
-pub gives_front : (stream : List ℕ) (given : List Said) (reader : HttpState) → Stands stream given reader → (later : List Said) × Exchanges stream (given ++ later)
+pub gives_front : (stream : List ℕ) (given : List HttpElement) (reader : HttpState) → HasRead stream given reader → (later : List HttpElement) × Exchanges stream (given ++ later)
 gives_front stream given reader stands = says_in (work reader + 1) reader (omega arith) stream given stands
 
-pub says_some : (stream : List ℕ) → (said : List Said) × Exchanges stream said
+pub says_some : (stream : List ℕ) → (said : List HttpElement) × Exchanges stream said
 says_some stream = gives_front stream [] (record { part = []; rest = stream; awaited = Head }) (record { left = stream; leads = (zero, (refl, refl, refl)); kept = inr refl })

@@ -1,6 +1,6 @@
 -- The order in a stream: exchange by exchange, each with its head, the invitation where it is due, the body and its end. A refusal is the last, and so is an exchange that closes the connection or whose body is too short.
 use Rattle.std.specs.Prelude.{ℕ, ◌≡◌, ◌+◌, Bool, true, false, if◌then◌else◌, List, [], ◌∷◌}
-use Rattle.http_front.specs.Stream.{Said, HasHead, Invites, HasByte, EndsBody, IsRefused, Exchanges, is_last}
+use Rattle.http_front.specs.Stream.{HttpElement, HasHead, Invites, HasByte, EndsBody, IsRefused, Exchanges, is_last}
 
 -- the place between exchanges; after a head; or after an invitation or this many bytes of the body. The head says whether the exchange closes the connection
 pub data Place : Type 0 where
@@ -8,11 +8,11 @@ pub data Place : Type 0 where
   Headed : (closes : Bool) → Place
   Within : (closes : Bool) (count : ℕ) → Place
 
-abbrev pub is_none : List Said → Bool
+abbrev pub is_none : List HttpElement → Bool
 is_none [] = true
 is_none (said ∷ later) = false
 
-abbrev pub in_order : Place → List Said → Bool
+abbrev pub in_order : Place → List HttpElement → Bool
 in_order place [] = true
 in_order Between (HasHead closes ∷ later) = in_order (Headed closes) later
 in_order (Headed closes) (Invites ∷ later) = in_order (Within closes 0) later
@@ -24,5 +24,5 @@ in_order place (IsRefused refusal ∷ later) = is_none later
 in_order place (said ∷ later) = false
 
 -- each stream says its exchanges in this order
-abbrev pub SaysInOrder : Type 0
-SaysInOrder = (stream : List ℕ) (said : List Said) → Exchanges stream said → in_order Between said ≡ true
+abbrev pub ElementsInOrder : Type 0
+ElementsInOrder = (stream : List ℕ) (said : List HttpElement) → Exchanges stream said → in_order Between said ≡ true

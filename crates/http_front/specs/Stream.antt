@@ -24,24 +24,24 @@ use Rattle.http_front.specs.Chunk.{IsSizeOf, chunk_end}
 use Rattle.http_front.specs.Head.{Asks}
 
 -- an element that a stream says: a head, an invitation, a byte of a body, the end of a body, or a refusal
-pub data Said : Type 0 where
-  HasHead : (closes : Bool) → Said
-  Invites : Said
-  HasByte : ℕ → Said
-  EndsBody : Said
-  IsRefused : HttpRejection → Said
+pub data HttpElement : Type 0 where
+  HasHead : (closes : Bool) → HttpElement
+  Invites : HttpElement
+  HasByte : ℕ → HttpElement
+  EndsBody : HttpElement
+  IsRefused : HttpRejection → HttpElement
 
 -- the elements of an item, with the part that the reader lends
-abbrev pub said_by : HttpItem → List ℕ → List Said
-said_by (item.Head closes) part = HasHead closes ∷ []
-said_by item.Continue part = Invites ∷ []
-said_by item.BodyPart part = map HasByte part
-said_by item.BodyEnd part = EndsBody ∷ []
-said_by (item.Refuse refusal) part = IsRefused refusal ∷ []
+abbrev pub elements_of : HttpItem → List ℕ → List HttpElement
+elements_of (item.Head closes) part = HasHead closes ∷ []
+elements_of item.Continue part = Invites ∷ []
+elements_of item.BodyPart part = map HasByte part
+elements_of item.BodyEnd part = EndsBody ∷ []
+elements_of (item.Refuse refusal) part = IsRefused refusal ∷ []
 
 -- a step at the front of the bytes: its elements, the bytes behind it, and the part that is awaited next; or a wait for more bytes
 pub data Front : Type 0 where
-  Goes : (said : List Said) (rest : List ℕ) (next : Awaited) → Front
+  Goes : (said : List HttpElement) (rest : List ℕ) (next : Awaited) → Front
   Waits : Front
 
 abbrev pub refused : HttpRejection → List ℕ → Front
@@ -150,54 +150,54 @@ FrontIs (Trailer last) bytes front = front ≡ trailer_front last bytes (section
 FrontIs Nothing bytes front = front ≡ Waits
 
 -- the bytes say these elements in `steps` steps, and then more bytes are awaited
-abbrev pub SaysIn : ℕ → Awaited → List ℕ → List Said → Type 0
-SaysIn zero awaited bytes said = (said ≡ []) × FrontIs awaited bytes Waits
-SaysIn (suc steps) awaited bytes said =
-    (first : List Said) × (rest : List ℕ) × (next : Awaited) × (later : List Said)
-    × FrontIs awaited bytes (Goes first rest next) × (said ≡ first ++ later) × SaysIn steps next rest later
+abbrev pub ParsesIn : ℕ → Awaited → List ℕ → List HttpElement → Type 0
+ParsesIn zero awaited bytes said = (said ≡ []) × FrontIs awaited bytes Waits
+ParsesIn (suc steps) awaited bytes said =
+    (first : List HttpElement) × (rest : List ℕ) × (next : Awaited) × (later : List HttpElement)
+    × FrontIs awaited bytes (Goes first rest next) × (said ≡ first ++ later) × ParsesIn steps next rest later
 
-abbrev pub Says : Awaited → List ℕ → List Said → Type 0
-Says awaited bytes said = (steps : ℕ) × SaysIn steps awaited bytes said
+abbrev pub Parses : Awaited → List ℕ → List HttpElement → Type 0
+Parses awaited bytes said = (steps : ℕ) × ParsesIn steps awaited bytes said
 
 -- the elements of a whole stream
-abbrev pub Exchanges : List ℕ → List Said → Type 0
-Exchanges stream said = Says Head stream said
+abbrev pub Exchanges : List ℕ → List HttpElement → Type 0
+Exchanges stream said = Parses Head stream said
 
 -- two readings of one stream give the same elements
-abbrev pub SaysOne : Type 0
-SaysOne = (stream : List ℕ) (given said : List Said) → Exchanges stream given → Exchanges stream said → given ≡ said
+abbrev pub OneParse : Type 0
+OneParse = (stream : List ℕ) (given said : List HttpElement) → Exchanges stream given → Exchanges stream said → given ≡ said
 
 -- each stream has a reading
-abbrev pub SaysSome : Type 0
-SaysSome = (stream : List ℕ) → (said : List Said) × Exchanges stream said
+abbrev pub SomeParse : Type 0
+SomeParse = (stream : List ℕ) → (said : List HttpElement) × Exchanges stream said
 
 -- the elements of a stream are a front of the elements of the stream with more bytes behind it
 abbrev pub StaysInFront : Type 0
-StaysInFront = (stream more : List ℕ) (given said : List Said) → Exchanges stream given → Exchanges (stream ++ more) said → (later : List Said) × (said ≡ given ++ later)
+StaysInFront = (stream more : List ℕ) (given said : List HttpElement) → Exchanges stream given → Exchanges (stream ++ more) said → (later : List HttpElement) × (said ≡ given ++ later)
 
 -- the bytes say these elements in `steps` steps, and lead to this awaited part with these bytes left
-abbrev pub LeadsIn : ℕ → Awaited → List ℕ → List Said → Awaited → List ℕ → Type 0
+abbrev pub LeadsIn : ℕ → Awaited → List ℕ → List HttpElement → Awaited → List ℕ → Type 0
 LeadsIn zero awaited bytes said next left = (said ≡ []) × (next ≡ awaited) × (left ≡ bytes)
 LeadsIn (suc steps) awaited bytes said next left =
-    (first : List Said) × (rest : List ℕ) × (after : Awaited) × (later : List Said)
+    (first : List HttpElement) × (rest : List ℕ) × (after : Awaited) × (later : List HttpElement)
     × FrontIs awaited bytes (Goes first rest after) × (said ≡ first ++ later) × LeadsIn steps after rest later next left
 
-abbrev pub Leads : Awaited → List ℕ → List Said → Awaited → List ℕ → Type 0
+abbrev pub Leads : Awaited → List ℕ → List HttpElement → Awaited → List ℕ → Type 0
 Leads awaited bytes said next left = (steps : ℕ) × LeadsIn steps awaited bytes said next left
 
 -- the stream says these elements first, for all bytes that may follow
-pub record SaysFirst (stream : List ℕ) (said : List Said) : Type 0 where
+pub record ParsesFirst (stream : List ℕ) (said : List HttpElement) : Type 0 where
   pub next : Awaited
   pub left : List ℕ
   pub leads : Leads Head stream said next left
 
 -- the elements that a stream says first are a front of the elements of the stream with more bytes behind it
 abbrev pub FirstStays : Type 0
-FirstStays = (stream more : List ℕ) (first said : List Said) → SaysFirst stream first → Exchanges (stream ++ more) said → (later : List Said) × (said ≡ first ++ later)
+FirstStays = (stream more : List ℕ) (first said : List HttpElement) → ParsesFirst stream first → Exchanges (stream ++ more) said → (later : List HttpElement) × (said ≡ first ++ later)
 
 -- two fronts of the elements of a stream are equal if their lengths are equal
 abbrev pub FirstIsOne : Type 0
-FirstIsOne = (stream : List ℕ) (one other : List Said) → SaysFirst stream one → SaysFirst stream other → length one ≡ length other → one ≡ other
+FirstIsOne = (stream : List ℕ) (one other : List HttpElement) → ParsesFirst stream one → ParsesFirst stream other → length one ≡ length other → one ≡ other
 
 -- the state of a reader: the part of a body that it lends, the bytes that aren't read, and the part that it awaits
 pub record HttpState : Type 0 where
@@ -223,24 +223,24 @@ abbrev pub IsOver : HttpState → Type 0
 IsOver reader = reader.awaited ≡ Nothing
 
 -- The reader was fed this stream and has given these elements. The stream says them first, and leads to the part that the reader awaits, with the bytes that the reader has left. A reader that awaits nothing may have dropped those bytes.
-pub record Stands (stream : List ℕ) (given : List Said) (reader : HttpState) : Type 0 where
+pub record HasRead (stream : List ℕ) (given : List HttpElement) (reader : HttpState) : Type 0 where
   pub left : List ℕ
   pub leads : Leads Head stream given reader.awaited left
   pub kept : IsOver reader ⊎ (left ≡ reader.rest)
 
 -- the elements that a reader has given are a front of the elements of its stream
 abbrev pub GivesTheFront : Type 0
-GivesTheFront = (stream : List ℕ) (given : List Said) (reader : HttpState) → Stands stream given reader → (later : List Said) × Exchanges stream (given ++ later)
+GivesTheFront = (stream : List ℕ) (given : List HttpElement) (reader : HttpState) → HasRead stream given reader → (later : List HttpElement) × Exchanges stream (given ++ later)
 
 -- a whole stream says the elements that a reader has given, and then the elements that the reader's state says of its bytes and of the bytes that follow
-abbrev pub HearsTheRest : Type 0
-HearsTheRest =
-    (stream coming : List ℕ) (given said : List Said) (reader : HttpState)
-    → Stands stream given reader → Says reader.awaited (reader.rest ++ coming) said → Exchanges (stream ++ coming) (given ++ said)
+abbrev pub ParsesTheRest : Type 0
+ParsesTheRest =
+    (stream coming : List ℕ) (given said : List HttpElement) (reader : HttpState)
+    → HasRead stream given reader → Parses reader.awaited (reader.rest ++ coming) said → Exchanges (stream ++ coming) (given ++ said)
 
 -- the reader went from one state to another and gave these elements of its stream
-abbrev pub Advances : HttpState → List Said → HttpState → Type 0
-Advances old said new = (stream : List ℕ) (given : List Said) → Stands stream given old → Stands stream (given ++ said) new
+abbrev pub Advances : HttpState → List HttpElement → HttpState → Type 0
+Advances old said new = (stream : List ℕ) (given : List HttpElement) → HasRead stream given old → HasRead stream (given ++ said) new
 
 -- after a refusal the reader awaits nothing
 abbrev pub Stops : HttpItem → HttpState → Type 0
@@ -262,11 +262,11 @@ work reader = 4 * length reader.rest + rank reader.awaited
 
 -- the result of one step of the reader: a step without an item passes over bytes without an element, or waits and changes nothing
 abbrev pub Steps : HttpState → Step → HttpState → Type 0
-Steps old (step.Gives said) new = Advances old (said_by said new.part) new × Stops said new × (work new < work old)
+Steps old (step.Gives said) new = Advances old (elements_of said new.part) new × Stops said new × (work new < work old)
 Steps old step.Passes new = Advances old [] new × (length new.rest < length old.rest)
 Steps old step.Waits new = (new ≡ old) × FrontIs old.awaited old.rest Waits
 
 -- the answer of a reader, and its state then: an item, which the stream says next; or no item, and then the stream says no more
 abbrev pub Answers : HttpState → Option HttpItem → HttpState → Type 0
-Answers old (Some said) new = Advances old (said_by said new.part) new × Stops said new
-Answers old None new = Advances old [] new × ((stream : List ℕ) (given : List Said) → Stands stream given old → Exchanges stream given)
+Answers old (Some said) new = Advances old (elements_of said new.part) new × Stops said new
+Answers old None new = Advances old [] new × ((stream : List ℕ) (given : List HttpElement) → HasRead stream given old → Exchanges stream given)

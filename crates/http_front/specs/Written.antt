@@ -9,7 +9,7 @@ use Rattle.http_front.specs.declared.awaited.Framing.TheVariants.{Length, Chunke
 use Rattle.http_front.specs.Chunk.{IsSizeOf}
 use Rattle.http_front.specs.Head.{Asks}
 use Rattle.http_front.specs.Section.{section_in}
-use Rattle.http_front.specs.Stream.{Said, HasHead, Invites, HasByte, EndsBody, begins_head, is_last, after_body, Says, Exchanges}
+use Rattle.http_front.specs.Stream.{HttpElement, HasHead, Invites, HasByte, EndsBody, begins_head, is_last, after_body, Parses, Exchanges}
 
 -- a whole head of a request
 pub record IsHead (head : List ℕ) (request : Request) : Type 0 where
@@ -18,7 +18,7 @@ pub record IsHead (head : List ℕ) (request : Request) : Type 0 where
   pub asks : Asks head (Ok request)
 
 -- what the stream of a request says: its head, the invitation that the client awaits, its body, and its end
-abbrev pub says_request : Request → List ℕ → List Said
+abbrev pub says_request : Request → List ℕ → List HttpElement
 says_request request body = HasHead request.closes ∷ ((if request.invites then Invites ∷ [] else []) ++ (map HasByte body ++ EndsBody ∷ []))
 
 -- a line with a chunk's size, with its extensions
@@ -49,14 +49,14 @@ abbrev pub IsTrailer : List ℕ → Type 0
 IsTrailer trailer = section_in HTTP_TRAILER_BYTES trailer ≡ Whole (length trailer)
 
 -- a stream that begins with a head with a length and a body of that length says that request, and then what the rest says
-abbrev pub LengthSays : Type 0
-LengthSays =
-    (head body more : List ℕ) (request : Request) (later : List Said) → IsHead head request → request.framing ≡ Length (length body)
-    → Says (after_body (is_last request.closes (length body))) more later → Exchanges (head ++ (body ++ more)) (says_request request body ++ later)
+abbrev pub LengthParses : Type 0
+LengthParses =
+    (head body more : List ℕ) (request : Request) (later : List HttpElement) → IsHead head request → request.framing ≡ Length (length body)
+    → Parses (after_body (is_last request.closes (length body))) more later → Exchanges (head ++ (body ++ more)) (says_request request body ++ later)
 
 -- a stream that begins with a body in chunks says the same request for every cutting into chunks, with extensions and a trailer
-abbrev pub ChunksSay : Type 0
-ChunksSay =
-    (head : List ℕ) (pieces : List Piece) (last trailer more : List ℕ) (request : Request) (later : List Said) → IsHead head request → request.framing ≡ Chunked → ArePieces HTTP_BODY_BYTES pieces
-    → IsSizeLine last 0 → IsTrailer trailer → Says (after_body (is_last request.closes (length (octets_of pieces)))) more later
+abbrev pub ChunksParse : Type 0
+ChunksParse =
+    (head : List ℕ) (pieces : List Piece) (last trailer more : List ℕ) (request : Request) (later : List HttpElement) → IsHead head request → request.framing ≡ Chunked → ArePieces HTTP_BODY_BYTES pieces
+    → IsSizeLine last 0 → IsTrailer trailer → Parses (after_body (is_last request.closes (length (octets_of pieces)))) more later
     → Exchanges (head ++ (flat_map piece_bytes pieces ++ (last ++ (trailer ++ more)))) (says_request request (octets_of pieces) ++ later)

@@ -1,6 +1,6 @@
 //! The reader of a client's stream.
 ghost use Rattle.std.specs.Prelude.{◌≡◌, ◌≤◌, ◌<◌, ◌+◌, ◌++◌, [], List, ℕ, OnOk, OnErr, IsOk, IsSome, IsTrue, IsFalse, None, true, map, take, drop, length as length_of};
-ghost use Rattle.http_front.specs.Stream.{Said, HasByte, Stands, Answers, AwaitsBody, Steps, IsOver, work, after_body, body_by, body_left, past_body, after_head, begins_head};
+ghost use Rattle.http_front.specs.Stream.{HttpElement, HasByte, HasRead, Answers, AwaitsBody, Steps, IsOver, work, after_body, body_by, body_left, past_body, after_head, begins_head};
 ghost use Rattle.text.specs.FirstLine.{first_line_of};
 ghost use Rattle.text.specs.declared.line.FirstLine.TheVariants.{Whole};
 ghost use Rattle.http_front.specs.Section.{section_in};
@@ -57,7 +57,7 @@ pub(crate) enum Step {
 impl HttpReader {
     /// Creates the reader of a new connection.
     pub fn new(alloc: Global) -> HttpReader
-        ensures { Stands [] [] result }
+        ensures { HasRead [] [] result }
     {
         HttpReader {
             unread: Unread::new(alloc),
@@ -71,7 +71,7 @@ impl HttpReader {
     ///
     /// The only error is out of memory: then none of the bytes is taken, and the part stays lent.
     pub fn feed(&mut self, piece: &[u8]) -> Result<(), AllocError>
-        ensures fed { OnOk result ((stream : List ℕ) (given : List Said) → Stands stream given self.old → Stands (stream ++ piece.now) given self.new) }
+        ensures fed { OnOk result ((stream : List ℕ) (given : List HttpElement) → HasRead stream given self.old → HasRead (stream ++ piece.now) given self.new) }
         ensures err { OnErr result (self.new ≡ self.old) }
         ensures over { IsOver self.old → IsOk result × (self.new ≡ self.old) }
     {
@@ -161,7 +161,7 @@ impl HttpReader {
     /// Counts the next `count` bytes, which are bytes of a body, as fed and as given. The caller has them.
     pub fn hear_body(&mut self, count: u32)
         requires { AwaitsBody count self.old }
-        ensures { (stream : List ℕ) (given : List Said) (piece : List ℕ) → length_of piece ≡ count → Stands stream given self.old → Stands (stream ++ piece) (given ++ map HasByte piece) self.new }
+        ensures { (stream : List ℕ) (given : List HttpElement) (piece : List ℕ) → length_of piece ≡ count → HasRead stream given self.old → HasRead (stream ++ piece) (given ++ map HasByte piece) self.new }
     {
         self.pass(0, past_body(count, self.awaited()));
     }

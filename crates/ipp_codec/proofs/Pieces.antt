@@ -18,7 +18,7 @@ use Rattle.ipp_codec.specs.Reading.{EndsAt, Walks, WalksFrom}
 use Rattle.ipp_codec.specs.Decoding.{Lengths, fault_within}
 use Rattle.ipp_codec.specs.declared.stage.Stage.{Stage}
 use Rattle.ipp_codec.specs.declared.stage.Stage.TheVariants.{Awaiting, Whole, Faulty}
-use Rattle.ipp_codec.specs.Decoder.{DecoderState, IsBytes, Leads, StandsAt, Stands, TakesIn, MayCome, with_header, stage_of, stage_at, ended, kept_of, settled, Feeds, answer_at, reached_of, returned}
+use Rattle.ipp_codec.specs.Decoder.{DecoderState, IsBytes, Leads, IsAtStage, HasDecoded, TakesIn, MayCome, with_header, stage_of, stage_at, ended, kept_of, settled, Feeds, answer_at, reached_of, returned}
 use Rattle.ipp_codec.proofs.Fields.{IsBytes-drop}
 use Rattle.ipp_codec.proofs.Fitting.{Follows-append, place_from-append}
 use Rattle.ipp_codec.proofs.Heads.{lengths, failed}
@@ -124,7 +124,7 @@ front_of fed head many is long = record {
   header = ap (λ (l : List ℕ). take 8 l) is ∙ take-take 8 many fed long;
 }
 
-stands_of : (fed : List ℕ) (d : DecoderState) → IsBytes fed → IsFront fed d.head → StandsAt d.stage fed d → Stands fed d
+stands_of : (fed : List ℕ) (d : DecoderState) → IsBytes fed → IsFront fed d.head → IsAtStage d.stage fed d → HasDecoded fed d
 stands_of fed d bytes front known = record { bytes = bytes; front = front.front; header = front.header; known = known }
 
 -- Bytes behind a header are read so far, and a walk goes on over those behind; this much of them is kept.
@@ -165,7 +165,7 @@ faulty bytes count place walk kept before f goes first =
 kept_long : (bytes : List ℕ) (count : ℕ) (place : Place) (walk : Walk) (kept : List ℕ) (before : ℕ) → Goes bytes count place walk kept before → 8 ≤ length kept
 kept_long bytes count place walk kept before goes = omega (arith, ap length goes.kept_is, length-take goes.many bytes, goes.header, goes.read.0, goes.read.1)
 
-stands_whole : (bytes : List ℕ) (count : ℕ) (place : Place) (walk : Walk) (kept : List ℕ) (before : ℕ) → Goes bytes count place walk kept before → walk.fault ≡ None → EndsAt None walk.place (drop (count + walk.length) bytes) → Stands bytes (state_by None count walk kept before)
+stands_whole : (bytes : List ℕ) (count : ℕ) (place : Place) (walk : Walk) (kept : List ℕ) (before : ℕ) → Goes bytes count place walk kept before → walk.fault ≡ None → EndsAt None walk.place (drop (count + walk.length) bytes) → HasDecoded bytes (state_by None count walk kept before)
 stands_whole bytes count place walk kept before goes is ends =
     let so_many = count + walk.length + 1 in
     let most : max before so_many ≡ so_many = omega (arith, (goes.whole is).1) in
@@ -177,7 +177,7 @@ stands_whole bytes count place walk kept before goes is ends =
 
 -- the state, where bytes are missing, and whether there is room for more
 stands_short : (bytes : List ℕ) (count : ℕ) (place : Place) (walk : Walk) (kept : List ℕ) (before : ℕ) (full : Bool) → Goes bytes count place walk kept before → kept ≡ bytes → full ≡ leb IPP_HEAD_BYTES (length kept) → First walk.place (drop (count + walk.length) bytes) Short
-    → Stands bytes (record { head = kept; walked = count + walk.length; place = walk.place; stage = stage_of (fault_within Short full) })
+    → HasDecoded bytes (record { head = kept; walked = count + walk.length; place = walk.place; stage = stage_of (fault_within Short full) })
 stands_short bytes count place walk kept before true goes all is first =
     stands_of bytes (record { head = kept; walked = count + walk.length; place = walk.place; stage = Faulty TooLarge }) goes.fits
     (front_of bytes kept goes.many goes.kept_is goes.header)
@@ -194,13 +194,13 @@ stands_short bytes count place walk kept before false goes all is first =
 
 -- the state behind a fault that no byte takes away
 stands_faulty : (bytes : List ℕ) (count : ℕ) (place : Place) (walk : Walk) (kept : List ℕ) (before : ℕ) (f : CodecFault) → Goes bytes count place walk kept before → f ≢ Short → HeadFault bytes f
-    → Stands bytes (record { head = kept; walked = count + walk.length; place = walk.place; stage = Faulty f })
+    → HasDecoded bytes (record { head = kept; walked = count + walk.length; place = walk.place; stage = Faulty f })
 stands_faulty bytes count place walk kept before f goes other fault =
     stands_of bytes (record { head = kept; walked = count + walk.length; place = walk.place; stage = Faulty f }) goes.fits
     (front_of bytes kept goes.many goes.kept_is goes.header)
     (other, fault, kept_long bytes count place walk kept before goes)
 
-stands_by : (bytes : List ℕ) (count : ℕ) (place : Place) (walk : Walk) (kept : List ℕ) (before : ℕ) (fault : Option CodecFault) → Goes bytes count place walk kept before → walk.fault ≡ fault → EndsAt fault walk.place (drop (count + walk.length) bytes) → Stands bytes (state_by fault count walk kept before)
+stands_by : (bytes : List ℕ) (count : ℕ) (place : Place) (walk : Walk) (kept : List ℕ) (before : ℕ) (fault : Option CodecFault) → Goes bytes count place walk kept before → walk.fault ≡ fault → EndsAt fault walk.place (drop (count + walk.length) bytes) → HasDecoded bytes (state_by fault count walk kept before)
 stands_by bytes count place walk kept before None goes is ends = stands_whole bytes count place walk kept before goes is ends
 stands_by bytes count place walk kept before (Some Short) goes is ends = stands_short bytes count place walk kept before (leb IPP_HEAD_BYTES (length kept)) goes (goes.kept_is ∙ take_all goes.many bytes (goes.short is)) refl ends
 stands_by bytes count place walk kept before (Some TooLarge) goes is ends = absurd ends
@@ -211,7 +211,7 @@ stands_by bytes count place walk kept before (Some LooseValue) goes is ends = st
 stands_by bytes count place walk kept before (Some BadCollection) goes is ends = stands_faulty bytes count place walk kept before BadCollection goes (λ h. cc) (faulty bytes count place walk kept before BadCollection goes ends)
 stands_by bytes count place walk kept before (Some TooDeep) goes is ends = stands_faulty bytes count place walk kept before TooDeep goes (λ h. cc) (faulty bytes count place walk kept before TooDeep goes ends)
 
-pub stands_behind : (bytes : List ℕ) (d : DecoderState) (walk : Walk) (before : ℕ) → Goes bytes d.walked d.place walk d.head before → Stands bytes (settled d walk before)
+pub stands_behind : (bytes : List ℕ) (d : DecoderState) (walk : Walk) (before : ℕ) → Goes bytes d.walked d.place walk d.head before → HasDecoded bytes (settled d walk before)
 stands_behind bytes d walk before goes =
     stands_by bytes d.walked d.place walk d.head before walk.fault goes refl
     (subst (λ (l : List ℕ). EndsAt walk.fault walk.place l) (drop-drop walk.length d.walked bytes) (walk_ends d.place (drop d.walked bytes) walk goes.walks))
@@ -253,19 +253,19 @@ head_fault_stays bytes more BadCollection other fault = first_stays bytes more B
 head_fault_stays bytes more TooDeep other fault = first_stays bytes more TooDeep other fault
 
 -- the kept bytes are no longer than the fed bytes
-head_long : (fed : List ℕ) (d : DecoderState) → Stands fed d → 8 ≤ length d.head → 8 ≤ length fed
+head_long : (fed : List ℕ) (d : DecoderState) → HasDecoded fed d → 8 ≤ length d.head → 8 ≤ length fed
 head_long fed d stands long = omega (arith, long, ap length stands.front.1, length-append d.head stands.front.0)
 
 long_spelling : (bytes : List ℕ) (m : IppMessage) → Spells bytes m → 8 ≤ length bytes
 long_spelling bytes m spells = omega (arith, long_head bytes m spells)
 
 -- bytes that come when nothing more is awaited
-stays_at : (fed more : List ℕ) (d : DecoderState) (stage : Stage) → d.stage ≡ stage → Stands fed d → StandsAt stage fed d → ¬ (MayCome d) → (8 ≤ length fed) × StandsAt stage (fed ++ more) d
+stays_at : (fed more : List ℕ) (d : DecoderState) (stage : Stage) → d.stage ≡ stage → HasDecoded fed d → IsAtStage stage fed d → ¬ (MayCome d) → (8 ≤ length fed) × IsAtStage stage (fed ++ more) d
 stays_at fed more d Awaiting is stands known none = absurd (none (is, omega (arith, known.1.0, ap length known.0)))
 stays_at fed more d Whole is stands known none = (head_long fed d stands (long_spelling d.head known.1.0 known.1.1), known)
 stays_at fed more d (Faulty fault) is stands known none = (head_long fed d stands known.2, (known.0, head_fault_stays fed more fault known.0 known.1, known.2))
 
-pub stays : (fed more : List ℕ) (d : DecoderState) → IsBytes more → Stands fed d → ¬ (MayCome d) → Stands (fed ++ more) d
+pub stays : (fed more : List ℕ) (d : DecoderState) → IsBytes more → HasDecoded fed d → ¬ (MayCome d) → HasDecoded (fed ++ more) d
 stays fed more d fits stands none =
     let known = stays_at fed more d d.stage refl stands stands.known none in
     record {
@@ -277,8 +277,8 @@ stays fed more d fits stands none =
 
 -- ---- one step of a decoder
 
-awaiting : (fed : List ℕ) (d : DecoderState) → MayCome d → Stands fed d → StandsAt Awaiting fed d
-awaiting fed d may stands = subst (λ (s : Stage). StandsAt s fed d) may.0 stands.known
+awaiting : (fed : List ℕ) (d : DecoderState) → MayCome d → HasDecoded fed d → IsAtStage Awaiting fed d
+awaiting fed d may stands = subst (λ (s : Stage). IsAtStage s fed d) may.0 stands.known
 
 take_behind : (bytes more : List ℕ) (n : ℕ) → take (length bytes + n) (bytes ++ more) ≡ bytes ++ take n more
 take_behind bytes more n =
@@ -312,7 +312,7 @@ goes_taken d chunk front many walk fits may read within room walks front_is whol
       whole = λ h. (whole h, omega (arith, within, length-drop d.walked d.head, pending_passed d.place (drop d.walked d.head) chunk walk pending over h));
       short = λ h. omega (arith, short h, length-append d.head chunk);
     } in
-    subst (λ (l : List ℕ). Stands (l ++ chunk) (settled (record d { head = d.head ++ front }) walk (length d.head))) known.0
+    subst (λ (l : List ℕ). HasDecoded (l ++ chunk) (settled (record d { head = d.head ++ front }) walk (length d.head))) known.0
     (stands_behind bytes (record d { head = d.head ++ front }) walk (length d.head) goes)
 
 -- the same by steps: bytes are kept, and the walk goes over the unread bytes
@@ -356,7 +356,7 @@ settled_grows old mid new front walk (Some f) kept mid_is kept_is is new_is =
 
 -- the bytes of the header, where it is whole or not
 header_by : (bytes : List ℕ) (d : DecoderState) (is_whole : Bool) → IsBytes bytes → d.place ≡ Outside → d.walked < 8 → length bytes ≤ 8 → is_whole ≡ eqb (length bytes) 8
-    → Stands bytes (record { head = bytes; walked = cond is_whole 8 d.walked; place = d.place; stage = Awaiting })
+    → HasDecoded bytes (record { head = bytes; walked = cond is_whole 8 d.walked; place = d.place; stage = Awaiting })
 header_by bytes d true fits outside low short is =
     let long : length bytes ≡ 8 = eqb-true _ _ (sym is) in
     let none : drop 8 bytes ≡ [] = drop_all 8 bytes (omega (arith, long)) in
@@ -387,8 +387,8 @@ header_taken d front fits may low short fed stands =
     let bytes = d.head ++ front in
     let all : IsBytes bytes = subst (λ (l : List ℕ). IsBytes (l ++ front)) (sym known.0) (IsBytes-append fed front stands.bytes fits) in
     let made = header_by bytes d (eqb (length bytes) 8) all (known.2.0 low) low (omega (arith, short, length-append d.head front)) refl in
-    subst (λ (l : List ℕ). Stands (l ++ front) (with_header d front)) known.0
-    (subst (λ (s : Stage). Stands bytes (record { head = bytes; walked = cond (eqb (length bytes) 8) 8 d.walked; place = d.place; stage = s })) (sym may.0) made)
+    subst (λ (l : List ℕ). HasDecoded (l ++ front) (with_header d front)) known.0
+    (subst (λ (s : Stage). HasDecoded bytes (record { head = bytes; walked = cond (eqb (length bytes) 8) 8 d.walked; place = d.place; stage = s })) (sym may.0) made)
 
 -- ---- a piece
 
@@ -420,7 +420,7 @@ more_taken start now new piece rest count so_far within takes grows bounded =
     let split : rest ≡ chunk ++ take (length rest - count) (drop count rest) = sym (take-append-drop count rest) ∙ ap (λ (l : List ℕ). chunk ++ l) (sym (take_rest rest count)) in (
       taken ++ chunk,
       so_far.1 ∙ ap (λ (l : List ℕ). taken ++ l) split ∙ sym (append_assoc taken chunk (take (length rest - count) (drop count rest))),
-      λ fed stands. subst (λ (l : List ℕ). Stands l new) (append_assoc fed taken chunk) (takes (fed ++ taken) (so_far.2 fed stands)),
+      λ fed stands. subst (λ (l : List ℕ). HasDecoded l new) (append_assoc fed taken chunk) (takes (fed ++ taken) (so_far.2 fed stands)),
       sym (take-take (length start.head) (length now.head) new.head (begins_long now.head start.head so_far.3)) ∙ ap (λ (l : List ℕ). take (length start.head) l) grows ∙ so_far.3,
       omega (arith, bounded, so_far.4, long, length-append taken chunk),
     )
@@ -430,4 +430,4 @@ over_taken start now piece rest fits so_far over fed stands =
     let taken = so_far.0 in
     let left : drop (length taken) piece ≡ rest = ap (λ (l : List ℕ). drop (length taken) l) so_far.1 ∙ drop_at taken rest (length taken) refl in
     let rest_fits : IsBytes rest = subst IsBytes left (IsBytes-drop (length taken) piece fits) in
-    subst (λ (l : List ℕ). Stands l now) (append_assoc fed taken rest ∙ ap (λ (l : List ℕ). fed ++ l) (sym so_far.1)) (stays (fed ++ taken) rest now rest_fits (so_far.2 fed stands) over)
+    subst (λ (l : List ℕ). HasDecoded l now) (append_assoc fed taken rest ∙ ap (λ (l : List ℕ). fed ++ l) (sym so_far.1)) (stays (fed ++ taken) rest now rest_fits (so_far.2 fed stands) over)

@@ -11,7 +11,7 @@ use Rattle.ipp_codec.specs.Grammar.{IsPlain}
 use Rattle.ipp_codec.specs.Place.{depth, after, place_from, IsSpellable, IsAllowed, Follows}
 use Rattle.ipp_codec.specs.Kind.{kind_of}
 use Rattle.ipp_codec.specs.FirstFault.{First, Admits, AtValue, IsCut, IsTooLong, Breaks, Exceeds}
-use Rattle.ipp_codec.specs.Reading.{counted_at, fields_at, Keeps, Stands}
+use Rattle.ipp_codec.specs.Reading.{counted_at, fields_at, Keeps, LeadsOn}
 use Rattle.ipp_codec.proofs.Fields.{IsBytes, IsBytes-take, IsBytes-drop, counted_takes, counted_fault}
 use Rattle.ipp_codec.proofs.Parts.{Fields, fields_take, both_err, second_err, is_begin, is_named, is_finish, is_plain, kind_is, kind_spelled}
 
@@ -86,7 +86,7 @@ spellable place tag name bytes e low high short fits is keeps =
           subst (λ (x : Element). IsSpellable (depth place) x) k (short, plain)
     ]
 
-pub stands_steps : (place : Place) (tag : ℕ) (bytes : List ℕ) (x : Fields) (next : Place) → Admits place tag → IsBytes bytes → fields_at bytes ≡ Ok x → Stands place tag x.0 x.1 next
+pub stands_steps : (place : Place) (tag : ℕ) (bytes : List ℕ) (x : Fields) (next : Place) → Admits place tag → IsBytes bytes → fields_at bytes ≡ Ok x → LeadsOn place tag x.0 x.1 next
     → (e : Element) × IsAllowed place e × (next ≡ after place e) × (tag ∷ bytes ≡ element_bytes e ++ x.2)
 stands_steps place tag bytes x next admitted fits is stands =
     let a = fields_take bytes x fits is in (
@@ -153,7 +153,7 @@ pub value_breaks : (place : Place) (bytes : List ℕ) (x : Fields) (f : CodecFau
 value_breaks place bytes x f at reads breaks =
     subst (λ (l : List ℕ). First place l f) (sym (cons_is bytes at.0)) (breaks_first place (get_or bytes 0 0) (behind_tag bytes) x f (admits place bytes at) (tail_bytes bytes at.3) reads breaks)
 
-pub value_stands : (place : Place) (bytes : List ℕ) (x : Fields) (next : Place) → AtTagOf place bytes → fields_at (behind_tag bytes) ≡ Ok x → Stands place (get_or bytes 0 0) x.0 x.1 next
+pub value_stands : (place : Place) (bytes : List ℕ) (x : Fields) (next : Place) → AtTagOf place bytes → fields_at (behind_tag bytes) ≡ Ok x → LeadsOn place (get_or bytes 0 0) x.0 x.1 next
     → (e : Element) × IsAllowed place e × (next ≡ after place e) × (bytes ≡ element_bytes e ++ x.2)
 value_stands place bytes x next at reads stands =
     let step = stands_steps place (get_or bytes 0 0) (behind_tag bytes) x next (admits place bytes at) (tail_bytes bytes at.3) reads stands in

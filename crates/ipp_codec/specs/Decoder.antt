@@ -40,21 +40,21 @@ abbrev pub IsRead : DecoderState → Type 0
 IsRead d = (d.walked < 8 → d.place ≡ Outside) × (8 ≤ d.walked → Leads (drop 8 d.head) d.place (drop d.walked d.head) × First d.place (drop d.walked d.head) Short)
 
 -- the result of `decode` by the stage, and the bytes that are kept for it: all bytes while more are awaited, else those of the head
-abbrev pub StandsAt : Stage → List ℕ → DecoderState → Type 0
-StandsAt Awaiting fed d = (d.head ≡ fed) × HeadFault fed Short × IsRead d
-StandsAt Whole fed d = (length d.head ≤ IPP_HEAD_BYTES) × ((m : IppMessage) × Spells d.head m)
-StandsAt (Faulty fault) fed d = (fault ≢ Short) × HeadFault fed fault × (8 ≤ length d.head)
+abbrev pub IsAtStage : Stage → List ℕ → DecoderState → Type 0
+IsAtStage Awaiting fed d = (d.head ≡ fed) × HeadFault fed Short × IsRead d
+IsAtStage Whole fed d = (length d.head ≤ IPP_HEAD_BYTES) × ((m : IppMessage) × Spells d.head m)
+IsAtStage (Faulty fault) fed d = (fault ≢ Short) × HeadFault fed fault × (8 ≤ length d.head)
 
 -- The decoder was fed these bytes. It keeps a front of them, with at least as much of the header as was fed.
-pub record Stands (fed : List ℕ) (d : DecoderState) : Type 0 where
+pub record HasDecoded (fed : List ℕ) (d : DecoderState) : Type 0 where
   pub bytes : IsBytes fed
   pub front : (rest : List ℕ) × (fed ≡ d.head ++ rest)
   pub header : take 8 d.head ≡ take 8 fed
-  pub known : StandsAt d.stage fed d
+  pub known : IsAtStage d.stage fed d
 
 -- a piece is taken in
 abbrev pub TakesIn : DecoderState → List ℕ → DecoderState → Type 0
-TakesIn old piece new = (fed : List ℕ) → Stands fed old → Stands (fed ++ piece) new
+TakesIn old piece new = (fed : List ℕ) → HasDecoded fed old → HasDecoded (fed ++ piece) new
 
 -- the result of feeding a piece
 abbrev pub Feeds : DecoderState → List ℕ → Result Fed DecodeError → DecoderState → Type 0

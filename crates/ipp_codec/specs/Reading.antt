@@ -73,8 +73,8 @@ Keeps place (plainly tag name bytes) = HasShape tag bytes
 Keeps place _ = Unit {0}
 
 -- A whole value leads to the next place.
-abbrev pub Stands : Place → ℕ → List ℕ → List ℕ → Place → Type 0
-Stands place tag name bytes next = (e : Element) × (kind_of tag name bytes ≡ Some e) × Takes place e × Keeps place e × (next ≡ after place e)
+abbrev pub LeadsOn : Place → ℕ → List ℕ → List ℕ → Place → Type 0
+LeadsOn place tag name bytes next = (e : Element) × (kind_of tag name bytes ≡ Some e) × Takes place e × Keeps place e × (next ≡ after place e)
 
 -- one element, the end byte, or the first fault at the place
 abbrev pub Steps : {X : Type 0} → (X → Place × List ℕ) → Place → List ℕ → Result (Option X) CodecFault → Type 0

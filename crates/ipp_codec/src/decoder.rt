@@ -4,7 +4,7 @@ ghost use Rattle.ipp_codec.specs.Message.{IppMessage};
 ghost use Rattle.ipp_codec.specs.Grammar.{Spells};
 ghost use Rattle.ipp_codec.specs.Reading.{WalksFrom};
 ghost use Rattle.ipp_codec.specs.Decoding.{Decodes};
-ghost use Rattle.ipp_codec.specs.Decoder.{DecoderState, Stands, TakesIn, Feeds, CanReach, MayCome, reached_of, returned, answer_at, with_header, settled, stage_at, kept_of};
+ghost use Rattle.ipp_codec.specs.Decoder.{DecoderState, HasDecoded, TakesIn, Feeds, CanReach, MayCome, reached_of, returned, answer_at, with_header, settled, stage_at, kept_of};
 ghost use Rattle.ipp_codec.specs.Views.{message_shown};
 
 use crate::fault::{CodecFault, DecodeError};
@@ -48,7 +48,7 @@ impl Model for Decoder {
 impl Decoder {
     /// Creates the decoder of a new body.
     pub fn new(alloc: Global) -> Decoder
-        ensures { Stands [] result }
+        ensures { HasDecoded [] result }
     {
         Decoder {
             head: Vec::new(alloc),
@@ -96,7 +96,7 @@ impl Decoder {
         requires sound { CanReach reached }
         requires grown { reached.length ≤ length self.old.head }
         ensures back { self.new ≡ returned self.old reached }
-        ensures stands { (fed : List ℕ) (before : DecoderState) → Stands fed before → reached ≡ reached_of before → take (length before.head) self.old.head ≡ before.head → Stands fed self.new }
+        ensures stands { (fed : List ℕ) (before : DecoderState) → HasDecoded fed before → reached ≡ reached_of before → take (length before.head) self.old.head ≡ before.head → HasDecoded fed self.new }
     {
         self.head.truncate(reached.length);
         self.walked = reached.walked;
@@ -133,7 +133,7 @@ impl Decoder {
     /// Returns the result of `decode` on all bytes that it was fed: the message and the length of its
     /// spelling, or the first fault.
     pub fn finish(&self) -> Result<(MessageView<'_>, usize), CodecFault>
-        ensures decoded { (fed : List ℕ) → Stands fed self.now → Decodes fed result }
+        ensures decoded { (fed : List ℕ) → HasDecoded fed self.now → Decodes fed result }
         ensures length { IfOk result (λ x. x.1 ≡ length self.now.head) }
         ensures whole { IfOk result (λ _. self.now.stage ≡ Stage.Whole) }
     {

@@ -2,7 +2,7 @@
 ghost use Rattle.std.specs.Prelude.{◌≡◌, MatchResult, ◌↔◌, IsTrue};
 ghost use Rattle.ipp_codec.specs.Place.{depth, after, Takes, TakesValue, TakesMember};
 ghost use Rattle.ipp_codec.specs.FirstFault.{Breaks, Exceeds};
-ghost use Rattle.ipp_codec.specs.Reading.{seen, Keeps, Stands, Steps, Walks, WalksFrom};
+ghost use Rattle.ipp_codec.specs.Reading.{seen, Keeps, LeadsOn, Steps, Walks, WalksFrom};
 
 use crate::element::{END, ElementView, FIRST_VALUE_TAG, fields_of, kind_of};
 use crate::fault::CodecFault;
@@ -122,7 +122,7 @@ fn after(place: Place, element: ElementView<'_>) -> Place
 
 /// The place behind a whole value, or the first rule that the value violates.
 fn judge(place: Place, tag: u8, name: &[u8], bytes: &[u8]) -> Result<Place, CodecFault>
-    ensures { MatchResult result (Stands place tag name.now bytes.now) (Breaks place tag name.now bytes.now) }
+    ensures { MatchResult result (LeadsOn place tag name.now bytes.now) (Breaks place tag name.now bytes.now) }
 {
     if place == Place::Opened && name.is_empty() {
         return Err(CodecFault::LooseValue);

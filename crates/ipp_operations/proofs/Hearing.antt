@@ -9,7 +9,7 @@ use Rattle.ipp_codec.specs.declared.stage.Stage.TheVariants.{Awaiting, Whole, Fa
 use Rattle.ipp_codec.specs.Message.{IppMessage}
 use Rattle.ipp_codec.specs.Grammar.{Spells}
 use Rattle.ipp_codec.specs.FirstFault.{HeadFault}
-use Rattle.ipp_codec.specs.Decoder.{DecoderState, StandsAt, Stands, TakesIn}
+use Rattle.ipp_codec.specs.Decoder.{DecoderState, IsAtStage, HasDecoded, TakesIn}
 use Rattle.printer_objects.specs.declared.operation.Operation.{Operation}
 use Rattle.printer_objects.specs.declared.operation.Operation.TheVariants as operation
 use Rattle.events.specs.declared.event.Event.{Event}
@@ -19,7 +19,7 @@ use Rattle.ipp_operations.specs.declared.parsed_request.ParsedRequest.{ParsedReq
 use Rattle.ipp_operations.specs.declared.parsed_request.ParsedRequest.TheVariants.{TooShort, Refused}
 use Rattle.ipp_operations.specs.ParsedRequest.{header_of, operation_of, request_id_of, status_of, Requests, answered, AsksBy, AsksUnder}
 use Rattle.ipp_operations.specs.Event.{event_of}
-use Rattle.ipp_operations.specs.Reader.{ReaderState, has_document, reads_document, sends_document, KeptAt, Heard, Holds, RequestsOf, AsksByOf, AsksUnderOf, AsksOf}
+use Rattle.ipp_operations.specs.Reader.{ReaderState, has_document, reads_document, sends_document, KeptAt, HasRead, Holds, RequestsOf, AsksByOf, AsksUnderOf, AsksOf}
 
 -- ---- the header
 
@@ -35,7 +35,7 @@ header_front (a ∷ b ∷ c ∷ d ∷ e ∷ f ∷ g ∷ []) = refl
 header_front (a ∷ b ∷ c ∷ d ∷ e ∷ f ∷ g ∷ h ∷ rest) = refl
 
 -- the header of the kept bytes is the header of all bytes
-pub header_kept : (bytes : List ℕ) (decoder : DecoderState) → Stands bytes decoder → header_of decoder.head ≡ header_of bytes
+pub header_kept : (bytes : List ℕ) (decoder : DecoderState) → HasDecoded bytes decoder → header_of decoder.head ≡ header_of bytes
 header_kept bytes decoder stands = header_front decoder.head ∙ ap header_of stands.header ∙ sym (header_front bytes)
 
 -- ---- the request of a body
@@ -74,13 +74,13 @@ pub fault_requests : (asked : Operation) (fault : CodecFault) (bytes : List ℕ)
 fault_requests asked fault bytes is = inl (fault, is, refl)
 
 -- the request-id of the kept bytes is the request-id of all bytes
-pub id_kept : (bytes : List ℕ) (decoder : DecoderState) → Stands bytes decoder → request_id_of decoder.head ≡ request_id_of bytes
+pub id_kept : (bytes : List ℕ) (decoder : DecoderState) → HasDecoded bytes decoder → request_id_of decoder.head ≡ request_id_of bytes
 id_kept bytes decoder stands = ap (λ (o : Option Header). option_map (λ (h : Header). h.request_id) o) (header_kept bytes decoder stands)
 
 -- ---- a reader
 
 -- the kept octets are the document, if the document is read
-pub holds : (bytes : List ℕ) (reader : ReaderState) → Heard bytes reader → Holds (reads_document reader.decoder.head) bytes reader.decoder reader.document
+pub holds : (bytes : List ℕ) (reader : ReaderState) → HasRead bytes reader → Holds (reads_document reader.decoder.head) bytes reader.decoder reader.document
 holds bytes reader heard reads whole =
     let kept : KeptAt Whole bytes reader = subst (λ (s : Stage). KeptAt s bytes reader) whole heard.kept in
     kept ∙ ap (λ (b : Bool). cond b (drop (length reader.decoder.head) bytes) []) reads
@@ -107,7 +107,7 @@ no_document_at bytes document new (Faulty fault) is head none = none
 no_document_at bytes document new Whole is head none = absurd (head is)
 
 -- a piece behind which the head isn't whole
-pub heard_no_head : (bytes piece document : List ℕ) (old new : DecoderState) → TakesIn old piece new → StaysOver old new → ¬ (new.stage ≡ Whole) → Heard bytes (reader_of old document) → Heard (bytes ++ piece) (reader_of new document)
+pub heard_no_head : (bytes piece document : List ℕ) (old new : DecoderState) → TakesIn old piece new → StaysOver old new → ¬ (new.stage ≡ Whole) → HasRead bytes (reader_of old document) → HasRead (bytes ++ piece) (reader_of new document)
 heard_no_head bytes piece document old new takes over head heard = record {
   stands = takes bytes heard.stands;
   kept = no_document_at (bytes ++ piece) document new new.stage refl head (none_yet bytes document old new old.stage refl heard.kept over head);
@@ -118,7 +118,7 @@ went_on true document before part piece all was more behind = ap (λ (l : List �
 went_on false document before part piece all was more behind = was
 
 -- the document after a piece in which the head becomes whole
-headed : (bytes piece document : List ℕ) (old new : DecoderState) (count : ℕ) (stage : Stage) (reads : Bool) → old.stage ≡ stage → Stands bytes old → StandsAt stage bytes old → KeptAt stage bytes (reader_of old document)
+headed : (bytes piece document : List ℕ) (old new : DecoderState) (count : ℕ) (stage : Stage) (reads : Bool) → old.stage ≡ stage → HasDecoded bytes old → IsAtStage stage bytes old → KeptAt stage bytes (reader_of old document)
     → StaysOver old new → new.stage ≡ Whole → length new.head ≡ length old.head + count → reads_document new.head ≡ reads
     → cond reads (document ++ drop count piece) document ≡ cond reads (drop (length new.head) (bytes ++ piece)) []
 headed bytes piece document old new count Awaiting false is stands known kept over whole long reads = kept
@@ -143,7 +143,7 @@ headed bytes piece document old new count Whole reads is stands known kept over 
 
 -- a piece in which the head is whole
 pub heard_head : (bytes piece document later : List ℕ) (old new : DecoderState) (count : ℕ) → TakesIn old piece new → StaysOver old new → new.stage ≡ Whole → length new.head ≡ length old.head + count
-    → later ≡ cond (reads_document new.head) (document ++ drop count piece) document → Heard bytes (reader_of old document) → Heard (bytes ++ piece) (reader_of new later)
+    → later ≡ cond (reads_document new.head) (document ++ drop count piece) document → HasRead bytes (reader_of old document) → HasRead (bytes ++ piece) (reader_of new later)
 heard_head bytes piece document later old new count takes over whole long is heard =
     let kept : KeptAt Whole (bytes ++ piece) (reader_of new later) = is ∙ headed bytes piece document old new count old.stage (reads_document new.head) refl heard.stands heard.stands.known heard.kept over whole long refl in
     record {
@@ -163,7 +163,7 @@ none_kept decoder document (Faulty fault) none = none
 none_kept decoder document Whole none = none ∙ sym (either (reads_document decoder.head) (drop (length decoder.head) []) (drop_all (length decoder.head) [] (omega arith)))
 
 -- a reader of a new body
-pub heard_nothing : (decoder : DecoderState) (document : List ℕ) → Stands [] decoder → document ≡ [] → Heard [] (reader_of decoder document)
+pub heard_nothing : (decoder : DecoderState) (document : List ℕ) → HasDecoded [] decoder → document ≡ [] → HasRead [] (reader_of decoder document)
 heard_nothing decoder document stands none = record { stands = stands; kept = none_kept decoder document decoder.stage none }
 
 -- ---- from a decoder to the request

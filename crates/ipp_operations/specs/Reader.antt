@@ -3,7 +3,7 @@ use Rattle.std.specs.Prelude.{◌≡◌, ℕ, Bool, true, false, if◌then◌els
 use Rattle.std.specs.Option.{option_map_or}
 use Rattle.ipp_codec.specs.declared.stage.Stage.{Stage}
 use Rattle.ipp_codec.specs.declared.stage.Stage.TheVariants.{Whole}
-use Rattle.ipp_codec.specs.Decoder.{DecoderState, Stands}
+use Rattle.ipp_codec.specs.Decoder.{DecoderState, HasDecoded}
 use Rattle.printer_objects.specs.declared.operation.Operation.{Operation}
 use Rattle.printer_objects.specs.declared.operation.Operation.TheVariants.{PrintJob, SendDocument}
 use Rattle.events.specs.declared.event.Event.{Event}
@@ -37,13 +37,13 @@ KeptAt Whole bytes reader = reader.document ≡ (if reads_document reader.decode
 KeptAt _ bytes reader = reader.document ≡ []
 
 -- The reader was fed these bytes.
-pub record Heard (bytes : List ℕ) (reader : ReaderState) : Type 0 where
-  pub stands : Stands bytes reader.decoder
+pub record HasRead (bytes : List ℕ) (reader : ReaderState) : Type 0 where
+  pub stands : HasDecoded bytes reader.decoder
   pub kept : KeptAt reader.decoder.stage bytes reader
 
 -- a decoder that was fed some bytes
 abbrev pub WasFed : DecoderState → Type 0
-WasFed decoder = (bytes : List ℕ) × Stands bytes decoder
+WasFed decoder = (bytes : List ℕ) × HasDecoded bytes decoder
 
 -- ---- the parsed request of a whole body, all of which the decoder was fed, and this document
 
@@ -52,13 +52,13 @@ abbrev pub Holds : Bool → List ℕ → DecoderState → List ℕ → Type 0
 Holds reads bytes decoder document = reads ≡ true → decoder.stage ≡ Whole → document ≡ drop (length decoder.head) bytes
 
 abbrev pub RequestsOf : Operation → DecoderState → List ℕ → Result Event Status → Type 0
-RequestsOf asked decoder document event = (bytes : List ℕ) → Stands bytes decoder → Holds (has_document asked) bytes decoder document → Requests asked bytes event
+RequestsOf asked decoder document event = (bytes : List ℕ) → HasDecoded bytes decoder → Holds (has_document asked) bytes decoder document → Requests asked bytes event
 
 abbrev pub AsksByOf : Operation → ℕ → DecoderState → List ℕ → ParsedRequest → Type 0
-AsksByOf asked id decoder document said = (bytes : List ℕ) → Stands bytes decoder → Holds (has_document asked) bytes decoder document → AsksBy asked id bytes said
+AsksByOf asked id decoder document said = (bytes : List ℕ) → HasDecoded bytes decoder → Holds (has_document asked) bytes decoder document → AsksBy asked id bytes said
 
 abbrev pub AsksUnderOf : Header → DecoderState → List ℕ → ParsedRequest → Type 0
-AsksUnderOf header decoder document said = (bytes : List ℕ) → Stands bytes decoder → Holds (sends_document (operation_of header)) bytes decoder document → AsksUnder header bytes said
+AsksUnderOf header decoder document said = (bytes : List ℕ) → HasDecoded bytes decoder → Holds (sends_document (operation_of header)) bytes decoder document → AsksUnder header bytes said
 
 abbrev pub AsksOf : DecoderState → List ℕ → ParsedRequest → Type 0
-AsksOf decoder document said = (bytes : List ℕ) → Stands bytes decoder → Holds (reads_document decoder.head) bytes decoder document → Asks bytes said
+AsksOf decoder document said = (bytes : List ℕ) → HasDecoded bytes decoder → Holds (reads_document decoder.head) bytes decoder document → Asks bytes said

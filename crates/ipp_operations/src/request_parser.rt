@@ -1,7 +1,7 @@
 //! The parser of bodies that come in pieces.
 ghost use Rattle.std.specs.Prelude.{◌≡◌, ◌++◌, ℕ, [], List, IfOk, OnOk, OnErr};
 ghost use Rattle.ipp_operations.specs.ParsedRequest.{Asks, request_id_of};
-ghost use Rattle.ipp_operations.specs.Reader.{Heard, has_document, sends_document, reads_document};
+ghost use Rattle.ipp_operations.specs.Reader.{HasRead, has_document, sends_document, reads_document};
 
 use crate::header::{header_of, operation_of, request_id};
 use crate::parsed_request::{ParsedRequest, parsed};
@@ -36,7 +36,7 @@ impl Model for RequestParser {
 impl RequestParser {
     /// Creates the parser of a new body.
     pub fn new(alloc: Global) -> RequestParser
-        ensures { Heard [] result }
+        ensures { HasRead [] result }
     {
         RequestParser {
             alloc,
@@ -48,7 +48,7 @@ impl RequestParser {
     /// Feeds the next bytes of the body. The only error is out of memory, and none of the bytes is taken
     /// then.
     pub fn feed(&mut self, piece: &[u8]) -> Result<(), AllocError>
-        ensures fed { OnOk result ((bytes : List ℕ) → Heard bytes self.old → Heard (bytes ++ piece.now) self.new) }
+        ensures fed { OnOk result ((bytes : List ℕ) → HasRead bytes self.old → HasRead (bytes ++ piece.now) self.new) }
         ensures err { OnErr result (self.new ≡ self.old) }
     {
         let reached = self.decoder.reached();
@@ -70,7 +70,7 @@ impl RequestParser {
 
     /// The request-id, once the header is whole. The call takes no memory.
     pub fn request_id(&self) -> Option<u32>
-        ensures { (bytes : List ℕ) → Heard bytes self.now → result ≡ request_id_of bytes }
+        ensures { (bytes : List ℕ) → HasRead bytes self.now → result ≡ request_id_of bytes }
     {
         request_id(self.decoder.head())
     }
@@ -80,7 +80,7 @@ impl RequestParser {
     ///
     /// The only error is out of memory: then the parser is unchanged, and `finish` can be called again.
     pub fn finish(&mut self) -> Result<ParsedRequest, AllocError>
-        ensures asked { IfOk result (λ asked. (bytes : List ℕ) → Heard bytes self.old → Asks bytes asked) }
+        ensures asked { IfOk result (λ asked. (bytes : List ℕ) → HasRead bytes self.old → Asks bytes asked) }
         ensures err { OnErr result (self.new ≡ self.old) }
     {
         parsed(self.alloc, &self.decoder, &mut self.document)

@@ -15,7 +15,7 @@ use Rattle.lpd.specs.declared.reader.Awaited.{Awaited}
 use Rattle.lpd.specs.declared.reader.Awaited.TheVariants.{Command, Subcommand, File, Nothing}
 use Rattle.lpd.specs.Items.{ItemRecord, HasFile, item_record, awaited_after}
 use Rattle.lpd.specs.Command.{meaning_of, awaits_line}
-use Rattle.lpd.specs.Stream.{Front, Gives, Fails, Waits, by_line, front_of, Ending, Open, Faulty, Hears, HearsOn, Leads, SaysFirst, LpdItems, LpdState, is_over, is_nothing, IsLeft, Stands, Answers}
+use Rattle.lpd.specs.Stream.{Front, Gives, Fails, Waits, by_line, front_of, Ending, Open, Faulty, Parses, ParsesOn, Leads, ParsesFirst, LpdItems, LpdState, is_over, is_nothing, IsLeft, HasRead, Answers}
 use Rattle.lpd.proofs.Streams.{fails_more, leads_then, hears_then, leads_more, hears_first, stays_in}
 
 -- ---- pieces
@@ -26,15 +26,15 @@ left_fed None awaited rest left piece (inl over) = inl over
 left_fed None awaited rest left piece (inr same) = inr (ap (λ l. l ++ piece) same)
 
 -- a piece of which nothing is read yet
-stands_fed : (stream : List ℕ) (given : List ItemRecord) (piece : List ℕ) (reader : LpdState) → Stands stream given reader → Stands (stream ++ piece) given (record reader { file = []; rest = reader.rest ++ piece })
+stands_fed : (stream : List ℕ) (given : List ItemRecord) (piece : List ℕ) (reader : LpdState) → HasRead stream given reader → HasRead (stream ++ piece) given (record reader { file = []; rest = reader.rest ++ piece })
 stands_fed stream given piece reader stands = record {
   left = stands.left ++ piece;
   leads = leads_more Command stream piece given reader.awaited stands.left stands.leads;
   kept = left_fed reader.fault reader.awaited reader.rest stands.left piece stands.kept;
 }
 
-pub fed_by : (old new : LpdState) (piece : List ℕ) (answer : Result (Unit {0}) AllocError) → OnOk answer (new ≡ record old { file = []; rest = old.rest ++ piece }) → OnOk answer ((stream : List ℕ) (given : List ItemRecord) → Stands stream given old → Stands (stream ++ piece) given new)
-fed_by old new piece (Ok done) is = λ stream given stands. subst (λ n. Stands (stream ++ piece) given n) (sym is) (stands_fed stream given piece old stands)
+pub fed_by : (old new : LpdState) (piece : List ℕ) (answer : Result (Unit {0}) AllocError) → OnOk answer (new ≡ record old { file = []; rest = old.rest ++ piece }) → OnOk answer ((stream : List ℕ) (given : List ItemRecord) → HasRead stream given old → HasRead (stream ++ piece) given new)
+fed_by old new piece (Ok done) is = λ stream given stands. subst (λ n. HasRead (stream ++ piece) given n) (sym is) (stands_fed stream given piece old stands)
 fed_by old new piece (Err error) is = tt
 
 is_nothing_is : (awaited : Awaited) → is_nothing awaited ≡ true → awaited ≡ Nothing
@@ -48,7 +48,7 @@ left_still (Some fault) awaited rest left piece over is = fails_more awaited lef
 left_still None awaited rest left piece over is = inl (is_nothing_is awaited over)
 
 -- a reader that gives no more items
-pub stands_still : (stream : List ℕ) (given : List ItemRecord) (piece : List ℕ) (reader : LpdState) → is_over reader ≡ true → Stands stream given reader → Stands (stream ++ piece) given reader
+pub stands_still : (stream : List ℕ) (given : List ItemRecord) (piece : List ℕ) (reader : LpdState) → is_over reader ≡ true → HasRead stream given reader → HasRead (stream ++ piece) given reader
 stands_still stream given piece reader over stands = record {
   left = stands.left ++ piece;
   leads = leads_more Command stream piece given reader.awaited stands.left stands.leads;
@@ -95,8 +95,8 @@ fault_stands old fault fails = (
   refl,
   λ stream given stands.
       let here = fails stands.left stands.kept in
-      let hears : Hears Command stream (given ++ []) (Faulty fault) = hears_then Command stream given old.awaited stands.left [] (Faulty fault) stands.leads here in (
-        subst (λ (items : List ItemRecord). Hears Command stream items (Faulty fault)) (append-nil given) hears,
+      let hears : Parses Command stream (given ++ []) (Faulty fault) = hears_then Command stream given old.awaited stands.left [] (Faulty fault) stands.leads here in (
+        subst (λ (items : List ItemRecord). Parses Command stream items (Faulty fault)) (append-nil given) hears,
         record { left = stands.left; leads = stands.leads; kept = here },
       ),
 )
@@ -120,8 +120,8 @@ answers_nothing old faultless waits = (
   refl,
   λ stream given stands.
       let kept : IsLeft None old.awaited old.rest stands.left = subst (λ (f : Option LpdFault). IsLeft f old.awaited old.rest stands.left) faultless stands.kept in
-      let hears : Hears Command stream (given ++ []) Open = hears_then Command stream given old.awaited stands.left [] Open stands.leads (waits_left old.awaited old.rest stands.left kept waits) in
-      subst (λ (items : List ItemRecord). Hears Command stream items Open) (append-nil given) hears,
+      let hears : Parses Command stream (given ++ []) Open = hears_then Command stream given old.awaited stands.left [] Open stands.leads (waits_left old.awaited old.rest stands.left kept waits) in
+      subst (λ (items : List ItemRecord). Parses Command stream items Open) (append-nil given) hears,
 )
 
 pub answers_over : (old : LpdState) → old.fault ≡ None → old.awaited ≡ Nothing → Answers old (Ok None) old
@@ -168,34 +168,34 @@ answers_no_zero old count faultless is within other = answers_fault old MissingZ
 pub fault_stays : (stream more : List ℕ) (given : List ItemRecord) (fault : LpdFault) → LpdItems stream given (Faulty fault) → LpdItems (stream ++ more) given (Faulty fault)
 fault_stays stream more given fault x =
     let first = hears_first Command stream given (Faulty fault) x in
-    let hears : Hears Command (stream ++ more) (given ++ []) (Faulty fault) =
+    let hears : Parses Command (stream ++ more) (given ++ []) (Faulty fault) =
     hears_then Command (stream ++ more) given first.0 (first.1 ++ more) [] (Faulty fault) (leads_more Command stream more given first.0 first.1 first.2) (fails_more first.0 first.1 more fault first.3) in
-    subst (λ (items : List ItemRecord). Hears Command (stream ++ more) items (Faulty fault)) (append-nil given) hears
+    subst (λ (items : List ItemRecord). Parses Command (stream ++ more) items (Faulty fault)) (append-nil given) hears
 
 pub all_stays : (stream more : List ℕ) (given items : List ItemRecord) (end ending : Ending) → LpdItems stream given end → LpdItems (stream ++ more) items ending → (later : List ItemRecord) × (items ≡ given ++ later)
 all_stays stream more given items end ending x y =
     let first = hears_first Command stream given end x in
     stays_in Command stream more given first.0 first.1 items ending first.2 y
 
-pub first_stays : (stream more : List ℕ) (first items : List ItemRecord) (ending : Ending) → SaysFirst stream first → LpdItems (stream ++ more) items ending → (later : List ItemRecord) × (items ≡ first ++ later)
+pub first_stays : (stream more : List ℕ) (first items : List ItemRecord) (ending : Ending) → ParsesFirst stream first → LpdItems (stream ++ more) items ending → (later : List ItemRecord) × (items ≡ first ++ later)
 first_stays stream more first items ending x y = stays_in Command stream more first x.next x.left items ending x.leads y
 
 -- if nothing is awaited, other bytes say no item either
-nothing_heard : (bytes other : List ℕ) (items : List ItemRecord) (ending : Ending) → Hears Nothing bytes items ending → Hears Nothing other items ending
+nothing_heard : (bytes other : List ℕ) (items : List ItemRecord) (ending : Ending) → Parses Nothing bytes items ending → Parses Nothing other items ending
 nothing_heard bytes other [] Open x = refl
 nothing_heard bytes other [] (Faulty fault) x = absurd (let no : Waits ≡ Fails fault = x in (cc))
 nothing_heard bytes other (said ∷ items) ending x = absurd (let no : Waits ≡ Gives said x.0 = x.1 in (cc))
 
-hears_left : (fault : Option LpdFault) (awaited : Awaited) (rest left coming : List ℕ) (items : List ItemRecord) (ending : Ending) → IsLeft fault awaited rest left → HearsOn fault awaited (rest ++ coming) items ending → Hears awaited (left ++ coming) items ending
+hears_left : (fault : Option LpdFault) (awaited : Awaited) (rest left coming : List ℕ) (items : List ItemRecord) (ending : Ending) → IsLeft fault awaited rest left → ParsesOn fault awaited (rest ++ coming) items ending → Parses awaited (left ++ coming) items ending
 hears_left (Some fault) awaited rest left coming items ending kept hears =
-    let here : Hears awaited (left ++ coming) [] (Faulty fault) = fails_more awaited left coming fault kept in
-    subst (λ (i : List ItemRecord). Hears awaited (left ++ coming) i ending) (sym hears.0) (subst (λ (e : Ending). Hears awaited (left ++ coming) [] e) (sym hears.1) here)
+    let here : Parses awaited (left ++ coming) [] (Faulty fault) = fails_more awaited left coming fault kept in
+    subst (λ (i : List ItemRecord). Parses awaited (left ++ coming) i ending) (sym hears.0) (subst (λ (e : Ending). Parses awaited (left ++ coming) [] e) (sym hears.1) here)
 hears_left None awaited rest left coming items ending (inl over) hears =
-    let here : Hears Nothing (rest ++ coming) items ending = subst (λ (a : Awaited). Hears a (rest ++ coming) items ending) over hears in
-    subst (λ (a : Awaited). Hears a (left ++ coming) items ending) (sym over) (nothing_heard (rest ++ coming) (left ++ coming) items ending here)
-hears_left None awaited rest left coming items ending (inr same) hears = subst (λ (l : List ℕ). Hears awaited (l ++ coming) items ending) (sym same) hears
+    let here : Parses Nothing (rest ++ coming) items ending = subst (λ (a : Awaited). Parses a (rest ++ coming) items ending) over hears in
+    subst (λ (a : Awaited). Parses a (left ++ coming) items ending) (sym over) (nothing_heard (rest ++ coming) (left ++ coming) items ending here)
+hears_left None awaited rest left coming items ending (inr same) hears = subst (λ (l : List ℕ). Parses awaited (l ++ coming) items ending) (sym same) hears
 
-pub hears_rest : (stream coming : List ℕ) (given items : List ItemRecord) (ending : Ending) (reader : LpdState) → Stands stream given reader → HearsOn reader.fault reader.awaited (reader.rest ++ coming) items ending → LpdItems (stream ++ coming) (given ++ items) ending
+pub hears_rest : (stream coming : List ℕ) (given items : List ItemRecord) (ending : Ending) (reader : LpdState) → HasRead stream given reader → ParsesOn reader.fault reader.awaited (reader.rest ++ coming) items ending → LpdItems (stream ++ coming) (given ++ items) ending
 hears_rest stream coming given items ending reader stands hears =
     hears_then Command (stream ++ coming) given reader.awaited (stands.left ++ coming) items ending (leads_more Command stream coming given reader.awaited stands.left stands.leads)
     (hears_left reader.fault reader.awaited reader.rest stands.left coming items ending stands.kept hears)

@@ -14,7 +14,7 @@ use Rattle.lpd.specs.declared.reader.Awaited.{Awaited}
 use Rattle.lpd.specs.declared.reader.Awaited.TheVariants.{Command, Subcommand, File, Nothing}
 use Rattle.lpd.specs.Items.{ItemRecord, HasFile, awaited_after}
 use Rattle.lpd.specs.Command.{command_line, subcommand_line}
-use Rattle.lpd.specs.Stream.{Front, Gives, Fails, Waits, line_says, by_line, by_file, front_of, Ending, Open, Faulty, EndsAs, Hears, Leads}
+use Rattle.lpd.specs.Stream.{Front, Gives, Fails, Waits, line_says, by_line, by_file, front_of, Ending, Open, Faulty, EndsAs, Parses, Leads}
 
 -- ---- a front
 
@@ -135,8 +135,8 @@ pub leads_then : (a : Awaited) (bytes : List ℕ) (first : List ItemRecord) (b :
 leads_then a bytes [] b mid later c left x y = subst (λ (q : Awaited). Leads q bytes later c left) x.0 (subst (λ (r : List ℕ). Leads b r later c left) x.1 y)
 leads_then a bytes (said ∷ first) b mid later c left x y = (x.0, x.1, leads_then (awaited_after said) x.0 first b mid later c left x.2 y)
 
-pub hears_then : (a : Awaited) (bytes : List ℕ) (first : List ItemRecord) (b : Awaited) (mid : List ℕ) (items : List ItemRecord) (ending : Ending) → Leads a bytes first b mid → Hears b mid items ending → Hears a bytes (first ++ items) ending
-hears_then a bytes [] b mid items ending x y = subst (λ (q : Awaited). Hears q bytes items ending) x.0 (subst (λ (r : List ℕ). Hears b r items ending) x.1 y)
+pub hears_then : (a : Awaited) (bytes : List ℕ) (first : List ItemRecord) (b : Awaited) (mid : List ℕ) (items : List ItemRecord) (ending : Ending) → Leads a bytes first b mid → Parses b mid items ending → Parses a bytes (first ++ items) ending
+hears_then a bytes [] b mid items ending x y = subst (λ (q : Awaited). Parses q bytes items ending) x.0 (subst (λ (r : List ℕ). Parses b r items ending) x.1 y)
 hears_then a bytes (said ∷ first) b mid items ending x y = (x.0, x.1, hears_then (awaited_after said) x.0 first b mid items ending x.2 y)
 
 pub leads_more : (a : Awaited) (bytes more : List ℕ) (items : List ItemRecord) (b : Awaited) (left : List ℕ) → Leads a bytes items b left → Leads a (bytes ++ more) items b (left ++ more)
@@ -144,7 +144,7 @@ leads_more a bytes more [] b left x = (x.0, ap (λ l. l ++ more) x.1)
 leads_more a bytes more (said ∷ items) b left x = (x.0 ++ more, gives_more a bytes more said x.0 x.1, leads_more (awaited_after said) x.0 more items b left x.2)
 
 -- the items that all of the bytes say are said first
-pub hears_first : (a : Awaited) (bytes : List ℕ) (items : List ItemRecord) (ending : Ending) → Hears a bytes items ending → (next : Awaited) × (left : List ℕ) × Leads a bytes items next left × EndsAs (front_of next left) ending
+pub hears_first : (a : Awaited) (bytes : List ℕ) (items : List ItemRecord) (ending : Ending) → Parses a bytes items ending → (next : Awaited) × (left : List ℕ) × Leads a bytes items next left × EndsAs (front_of next left) ending
 hears_first a bytes [] ending x = (a, bytes, (refl, refl), x)
 hears_first a bytes (said ∷ items) ending x =
     let tail = hears_first (awaited_after said) x.0 items ending x.2 in
@@ -164,22 +164,22 @@ ends_one front (Faulty fault) (Faulty other) x y =
     let faults : fault ≡ other = (cc) in
     ap (λ (f : LpdFault). Faulty f) faults
 
-pub says_one : (a : Awaited) (bytes : List ℕ) (given items : List ItemRecord) (end ending : Ending) → Hears a bytes given end → Hears a bytes items ending → (given ≡ items) × (end ≡ ending)
+pub says_one : (a : Awaited) (bytes : List ℕ) (given items : List ItemRecord) (end ending : Ending) → Parses a bytes given end → Parses a bytes items ending → (given ≡ items) × (end ≡ ending)
 says_one a bytes [] [] end ending x y = (refl, ends_one (front_of a bytes) end ending x y)
 says_one a bytes [] (said ∷ items) end ending x y = absurd (ends_no (front_of a bytes) end said y.0 x y.1)
 says_one a bytes (said ∷ given) [] end ending x y = absurd (ends_no (front_of a bytes) ending said x.0 y x.1)
 says_one a bytes (said ∷ given) (told ∷ items) end ending x y =
     let same = gives_rest told said y.0 x.0 (sym y.1 ∙ x.1) in
-    let tail : Hears (awaited_after said) x.0 items ending = subst (λ (s : ItemRecord). Hears (awaited_after s) x.0 items ending) same.0 (subst (λ (r : List ℕ). Hears (awaited_after told) r items ending) same.1 y.2) in
+    let tail : Parses (awaited_after said) x.0 items ending = subst (λ (s : ItemRecord). Parses (awaited_after s) x.0 items ending) same.0 (subst (λ (r : List ℕ). Parses (awaited_after told) r items ending) same.1 y.2) in
     let later = says_one (awaited_after said) x.0 given items end ending x.2 tail in
     (ap (λ s. s ∷ given) (sym same.0) ∙ ap (λ i. told ∷ i) later.0, later.1)
 
-pub stays_in : (a : Awaited) (bytes more : List ℕ) (first : List ItemRecord) (b : Awaited) (left : List ℕ) (items : List ItemRecord) (ending : Ending) → Leads a bytes first b left → Hears a (bytes ++ more) items ending → (later : List ItemRecord) × (items ≡ first ++ later)
+pub stays_in : (a : Awaited) (bytes more : List ℕ) (first : List ItemRecord) (b : Awaited) (left : List ℕ) (items : List ItemRecord) (ending : Ending) → Leads a bytes first b left → Parses a (bytes ++ more) items ending → (later : List ItemRecord) × (items ≡ first ++ later)
 stays_in a bytes more [] b left items ending x y = (items, refl)
 stays_in a bytes more (said ∷ first) b left [] ending x y = absurd (ends_no (front_of a (bytes ++ more)) ending said (x.0 ++ more) y (gives_more a bytes more said x.0 x.1))
 stays_in a bytes more (said ∷ first) b left (told ∷ items) ending x y =
     let same = gives_rest told said y.0 (x.0 ++ more) (sym y.1 ∙ gives_more a bytes more said x.0 x.1) in
-    let tail : Hears (awaited_after said) (x.0 ++ more) items ending = subst (λ (s : ItemRecord). Hears (awaited_after s) (x.0 ++ more) items ending) same.0 (subst (λ (r : List ℕ). Hears (awaited_after told) r items ending) same.1 y.2) in
+    let tail : Parses (awaited_after said) (x.0 ++ more) items ending = subst (λ (s : ItemRecord). Parses (awaited_after s) (x.0 ++ more) items ending) same.0 (subst (λ (r : List ℕ). Parses (awaited_after told) r items ending) same.1 y.2) in
     let later = stays_in (awaited_after said) x.0 more first b left items ending x.2 tail in
     (later.0, ap (λ s. s ∷ items) same.0 ∙ ap (λ i. said ∷ i) later.1)
 
@@ -195,16 +195,16 @@ leads_one a bytes (said ∷ one) (told ∷ other) b c left behind x y long =
     ap (λ s. s ∷ one) (sym same.0) ∙ ap (λ i. told ∷ i) later
 
 -- no item is behind all items of a stream
-pub none_follows : (a : Awaited) (bytes : List ℕ) (items : List ItemRecord) (said : ItemRecord) (b : Awaited) (left : List ℕ) (ending : Ending) → Leads a bytes (items ++ said ∷ []) b left → Hears a bytes items ending → ⊥
+pub none_follows : (a : Awaited) (bytes : List ℕ) (items : List ItemRecord) (said : ItemRecord) (b : Awaited) (left : List ℕ) (ending : Ending) → Leads a bytes (items ++ said ∷ []) b left → Parses a bytes items ending → ⊥
 none_follows a bytes [] said b left ending x y = ends_no (front_of a bytes) ending said x.0 y x.1
 none_follows a bytes (told ∷ items) said b left ending x y =
     let same = gives_rest told told y.0 x.0 (sym y.1 ∙ x.1) in
-    none_follows (awaited_after told) x.0 items said b left ending x.2 (subst (λ (r : List ℕ). Hears (awaited_after told) r items ending) same.1 y.2)
+    none_follows (awaited_after told) x.0 items said b left ending x.2 (subst (λ (r : List ℕ). Parses (awaited_after told) r items ending) same.1 y.2)
 
 -- ---- every stream says something
 
 abbrev SaysSo : Awaited → List ℕ → Type 0
-SaysSo a bytes = (items : List ItemRecord) × (ending : Ending) × Hears a bytes items ending
+SaysSo a bytes = (items : List ItemRecord) × (ending : Ending) × Parses a bytes items ending
 
 some_by : (a : Awaited) (bytes : List ℕ) (front : Front) → front_of a bytes ≡ front → ((b : Awaited) (rest : List ℕ) → length rest < length bytes → SaysSo b rest) → SaysSo a bytes
 some_by a bytes (Gives said rest) is later =

@@ -10,7 +10,7 @@ use Rattle.lpd.specs.declared.item.FileKind.{FileKind}
 use Rattle.lpd.specs.declared.item.FileKind.TheVariants.{Control, Data}
 use Rattle.lpd.specs.declared.reader.Awaited.{Awaited}
 use Rattle.lpd.specs.declared.reader.Awaited.TheVariants as await
-use Rattle.lpd.specs.Items.{CommandRecord, PrintsWaiting, ReceivesJob, ListsShort, ListsLong, RemovesJobs, ItemRecord, Says, Aborts, Announces}
+use Rattle.lpd.specs.Items.{CommandRecord, PrintsWaiting, ReceivesJob, ListsShort, ListsLong, RemovesJobs, ItemRecord, HasCommand, Aborts, Announces}
 use Rattle.lpd.specs.FileName.{is_file_name}
 
 -- the first word, which may be empty
@@ -66,7 +66,7 @@ subcommand_of code words =
     else Err UnknownCode
 
 abbrev pub says : Result CommandRecord LpdFault → Result ItemRecord LpdFault
-says (Ok command) = Ok (Says command)
+says (Ok command) = Ok (HasCommand command)
 says (Err fault) = Err fault
 
 -- a command's line, without its line feed

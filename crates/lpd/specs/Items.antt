@@ -17,7 +17,7 @@ pub data CommandRecord : Type 0 where
   RemovesJobs : (queue agent : List ℕ) (operands : List (List ℕ)) → CommandRecord
 
 pub data ItemRecord : Type 0 where
-  Says : CommandRecord → ItemRecord
+  HasCommand : CommandRecord → ItemRecord
   Aborts : ItemRecord
   Announces : FileHead → ItemRecord
   HasFile : (contents : List ℕ) → ItemRecord
@@ -31,7 +31,7 @@ command_record (RemoveJobs queue agent operands) = RemovesJobs queue agent opera
 
 -- the record of an item, with the file that the reader lends
 abbrev pub item_record : LpdItem → List ℕ → ItemRecord
-item_record (item.Command command) file = Says (command_record command)
+item_record (item.Command command) file = HasCommand (command_record command)
 item_record item.Abort file = Aborts
 item_record (item.Announced head) file = Announces head
 item_record item.File file = HasFile file
@@ -50,7 +50,7 @@ awaited_after_command (ListsLong queue operands) = await.Nothing
 awaited_after_command (RemovesJobs queue agent operands) = await.Nothing
 
 abbrev pub awaited_after : ItemRecord → Awaited
-awaited_after (Says command) = awaited_after_command command
+awaited_after (HasCommand command) = awaited_after_command command
 awaited_after Aborts = await.Subcommand
 awaited_after (Announces head) = await.File head.length
 awaited_after (HasFile contents) = await.Subcommand

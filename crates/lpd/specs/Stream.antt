@@ -53,13 +53,13 @@ EndsAs front Open = front ≡ Waits
 EndsAs front (Faulty fault) = front ≡ Fails fault
 
 -- the bytes say these items, one after the other, and then end as `ending` says
-abbrev pub Hears : Awaited → List ℕ → List ItemRecord → Ending → Type 0
-Hears awaited bytes [] ending = EndsAs (front_of awaited bytes) ending
-Hears awaited bytes (said ∷ items) ending = (rest : List ℕ) × (front_of awaited bytes ≡ Gives said rest) × Hears (awaited_after said) rest items ending
+abbrev pub Parses : Awaited → List ℕ → List ItemRecord → Ending → Type 0
+Parses awaited bytes [] ending = EndsAs (front_of awaited bytes) ending
+Parses awaited bytes (said ∷ items) ending = (rest : List ℕ) × (front_of awaited bytes ≡ Gives said rest) × Parses (awaited_after said) rest items ending
 
 -- the items of a whole stream of bytes, and its end
 abbrev pub LpdItems : List ℕ → List ItemRecord → Ending → Type 0
-LpdItems stream items ending = Hears Command stream items ending
+LpdItems stream items ending = Parses Command stream items ending
 
 -- the bytes say these items, and lead to this state with these bytes left
 abbrev pub Leads : Awaited → List ℕ → List ItemRecord → Awaited → List ℕ → Type 0
@@ -67,7 +67,7 @@ Leads awaited bytes [] next left = (next ≡ awaited) × (left ≡ bytes)
 Leads awaited bytes (said ∷ items) next left = (rest : List ℕ) × (front_of awaited bytes ≡ Gives said rest) × Leads (awaited_after said) rest items next left
 
 -- the stream says these items first, for all bytes that may follow
-pub record SaysFirst (stream : List ℕ) (items : List ItemRecord) : Type 0 where
+pub record ParsesFirst (stream : List ℕ) (items : List ItemRecord) : Type 0 where
   pub next : Awaited
   pub left : List ℕ
   pub leads : Leads Command stream items next left
@@ -95,15 +95,15 @@ IsLeft (Some fault) awaited rest left = front_of awaited left ≡ Fails fault
 IsLeft None awaited rest left = (awaited ≡ Nothing) ⊎ (left ≡ rest)
 
 -- The reader was fed this stream and has given these items. The stream says them first, and leads to the part that the reader awaits, with the bytes that are left.
-pub record Stands (stream : List ℕ) (given : List ItemRecord) (reader : LpdState) : Type 0 where
+pub record HasRead (stream : List ℕ) (given : List ItemRecord) (reader : LpdState) : Type 0 where
   pub left : List ℕ
   pub leads : Leads Command stream given reader.awaited left
   pub kept : IsLeft reader.fault reader.awaited reader.rest left
 
 -- the items that a reader's state says of these bytes, and their ending
-abbrev pub HearsOn : Option LpdFault → Awaited → List ℕ → List ItemRecord → Ending → Type 0
-HearsOn (Some fault) awaited bytes items ending = (items ≡ []) × (ending ≡ Faulty fault)
-HearsOn None awaited bytes items ending = Hears awaited bytes items ending
+abbrev pub ParsesOn : Option LpdFault → Awaited → List ℕ → List ItemRecord → Ending → Type 0
+ParsesOn (Some fault) awaited bytes items ending = (items ≡ []) × (ending ≡ Faulty fault)
+ParsesOn None awaited bytes items ending = Parses awaited bytes items ending
 
 -- an upper bound on the items that a reader can still give
 abbrev pub work : LpdState → ℕ
@@ -112,23 +112,23 @@ work reader = length reader.rest
 -- the answer of a reader, and its state then: an item, which the stream says next; or no item, and then the stream says no more; or a fault; or refused memory, which comes only where a line is awaited
 abbrev pub Answers : LpdState → Result (Option LpdItem) LpdError → LpdState → Type 0
 Answers old (Ok (Some said)) new =
-    (stream : List ℕ) (given : List ItemRecord) → Stands stream given old → Stands stream (given ++ item_record said new.file ∷ []) new
+    (stream : List ℕ) (given : List ItemRecord) → HasRead stream given old → HasRead stream (given ++ item_record said new.file ∷ []) new
 Answers old (Ok None) new =
-    (new ≡ old) × ((stream : List ℕ) (given : List ItemRecord) → Stands stream given old → LpdItems stream given Open)
+    (new ≡ old) × ((stream : List ℕ) (given : List ItemRecord) → HasRead stream given old → LpdItems stream given Open)
 Answers old (Err (Fault fault)) new =
     (new ≡ record old { fault = Some fault })
-    × ((stream : List ℕ) (given : List ItemRecord) → Stands stream given old → LpdItems stream given (Faulty fault) × Stands stream given new)
+    × ((stream : List ℕ) (given : List ItemRecord) → HasRead stream given old → LpdItems stream given (Faulty fault) × HasRead stream given new)
 Answers old (Err OutOfMemory) new = (new ≡ old) × (awaits_line old.awaited ≡ true)
 
 -- ---- laws
 
 -- two readings of one stream give the same items and the same end
-abbrev pub SaysOne : Type 0
-SaysOne = (stream : List ℕ) (given items : List ItemRecord) (end ending : Ending) → LpdItems stream given end → LpdItems stream items ending → (given ≡ items) × (end ≡ ending)
+abbrev pub OneParse : Type 0
+OneParse = (stream : List ℕ) (given items : List ItemRecord) (end ending : Ending) → LpdItems stream given end → LpdItems stream items ending → (given ≡ items) × (end ≡ ending)
 
 -- each stream has a reading
-abbrev pub SaysSome : Type 0
-SaysSome = (stream : List ℕ) → (items : List ItemRecord) × (ending : Ending) × LpdItems stream items ending
+abbrev pub SomeParse : Type 0
+SomeParse = (stream : List ℕ) → (items : List ItemRecord) × (ending : Ending) × LpdItems stream items ending
 
 -- the items of a stream are a front of the items of the stream with more bytes behind it; a fault stays the last
 abbrev pub StaysInFront : Type 0
@@ -139,18 +139,18 @@ FaultStays = (stream more : List ℕ) (given : List ItemRecord) (fault : LpdFaul
 
 -- the items that a stream says first are a front of the items of the stream with more bytes behind it
 abbrev pub FirstStays : Type 0
-FirstStays = (stream more : List ℕ) (first items : List ItemRecord) (ending : Ending) → SaysFirst stream first → LpdItems (stream ++ more) items ending → (later : List ItemRecord) × (items ≡ first ++ later)
+FirstStays = (stream more : List ℕ) (first items : List ItemRecord) (ending : Ending) → ParsesFirst stream first → LpdItems (stream ++ more) items ending → (later : List ItemRecord) × (items ≡ first ++ later)
 
 -- two fronts of the items of a stream are equal if their lengths are equal
 abbrev pub FirstIsOne : Type 0
-FirstIsOne = (stream : List ℕ) (one other : List ItemRecord) → SaysFirst stream one → SaysFirst stream other → length one ≡ length other → one ≡ other
+FirstIsOne = (stream : List ℕ) (one other : List ItemRecord) → ParsesFirst stream one → ParsesFirst stream other → length one ≡ length other → one ≡ other
 
 -- a stream says no item behind all of its items
 abbrev pub NoneFollows : Type 0
-NoneFollows = (stream : List ℕ) (items : List ItemRecord) (said : ItemRecord) (ending : Ending) → SaysFirst stream (items ++ said ∷ []) → LpdItems stream items ending → ⊥
+NoneFollows = (stream : List ℕ) (items : List ItemRecord) (said : ItemRecord) (ending : Ending) → ParsesFirst stream (items ++ said ∷ []) → LpdItems stream items ending → ⊥
 
 -- a whole stream says the items that a reader has given, and then the items that the reader's state says of its bytes and of the bytes that follow
-abbrev pub HearsTheRest : Type 0
-HearsTheRest =
+abbrev pub ParsesTheRest : Type 0
+ParsesTheRest =
     (stream coming : List ℕ) (given items : List ItemRecord) (ending : Ending) (reader : LpdState)
-    → Stands stream given reader → HearsOn reader.fault reader.awaited (reader.rest ++ coming) items ending → LpdItems (stream ++ coming) (given ++ items) ending
+    → HasRead stream given reader → ParsesOn reader.fault reader.awaited (reader.rest ++ coming) items ending → LpdItems (stream ++ coming) (given ++ items) ending

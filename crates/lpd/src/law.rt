@@ -1,10 +1,10 @@
 //! Laws of an LPD client's stream, as contracts of functions that do nothing.
-ghost use Rattle.lpd.specs.Stream.{SaysOne, SaysSome, StaysInFront, FaultStays, FirstIsOne, NoneFollows, FirstStays, HearsTheRest};
+ghost use Rattle.lpd.specs.Stream.{OneParse, SomeParse, StaysInFront, FaultStays, FirstIsOne, NoneFollows, FirstStays, ParsesTheRest};
 
 /// Each stream has a reading, and two readings of one stream give the same items and the same end.
 pub fn one_saying()
-    ensures some { SaysSome }
-    ensures one { SaysOne }
+    ensures some { SomeParse }
+    ensures one { OneParse }
 {}
 
 /// Two fronts of the items of a stream are equal if their lengths are equal, and a stream says no item behind
@@ -26,5 +26,5 @@ pub fn said_stays()
 /// follow.
 pub fn given_first()
     ensures first { FirstStays }
-    ensures rest { HearsTheRest }
+    ensures rest { ParsesTheRest }
 {}

@@ -4,7 +4,7 @@ ghost use Rattle.text.specs.FirstLine.{first_line_of};
 ghost use Rattle.text.specs.declared.line.FirstLine.TheVariants.{Whole};
 ghost use Rattle.lpd.specs.Items.{ItemRecord, item_record, awaited_after, told};
 ghost use Rattle.lpd.specs.Command.{meaning_of, awaits_line};
-ghost use Rattle.lpd.specs.Stream.{Stands, Answers, is_over, work};
+ghost use Rattle.lpd.specs.Stream.{HasRead, Answers, is_over, work};
 
 use crate::command::{read_command, read_subcommand};
 use crate::fault::{LpdError, LpdFault};
@@ -57,7 +57,7 @@ impl Model for LpdReader {
 impl LpdReader {
     /// Creates the reader of a new connection.
     pub fn new(alloc: Global) -> LpdReader
-        ensures { Stands [] [] result }
+        ensures { HasRead [] [] result }
     {
         LpdReader {
             alloc,
@@ -73,7 +73,7 @@ impl LpdReader {
     ///
     /// The only error is out of memory: then none of the bytes is taken, and the file stays lent.
     pub fn feed(&mut self, piece: &[u8]) -> Result<(), AllocError>
-        ensures fed { OnOk result ((stream : List ℕ) (given : List ItemRecord) → Stands stream given self.old → Stands (stream ++ piece.now) given self.new) }
+        ensures fed { OnOk result ((stream : List ℕ) (given : List ItemRecord) → HasRead stream given self.old → HasRead (stream ++ piece.now) given self.new) }
         ensures err { OnErr result (self.new ≡ self.old) }
         ensures over { is_over self.old ≡ true → IsOk result × (self.new ≡ self.old) }
     {

@@ -15,8 +15,8 @@ use Rattle.plan_text.specs.declared.stage.Stage.{Stage}
 use Rattle.plan_text.specs.declared.stage.Stage.TheVariants as stages
 use Rattle.plan_text.specs.NamedPlan.{NamedPlan}
 use Rattle.text.specs.Steps.{◌>>=◌}
-use Rattle.plan_text.specs.Line.{Said, SaysPlan, SaysDevice, SaysClass, SaysJob, SaysWait, SaysWay, SaysTotal, SaysJobPrices, SaysPlacePrices, SaysStranded, SaysEnd}
-use Rattle.plan_text.specs.Steps.{Heard, Opened, is_at, plan_next, device_next, opened_at, closed, class_opened, class_next, job_next, wait_next, way_next, total_next, job_prices_next, place_prices_next, classes_over, stranded_added, stranded_next, end_next, next}
+use Rattle.plan_text.specs.Line.{PlanLine, SaysPlan, SaysDevice, SaysClass, SaysJob, SaysWait, SaysWay, SaysTotal, SaysJobPrices, SaysPlacePrices, SaysStranded, SaysEnd}
+use Rattle.plan_text.specs.Steps.{DraftRecord, Opened, is_at, plan_next, device_next, opened_at, closed, class_opened, class_next, job_next, wait_next, way_next, total_next, job_prices_next, place_prices_next, classes_over, stranded_added, stranded_next, end_next, next}
 use Rattle.plan_text.specs.Whole.{nothing_heard, ended, plan_at}
 use Rattle.plan_text.specs.Writing.{job_lines, way_lines, place_price_lines, class_job_lines, class_way_lines, class_price_lines, class_lines, device_lines, stranded_lines, classes_lines, plan_lines, plan_text}
 use Rattle.plan_text.specs.Ranges.{IsPrice, IsClassInRange, PrioritiesFall, StrandedRise, jobs_in, IsPlanInRange}
@@ -83,17 +83,17 @@ plan_in_range named r = (
 -- ---- the devices
 
 -- one step
-stepped : (heard new : Heard) (said : Said) (rest : List Said) → is_at heard stages.Ended ≡ false → next heard said ≡ ok new → says_next heard (said ∷ rest) ≡ says_next new rest
+stepped : (heard new : DraftRecord) (said : PlanLine) (rest : List PlanLine) → is_at heard stages.Ended ≡ false → next heard said ≡ ok new → says_next heard (said ∷ rest) ≡ says_next new rest
 stepped heard new said rest live step = rw (live, step) refl
 
-abbrev pub with_devices : List (List ℕ) → Heard
+abbrev pub with_devices : List (List ℕ) → DraftRecord
 with_devices devices = record { stage = stages.Devices; devices = devices; classes = []; stranded = []; jobs = 0; below = HIGHEST_PRIORITY + 1; last = 0; opened = opened_at DEFAULT_PRIORITY }
 
 device_step : (devices : List (List ℕ)) (name : List ℕ) → length devices < DEVICES → device_next (with_devices devices) name ≡ ok (with_devices (devices ++ name ∷ []))
 unfolding device_next
 device_step devices name l = rw (lt-ltb (length devices) DEVICES l) refl
 
-devices_run : (devices names : List (List ℕ)) (rest : List Said) → length devices + length names ≤ DEVICES → says_next (with_devices devices) (device_lines names ++ rest) ≡ says_next (with_devices (devices ++ names)) rest
+devices_run : (devices names : List (List ℕ)) (rest : List PlanLine) → length devices + length names ≤ DEVICES → says_next (with_devices devices) (device_lines names ++ rest) ≡ says_next (with_devices (devices ++ names)) rest
 devices_run devices [] rest l = ap (λ ds. says_next (with_devices ds) rest) (sym (append-nil devices))
 devices_run devices (name ∷ names) rest l =
     stepped (with_devices devices) (with_devices (devices ++ name ∷ [])) (SaysDevice name) (device_lines names ++ rest) refl (device_step devices name (omega (arith, l)))
@@ -103,7 +103,7 @@ devices_run devices (name ∷ names) rest l =
 -- ---- the lines of a class
 
 -- the state of the reader within a class
-abbrev within : Stage → List (List ℕ) → List PlannedClass → ℕ → ℕ → ℕ → Opened → Heard
+abbrev within : Stage → List (List ℕ) → List PlannedClass → ℕ → ℕ → ℕ → Opened → DraftRecord
 within stage devices classes jobs below last opened = record { stage = stage; devices = devices; classes = classes; stranded = []; jobs = jobs; below = below; last = last; opened = opened }
 
 abbrev last_of : ℕ → List ℕ → ℕ
@@ -138,7 +138,7 @@ with_jobs_more o id ids row rows =
     ap (λ xs. record o { ids = xs; rows = (o.rows ++ row ∷ []) ++ rows }) (append_assoc o.ids (id ∷ []) ids)
     ∙ ap (λ ys. record o { ids = o.ids ++ id ∷ ids; rows = ys }) (append_assoc o.rows (row ∷ []) rows)
 
-jobs_run : (devices : List (List ℕ)) (classes : List PlannedClass) (jobs below last : ℕ) (o : Opened) (ids : List ℕ) (rows : List (List (Option ℕ))) (rest : List Said)
+jobs_run : (devices : List (List ℕ)) (classes : List PlannedClass) (jobs below last : ℕ) (o : Opened) (ids : List ℕ) (rows : List (List (Option ℕ))) (rest : List PlanLine)
     → length rows ≡ length ids → All (λ row. length row ≡ length devices) rows → RiseAbove last ids → jobs + length ids ≤ UNFINISHED_JOBS
     → says_next (within stages.Jobs devices classes jobs below last o) (job_lines ids rows ++ rest) ≡ says_next (within stages.Jobs devices classes (jobs + length ids) below (last_of last ids) (with_jobs o ids rows)) rest
 jobs_run devices classes jobs below last o [] [] rest e all up few =
@@ -179,14 +179,14 @@ way_step : (done : List (List ℕ)) (name : List ℕ) (names : List (List ℕ)) 
 unfolding way_next
 way_step done name names classes jobs below last o queues queue e = rw (e, named_next done name names) refl
 
-ways_run : (done names : List (List ℕ)) (classes : List PlannedClass) (jobs below last : ℕ) (o : Opened) (queues way : List (List ℕ)) (rest : List Said) → length queues ≡ length done → length way ≡ length names
+ways_run : (done names : List (List ℕ)) (classes : List PlannedClass) (jobs below last : ℕ) (o : Opened) (queues way : List (List ℕ)) (rest : List PlanLine) → length queues ≡ length done → length way ≡ length names
     → says_next (within stages.Ways (done ++ names) classes jobs below last (with_queues o queues)) (way_lines names way ++ rest) ≡ says_next (within stages.Ways (done ++ names) classes jobs below last (with_queues o (queues ++ way))) rest
 ways_run done [] classes jobs below last o queues [] rest e f = ap (λ qs. says_next (within stages.Ways (done ++ []) classes jobs below last (with_queues o qs)) rest) (sym (append-nil queues))
 ways_run done [] classes jobs below last o queues (queue ∷ way) rest e f = absurd (omega (arith, f))
 ways_run done (name ∷ names) classes jobs below last o queues [] rest e f = absurd (omega (arith, f))
 ways_run done (name ∷ names) classes jobs below last o queues (queue ∷ way) rest e f =
     let all : (done ++ name ∷ []) ++ names ≡ done ++ name ∷ names = append_assoc done (name ∷ []) names in
-    let S : List (List ℕ) → List (List ℕ) → Heard = λ ds qs. within stages.Ways ds classes jobs below last (with_queues o qs) in
+    let S : List (List ℕ) → List (List ℕ) → DraftRecord = λ ds qs. within stages.Ways ds classes jobs below last (with_queues o qs) in
     stepped (S (done ++ name ∷ names) queues) (S (done ++ name ∷ names) (queues ++ queue ∷ [])) (SaysWay name queue) (way_lines names way ++ rest) refl (way_step done name names classes jobs below last o queues queue e)
     ∙ ap (λ ds. says_next (S ds (queues ++ queue ∷ [])) (way_lines names way ++ rest)) (sym all)
     ∙ ways_run (done ++ name ∷ []) names classes jobs below last o (queues ++ queue ∷ []) way rest (omega (arith, e, length-append queues (queue ∷ []), length-append done (name ∷ []))) (omega (arith, f))
@@ -201,14 +201,14 @@ place_step : (done : List (List ℕ)) (name : List ℕ) (names : List (List ℕ)
 unfolding place_prices_next
 place_step done name names classes jobs below last o lists prices e = rw (e, named_next done name names) refl
 
-places_run : (done names : List (List ℕ)) (classes : List PlannedClass) (jobs below last : ℕ) (o : Opened) (before lists : List (List ℤ)) (rest : List Said) → length before ≡ length done → length lists ≡ length names
+places_run : (done names : List (List ℕ)) (classes : List PlannedClass) (jobs below last : ℕ) (o : Opened) (before lists : List (List ℤ)) (rest : List PlanLine) → length before ≡ length done → length lists ≡ length names
     → says_next (within stages.PlacePrices (done ++ names) classes jobs below last (with_places o before)) (place_price_lines names lists ++ rest) ≡ says_next (within stages.PlacePrices (done ++ names) classes jobs below last (with_places o (before ++ lists))) rest
 places_run done [] classes jobs below last o before [] rest e f = ap (λ ps. says_next (within stages.PlacePrices (done ++ []) classes jobs below last (with_places o ps)) rest) (sym (append-nil before))
 places_run done [] classes jobs below last o before (prices ∷ lists) rest e f = absurd (omega (arith, f))
 places_run done (name ∷ names) classes jobs below last o before [] rest e f = absurd (omega (arith, f))
 places_run done (name ∷ names) classes jobs below last o before (prices ∷ lists) rest e f =
     let all : (done ++ name ∷ []) ++ names ≡ done ++ name ∷ names = append_assoc done (name ∷ []) names in
-    let S : List (List ℕ) → List (List ℤ) → Heard = λ ds ps. within stages.PlacePrices ds classes jobs below last (with_places o ps) in
+    let S : List (List ℕ) → List (List ℤ) → DraftRecord = λ ds ps. within stages.PlacePrices ds classes jobs below last (with_places o ps) in
     stepped (S (done ++ name ∷ names) before) (S (done ++ name ∷ names) (before ++ prices ∷ [])) (SaysPlacePrices name prices) (place_price_lines names lists ++ rest) refl (place_step done name names classes jobs below last o before prices e)
     ∙ ap (λ ds. says_next (S ds (before ++ prices ∷ [])) (place_price_lines names lists ++ rest)) (sym all)
     ∙ places_run (done ++ name ∷ []) names classes jobs below last o (before ++ prices ∷ []) lists rest (omega (arith, e, length-append before (prices ∷ []), length-append done (name ∷ []))) (omega (arith, f))
@@ -229,14 +229,14 @@ full c = record {
 }
 
 -- these classes were read, the last class perhaps not closed yet
-record IsBetween (devices : List (List ℕ)) (classes : List PlannedClass) (jobs below : ℕ) (heard : Heard) : Type 0 where
+record IsBetween (devices : List (List ℕ)) (classes : List PlannedClass) (jobs below : ℕ) (heard : DraftRecord) : Type 0 where
   pub live : is_at heard stages.Ended ≡ false
   pub early : is_at heard stages.Stranded ≡ false
   pub stage : Stage
   pub opened : Opened
   pub closes : closed heard ≡ ok (within stage devices classes jobs below 0 opened)
 
-class_step : (devices : List (List ℕ)) (classes : List PlannedClass) (jobs below priority : ℕ) (heard : Heard) → IsBetween devices classes jobs below heard → priority < below
+class_step : (devices : List (List ℕ)) (classes : List PlannedClass) (jobs below priority : ℕ) (heard : DraftRecord) → IsBetween devices classes jobs below heard → priority < below
     → class_next heard priority ≡ ok (within stages.Jobs devices classes jobs priority 0 (opened_at priority))
 unfolding class_next class_opened
 class_step devices classes jobs below priority heard b l = rw (b.closes, lt-ltb priority below l) refl
@@ -256,7 +256,7 @@ job_prices_step : (devices : List (List ℕ)) (classes : List PlannedClass) (job
 unfolding job_prices_next
 job_prices_step devices classes jobs below last o prices = refl
 
-class_run : (devices : List (List ℕ)) (classes : List PlannedClass) (jobs below : ℕ) (heard : Heard) (c : PlannedClass) (rest : List Said) → IsBetween devices classes jobs below heard → c.priority < below → IsClassInRange (length devices) c → jobs + length c.problem.ids ≤ UNFINISHED_JOBS
+class_run : (devices : List (List ℕ)) (classes : List PlannedClass) (jobs below : ℕ) (heard : DraftRecord) (c : PlannedClass) (rest : List PlanLine) → IsBetween devices classes jobs below heard → c.priority < below → IsClassInRange (length devices) c → jobs + length c.problem.ids ≤ UNFINISHED_JOBS
     → says_next heard (class_lines devices c ++ rest) ≡ says_next (within stages.PlacePrices devices classes (jobs + length c.problem.ids) c.priority (last_of 0 c.problem.ids) (full c)) rest
 unfolding class_lines
 class_run devices classes jobs below heard c rest b l r few =
@@ -265,16 +265,16 @@ class_run devices classes jobs below heard c rest b l r few =
     let rows : List (List (Option ℕ)) = c.problem.rows in
     let n : ℕ = jobs + length ids in
     let last : ℕ = last_of 0 ids in
-    let J : List Said = job_lines ids rows in
-    let W : List Said = class_way_lines devices c in
-    let P : List Said = class_price_lines devices c in
+    let J : List PlanLine = job_lines ids rows in
+    let W : List PlanLine = class_way_lines devices c in
+    let P : List PlanLine = class_price_lines devices c in
     let o1 : Opened = with_jobs (opened_at p) ids rows in
     let o2 : Opened = record o1 { waits = c.problem.waits } in
     let o3 : Opened = with_queues o2 c.priced.way in
     let o4 : Opened = record o3 { total = c.priced.total } in
     let o5 : Opened = record o4 { job_prices = c.priced.prices.jobs } in
-    let prices : List Said = place_price_lines devices c.priced.prices.places ++ rest in
-    let totals : List Said = SaysTotal c.priced.total ∷ SaysJobPrices c.priced.prices.jobs ∷ prices in
+    let prices : List PlanLine = place_price_lines devices c.priced.prices.places ++ rest in
+    let totals : List PlanLine = SaysTotal c.priced.total ∷ SaysJobPrices c.priced.prices.jobs ∷ prices in
     stepped heard (within stages.Jobs devices classes jobs p 0 (opened_at p)) (SaysClass p) ((J ++ (W ++ P)) ++ rest) b.live (class_step devices classes jobs below p heard b l)
     ∙ ap (λ ls. says_next (within stages.Jobs devices classes jobs p 0 (opened_at p)) ls) (append_assoc J (W ++ P) rest ∙ ap (λ ls. J ++ ls) (append_assoc W P rest))
     ∙ jobs_run devices classes jobs p 0 (opened_at p) ids rows (W ++ (P ++ rest)) r.problem.one_row_each (λ k d m. r.problem.one_time_each k d m ∙ r.waits) (rise_from ids r.problem.rising r.ids) few
@@ -294,13 +294,13 @@ between_class : (devices : List (List ℕ)) (classes : List PlannedClass) (jobs 
 between_class devices classes jobs last c r = record { live = refl; early = refl; stage = stages.PlacePrices; opened = opened_at c.priority; closes = class_closes devices classes jobs last c r }
 
 -- the state of the reader after these lines
-record AfterClasses (devices : List (List ℕ)) (classes : List PlannedClass) (jobs : ℕ) (heard : Heard) (lines rest : List Said) : Type 0 where
-  pub heard' : Heard
+record AfterClasses (devices : List (List ℕ)) (classes : List PlannedClass) (jobs : ℕ) (heard : DraftRecord) (lines rest : List PlanLine) : Type 0 where
+  pub heard' : DraftRecord
   pub below : ℕ
   pub reads : says_next heard (lines ++ rest) ≡ says_next heard' rest
   pub between : IsBetween devices classes jobs below heard'
 
-classes_run : (devices : List (List ℕ)) (before : List PlannedClass) (jobs below : ℕ) (heard : Heard) (classes : List PlannedClass) (rest : List Said) → IsBetween devices before jobs below heard → PrioritiesFall below classes → All (IsClassInRange (length devices)) classes → jobs + jobs_in classes ≤ UNFINISHED_JOBS
+classes_run : (devices : List (List ℕ)) (before : List PlannedClass) (jobs below : ℕ) (heard : DraftRecord) (classes : List PlannedClass) (rest : List PlanLine) → IsBetween devices before jobs below heard → PrioritiesFall below classes → All (IsClassInRange (length devices)) classes → jobs + jobs_in classes ≤ UNFINISHED_JOBS
     → AfterClasses devices (before ++ classes) (jobs + jobs_in classes) heard (classes_lines devices classes) rest
 classes_run devices before jobs below heard [] rest b fall r few =
     let none : jobs ≡ jobs + 0 = omega arith in
@@ -308,7 +308,7 @@ classes_run devices before jobs below heard [] rest b fall r few =
 classes_run devices before jobs below heard (c ∷ classes) rest b fall r few =
     let first : IsClassInRange (length devices) c = All-head (IsClassInRange (length devices)) c classes r in
     let n : ℕ = jobs + length c.problem.ids in
-    let then' : Heard = within stages.PlacePrices devices before n c.priority (last_of 0 c.problem.ids) (full c) in
+    let then' : DraftRecord = within stages.PlacePrices devices before n c.priority (last_of 0 c.problem.ids) (full c) in
     let after : AfterClasses devices ((before ++ c ∷ []) ++ classes) (n + jobs_in classes) then' (classes_lines devices classes) rest =
     classes_run devices (before ++ c ∷ []) n c.priority then' classes rest (between_class devices before n (last_of 0 c.problem.ids) c first) fall.1 (All-tail (IsClassInRange (length devices)) c classes r) (omega (arith, few)) in
     let sum : n + jobs_in classes ≡ jobs + (length c.problem.ids + jobs_in classes) = omega arith in
@@ -322,18 +322,18 @@ classes_run devices before jobs below heard (c ∷ classes) rest b fall r few =
 -- ---- the stranded jobs and the end
 
 -- all classes and these stranded jobs have been heard
-record IsReady (devices : List (List ℕ)) (classes : List PlannedClass) (stranded : List Stranded) (jobs last : ℕ) (heard : Heard) : Type 0 where
+record IsReady (devices : List (List ℕ)) (classes : List PlannedClass) (stranded : List Stranded) (jobs last : ℕ) (heard : DraftRecord) : Type 0 where
   pub live : is_at heard stages.Ended ≡ false
   pub stage : Stage
   pub below : ℕ
   pub opened : Opened
   pub over : classes_over heard ≡ ok (record { stage = stage; devices = devices; classes = classes; stranded = stranded; jobs = jobs; below = below; last = last; opened = opened })
 
-ready_from : (devices : List (List ℕ)) (classes : List PlannedClass) (jobs below : ℕ) (heard : Heard) → IsBetween devices classes jobs below heard → IsReady devices classes [] jobs 0 heard
+ready_from : (devices : List (List ℕ)) (classes : List PlannedClass) (jobs below : ℕ) (heard : DraftRecord) → IsBetween devices classes jobs below heard → IsReady devices classes [] jobs 0 heard
 unfolding classes_over
 ready_from devices classes jobs below heard b = record { live = b.live; stage = b.stage; below = below; opened = b.opened; over = rw (b.early) b.closes }
 
-stranded_step : (devices : List (List ℕ)) (classes : List PlannedClass) (stranded : List Stranded) (jobs last : ℕ) (heard : Heard) (s : Stranded) (r : IsReady devices classes stranded jobs last heard) → jobs < UNFINISHED_JOBS → last < s.job
+stranded_step : (devices : List (List ℕ)) (classes : List PlannedClass) (stranded : List Stranded) (jobs last : ℕ) (heard : DraftRecord) (s : Stranded) (r : IsReady devices classes stranded jobs last heard) → jobs < UNFINISHED_JOBS → last < s.job
     → stranded_next heard s ≡ ok (record { stage = stages.Stranded; devices = devices; classes = classes; stranded = stranded ++ s ∷ []; jobs = jobs + 1; below = r.below; last = s.job; opened = r.opened })
 unfolding stranded_next stranded_added
 stranded_step devices classes stranded jobs last heard s r l m = rw (r.over, lt-ltb jobs UNFINISHED_JOBS l, lt-ltb last s.job m) refl
@@ -343,19 +343,19 @@ ready_again : (devices : List (List ℕ)) (classes : List PlannedClass) (strande
 unfolding classes_over
 ready_again devices classes stranded jobs below last opened = record { live = refl; stage = stages.Stranded; below = below; opened = opened; over = refl }
 
-record AfterStranded (devices : List (List ℕ)) (classes : List PlannedClass) (stranded : List Stranded) (heard : Heard) (lines rest : List Said) : Type 0 where
-  pub heard' : Heard
+record AfterStranded (devices : List (List ℕ)) (classes : List PlannedClass) (stranded : List Stranded) (heard : DraftRecord) (lines rest : List PlanLine) : Type 0 where
+  pub heard' : DraftRecord
   pub jobs : ℕ
   pub last : ℕ
   pub reads : says_next heard (lines ++ rest) ≡ says_next heard' rest
   pub ready : IsReady devices classes stranded jobs last heard'
 
-stranded_run : (devices : List (List ℕ)) (classes : List PlannedClass) (before : List Stranded) (jobs last : ℕ) (heard : Heard) (stranded : List Stranded) (rest : List Said) → IsReady devices classes before jobs last heard → StrandedRise last stranded → jobs + length stranded ≤ UNFINISHED_JOBS
+stranded_run : (devices : List (List ℕ)) (classes : List PlannedClass) (before : List Stranded) (jobs last : ℕ) (heard : DraftRecord) (stranded : List Stranded) (rest : List PlanLine) → IsReady devices classes before jobs last heard → StrandedRise last stranded → jobs + length stranded ≤ UNFINISHED_JOBS
     → AfterStranded devices classes (before ++ stranded) heard (stranded_lines stranded) rest
 stranded_run devices classes before jobs last heard [] rest r rise few =
     record { heard' = heard; jobs = jobs; last = last; reads = refl; ready = subst (λ ss. IsReady devices classes ss jobs last heard) (sym (append-nil before)) r }
 stranded_run devices classes before jobs last heard (s ∷ stranded) rest r rise few =
-    let then' : Heard = record { stage = stages.Stranded; devices = devices; classes = classes; stranded = before ++ s ∷ []; jobs = jobs + 1; below = r.below; last = s.job; opened = r.opened } in
+    let then' : DraftRecord = record { stage = stages.Stranded; devices = devices; classes = classes; stranded = before ++ s ∷ []; jobs = jobs + 1; below = r.below; last = s.job; opened = r.opened } in
     let after : AfterStranded devices classes ((before ++ s ∷ []) ++ stranded) then' (stranded_lines stranded) rest =
     stranded_run devices classes (before ++ s ∷ []) (jobs + 1) s.job then' stranded rest (ready_again devices classes (before ++ s ∷ []) (jobs + 1) r.below s.job r.opened) rise.1 (omega (arith, few)) in
     record {
@@ -366,12 +366,12 @@ stranded_run devices classes before jobs last heard (s ∷ stranded) rest r rise
       ready = subst (λ ss. IsReady devices classes ss after.jobs after.last after.heard') (append_assoc before (s ∷ []) stranded) after.ready;
     }
 
-end_step : (devices : List (List ℕ)) (classes : List PlannedClass) (stranded : List Stranded) (jobs last : ℕ) (heard : Heard) (r : IsReady devices classes stranded jobs last heard)
+end_step : (devices : List (List ℕ)) (classes : List PlannedClass) (stranded : List Stranded) (jobs last : ℕ) (heard : DraftRecord) (r : IsReady devices classes stranded jobs last heard)
     → end_next heard ≡ ok (record { stage = stages.Ended; devices = devices; classes = classes; stranded = stranded; jobs = jobs; below = r.below; last = last; opened = r.opened })
 unfolding end_next
 end_step devices classes stranded jobs last heard r = rw (r.over) refl
 
-ended_run : (devices : List (List ℕ)) (classes : List PlannedClass) (stranded : List Stranded) (jobs last : ℕ) (heard : Heard) → IsReady devices classes stranded jobs last heard
+ended_run : (devices : List (List ℕ)) (classes : List PlannedClass) (stranded : List Stranded) (jobs last : ℕ) (heard : DraftRecord) → IsReady devices classes stranded jobs last heard
     → (says_next heard (SaysEnd ∷ []) >>= λ h. ended h []) ≡ ok (record { devices = devices; plan = record { classes = classes; stranded = stranded } })
 unfolding ended
 ended_run devices classes stranded jobs last heard r = rw (r.live, end_step devices classes stranded jobs last heard r) refl
@@ -391,10 +391,10 @@ plan_back named r =
     let devices : List (List ℕ) = named.devices in
     let classes : List PlannedClass = named.plan.classes in
     let stranded : List Stranded = named.plan.stranded in
-    let last : List Said = SaysEnd ∷ [] in
-    let lines2 : List Said = stranded_lines stranded ++ last in
-    let lines1 : List Said = classes_lines devices classes ++ lines2 in
-    let finish : Result Heard TextFault → Result NamedPlan TextFault = λ h. h >>= λ heard. ended heard [] in
+    let last : List PlanLine = SaysEnd ∷ [] in
+    let lines2 : List PlanLine = stranded_lines stranded ++ last in
+    let lines1 : List PlanLine = classes_lines devices classes ++ lines2 in
+    let finish : Result DraftRecord TextFault → Result NamedPlan TextFault = λ h. h >>= λ heard. ended heard [] in
     let c : AfterClasses devices classes (jobs_in classes) (with_devices devices) (classes_lines devices classes) lines2 =
     subst (λ n. AfterClasses devices classes n (with_devices devices) (classes_lines devices classes) lines2) (let z : 0 + jobs_in classes ≡ jobs_in classes = omega arith in z)
     (classes_run devices [] 0 (HIGHEST_PRIORITY + 1) (with_devices devices) classes lines2 (between_none devices) r.fall r.classes (omega (arith, r.few_jobs))) in

@@ -2,10 +2,10 @@
 use Rattle.std.proofs.Common.{◌≡◌, ℕ, ℤ, List, [], ◌∷◌, ◌++◌, refl, sym, ap, ◌∙◌, append_assoc, codes, length, drop, get_or, ◌<◌, ◌+◌, add-one, drop-cons}
 use Rattle.plan_prices.specs.declared.plan.PlannedClass.{PlannedClass}
 use Rattle.plan_text.specs.NamedPlan.{NamedPlan}
-use Rattle.plan_text.specs.Line.{Said, SaysPlan, SaysEnd, SaysPlacePrices}
+use Rattle.plan_text.specs.Line.{PlanLine, SaysPlan, SaysEnd, SaysPlacePrices}
 use Rattle.plan_text.specs.Writing.{line_text, lines_text, class_job_lines, class_way_lines, class_price_lines, class_lines, classes_lines, device_lines, stranded_lines, plan_text, prices_text}
 
-pub lines_append : (lines more : List Said) → lines_text (lines ++ more) ≡ lines_text lines ++ lines_text more
+pub lines_append : (lines more : List PlanLine) → lines_text (lines ++ more) ≡ lines_text lines ++ lines_text more
 lines_append [] more = refl
 lines_append (line ∷ lines) more = rw (lines_append lines more) (sym (append_assoc (line_text line) (lines_text lines) (lines_text more)))
 

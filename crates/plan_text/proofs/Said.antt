@@ -15,8 +15,8 @@ use Rattle.plan_text.specs.declared.fault.TextFault.TheVariants.{BadLine}
 use Rattle.plan_text.specs.declared.stage.Stage.TheVariants as stages
 use Rattle.text.specs.Steps.{◌>>=◌}
 use Rattle.plan_text.specs.Word.{cause_at}
-use Rattle.plan_text.specs.Line.{Said, SaysPlan, SaysDevice, SaysClass, SaysJob, SaysWait, SaysWay, SaysTotal, SaysJobPrices, SaysPlacePrices, SaysStranded, SaysEnd, device_at, class_at, job_at, wait_at, way_at, total_at, job_prices_at, place_prices_at, stranded_at, line_of, line_at}
-use Rattle.plan_text.specs.Steps.{Heard, is_at, next}
+use Rattle.plan_text.specs.Line.{PlanLine, SaysPlan, SaysDevice, SaysClass, SaysJob, SaysWait, SaysWay, SaysTotal, SaysJobPrices, SaysPlacePrices, SaysStranded, SaysEnd, device_at, class_at, job_at, wait_at, way_at, total_at, job_prices_at, place_prices_at, stranded_at, line_of, line_at}
+use Rattle.plan_text.specs.Steps.{DraftRecord, is_at, next}
 use Rattle.plan_text.specs.Whole.{line_next, lines_next, nothing_heard, ended, plan_from, plan_in, plan_at}
 use Rattle.text.specs.Parts.{words_of, texts_of}
 use Rattle.plan_text.specs.Writing.{cause_word, entry_word, entries_text, numbers_text, prices_text, line_text, lines_text}
@@ -25,7 +25,7 @@ use Rattle.plan_text.proofs.Sound.{ok}
 use Rattle.plan_text.proofs.Again.{lacks, spaced, split_words, lacks-spaced, lacks-append, lacks-map, number_again, numbers_again, all_numbers, decimal_is_number, decimal_lacks, entries_again, all_entries, entry_lacks, prices_again, all_prices, price_lacks, name_lacks, none_in}
 
 -- the contents that a line may have
-abbrev pub SaidInRange : Said → Type 0
+abbrev pub SaidInRange : PlanLine → Type 0
 SaidInRange SaysPlan = Unit {0}
 SaidInRange (SaysDevice name) = is_name name ≡ true
 SaidInRange (SaysClass priority) = IsPriority priority
@@ -39,7 +39,7 @@ SaidInRange (SaysStranded stranded) = IsJobId stranded.job
 SaidInRange SaysEnd = Unit {0}
 
 -- the first word of a line, and the words after it
-abbrev pub first_of : Said → List ℕ
+abbrev pub first_of : PlanLine → List ℕ
 first_of SaysPlan = codes "plan"
 first_of (SaysDevice name) = codes "device"
 first_of (SaysClass priority) = codes "class"
@@ -52,7 +52,7 @@ first_of (SaysPlacePrices device prices) = codes "placeprices"
 first_of (SaysStranded stranded) = codes "stranded"
 first_of SaysEnd = codes "end"
 
-abbrev pub rest_of : Said → List (List ℕ)
+abbrev pub rest_of : PlanLine → List (List ℕ)
 rest_of SaysPlan = []
 rest_of (SaysDevice name) = name ∷ []
 rest_of (SaysClass priority) = decimal priority ∷ []
@@ -66,7 +66,7 @@ rest_of (SaysStranded stranded) = decimal stranded.job ∷ cause_word stranded.c
 rest_of SaysEnd = []
 
 -- the line without its line feed
-abbrev pub body_of : Said → List ℕ
+abbrev pub body_of : PlanLine → List ℕ
 body_of said = first_of said ++ spaced (rest_of said)
 
 entries_spaced : (times : List (Option ℕ)) → entries_text times ≡ spaced (map entry_word times)
@@ -91,7 +91,7 @@ word_and word text words e = ap (λ t. word ++ (t ++ feed)) e ∙ sym (append_as
 only_and : (word : List ℕ) → word ++ feed ≡ (word ++ []) ++ feed
 only_and word = ap (λ w. w ++ feed) (sym (append-nil word))
 
-pub line_is : (said : Said) → line_text said ≡ body_of said ++ feed
+pub line_is : (said : PlanLine) → line_text said ≡ body_of said ++ feed
 unfolding line_text
 line_is SaysPlan = refl
 line_is (SaysDevice name) = ap (λ rest. codes "device " ++ rest) (only_and name)
@@ -117,7 +117,7 @@ cause_lacks causes.Finishings = (refl, refl)
 cause_lacks causes.Media = (refl, refl)
 cause_lacks causes.Running = (refl, refl)
 
-first_lacks : (said : Said) → (lacks 32 (first_of said) ≡ true) × (lacks 10 (first_of said) ≡ true)
+first_lacks : (said : PlanLine) → (lacks 32 (first_of said) ≡ true) × (lacks 10 (first_of said) ≡ true)
 first_lacks SaysPlan = (refl, refl)
 first_lacks (SaysDevice name) = (refl, refl)
 first_lacks (SaysClass priority) = (refl, refl)
@@ -136,7 +136,7 @@ all_of_two a b ha hb = rw (ha, hb) refl
 one_lacks : (byte : ℕ) (word : List ℕ) → lacks byte word ≡ true → list_all (lacks byte) (word ∷ []) ≡ true
 one_lacks byte word h = and_from (lacks byte word) true h refl
 
-rest_lacks_space : (said : Said) → SaidInRange said → list_all (lacks 32) (rest_of said) ≡ true
+rest_lacks_space : (said : PlanLine) → SaidInRange said → list_all (lacks 32) (rest_of said) ≡ true
 rest_lacks_space SaysPlan h = refl
 rest_lacks_space (SaysDevice name) h = one_lacks 32 name (name_lacks 32 name refl h)
 rest_lacks_space (SaysClass priority) h = one_lacks 32 (decimal priority) (decimal_lacks 32 priority refl (omega (arith, h.1)))
@@ -149,7 +149,7 @@ rest_lacks_space (SaysPlacePrices device prices) h = and_from (lacks 32 device) 
 rest_lacks_space (SaysStranded stranded) h = all_of_two (lacks 32 (decimal stranded.job)) (lacks 32 (cause_word stranded.cause)) (decimal_lacks 32 stranded.job refl (omega (arith, h.1))) (cause_lacks stranded.cause).0
 rest_lacks_space SaysEnd h = refl
 
-rest_lacks_feed : (said : Said) → SaidInRange said → list_all (lacks 10) (rest_of said) ≡ true
+rest_lacks_feed : (said : PlanLine) → SaidInRange said → list_all (lacks 10) (rest_of said) ≡ true
 rest_lacks_feed SaysPlan h = refl
 rest_lacks_feed (SaysDevice name) h = one_lacks 10 name (name_lacks 10 name refl h)
 rest_lacks_feed (SaysClass priority) h = one_lacks 10 (decimal priority) (decimal_lacks 10 priority refl (omega (arith, h.1)))
@@ -162,7 +162,7 @@ rest_lacks_feed (SaysPlacePrices device prices) h = and_from (lacks 10 device) (
 rest_lacks_feed (SaysStranded stranded) h = all_of_two (lacks 10 (decimal stranded.job)) (lacks 10 (cause_word stranded.cause)) (decimal_lacks 10 stranded.job refl (omega (arith, h.1))) (cause_lacks stranded.cause).1
 rest_lacks_feed SaysEnd h = refl
 
-body_lacks : (said : Said) → SaidInRange said → lacks 10 (body_of said) ≡ true
+body_lacks : (said : PlanLine) → SaidInRange said → lacks 10 (body_of said) ≡ true
 body_lacks said h = lacks-append 10 (first_of said) (spaced (rest_of said)) (first_lacks said).1 (lacks-spaced (rest_of said) (rest_lacks_feed said h))
 
 -- ---- the words of a line are read as its content
@@ -176,7 +176,7 @@ cause_again causes.Finishings = refl
 cause_again causes.Media = refl
 cause_again causes.Running = refl
 
-said_again : (said : Said) → SaidInRange said → line_at (first_of said ∷ rest_of said) ≡ ok said
+said_again : (said : PlanLine) → SaidInRange said → line_at (first_of said ∷ rest_of said) ≡ ok said
 unfolding line_of device_at class_at job_at wait_at way_at total_at job_prices_at place_prices_at stranded_at
 said_again SaysPlan h = refl
 said_again (SaysDevice name) h = rw h refl
@@ -190,23 +190,23 @@ said_again (SaysPlacePrices device prices) h = rw (h.0, all_prices prices h.1, p
 said_again (SaysStranded stranded) h = rw (cause_again stranded.cause, number_again 1 LAST_JOB_ID stranded.job h.0 h.1 (omega (arith, h.1))) refl
 said_again SaysEnd h = refl
 
-pub line_again : (said : Said) → SaidInRange said → line_at (words_of (body_of said)) ≡ ok said
+pub line_again : (said : PlanLine) → SaidInRange said → line_at (words_of (body_of said)) ≡ ok said
 line_again said h = ap line_at (split_words (first_of said) (rest_of said) (first_lacks said).0 (rest_lacks_space said h)) ∙ said_again said h
 
 -- ---- the lines of a text
 
-abbrev pub AllInRange : List Said → Type 0
+abbrev pub AllInRange : List PlanLine → Type 0
 AllInRange [] = Unit {0}
 AllInRange (said ∷ lines) = SaidInRange said × AllInRange lines
 
-pub AllInRange-append : (xs ys : List Said) → AllInRange xs → AllInRange ys → AllInRange (xs ++ ys)
+pub AllInRange-append : (xs ys : List PlanLine) → AllInRange xs → AllInRange ys → AllInRange (xs ++ ys)
 AllInRange-append [] ys hx hy = hy
 AllInRange-append (x ∷ xs) ys hx hy = (hx.0, AllInRange-append xs ys hx.1 hy)
 
 none_breaks : (word : List ℕ) → lacks 10 word ≡ true → All (λ x. (x == 10) ≡ false) word
 none_breaks word h = none_in 10 word h
 
-parts_are : (lines : List Said) → AllInRange lines → texts_of (lines_text lines) ≡ map body_of lines ++ [] ∷ []
+parts_are : (lines : List PlanLine) → AllInRange lines → texts_of (lines_text lines) ≡ map body_of lines ++ [] ∷ []
 parts_are [] h = refl
 parts_are (said ∷ lines) h =
     ap (λ text. texts_of (text ++ lines_text lines)) (line_is said)
@@ -215,25 +215,25 @@ parts_are (said ∷ lines) h =
     ∙ ap (λ parts. body_of said ∷ parts) (parts_are lines h.1)
 
 -- the state of the reader after lines with these contents, each in turn
-abbrev pub said_next : Heard → Said → Result Heard TextFault
+abbrev pub said_next : DraftRecord → PlanLine → Result DraftRecord TextFault
 said_next heard said = if is_at heard stages.Ended then Err BadLine else next heard said
 
-abbrev pub says_next : Heard → List Said → Result Heard TextFault
+abbrev pub says_next : DraftRecord → List PlanLine → Result DraftRecord TextFault
 says_next heard [] = Ok heard
 says_next heard (said ∷ lines) = said_next heard said >>= λ then'. says_next then' lines
 
-line_said : (heard : Heard) (said : Said) → SaidInRange said → line_next heard (body_of said) ≡ said_next heard said
+line_said : (heard : DraftRecord) (said : PlanLine) → SaidInRange said → line_next heard (body_of said) ≡ said_next heard said
 unfolding line_next
-line_said heard said h = ap (λ (r : Result Said TextFault). if is_at heard stages.Ended then Err BadLine else (r >>= λ said. next heard said)) (line_again said h)
+line_said heard said h = ap (λ (r : Result PlanLine TextFault). if is_at heard stages.Ended then Err BadLine else (r >>= λ said. next heard said)) (line_again said h)
 
-each_then : (r : Result Heard TextFault) (f g : Heard → Result Heard TextFault) → ((heard : Heard) → f heard ≡ g heard) → (r >>= f) ≡ (r >>= g)
+each_then : (r : Result DraftRecord TextFault) (f g : DraftRecord → Result DraftRecord TextFault) → ((heard : DraftRecord) → f heard ≡ g heard) → (r >>= f) ≡ (r >>= g)
 each_then (Ok heard) f g same = same heard
 each_then (Err fault) f g same = refl
 
-lines_said : (heard : Heard) (lines : List Said) → AllInRange lines → lines_next heard (map body_of lines) ≡ says_next heard lines
+lines_said : (heard : DraftRecord) (lines : List PlanLine) → AllInRange lines → lines_next heard (map body_of lines) ≡ says_next heard lines
 lines_said heard [] h = refl
 lines_said heard (said ∷ lines) h =
-    ap (λ (r : Result Heard TextFault). r >>= λ then'. lines_next then' (map body_of lines)) (line_said heard said h.0)
+    ap (λ (r : Result DraftRecord TextFault). r >>= λ then'. lines_next then' (map body_of lines)) (line_said heard said h.0)
     ∙ each_then (said_next heard said) (λ then'. lines_next then' (map body_of lines)) (λ then'. says_next then' lines) (λ then'. lines_said then' lines h.1)
 
 front_is : (xs ys : List (List ℕ)) → take (length xs) (xs ++ ys) ≡ xs
@@ -245,7 +245,7 @@ last_is [] x = refl
 last_is (y ∷ xs) x = last_is xs x
 
 -- the result of reading a text of these lines
-pub text_said : (lines : List Said) → AllInRange lines → plan_at (lines_text lines) ≡ (says_next (nothing_heard DEFAULT_PRIORITY) lines >>= λ heard. ended heard [])
+pub text_said : (lines : List PlanLine) → AllInRange lines → plan_at (lines_text lines) ≡ (says_next (nothing_heard DEFAULT_PRIORITY) lines >>= λ heard. ended heard [])
 unfolding plan_in plan_from
 text_said lines h =
     let whole : List (List ℕ) = map body_of lines in
@@ -255,4 +255,4 @@ text_said lines h =
     ∙ ap (λ n. plan_from (take n all) (slice_index_or all n [])) count
     ∙ ap (λ ls. plan_from ls (slice_index_or all (length whole) [])) (front_is whole ([] ∷ []))
     ∙ ap (λ rest. plan_from whole rest) (last_is whole [])
-    ∙ ap (λ (r : Result Heard TextFault). r >>= λ heard. ended heard []) (lines_said (nothing_heard DEFAULT_PRIORITY) lines h)
+    ∙ ap (λ (r : Result DraftRecord TextFault). r >>= λ heard. ended heard []) (lines_said (nothing_heard DEFAULT_PRIORITY) lines h)

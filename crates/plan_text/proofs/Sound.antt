@@ -14,8 +14,8 @@ use Rattle.text.proofs.Chains.{went_on}
 use Rattle.plan_text.specs.Reading.{Gives}
 use Rattle.plan_text.specs.NamedPlan.{NamedPlan, HasOneEach}
 use Rattle.plan_prices.specs.Plan.{HasOneListEach}
-use Rattle.plan_text.specs.Line.{Said, SaysPlan, SaysDevice, SaysClass, SaysJob, SaysWait, SaysWay, SaysTotal, SaysJobPrices, SaysPlacePrices, SaysStranded, SaysEnd, line_at}
-use Rattle.plan_text.specs.Steps.{Heard, stage_number, is_at, one_each, is_named, may_have, plan_next, device_next, is_problem, problem_of, planned, opened_at, opened_kept, closed, class_opened, class_next, job_next, wait_next, way_next, total_next, job_prices_next, place_prices_next, classes_over, stranded_added, stranded_next, end_next, next}
+use Rattle.plan_text.specs.Line.{PlanLine, SaysPlan, SaysDevice, SaysClass, SaysJob, SaysWait, SaysWay, SaysTotal, SaysJobPrices, SaysPlacePrices, SaysStranded, SaysEnd, line_at}
+use Rattle.plan_text.specs.Steps.{DraftRecord, stage_number, is_at, one_each, is_named, may_have, plan_next, device_next, is_problem, problem_of, planned, opened_at, opened_kept, closed, class_opened, class_next, job_next, wait_next, way_next, total_next, job_prices_next, place_prices_next, classes_over, stranded_added, stranded_next, end_next, next}
 use Rattle.plan_text.specs.Whole.{line_next, lines_next, nothing_heard, plan_of, ended, plan_from, plan_in, plan_at}
 use Rattle.text.specs.Parts.{words_of, texts_of}
 
@@ -45,30 +45,30 @@ pub record HasEach (devices : ℕ) (c : PlannedClass) : Type 0 where
   pub ways : length c.priced.way ≡ devices
   pub places : length c.priced.prices.places ≡ devices
 
-abbrev pub AllKept : Heard → Type 0
+abbrev pub AllKept : DraftRecord → Type 0
 AllKept heard = All (HasEach (length heard.devices)) heard.classes
 
 -- the state of the reader between two lines
-pub record IsSound (heard : Heard) : Type 0 where
+pub record IsSound (heard : DraftRecord) : Type 0 where
   pub kept : AllKept heard
   pub none_yet : stage_number heard.stage ≤ 1 → heard.classes ≡ []
   pub waits : 3 ≤ stage_number heard.stage → stage_number heard.stage ≤ 5 → length heard.opened.waits ≡ length heard.devices
   pub ways : 4 ≤ stage_number heard.stage → stage_number heard.stage ≤ 5 → length heard.opened.queues ≡ length heard.devices
 
-plan_sound : (heard new : Heard) → plan_next heard ≡ ok new → IsSound heard → IsSound new
+plan_sound : (heard new : DraftRecord) → plan_next heard ≡ ok new → IsSound heard → IsSound new
 unfolding plan_next
 plan_sound heard new h s =
-    let after : Heard = record heard { stage = stages.Devices } in
+    let after : DraftRecord = record heard { stage = stages.Devices } in
     let t = taken (is_at heard stages.Start) (ok after) BadLine new h in
     let here : stage_number heard.stage ≡ 0 = eqb-true (stage_number heard.stage) 0 t.0 in
     let none : heard.classes ≡ [] = s.none_yet (omega arith) in
     let sound : IsSound after = record { kept = s.kept; none_yet = λ _. none; waits = λ l m. absurd (omega (arith, l)); ways = λ l m. absurd (omega (arith, l)) } in
     subst IsSound (ok_is after new t.1) sound
 
-device_sound : (heard new : Heard) (name : List ℕ) → device_next heard name ≡ ok new → IsSound heard → IsSound new
+device_sound : (heard new : DraftRecord) (name : List ℕ) → device_next heard name ≡ ok new → IsSound heard → IsSound new
 unfolding device_next
 device_sound heard new name h s =
-    let after : Heard = record heard { devices = heard.devices ++ name ∷ [] } in
+    let after : DraftRecord = record heard { devices = heard.devices ++ name ∷ [] } in
     let p = passed (not (is_at heard stages.Devices)) (if nat_lt (length heard.devices) DEVICES then ok after else Err OutOfRange) BadLine new h in
     let t = taken (nat_lt (length heard.devices) DEVICES) (ok after) OutOfRange new p.1 in
     let here : stage_number heard.stage ≡ 1 = eqb-true (stage_number heard.stage) 1 (not-false (is_at heard stages.Devices) p.0) in
@@ -79,10 +79,10 @@ device_sound heard new name h s =
     subst IsSound (ok_is after new t.1) sound
 
 -- a closed class has the properties of each class
-closed_kept : (heard whole : Heard) → closed heard ≡ ok whole → IsSound heard → AllKept whole
+closed_kept : (heard whole : DraftRecord) → closed heard ≡ ok whole → IsSound heard → AllKept whole
 unfolding closed
 closed_kept heard whole h s =
-    let good : Result Heard TextFault = if is_problem (problem_of heard.opened) then ok (opened_kept heard) else Err OutOfRange in
+    let good : Result DraftRecord TextFault = if is_problem (problem_of heard.opened) then ok (opened_kept heard) else Err OutOfRange in
     let last : Bool = is_at heard stages.PlacePrices && one_each heard heard.opened.place_prices in
     elim (either (is_at heard stages.Devices) (ok heard) (if last then good else Err BadLine) whole h) [
       | inl early ↦ subst AllKept (ok_is heard whole early.1) s.kept
@@ -101,20 +101,20 @@ closed_kept heard whole h s =
           subst AllKept (ok_is (opened_kept heard) whole p.1) all
     ]
 
-class_sound : (heard new : Heard) (priority : ℕ) → class_next heard priority ≡ ok new → IsSound heard → IsSound new
+class_sound : (heard new : DraftRecord) (priority : ℕ) → class_next heard priority ≡ ok new → IsSound heard → IsSound new
 unfolding class_next class_opened
 class_sound heard new priority h s =
     let w = went_on (closed heard) (λ whole. class_opened whole priority) new h in
-    let whole : Heard = w.0 in
-    let after : Heard = record whole { stage = stages.Jobs; below = priority; last = 0; opened = opened_at priority } in
+    let whole : DraftRecord = w.0 in
+    let after : DraftRecord = record whole { stage = stages.Jobs; below = priority; last = 0; opened = opened_at priority } in
     let t = taken (nat_lt priority whole.below) (ok after) OutOfRange new w.2 in
     let sound : IsSound after = record { kept = closed_kept heard whole w.1 s; none_yet = λ l. absurd (omega (arith, l)); waits = λ l m. absurd (omega (arith, l)); ways = λ l m. absurd (omega (arith, l)) } in
     subst IsSound (ok_is after new t.1) sound
 
-job_sound : (heard new : Heard) (id : ℕ) (times : List (Option ℕ)) → job_next heard id times ≡ ok new → IsSound heard → IsSound new
+job_sound : (heard new : DraftRecord) (id : ℕ) (times : List (Option ℕ)) → job_next heard id times ≡ ok new → IsSound heard → IsSound new
 unfolding job_next
 job_sound heard new id times h s =
-    let after : Heard = record heard { jobs = heard.jobs + 1; last = id; opened = record heard.opened { ids = heard.opened.ids ++ id ∷ []; rows = heard.opened.rows ++ times ∷ [] } } in
+    let after : DraftRecord = record heard { jobs = heard.jobs + 1; last = id; opened = record heard.opened { ids = heard.opened.ids ++ id ∷ []; rows = heard.opened.rows ++ times ∷ [] } } in
     let p = passed (not (is_at heard stages.Jobs && one_each heard times)) (if may_have heard id then ok after else Err OutOfRange) BadLine new h in
     let t = taken (may_have heard id) (ok after) OutOfRange new p.1 in
     let b : (is_at heard stages.Jobs ≡ true) × (one_each heard times ≡ true) = and_parts (is_at heard stages.Jobs) (one_each heard times) (not-false (is_at heard stages.Jobs && one_each heard times) p.0) in
@@ -122,29 +122,29 @@ job_sound heard new id times h s =
     let sound : IsSound after = record { kept = s.kept; none_yet = λ l. absurd (omega (arith, l, here)); waits = λ l m. absurd (omega (arith, l, here)); ways = λ l m. absurd (omega (arith, l, here)) } in
     subst IsSound (ok_is after new t.1) sound
 
-wait_sound : (heard new : Heard) (waits : List ℕ) → wait_next heard waits ≡ ok new → IsSound heard → IsSound new
+wait_sound : (heard new : DraftRecord) (waits : List ℕ) → wait_next heard waits ≡ ok new → IsSound heard → IsSound new
 unfolding wait_next
 wait_sound heard new waits h s =
-    let after : Heard = record heard { stage = stages.Ways; opened = record heard.opened { waits = waits } } in
+    let after : DraftRecord = record heard { stage = stages.Ways; opened = record heard.opened { waits = waits } } in
     let t = taken (is_at heard stages.Jobs && one_each heard waits) (ok after) BadLine new h in
     let b : (is_at heard stages.Jobs ≡ true) × (one_each heard waits ≡ true) = and_parts (is_at heard stages.Jobs) (one_each heard waits) t.0 in
     let sound : IsSound after = record { kept = s.kept; none_yet = λ l. absurd (omega (arith, l)); waits = λ l m. eqb-true (length waits) (length heard.devices) b.1; ways = λ l m. absurd (omega (arith, l)) } in
     subst IsSound (ok_is after new t.1) sound
 
-way_sound : (heard new : Heard) (name jobs : List ℕ) → way_next heard name jobs ≡ ok new → IsSound heard → IsSound new
+way_sound : (heard new : DraftRecord) (name jobs : List ℕ) → way_next heard name jobs ≡ ok new → IsSound heard → IsSound new
 unfolding way_next
 way_sound heard new name jobs h s =
-    let after : Heard = record heard { opened = record heard.opened { queues = heard.opened.queues ++ jobs ∷ [] } } in
+    let after : DraftRecord = record heard { opened = record heard.opened { queues = heard.opened.queues ++ jobs ∷ [] } } in
     let t = taken (is_at heard stages.Ways && is_named heard (length heard.opened.queues) name) (ok after) BadLine new h in
     let b : (is_at heard stages.Ways ≡ true) × (is_named heard (length heard.opened.queues) name ≡ true) = and_parts (is_at heard stages.Ways) (is_named heard (length heard.opened.queues) name) t.0 in
     let here : stage_number heard.stage ≡ 3 = eqb-true (stage_number heard.stage) 3 b.0 in
     let sound : IsSound after = record { kept = s.kept; none_yet = λ l. absurd (omega (arith, l, here)); waits = s.waits; ways = λ l m. absurd (omega (arith, l, here)) } in
     subst IsSound (ok_is after new t.1) sound
 
-total_sound : (heard new : Heard) (total : ℕ) → total_next heard total ≡ ok new → IsSound heard → IsSound new
+total_sound : (heard new : DraftRecord) (total : ℕ) → total_next heard total ≡ ok new → IsSound heard → IsSound new
 unfolding total_next
 total_sound heard new total h s =
-    let after : Heard = record heard { stage = stages.JobPrices; opened = record heard.opened { total = total } } in
+    let after : DraftRecord = record heard { stage = stages.JobPrices; opened = record heard.opened { total = total } } in
     let t = taken (is_at heard stages.Ways && one_each heard heard.opened.queues) (ok after) BadLine new h in
     let b : (is_at heard stages.Ways ≡ true) × (one_each heard heard.opened.queues ≡ true) = and_parts (is_at heard stages.Ways) (one_each heard heard.opened.queues) t.0 in
     let here : stage_number heard.stage ≡ 3 = eqb-true (stage_number heard.stage) 3 b.0 in
@@ -152,10 +152,10 @@ total_sound heard new total h s =
     let sound : IsSound after = record { kept = s.kept; none_yet = λ l. absurd (omega (arith, l)); waits = λ l m. waits; ways = λ l m. eqb-true (length heard.opened.queues) (length heard.devices) b.1 } in
     subst IsSound (ok_is after new t.1) sound
 
-job_prices_sound : (heard new : Heard) (prices : List ℤ) → job_prices_next heard prices ≡ ok new → IsSound heard → IsSound new
+job_prices_sound : (heard new : DraftRecord) (prices : List ℤ) → job_prices_next heard prices ≡ ok new → IsSound heard → IsSound new
 unfolding job_prices_next
 job_prices_sound heard new prices h s =
-    let after : Heard = record heard { stage = stages.PlacePrices; opened = record heard.opened { job_prices = prices } } in
+    let after : DraftRecord = record heard { stage = stages.PlacePrices; opened = record heard.opened { job_prices = prices } } in
     let t = taken (is_at heard stages.JobPrices) (ok after) BadLine new h in
     let here : stage_number heard.stage ≡ 4 = eqb-true (stage_number heard.stage) 4 t.0 in
     let waits : length heard.opened.waits ≡ length heard.devices = s.waits (omega arith) (omega arith) in
@@ -163,41 +163,41 @@ job_prices_sound heard new prices h s =
     let sound : IsSound after = record { kept = s.kept; none_yet = λ l. absurd (omega (arith, l)); waits = λ l m. waits; ways = λ l m. ways } in
     subst IsSound (ok_is after new t.1) sound
 
-place_prices_sound : (heard new : Heard) (name : List ℕ) (prices : List ℤ) → place_prices_next heard name prices ≡ ok new → IsSound heard → IsSound new
+place_prices_sound : (heard new : DraftRecord) (name : List ℕ) (prices : List ℤ) → place_prices_next heard name prices ≡ ok new → IsSound heard → IsSound new
 unfolding place_prices_next
 place_prices_sound heard new name prices h s =
-    let after : Heard = record heard { opened = record heard.opened { place_prices = heard.opened.place_prices ++ prices ∷ [] } } in
+    let after : DraftRecord = record heard { opened = record heard.opened { place_prices = heard.opened.place_prices ++ prices ∷ [] } } in
     let t = taken (is_at heard stages.PlacePrices && is_named heard (length heard.opened.place_prices) name) (ok after) BadLine new h in
     let sound : IsSound after = record { kept = s.kept; none_yet = s.none_yet; waits = s.waits; ways = s.ways } in
     subst IsSound (ok_is after new t.1) sound
 
-over_kept : (heard whole : Heard) → classes_over heard ≡ ok whole → IsSound heard → AllKept whole
+over_kept : (heard whole : DraftRecord) → classes_over heard ≡ ok whole → IsSound heard → AllKept whole
 unfolding classes_over
 over_kept heard whole h s = elim (either (is_at heard stages.Stranded) (ok heard) (closed heard) whole h) [
   | inl stays ↦ subst AllKept (ok_is heard whole stays.1) s.kept
   | inr closes ↦ closed_kept heard whole closes.1 s
 ]
 
-stranded_sound : (heard new : Heard) (stranded : Stranded) → stranded_next heard stranded ≡ ok new → IsSound heard → IsSound new
+stranded_sound : (heard new : DraftRecord) (stranded : Stranded) → stranded_next heard stranded ≡ ok new → IsSound heard → IsSound new
 unfolding stranded_next stranded_added
 stranded_sound heard new stranded h s =
     let w = went_on (classes_over heard) (λ whole. stranded_added whole stranded) new h in
-    let whole : Heard = w.0 in
-    let after : Heard = record whole { stage = stages.Stranded; stranded = whole.stranded ++ stranded ∷ []; jobs = whole.jobs + 1; last = stranded.job } in
+    let whole : DraftRecord = w.0 in
+    let after : DraftRecord = record whole { stage = stages.Stranded; stranded = whole.stranded ++ stranded ∷ []; jobs = whole.jobs + 1; last = stranded.job } in
     let t = taken (may_have whole stranded.job) (ok after) OutOfRange new w.2 in
     let sound : IsSound after = record { kept = over_kept heard whole w.1 s; none_yet = λ l. absurd (omega (arith, l)); waits = λ l m. absurd (omega (arith, m)); ways = λ l m. absurd (omega (arith, m)) } in
     subst IsSound (ok_is after new t.1) sound
 
-end_sound : (heard new : Heard) → end_next heard ≡ ok new → IsSound heard → IsSound new
+end_sound : (heard new : DraftRecord) → end_next heard ≡ ok new → IsSound heard → IsSound new
 unfolding end_next
 end_sound heard new h s =
-    let w = went_on (classes_over heard) (λ (whole : Heard). ok (record whole { stage = stages.Ended })) new h in
-    let whole : Heard = w.0 in
-    let after : Heard = record whole { stage = stages.Ended } in
+    let w = went_on (classes_over heard) (λ (whole : DraftRecord). ok (record whole { stage = stages.Ended })) new h in
+    let whole : DraftRecord = w.0 in
+    let after : DraftRecord = record whole { stage = stages.Ended } in
     let sound : IsSound after = record { kept = over_kept heard whole w.1 s; none_yet = λ l. absurd (omega (arith, l)); waits = λ l m. absurd (omega (arith, m)); ways = λ l m. absurd (omega (arith, m)) } in
     subst IsSound (ok_is after new w.2) sound
 
-next_sound : (heard new : Heard) (said : Said) → next heard said ≡ ok new → IsSound heard → IsSound new
+next_sound : (heard new : DraftRecord) (said : PlanLine) → next heard said ≡ ok new → IsSound heard → IsSound new
 next_sound heard new SaysPlan h s = plan_sound heard new h s
 next_sound heard new (SaysDevice name) h s = device_sound heard new name h s
 next_sound heard new (SaysClass priority) h s = class_sound heard new priority h s
@@ -210,14 +210,14 @@ next_sound heard new (SaysPlacePrices device prices) h s = place_prices_sound he
 next_sound heard new (SaysStranded stranded) h s = stranded_sound heard new stranded h s
 next_sound heard new SaysEnd h s = end_sound heard new h s
 
-line_sound : (heard new : Heard) (line : List ℕ) → line_next heard line ≡ ok new → IsSound heard → IsSound new
+line_sound : (heard new : DraftRecord) (line : List ℕ) → line_next heard line ≡ ok new → IsSound heard → IsSound new
 unfolding line_next
 line_sound heard new line h s =
     let p = passed (is_at heard stages.Ended) (line_at (words_of line) >>= λ said. next heard said) BadLine new h in
     let w = went_on (line_at (words_of line)) (λ said. next heard said) new p.1 in
     next_sound heard new w.0 w.2 s
 
-lines_sound : (heard new : Heard) (lines : List (List ℕ)) → lines_next heard lines ≡ ok new → IsSound heard → IsSound new
+lines_sound : (heard new : DraftRecord) (lines : List (List ℕ)) → lines_next heard lines ≡ ok new → IsSound heard → IsSound new
 lines_sound heard new [] h s = subst IsSound (ok_is heard new h) s
 lines_sound heard new (line ∷ lines) h s =
     let w = went_on (line_next heard line) (λ then'. lines_next then' lines) new h in
@@ -229,7 +229,7 @@ start_sound priority = record { kept = All-nil (HasEach 0); none_yet = λ _. ref
 abbrev pub EachHasLists : NamedPlan → Type 0
 EachHasLists named = All (HasEach (length named.devices)) named.plan.classes
 
-ended_kept : (heard : Heard) (rest : List ℕ) (named : NamedPlan) → ended heard rest ≡ ok named → IsSound heard → EachHasLists named
+ended_kept : (heard : DraftRecord) (rest : List ℕ) (named : NamedPlan) → ended heard rest ≡ ok named → IsSound heard → EachHasLists named
 unfolding ended
 ended_kept heard rest named h s =
     let p = passed (not (is_at heard stages.Ended)) (if length rest == 0 then ok (plan_of heard) else Err BadLine) NoEnd named h in

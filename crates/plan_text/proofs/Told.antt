@@ -22,8 +22,8 @@ use Rattle.plan_text.specs.declared.fault.ReadError.{ReadError}
 use Rattle.plan_text.specs.Reading.{Gives}
 use Rattle.plan_text.specs.TextOf.{IsTextOf}
 use Rattle.plan_text.specs.NamedPlan.{NamedPlan}
-use Rattle.plan_text.specs.Line.{Said, SaysPlan, SaysDevice, SaysClass, SaysJob, SaysWait, SaysWay, SaysTotal, SaysJobPrices, SaysPlacePrices, SaysStranded, SaysEnd, line_at}
-use Rattle.plan_text.specs.Steps.{Heard, Opened, stage_number, is_at, one_each, is_named, may_have, plan_next, device_next, is_problem, problem_of, planned, opened_at, opened_kept, closed, class_opened, class_next, job_next, wait_next, way_next, total_next, job_prices_next, place_prices_next, classes_over, stranded_added, stranded_next, end_next, next}
+use Rattle.plan_text.specs.Line.{PlanLine, SaysPlan, SaysDevice, SaysClass, SaysJob, SaysWait, SaysWay, SaysTotal, SaysJobPrices, SaysPlacePrices, SaysStranded, SaysEnd, line_at}
+use Rattle.plan_text.specs.Steps.{DraftRecord, Opened, stage_number, is_at, one_each, is_named, may_have, plan_next, device_next, is_problem, problem_of, planned, opened_at, opened_kept, closed, class_opened, class_next, job_next, wait_next, way_next, total_next, job_prices_next, place_prices_next, classes_over, stranded_added, stranded_next, end_next, next}
 use Rattle.plan_text.specs.Whole.{line_next, lines_next, nothing_heard, plan_of, ended, plan_from, plan_in, plan_at}
 use Rattle.plan_text.specs.Writing.{line_text, lines_text, job_lines, way_lines, place_price_lines, class_lines, device_lines, stranded_lines, classes_lines, plan_lines, plan_text}
 use Rattle.plan_text.specs.Ranges.{IsPrice, IsClassInRange, PrioritiesFall, StrandedRise, jobs_in, IsPlanInRange}
@@ -58,7 +58,7 @@ stage_back stages.PlacePrices = refl
 stage_back stages.Stranded = refl
 stage_back stages.Ended = refl
 
-stage_is : (heard : Heard) (stage : Stage) → is_at heard stage ≡ true → heard.stage ≡ stage
+stage_is : (heard : DraftRecord) (stage : Stage) → is_at heard stage ≡ true → heard.stage ≡ stage
 stage_is heard stage h = sym (stage_back heard.stage) ∙ ap stage_of (eqb-true (stage_number heard.stage) (stage_number stage) h) ∙ stage_back stage
 
 lower : (m n : ℕ) → nat_lt m n ≡ true → m < n
@@ -67,17 +67,17 @@ lower m n h = grind (arith, nat_tests)
 -- ---- the lines of the reader's state
 
 -- the devices and the classes
-abbrev front : Heard → List Said
+abbrev front : DraftRecord → List PlanLine
 front heard = SaysPlan ∷ (device_lines heard.devices ++ classes_lines heard.devices heard.classes)
 
 -- the parts of the class that is being read
-abbrev job_part : Opened → List Said
+abbrev job_part : Opened → List PlanLine
 job_part o = SaysClass o.priority ∷ job_lines o.ids o.rows
 
-abbrev way_part : List (List ℕ) → Opened → List Said
+abbrev way_part : List (List ℕ) → Opened → List PlanLine
 way_part devices o = SaysWait o.waits ∷ way_lines devices o.queues
 
-abbrev told_at : Stage → Heard → List Said
+abbrev told_at : Stage → DraftRecord → List PlanLine
 told_at stages.Start h = []
 told_at stages.Devices h = front h
 told_at stages.Jobs h = front h ++ job_part h.opened
@@ -99,13 +99,13 @@ abbrev RisesBefore : ℕ → List Stranded → ℕ → Type 0
 RisesBefore above [] id = above < id
 RisesBefore above (s ∷ stranded) id = (above < s.job) × RisesBefore s.job stranded id
 
-record IsFront (h : Heard) : Type 0 where
+record IsFront (h : DraftRecord) : Type 0 where
   pub few_devices : length h.devices ≤ DEVICES
   pub names : All (λ name. IsTrue (is_name name)) h.devices
   pub classes : All (IsClassInRange (length h.devices)) h.classes
   pub fall : PrioritiesFall (HIGHEST_PRIORITY + 1) h.classes
 
-record IsWithin (h : Heard) : Type 0 where
+record IsWithin (h : DraftRecord) : Type 0 where
   pub front : IsFront h
   pub priority : IsPriority h.opened.priority
   pub before : FallsBefore (HIGHEST_PRIORITY + 1) h.classes h.opened.priority
@@ -120,7 +120,7 @@ record IsWithin (h : Heard) : Type 0 where
   pub count : h.jobs ≡ jobs_in h.classes + length h.opened.ids
   pub few : h.jobs ≤ UNFINISHED_JOBS
 
-record IsOver (h : Heard) : Type 0 where
+record IsOver (h : DraftRecord) : Type 0 where
   pub front : IsFront h
   pub stranded : All (λ s. IsJobId s.job) h.stranded
   pub rise : StrandedRise 0 h.stranded
@@ -128,7 +128,7 @@ record IsOver (h : Heard) : Type 0 where
   pub count : h.jobs ≡ jobs_in h.classes + length h.stranded
   pub few : h.jobs ≤ UNFINISHED_JOBS
 
-abbrev Facts : Stage → Heard → Type 0
+abbrev Facts : Stage → DraftRecord → Type 0
 Facts stages.Start h = h ≡ nothing_heard DEFAULT_PRIORITY
 Facts stages.Devices h = (h ≡ with_devices h.devices) × (length h.devices ≤ DEVICES) × All (λ name. IsTrue (is_name name)) h.devices
 Facts stages.Jobs h = IsWithin h × (h.opened.queues ≡ []) × (h.opened.place_prices ≡ [])
@@ -138,28 +138,28 @@ Facts stages.PlacePrices h = IsWithin h × (length h.opened.waits ≡ length h.d
 Facts stages.Stranded h = IsOver h
 Facts stages.Ended h = IsOver h
 
-abbrev TellsAt : Stage → List Said → Heard → Type 0
+abbrev TellsAt : Stage → List PlanLine → DraftRecord → Type 0
 TellsAt stage lines h = (lines ≡ told_at stage h) × Facts stage h
 
 -- the state of the reader is that of exactly these lines
-abbrev Tells : List Said → Heard → Type 0
+abbrev Tells : List PlanLine → DraftRecord → Type 0
 Tells lines h = TellsAt h.stage lines h
 
-tells_at : (stage : Stage) (lines : List Said) (h : Heard) → is_at h stage ≡ true → Tells lines h → TellsAt stage lines h
+tells_at : (stage : Stage) (lines : List PlanLine) (h : DraftRecord) → is_at h stage ≡ true → Tells lines h → TellsAt stage lines h
 tells_at stage lines h is t = subst (λ s. TellsAt s lines h) (stage_is h stage is) t
 
-abbrev WouldTell : List Said → Said → Heard → Type 0
+abbrev WouldTell : List PlanLine → PlanLine → DraftRecord → Type 0
 WouldTell lines said new = Tells (lines ++ said ∷ []) new
 
 -- a line behind this number of parts
 
-behind1 : (a b : List Said) (said : Said) → (a ++ b) ++ said ∷ [] ≡ a ++ (b ++ said ∷ [])
+behind1 : (a b : List PlanLine) (said : PlanLine) → (a ++ b) ++ said ∷ [] ≡ a ++ (b ++ said ∷ [])
 behind1 a b said = append_assoc a b (said ∷ [])
 
-behind2 : (a b c : List Said) (said : Said) → (a ++ (b ++ c)) ++ said ∷ [] ≡ a ++ (b ++ (c ++ said ∷ []))
+behind2 : (a b c : List PlanLine) (said : PlanLine) → (a ++ (b ++ c)) ++ said ∷ [] ≡ a ++ (b ++ (c ++ said ∷ []))
 behind2 a b c said = behind1 a (b ++ c) said ∙ ap (λ l. a ++ l) (behind1 b c said)
 
-behind3 : (a b c d : List Said) (said : Said) → (a ++ (b ++ (c ++ d))) ++ said ∷ [] ≡ a ++ (b ++ (c ++ (d ++ said ∷ [])))
+behind3 : (a b c d : List PlanLine) (said : PlanLine) → (a ++ (b ++ (c ++ d))) ++ said ∷ [] ≡ a ++ (b ++ (c ++ (d ++ said ∷ [])))
 behind3 a b c d said = behind2 a b (c ++ d) said ∙ ap (λ l. a ++ (b ++ l)) (behind1 c d said)
 
 -- ---- one more of each
@@ -225,19 +225,19 @@ all_more P xs x all last = All-append P xs (x ∷ []) all (All-cons P x [] last 
 
 -- ---- each line
 
-plan_told : (heard new : Heard) (lines : List Said) → plan_next heard ≡ ok new → Tells lines heard → WouldTell lines SaysPlan new
+plan_told : (heard new : DraftRecord) (lines : List PlanLine) → plan_next heard ≡ ok new → Tells lines heard → WouldTell lines SaysPlan new
 unfolding plan_next
 plan_told heard new lines h tells =
     let t = taken (is_at heard stages.Start) (ok (record heard { stage = stages.Devices })) BadLine new h in
     let here = tells_at stages.Start lines heard t.0 tells in
-    let P : Heard → Type 0 = λ (x : Heard). WouldTell lines SaysPlan (record x { stage = stages.Devices }) in
+    let P : DraftRecord → Type 0 = λ (x : DraftRecord). WouldTell lines SaysPlan (record x { stage = stages.Devices }) in
     let first : P (nothing_heard DEFAULT_PRIORITY) = (ap (λ l. l ++ SaysPlan ∷ []) here.0, (refl, omega arith, All-nil (λ name. IsTrue (is_name name)))) in
     subst (WouldTell lines SaysPlan) (ok_is (record heard { stage = stages.Devices }) new t.1) (subst P (sym here.1) first)
 
-device_told : (heard new : Heard) (lines : List Said) (name : List ℕ) → device_next heard name ≡ ok new → is_name name ≡ true → Tells lines heard → WouldTell lines (SaysDevice name) new
+device_told : (heard new : DraftRecord) (lines : List PlanLine) (name : List ℕ) → device_next heard name ≡ ok new → is_name name ≡ true → Tells lines heard → WouldTell lines (SaysDevice name) new
 unfolding device_next
 device_told heard new lines name h named tells =
-    let after : Heard = record heard { devices = heard.devices ++ name ∷ [] } in
+    let after : DraftRecord = record heard { devices = heard.devices ++ name ∷ [] } in
     let p = passed (not (is_at heard stages.Devices)) (if nat_lt (length heard.devices) DEVICES then ok after else Err OutOfRange) BadLine new h in
     let t = taken (nat_lt (length heard.devices) DEVICES) (ok after) OutOfRange new p.1 in
     let at : is_at heard stages.Devices ≡ true = not-false (is_at heard stages.Devices) p.0 in
@@ -245,8 +245,8 @@ device_told heard new lines name h named tells =
     let ds : List (List ℕ) = heard.devices in
     let more : List (List ℕ) = ds ++ name ∷ [] in
     let stage : heard.stage ≡ stages.Devices = stage_is heard stages.Devices at in
-    let none : heard.classes ≡ [] = ap (λ (x : Heard). x.classes) here.1.0 in
-    let is : after ≡ with_devices more = ap (λ (x : Heard). let y : Heard = record x { devices = more } in y) here.1.0 in
+    let none : heard.classes ≡ [] = ap (λ (x : DraftRecord). x.classes) here.1.0 in
+    let is : after ≡ with_devices more = ap (λ (x : DraftRecord). let y : DraftRecord = record x { devices = more } in y) here.1.0 in
     let less : length ds < DEVICES = lower (length ds) DEVICES t.0 in
     let text : lines ++ SaysDevice name ∷ [] ≡ front after =
     ap (λ l. l ++ SaysDevice name ∷ []) here.0
@@ -258,7 +258,7 @@ device_told heard new lines name h named tells =
     subst (WouldTell lines (SaysDevice name)) (ok_is after new t.1) (subst (λ s. TellsAt s (lines ++ SaysDevice name ∷ []) after) (sym stage) facts)
 
 -- all classes have been heard, and nothing behind them
-record IsClosed (lines : List Said) (h : Heard) : Type 0 where
+record IsClosed (lines : List PlanLine) (h : DraftRecord) : Type 0 where
   pub text : lines ≡ front h
   pub front : IsFront h
   pub under : (p : ℕ) → p < h.below → FallsBefore (HIGHEST_PRIORITY + 1) h.classes p
@@ -267,12 +267,12 @@ record IsClosed (lines : List Said) (h : Heard) : Type 0 where
   pub count : h.jobs ≡ jobs_in h.classes
   pub few : h.jobs ≤ UNFINISHED_JOBS
 
-devices_closed : (lines : List Said) (heard : Heard) → TellsAt stages.Devices lines heard → IsClosed lines heard
+devices_closed : (lines : List PlanLine) (heard : DraftRecord) → TellsAt stages.Devices lines heard → IsClosed lines heard
 devices_closed lines heard here =
     let is = here.1.0 in
-    let none : heard.classes ≡ [] = ap (λ (x : Heard). x.classes) is in
-    let below : heard.below ≡ HIGHEST_PRIORITY + 1 = ap (λ (x : Heard). x.below) is in
-    let jobs : heard.jobs ≡ 0 = ap (λ (x : Heard). x.jobs) is in
+    let none : heard.classes ≡ [] = ap (λ (x : DraftRecord). x.classes) is in
+    let below : heard.below ≡ HIGHEST_PRIORITY + 1 = ap (λ (x : DraftRecord). x.below) is in
+    let jobs : heard.jobs ≡ 0 = ap (λ (x : DraftRecord). x.jobs) is in
     let n : ℕ = length heard.devices in
     record {
       text = here.0;
@@ -283,13 +283,13 @@ devices_closed lines heard here =
         fall = subst (PrioritiesFall (HIGHEST_PRIORITY + 1)) (sym none) tt;
       };
       under = λ p l. subst (λ cs. FallsBefore (HIGHEST_PRIORITY + 1) cs p) (sym none) (subst (λ b. p < b) below l);
-      last = ap (λ (x : Heard). x.last) is;
-      no_stranded = ap (λ (x : Heard). x.stranded) is;
+      last = ap (λ (x : DraftRecord). x.last) is;
+      no_stranded = ap (λ (x : DraftRecord). x.stranded) is;
       count = jobs ∙ sym (ap jobs_in none);
       few = omega (arith, jobs);
     }
 
-class_closed : (lines : List Said) (heard : Heard) → TellsAt stages.PlacePrices lines heard → length heard.opened.place_prices ≡ length heard.devices → is_problem (problem_of heard.opened) ≡ true → IsClosed lines (opened_kept heard)
+class_closed : (lines : List PlanLine) (heard : DraftRecord) → TellsAt stages.PlacePrices lines heard → length heard.opened.place_prices ≡ length heard.devices → is_problem (problem_of heard.opened) ≡ true → IsClosed lines (opened_kept heard)
 unfolding class_lines
 class_closed lines heard here places problem =
     let w : IsWithin heard = here.1.0 in
@@ -323,10 +323,10 @@ class_closed lines heard here places problem =
       few = w.few;
     }
 
-closed_told : (heard whole : Heard) (lines : List Said) → closed heard ≡ ok whole → Tells lines heard → IsClosed lines whole
+closed_told : (heard whole : DraftRecord) (lines : List PlanLine) → closed heard ≡ ok whole → Tells lines heard → IsClosed lines whole
 unfolding closed
 closed_told heard whole lines h tells =
-    let good : Result Heard TextFault = if is_problem (problem_of heard.opened) then ok (opened_kept heard) else Err OutOfRange in
+    let good : Result DraftRecord TextFault = if is_problem (problem_of heard.opened) then ok (opened_kept heard) else Err OutOfRange in
     let last : Bool = is_at heard stages.PlacePrices && one_each heard heard.opened.place_prices in
     elim (either (is_at heard stages.Devices) (ok heard) (if last then good else Err BadLine) whole h) [
       | inl early ↦ subst (IsClosed lines) (ok_is heard whole early.1) (devices_closed lines heard (tells_at stages.Devices lines heard early.0 tells))
@@ -338,12 +338,12 @@ closed_told heard whole lines h tells =
           (class_closed lines heard (tells_at stages.PlacePrices lines heard b.0 tells) (eqb-true (length heard.opened.place_prices) (length heard.devices) b.1) p.0)
     ]
 
-class_told : (heard new : Heard) (lines : List Said) (priority : ℕ) → class_next heard priority ≡ ok new → IsPriority priority → Tells lines heard → WouldTell lines (SaysClass priority) new
+class_told : (heard new : DraftRecord) (lines : List PlanLine) (priority : ℕ) → class_next heard priority ≡ ok new → IsPriority priority → Tells lines heard → WouldTell lines (SaysClass priority) new
 unfolding class_next class_opened
 class_told heard new lines priority h ranged tells =
     let w = went_on (closed heard) (λ whole. class_opened whole priority) new h in
-    let whole : Heard = w.0 in
-    let after : Heard = record whole { stage = stages.Jobs; below = priority; last = 0; opened = opened_at priority } in
+    let whole : DraftRecord = w.0 in
+    let after : DraftRecord = record whole { stage = stages.Jobs; below = priority; last = 0; opened = opened_at priority } in
     let t = taken (nat_lt priority whole.below) (ok after) OutOfRange new w.2 in
     let c : IsClosed lines whole = closed_told heard whole lines w.1 tells in
     let within : IsWithin after = record {
@@ -364,11 +364,11 @@ class_told heard new lines priority h ranged tells =
     let facts : WouldTell lines (SaysClass priority) after = (ap (λ l. l ++ SaysClass priority ∷ []) c.text, (within, refl, refl)) in
     subst (WouldTell lines (SaysClass priority)) (ok_is after new t.1) facts
 
-job_told : (heard new : Heard) (lines : List Said) (id : ℕ) (times : List (Option ℕ)) → job_next heard id times ≡ ok new → IsJobId id → Tells lines heard → WouldTell lines (SaysJob id times) new
+job_told : (heard new : DraftRecord) (lines : List PlanLine) (id : ℕ) (times : List (Option ℕ)) → job_next heard id times ≡ ok new → IsJobId id → Tells lines heard → WouldTell lines (SaysJob id times) new
 unfolding job_next
 job_told heard new lines id times h ranged tells =
     let o : Opened = heard.opened in
-    let after : Heard = record heard { jobs = heard.jobs + 1; last = id; opened = record heard.opened { ids = heard.opened.ids ++ id ∷ []; rows = heard.opened.rows ++ times ∷ [] } } in
+    let after : DraftRecord = record heard { jobs = heard.jobs + 1; last = id; opened = record heard.opened { ids = heard.opened.ids ++ id ∷ []; rows = heard.opened.rows ++ times ∷ [] } } in
     let p = passed (not (is_at heard stages.Jobs && one_each heard times)) (if may_have heard id then ok after else Err OutOfRange) BadLine new h in
     let t = taken (may_have heard id) (ok after) OutOfRange new p.1 in
     let b : (is_at heard stages.Jobs ≡ true) × (one_each heard times ≡ true) = and_parts (is_at heard stages.Jobs) (one_each heard times) (not-false (is_at heard stages.Jobs && one_each heard times) p.0) in
@@ -398,10 +398,10 @@ job_told heard new lines id times h ranged tells =
     let facts : TellsAt stages.Jobs (lines ++ SaysJob id times ∷ []) after = (text, (within, here.1.1, here.1.2)) in
     subst (WouldTell lines (SaysJob id times)) (ok_is after new t.1) (subst (λ s. TellsAt s (lines ++ SaysJob id times ∷ []) after) (sym stage) facts)
 
-wait_told : (heard new : Heard) (lines : List Said) (waits : List ℕ) → wait_next heard waits ≡ ok new → Tells lines heard → WouldTell lines (SaysWait waits) new
+wait_told : (heard new : DraftRecord) (lines : List PlanLine) (waits : List ℕ) → wait_next heard waits ≡ ok new → Tells lines heard → WouldTell lines (SaysWait waits) new
 unfolding wait_next
 wait_told heard new lines waits h tells =
-    let after : Heard = record heard { stage = stages.Ways; opened = record heard.opened { waits = waits } } in
+    let after : DraftRecord = record heard { stage = stages.Ways; opened = record heard.opened { waits = waits } } in
     let t = taken (is_at heard stages.Jobs && one_each heard waits) (ok after) BadLine new h in
     let b : (is_at heard stages.Jobs ≡ true) × (one_each heard waits ≡ true) = and_parts (is_at heard stages.Jobs) (one_each heard waits) t.0 in
     let here = tells_at stages.Jobs lines heard b.0 tells in
@@ -421,11 +421,11 @@ named_at devices place name h =
     let p : (nat_lt place (length devices) ≡ true) × (bytes_eq (slice_index_or devices place []) name ≡ true) = and_parts (nat_lt place (length devices)) (bytes_eq (slice_index_or devices place []) name) h in
     (lower place (length devices) p.0, same_bytes (slice_index_or devices place []) name p.1)
 
-way_told : (heard new : Heard) (lines : List Said) (name jobs : List ℕ) → way_next heard name jobs ≡ ok new → All IsJobId jobs → Tells lines heard → WouldTell lines (SaysWay name jobs) new
+way_told : (heard new : DraftRecord) (lines : List PlanLine) (name jobs : List ℕ) → way_next heard name jobs ≡ ok new → All IsJobId jobs → Tells lines heard → WouldTell lines (SaysWay name jobs) new
 unfolding way_next
 way_told heard new lines name jobs h ranged tells =
     let o : Opened = heard.opened in
-    let after : Heard = record heard { opened = record heard.opened { queues = heard.opened.queues ++ jobs ∷ [] } } in
+    let after : DraftRecord = record heard { opened = record heard.opened { queues = heard.opened.queues ++ jobs ∷ [] } } in
     let t = taken (is_at heard stages.Ways && is_named heard (length heard.opened.queues) name) (ok after) BadLine new h in
     let b : (is_at heard stages.Ways ≡ true) × (is_named heard (length heard.opened.queues) name ≡ true) = and_parts (is_at heard stages.Ways) (is_named heard (length heard.opened.queues) name) t.0 in
     let stage : heard.stage ≡ stages.Ways = stage_is heard stages.Ways b.0 in
@@ -441,11 +441,11 @@ way_told heard new lines name jobs h ranged tells =
     let facts : TellsAt stages.Ways (lines ++ SaysWay name jobs ∷ []) after = (text, (within, here.1.1, here.1.2)) in
     subst (WouldTell lines (SaysWay name jobs)) (ok_is after new t.1) (subst (λ s. TellsAt s (lines ++ SaysWay name jobs ∷ []) after) (sym stage) facts)
 
-total_told : (heard new : Heard) (lines : List Said) (total : ℕ) → total_next heard total ≡ ok new → total ≤ AMOUNT → Tells lines heard → WouldTell lines (SaysTotal total) new
+total_told : (heard new : DraftRecord) (lines : List PlanLine) (total : ℕ) → total_next heard total ≡ ok new → total ≤ AMOUNT → Tells lines heard → WouldTell lines (SaysTotal total) new
 unfolding total_next
 total_told heard new lines total h ranged tells =
     let o : Opened = heard.opened in
-    let after : Heard = record heard { stage = stages.JobPrices; opened = record heard.opened { total = total } } in
+    let after : DraftRecord = record heard { stage = stages.JobPrices; opened = record heard.opened { total = total } } in
     let t = taken (is_at heard stages.Ways && one_each heard heard.opened.queues) (ok after) BadLine new h in
     let b : (is_at heard stages.Ways ≡ true) × (one_each heard heard.opened.queues ≡ true) = and_parts (is_at heard stages.Ways) (one_each heard heard.opened.queues) t.0 in
     let here = tells_at stages.Ways lines heard b.0 tells in
@@ -455,11 +455,11 @@ total_told heard new lines total h ranged tells =
     let facts : WouldTell lines (SaysTotal total) after = (text, (within, here.1.1, eqb-true (length o.queues) (length heard.devices) b.1, here.1.2)) in
     subst (WouldTell lines (SaysTotal total)) (ok_is after new t.1) facts
 
-job_prices_told : (heard new : Heard) (lines : List Said) (prices : List ℤ) → job_prices_next heard prices ≡ ok new → All IsPrice prices → Tells lines heard → WouldTell lines (SaysJobPrices prices) new
+job_prices_told : (heard new : DraftRecord) (lines : List PlanLine) (prices : List ℤ) → job_prices_next heard prices ≡ ok new → All IsPrice prices → Tells lines heard → WouldTell lines (SaysJobPrices prices) new
 unfolding job_prices_next
 job_prices_told heard new lines prices h ranged tells =
     let o : Opened = heard.opened in
-    let after : Heard = record heard { stage = stages.PlacePrices; opened = record heard.opened { job_prices = prices } } in
+    let after : DraftRecord = record heard { stage = stages.PlacePrices; opened = record heard.opened { job_prices = prices } } in
     let t = taken (is_at heard stages.JobPrices) (ok after) BadLine new h in
     let here = tells_at stages.JobPrices lines heard t.0 tells in
     let w : IsWithin heard = here.1.0 in
@@ -472,11 +472,11 @@ job_prices_told heard new lines prices h ranged tells =
     let facts : WouldTell lines (SaysJobPrices prices) after = (text, (within, here.1.1, here.1.2)) in
     subst (WouldTell lines (SaysJobPrices prices)) (ok_is after new t.1) facts
 
-place_prices_told : (heard new : Heard) (lines : List Said) (name : List ℕ) (prices : List ℤ) → place_prices_next heard name prices ≡ ok new → All IsPrice prices → Tells lines heard → WouldTell lines (SaysPlacePrices name prices) new
+place_prices_told : (heard new : DraftRecord) (lines : List PlanLine) (name : List ℕ) (prices : List ℤ) → place_prices_next heard name prices ≡ ok new → All IsPrice prices → Tells lines heard → WouldTell lines (SaysPlacePrices name prices) new
 unfolding place_prices_next
 place_prices_told heard new lines name prices h ranged tells =
     let o : Opened = heard.opened in
-    let after : Heard = record heard { opened = record heard.opened { place_prices = heard.opened.place_prices ++ prices ∷ [] } } in
+    let after : DraftRecord = record heard { opened = record heard.opened { place_prices = heard.opened.place_prices ++ prices ∷ [] } } in
     let t = taken (is_at heard stages.PlacePrices && is_named heard (length heard.opened.place_prices) name) (ok after) BadLine new h in
     let b : (is_at heard stages.PlacePrices ≡ true) × (is_named heard (length heard.opened.place_prices) name ≡ true) = and_parts (is_at heard stages.PlacePrices) (is_named heard (length heard.opened.place_prices) name) t.0 in
     let stage : heard.stage ≡ stages.PlacePrices = stage_is heard stages.PlacePrices b.0 in
@@ -484,7 +484,7 @@ place_prices_told heard new lines name prices h ranged tells =
     let w : IsWithin heard = here.1.0 in
     let device = named_at heard.devices (length o.place_prices) name b.1 in
     let within : IsWithin after = record { front = record { few_devices = w.front.few_devices; names = w.front.names; classes = w.front.classes; fall = w.front.fall }; priority = w.priority; before = w.before; below = w.below; ids = w.ids; rows = w.rows; queues = w.queues; total = w.total; job_prices = w.job_prices; place_prices = all_more (All IsPrice) o.place_prices prices w.place_prices ranged; no_stranded = w.no_stranded; count = w.count; few = w.few } in
-    let totals : List (Said) → List Said = λ l. front heard ++ (job_part o ++ (way_part heard.devices o ++ (SaysTotal o.total ∷ SaysJobPrices o.job_prices ∷ l))) in
+    let totals : List (PlanLine) → List PlanLine = λ l. front heard ++ (job_part o ++ (way_part heard.devices o ++ (SaysTotal o.total ∷ SaysJobPrices o.job_prices ∷ l))) in
     let text : lines ++ SaysPlacePrices name prices ∷ [] ≡ told_at stages.PlacePrices after =
     ap (λ l. l ++ SaysPlacePrices name prices ∷ []) here.0
     ∙ behind3 (front heard) (job_part o) (way_part heard.devices o) (SaysTotal o.total ∷ SaysJobPrices o.job_prices ∷ place_price_lines heard.devices o.place_prices) (SaysPlacePrices name prices)
@@ -495,10 +495,10 @@ place_prices_told heard new lines name prices h ranged tells =
 
 -- ---- the stranded jobs and the end
 
-abbrev OverTold : List Said → Heard → Type 0
+abbrev OverTold : List PlanLine → DraftRecord → Type 0
 OverTold lines h = (lines ≡ front h ++ stranded_lines h.stranded) × IsOver h
 
-closed_over : (lines : List Said) (h : Heard) → IsClosed lines h → OverTold lines h
+closed_over : (lines : List PlanLine) (h : DraftRecord) → IsClosed lines h → OverTold lines h
 closed_over lines h c = (
   c.text ∙ sym (append-nil (front h)) ∙ ap (λ ss. front h ++ stranded_lines ss) (sym c.no_stranded),
   record {
@@ -511,19 +511,19 @@ closed_over lines h c = (
   },
 )
 
-over_told : (heard whole : Heard) (lines : List Said) → classes_over heard ≡ ok whole → Tells lines heard → OverTold lines whole
+over_told : (heard whole : DraftRecord) (lines : List PlanLine) → classes_over heard ≡ ok whole → Tells lines heard → OverTold lines whole
 unfolding classes_over
 over_told heard whole lines h tells = elim (either (is_at heard stages.Stranded) (ok heard) (closed heard) whole h) [
   | inl stays ↦ subst (OverTold lines) (ok_is heard whole stays.1) (tells_at stages.Stranded lines heard stays.0 tells)
   | inr closes ↦ closed_over lines whole (closed_told heard whole lines closes.1 tells)
 ]
 
-stranded_told : (heard new : Heard) (lines : List Said) (s : Stranded) → stranded_next heard s ≡ ok new → IsJobId s.job → Tells lines heard → WouldTell lines (SaysStranded s) new
+stranded_told : (heard new : DraftRecord) (lines : List PlanLine) (s : Stranded) → stranded_next heard s ≡ ok new → IsJobId s.job → Tells lines heard → WouldTell lines (SaysStranded s) new
 unfolding stranded_next stranded_added
 stranded_told heard new lines s h ranged tells =
     let w = went_on (classes_over heard) (λ whole. stranded_added whole s) new h in
-    let whole : Heard = w.0 in
-    let after : Heard = record whole { stage = stages.Stranded; stranded = whole.stranded ++ s ∷ []; jobs = whole.jobs + 1; last = s.job } in
+    let whole : DraftRecord = w.0 in
+    let after : DraftRecord = record whole { stage = stages.Stranded; stranded = whole.stranded ++ s ∷ []; jobs = whole.jobs + 1; last = s.job } in
     let t = taken (may_have whole s.job) (ok after) OutOfRange new w.2 in
     let m : (nat_lt whole.jobs UNFINISHED_JOBS ≡ true) × (nat_lt whole.last s.job ≡ true) = and_parts (nat_lt whole.jobs UNFINISHED_JOBS) (nat_lt whole.last s.job) t.0 in
     let over : OverTold lines whole = over_told heard whole lines w.1 tells in
@@ -542,12 +542,12 @@ stranded_told heard new lines s h ranged tells =
     let facts : WouldTell lines (SaysStranded s) after = (text, later) in
     subst (WouldTell lines (SaysStranded s)) (ok_is after new t.1) facts
 
-end_told : (heard new : Heard) (lines : List Said) → end_next heard ≡ ok new → Tells lines heard → WouldTell lines SaysEnd new
+end_told : (heard new : DraftRecord) (lines : List PlanLine) → end_next heard ≡ ok new → Tells lines heard → WouldTell lines SaysEnd new
 unfolding end_next
 end_told heard new lines h tells =
-    let w = went_on (classes_over heard) (λ (whole : Heard). ok (record whole { stage = stages.Ended })) new h in
-    let whole : Heard = w.0 in
-    let after : Heard = record whole { stage = stages.Ended } in
+    let w = went_on (classes_over heard) (λ (whole : DraftRecord). ok (record whole { stage = stages.Ended })) new h in
+    let whole : DraftRecord = w.0 in
+    let after : DraftRecord = record whole { stage = stages.Ended } in
     let over : OverTold lines whole = over_told heard whole lines w.1 tells in
     let o : IsOver whole = over.1 in
     let later : IsOver after = record { front = record { few_devices = o.front.few_devices; names = o.front.names; classes = o.front.classes; fall = o.front.fall }; stranded = o.stranded; rise = o.rise; above = o.above; count = o.count; few = o.few } in
@@ -555,7 +555,7 @@ end_told heard new lines h tells =
     let facts : WouldTell lines SaysEnd after = (text, later) in
     subst (WouldTell lines SaysEnd) (ok_is after new w.2) facts
 
-next_told : (heard new : Heard) (lines : List Said) (said : Said) → next heard said ≡ ok new → SaidInRange said → Tells lines heard → WouldTell lines said new
+next_told : (heard new : DraftRecord) (lines : List PlanLine) (said : PlanLine) → next heard said ≡ ok new → SaidInRange said → Tells lines heard → WouldTell lines said new
 next_told heard new lines SaysPlan h r t = plan_told heard new lines h t
 next_told heard new lines (SaysDevice name) h r t = device_told heard new lines name h r t
 next_told heard new lines (SaysClass priority) h r t = class_told heard new lines priority h r t
@@ -576,20 +576,20 @@ fed [] = []
 fed (line ∷ lines) = line ++ (10 ∷ fed lines)
 
 -- the lines that were read are the lines of the reader's state
-record Heard' (before : List Said) (lines : List (List ℕ)) (new : Heard) : Type 0 where
-  pub said : List Said
+record DraftRecord' (before : List PlanLine) (lines : List (List ℕ)) (new : DraftRecord) : Type 0 where
+  pub said : List PlanLine
   pub tells : Tells said new
   pub text : lines_text before ++ fed lines ≡ lines_text said
 
-line_told : (heard new : Heard) (before : List Said) (line : List ℕ) (lines : List (List ℕ)) → lines_next heard (line ∷ lines) ≡ ok new → Tells before heard
-    → ((then' : Heard) (more : List Said) → lines_next then' lines ≡ ok new → Tells more then' → Heard' more lines new) → Heard' before (line ∷ lines) new
+line_told : (heard new : DraftRecord) (before : List PlanLine) (line : List ℕ) (lines : List (List ℕ)) → lines_next heard (line ∷ lines) ≡ ok new → Tells before heard
+    → ((then' : DraftRecord) (more : List PlanLine) → lines_next then' lines ≡ ok new → Tells more then' → DraftRecord' more lines new) → DraftRecord' before (line ∷ lines) new
 unfolding line_next
 line_told heard new before line lines h t later =
     let w = went_on (line_next heard line) (λ then'. lines_next then' lines) new h in
     let p = passed (is_at heard stages.Ended) (line_at (words_of line) >>= λ said. next heard said) BadLine w.0 w.1 in
     let s = went_on (line_at (words_of line)) (λ said. next heard said) w.0 p.1 in
     let spelt = line_spelt line s.0 s.1 in
-    let more : List Said = before ++ s.0 ∷ [] in
+    let more : List PlanLine = before ++ s.0 ∷ [] in
     let rest = later w.0 more w.2 (next_told heard w.0 before s.0 s.2 spelt.1 t) in
     let one : lines_text more ≡ lines_text before ++ (line ++ feed) = lines_append before (s.0 ∷ []) ∙ ap (λ l. lines_text before ++ l) (append-nil (line_text s.0) ∙ sym spelt.0) in
     record {
@@ -602,7 +602,7 @@ line_told heard new before line lines h t later =
           ∙ rest.text;
     }
 
-lines_told : (heard new : Heard) (before : List Said) (lines : List (List ℕ)) → lines_next heard lines ≡ ok new → Tells before heard → Heard' before lines new
+lines_told : (heard new : DraftRecord) (before : List PlanLine) (lines : List (List ℕ)) → lines_next heard lines ≡ ok new → Tells before heard → DraftRecord' before lines new
 lines_told heard new before [] h t = record { said = before; tells = subst (Tells before) (ok_is heard new h) t; text = append-nil (lines_text before) }
 lines_told heard new before (line ∷ lines) h t = line_told heard new before line lines h t (λ then' more later told. lines_told then' new more lines later told)
 
@@ -619,7 +619,7 @@ none_of [] h = refl
 none_of (x ∷ xs) h = absurd (omega (arith, eqb-true (length (x ∷ xs)) 0 h))
 
 -- a plan that was heard is in range, and its text are the lines
-ended_told : (heard : Heard) (said : List Said) → is_at heard stages.Ended ≡ true → Tells said heard → IsPlanInRange (plan_of heard) × (said ≡ plan_lines (plan_of heard))
+ended_told : (heard : DraftRecord) (said : List PlanLine) → is_at heard stages.Ended ≡ true → Tells said heard → IsPlanInRange (plan_of heard) × (said ≡ plan_lines (plan_of heard))
 ended_told heard said at tells =
     let here = tells_at stages.Ended said heard at tells in
     let o : IsOver heard = here.1 in (
@@ -644,10 +644,10 @@ text_told text named h =
     let lines : List (List ℕ) = take n parts in
     let rest : List ℕ = slice_index_or parts n [] in
     let w = went_on (lines_next (nothing_heard DEFAULT_PRIORITY) lines) (λ heard. ended heard rest) named h in
-    let heard : Heard = w.0 in
+    let heard : DraftRecord = w.0 in
     let p = passed (not (is_at heard stages.Ended)) (if length rest == 0 then ok (plan_of heard) else Err BadLine) NoEnd named w.2 in
     let t = taken (length rest == 0) (ok (plan_of heard)) BadLine named p.1 in
-    let told : Heard' [] lines heard = lines_told (nothing_heard DEFAULT_PRIORITY) heard [] lines w.1 (refl, refl) in
+    let told : DraftRecord' [] lines heard = lines_told (nothing_heard DEFAULT_PRIORITY) heard [] lines w.1 (refl, refl) in
     let whole = ended_told heard told.said (not-false (is_at heard stages.Ended) p.0) told.tells in
     let is : text ≡ plan_text (plan_of heard) =
     sym (join_with_byte-slice_split 10 text)

@@ -14,21 +14,21 @@ use Rattle.text.specs.Digits.{is_number}
 use Rattle.plan_text.specs.Word.{number_at, numbers_at, is_entry, entries_at, is_price, prices_at, cause_at}
 
 -- the content of a line
-pub data Said : Type 0 where
-  SaysPlan : Said
-  SaysDevice : (name : List ℕ) → Said
-  SaysClass : (priority : ℕ) → Said
-  SaysJob : (id : ℕ) (times : List (Option ℕ)) → Said
-  SaysWait : (waits : List ℕ) → Said
-  SaysWay : (device : List ℕ) (jobs : List ℕ) → Said
-  SaysTotal : (total : ℕ) → Said
-  SaysJobPrices : (prices : List ℤ) → Said
-  SaysPlacePrices : (device : List ℕ) (prices : List ℤ) → Said
-  SaysStranded : Stranded → Said
-  SaysEnd : Said
+pub data PlanLine : Type 0 where
+  SaysPlan : PlanLine
+  SaysDevice : (name : List ℕ) → PlanLine
+  SaysClass : (priority : ℕ) → PlanLine
+  SaysJob : (id : ℕ) (times : List (Option ℕ)) → PlanLine
+  SaysWait : (waits : List ℕ) → PlanLine
+  SaysWay : (device : List ℕ) (jobs : List ℕ) → PlanLine
+  SaysTotal : (total : ℕ) → PlanLine
+  SaysJobPrices : (prices : List ℤ) → PlanLine
+  SaysPlacePrices : (device : List ℕ) (prices : List ℤ) → PlanLine
+  SaysStranded : Stranded → PlanLine
+  SaysEnd : PlanLine
 
 -- the content of a line that was read
-abbrev pub said_by : Line → Said
+abbrev pub said_by : Line → PlanLine
 said_by lines.Plan = SaysPlan
 said_by (lines.Device name) = SaysDevice name
 said_by (lines.Class priority) = SaysClass priority
@@ -43,7 +43,7 @@ said_by lines.End = SaysEnd
 
 -- the words behind the first word of each line; an empty word is neither a number nor a name
 
-abbrev pub alone_at : Said → List (List ℕ) → Result Said TextFault
+abbrev pub alone_at : PlanLine → List (List ℕ) → Result PlanLine TextFault
 alone_at line [] = Ok line
 alone_at line (word ∷ words) = Err BadLine
 
@@ -58,46 +58,46 @@ abbrev pub first_word : List (List ℕ) → Result (List ℕ × List (List ℕ))
 first_word [] = Err BadLine
 first_word (word ∷ words) = Ok (word, words)
 
-unfoldable pub device_at : List (List ℕ) → Result Said TextFault
+unfoldable pub device_at : List (List ℕ) → Result PlanLine TextFault
 device_at words = only_word words >>= λ name. if is_name name then Ok (SaysDevice name) else Err BadLine
 
-unfoldable pub class_at : List (List ℕ) → Result Said TextFault
+unfoldable pub class_at : List (List ℕ) → Result PlanLine TextFault
 class_at words = only_word words >>= λ priority. (number_at 1 HIGHEST_PRIORITY priority >>= λ p. Ok (SaysClass p))
 
-unfoldable pub job_at : List (List ℕ) → Result Said TextFault
+unfoldable pub job_at : List (List ℕ) → Result PlanLine TextFault
 job_at words = first_word words >>= λ w.
     if is_number w.0 && list_all is_entry w.1
     then (number_at 1 LAST_JOB_ID w.0 >>= λ id. (entries_at w.1 >>= λ times. Ok (SaysJob id times)))
     else Err BadLine
 
-unfoldable pub wait_at : List (List ℕ) → Result Said TextFault
+unfoldable pub wait_at : List (List ℕ) → Result PlanLine TextFault
 wait_at words = if list_all is_number words then (numbers_at 0 WAIT words >>= λ waits. Ok (SaysWait waits)) else Err BadLine
 
-unfoldable pub way_at : List (List ℕ) → Result Said TextFault
+unfoldable pub way_at : List (List ℕ) → Result PlanLine TextFault
 way_at words = first_word words >>= λ w.
     if is_name w.0 && list_all is_number w.1
     then (numbers_at 1 LAST_JOB_ID w.1 >>= λ jobs. Ok (SaysWay w.0 jobs))
     else Err BadLine
 
-unfoldable pub total_at : List (List ℕ) → Result Said TextFault
+unfoldable pub total_at : List (List ℕ) → Result PlanLine TextFault
 total_at words = only_word words >>= λ total. (number_at 0 AMOUNT total >>= λ n. Ok (SaysTotal n))
 
-unfoldable pub job_prices_at : List (List ℕ) → Result Said TextFault
+unfoldable pub job_prices_at : List (List ℕ) → Result PlanLine TextFault
 job_prices_at words = if list_all is_price words then (prices_at words >>= λ prices. Ok (SaysJobPrices prices)) else Err BadLine
 
-unfoldable pub place_prices_at : List (List ℕ) → Result Said TextFault
+unfoldable pub place_prices_at : List (List ℕ) → Result PlanLine TextFault
 place_prices_at words = first_word words >>= λ w.
     if is_name w.0 && list_all is_price w.1
     then (prices_at w.1 >>= λ prices. Ok (SaysPlacePrices w.0 prices))
     else Err BadLine
 
-unfoldable pub stranded_at : List (List ℕ) → Result Said TextFault
+unfoldable pub stranded_at : List (List ℕ) → Result PlanLine TextFault
 stranded_at words = first_word words >>= λ w.
     (only_word w.1 >>= λ word. (cause_at word >>= λ cause. (number_at 1 LAST_JOB_ID w.0 >>= λ id.
     Ok (SaysStranded (record { job = id; cause = cause })))))
 
 -- the content of a line, by its first word
-unfoldable pub line_of : List ℕ → List (List ℕ) → Result Said TextFault
+unfoldable pub line_of : List ℕ → List (List ℕ) → Result PlanLine TextFault
 line_of first words =
     if bytes_eq first (codes "plan") then alone_at SaysPlan words
     else if bytes_eq first (codes "device") then device_at words
@@ -113,5 +113,5 @@ line_of first words =
     else Err BadLine
 
 -- the content of a line of these words, or its fault
-abbrev pub line_at : List (List ℕ) → Result Said TextFault
+abbrev pub line_at : List (List ℕ) → Result PlanLine TextFault
 line_at words = first_word words >>= λ w. line_of w.0 w.1

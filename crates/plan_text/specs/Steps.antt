@@ -15,7 +15,7 @@ use Rattle.plan_text.specs.declared.draft.Draft.{Draft}
 use Rattle.plan_text.specs.declared.open_class.OpenClass.{OpenClass}
 use Rattle.text.specs.Steps.{◌>>=◌}
 use Rattle.plan_text.specs.Reading.{Fails}
-use Rattle.plan_text.specs.Line.{Said, SaysPlan, SaysDevice, SaysClass, SaysJob, SaysWait, SaysWay, SaysTotal, SaysJobPrices, SaysPlacePrices, SaysStranded, SaysEnd}
+use Rattle.plan_text.specs.Line.{PlanLine, SaysPlan, SaysDevice, SaysClass, SaysJob, SaysWait, SaysWay, SaysTotal, SaysJobPrices, SaysPlacePrices, SaysStranded, SaysEnd}
 
 -- the class whose lines are being read
 pub record Opened : Type 0 where
@@ -29,7 +29,7 @@ pub record Opened : Type 0 where
   pub place_prices : List (List ℤ)
 
 -- the state after the lines so far: the stage, the names of the devices, the whole classes, the stranded jobs, the number of lines of jobs and stranded jobs, the bound below which the priority of the next class is, the bound above which the next id is, and the class that is being read
-pub record Heard : Type 0 where
+pub record DraftRecord : Type 0 where
   pub stage : Stage
   pub devices : List (List ℕ)
   pub classes : List PlannedClass
@@ -54,22 +54,22 @@ stage_number stages.PlacePrices = 5
 stage_number stages.Stranded = 6
 stage_number stages.Ended = 7
 
-abbrev pub is_at : Heard → Stage → Bool
+abbrev pub is_at : DraftRecord → Stage → Bool
 is_at heard stage = stage_number heard.stage == stage_number stage
 
 -- whether the list has one entry for each device
-abbrev pub one_each : {X : Type 0} → Heard → List X → Bool
+abbrev pub one_each : {X : Type 0} → DraftRecord → List X → Bool
 one_each heard xs = length xs == length heard.devices
 
 -- whether the device at a place has a name
-abbrev pub is_named : Heard → ℕ → List ℕ → Bool
+abbrev pub is_named : DraftRecord → ℕ → List ℕ → Bool
 is_named heard place name = nat_lt place (length heard.devices) && bytes_eq (slice_index_or heard.devices place []) name
 
 -- the line `plan`, the first
-unfoldable pub plan_next : Heard → Result Heard TextFault
+unfoldable pub plan_next : DraftRecord → Result DraftRecord TextFault
 plan_next heard = if is_at heard stages.Start then Ok (record heard { stage = stages.Devices }) else Err BadLine
 
-unfoldable pub device_next : Heard → List ℕ → Result Heard TextFault
+unfoldable pub device_next : DraftRecord → List ℕ → Result DraftRecord TextFault
 device_next heard name =
     if not (is_at heard stages.Devices) then Err BadLine
     else if nat_lt (length heard.devices) DEVICES then Ok (record heard { devices = heard.devices ++ name ∷ [] })
@@ -109,85 +109,85 @@ planned opened = record {
 }
 
 -- the state with the class that was being read among the whole classes
-abbrev pub opened_kept : Heard → Heard
+abbrev pub opened_kept : DraftRecord → DraftRecord
 opened_kept heard = record heard { classes = heard.classes ++ planned heard.opened ∷ []; last = 0; opened = opened_at heard.opened.priority }
 
 -- the same, if all lines of that class were read
-unfoldable pub closed : Heard → Result Heard TextFault
+unfoldable pub closed : DraftRecord → Result DraftRecord TextFault
 closed heard =
     if is_at heard stages.Devices then Ok heard
     else if is_at heard stages.PlacePrices && one_each heard heard.opened.place_prices
     then (if is_problem (problem_of heard.opened) then Ok (opened_kept heard) else Err OutOfRange)
     else Err BadLine
 
-unfoldable pub class_opened : Heard → ℕ → Result Heard TextFault
+unfoldable pub class_opened : DraftRecord → ℕ → Result DraftRecord TextFault
 class_opened heard priority =
     if nat_lt priority heard.below
     then Ok (record heard { stage = stages.Jobs; below = priority; last = 0; opened = opened_at priority })
     else Err OutOfRange
 
-unfoldable pub class_next : Heard → ℕ → Result Heard TextFault
+unfoldable pub class_next : DraftRecord → ℕ → Result DraftRecord TextFault
 class_next heard priority = closed heard >>= λ whole. class_opened whole priority
 
 -- whether a further line of a job may come, and its id is above the id of the job before
-abbrev pub may_have : Heard → ℕ → Bool
+abbrev pub may_have : DraftRecord → ℕ → Bool
 may_have heard id = nat_lt heard.jobs UNFINISHED_JOBS && nat_lt heard.last id
 
-unfoldable pub job_next : Heard → ℕ → List (Option ℕ) → Result Heard TextFault
+unfoldable pub job_next : DraftRecord → ℕ → List (Option ℕ) → Result DraftRecord TextFault
 job_next heard id times =
     if not (is_at heard stages.Jobs && one_each heard times) then Err BadLine
     else if may_have heard id
     then Ok (record heard { jobs = heard.jobs + 1; last = id; opened = record heard.opened { ids = heard.opened.ids ++ id ∷ []; rows = heard.opened.rows ++ times ∷ [] } })
     else Err OutOfRange
 
-unfoldable pub wait_next : Heard → List ℕ → Result Heard TextFault
+unfoldable pub wait_next : DraftRecord → List ℕ → Result DraftRecord TextFault
 wait_next heard waits =
     if is_at heard stages.Jobs && one_each heard waits
     then Ok (record heard { stage = stages.Ways; opened = record heard.opened { waits = waits } })
     else Err BadLine
 
-unfoldable pub way_next : Heard → List ℕ → List ℕ → Result Heard TextFault
+unfoldable pub way_next : DraftRecord → List ℕ → List ℕ → Result DraftRecord TextFault
 way_next heard name jobs =
     if is_at heard stages.Ways && is_named heard (length heard.opened.queues) name
     then Ok (record heard { opened = record heard.opened { queues = heard.opened.queues ++ jobs ∷ [] } })
     else Err BadLine
 
-unfoldable pub total_next : Heard → ℕ → Result Heard TextFault
+unfoldable pub total_next : DraftRecord → ℕ → Result DraftRecord TextFault
 total_next heard total =
     if is_at heard stages.Ways && one_each heard heard.opened.queues
     then Ok (record heard { stage = stages.JobPrices; opened = record heard.opened { total = total } })
     else Err BadLine
 
-unfoldable pub job_prices_next : Heard → List ℤ → Result Heard TextFault
+unfoldable pub job_prices_next : DraftRecord → List ℤ → Result DraftRecord TextFault
 job_prices_next heard prices =
     if is_at heard stages.JobPrices
     then Ok (record heard { stage = stages.PlacePrices; opened = record heard.opened { job_prices = prices } })
     else Err BadLine
 
-unfoldable pub place_prices_next : Heard → List ℕ → List ℤ → Result Heard TextFault
+unfoldable pub place_prices_next : DraftRecord → List ℕ → List ℤ → Result DraftRecord TextFault
 place_prices_next heard name prices =
     if is_at heard stages.PlacePrices && is_named heard (length heard.opened.place_prices) name
     then Ok (record heard { opened = record heard.opened { place_prices = heard.opened.place_prices ++ prices ∷ [] } })
     else Err BadLine
 
 -- the state in which a stranded job may come: after another, or after the classes
-unfoldable pub classes_over : Heard → Result Heard TextFault
+unfoldable pub classes_over : DraftRecord → Result DraftRecord TextFault
 classes_over heard = if is_at heard stages.Stranded then Ok heard else closed heard
 
-unfoldable pub stranded_added : Heard → Stranded → Result Heard TextFault
+unfoldable pub stranded_added : DraftRecord → Stranded → Result DraftRecord TextFault
 stranded_added heard stranded =
     if may_have heard stranded.job
     then Ok (record heard { stage = stages.Stranded; stranded = heard.stranded ++ stranded ∷ []; jobs = heard.jobs + 1; last = stranded.job })
     else Err OutOfRange
 
-unfoldable pub stranded_next : Heard → Stranded → Result Heard TextFault
+unfoldable pub stranded_next : DraftRecord → Stranded → Result DraftRecord TextFault
 stranded_next heard stranded = classes_over heard >>= λ whole. stranded_added whole stranded
 
-unfoldable pub end_next : Heard → Result Heard TextFault
+unfoldable pub end_next : DraftRecord → Result DraftRecord TextFault
 end_next heard = classes_over heard >>= λ whole. Ok (record whole { stage = stages.Ended })
 
 -- the state after a line with this content
-abbrev pub next : Heard → Said → Result Heard TextFault
+abbrev pub next : DraftRecord → PlanLine → Result DraftRecord TextFault
 next heard SaysPlan = plan_next heard
 next heard (SaysDevice name) = device_next heard name
 next heard (SaysClass priority) = class_next heard priority
@@ -213,8 +213,8 @@ opened_of open' = record {
   place_prices = open'.place_prices.items;
 }
 
-abbrev pub heard_by : Draft → Heard
-heard_by draft = record {
+abbrev pub draft_record : Draft → DraftRecord
+draft_record draft = record {
   stage = draft.stage;
   devices = draft.devices.items;
   classes = draft.classes.items;
@@ -226,6 +226,6 @@ heard_by draft = record {
 }
 
 -- the result of a reader's step, unless memory ran out
-abbrev pub Leaves : {X : Type 0} → Result X ReadError → Heard → Result Heard TextFault → Type 0
+abbrev pub Leaves : {X : Type 0} → Result X ReadError → DraftRecord → Result DraftRecord TextFault → Type 0
 Leaves (Ok x) new heard = heard ≡ Ok new
 Leaves (Err error) new heard = Fails error heard

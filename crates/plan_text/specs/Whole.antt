@@ -8,25 +8,25 @@ use Rattle.plan_text.specs.declared.stage.Stage.TheVariants as stages
 use Rattle.plan_text.specs.NamedPlan.{NamedPlan}
 use Rattle.text.specs.Steps.{◌>>=◌}
 use Rattle.plan_text.specs.Line.{line_at}
-use Rattle.plan_text.specs.Steps.{Heard, opened_at, is_at, next}
+use Rattle.plan_text.specs.Steps.{DraftRecord, opened_at, is_at, next}
 
 -- a line is checked by itself, and then in its place; no line may follow `end`
-unfoldable pub line_next : Heard → List ℕ → Result Heard TextFault
+unfoldable pub line_next : DraftRecord → List ℕ → Result DraftRecord TextFault
 line_next heard line = if is_at heard stages.Ended then Err BadLine else (line_at (words_of line) >>= λ said. next heard said)
 
-abbrev pub lines_next : Heard → List (List ℕ) → Result Heard TextFault
+abbrev pub lines_next : DraftRecord → List (List ℕ) → Result DraftRecord TextFault
 lines_next heard [] = Ok heard
 lines_next heard (line ∷ lines) = line_next heard line >>= λ then'. lines_next then' lines
 
 -- the state before the first line
-abbrev pub nothing_heard : ℕ → Heard
+abbrev pub nothing_heard : ℕ → DraftRecord
 nothing_heard priority = record { stage = stages.Start; devices = []; classes = []; stranded = []; jobs = 0; below = HIGHEST_PRIORITY + 1; last = 0; opened = opened_at priority }
 
-abbrev pub plan_of : Heard → NamedPlan
+abbrev pub plan_of : DraftRecord → NamedPlan
 plan_of heard = record { devices = heard.devices; plan = record { classes = heard.classes; stranded = heard.stranded } }
 
 -- the plan after all lines, where `rest` follows the last line feed
-unfoldable pub ended : Heard → List ℕ → Result NamedPlan TextFault
+unfoldable pub ended : DraftRecord → List ℕ → Result NamedPlan TextFault
 ended heard rest =
     if not (is_at heard stages.Ended) then Err NoEnd
     else if length rest == 0 then Ok (plan_of heard) else Err BadLine

@@ -3,7 +3,7 @@ ghost use Rattle.std.specs.Prelude.{◌≡◌, ◌==◌, ◌&&◌, ◌≤◌, le
 ghost use Rattle.std.specs.Str.{bytes_eq};
 ghost use Rattle.plan_problem.specs.Class.{IsClass};
 ghost use Rattle.plan_text.specs.Line.{said_by};
-ghost use Rattle.plan_text.specs.Steps.{Leaves, heard_by, opened_of, opened_at, problem_of, is_problem, is_named, may_have, next, plan_next, device_next, closed, opened_kept, class_opened, class_next, job_next, wait_next, way_next, total_next, job_prices_next, place_prices_next, classes_over, stranded_added, stranded_next, end_next};
+ghost use Rattle.plan_text.specs.Steps.{Leaves, draft_record, opened_of, opened_at, problem_of, is_problem, is_named, may_have, next, plan_next, device_next, closed, opened_kept, class_opened, class_next, job_next, wait_next, way_next, total_next, job_prices_next, place_prices_next, classes_over, stranded_added, stranded_next, end_next};
 ghost use Rattle.plan_text.specs.Whole.{nothing_heard};
 
 use crate::fault::{ReadError, TextFault};
@@ -35,7 +35,7 @@ pub(crate) struct Draft {
 impl Draft {
     /// Takes the step of a line.
     pub(crate) fn take(&mut self, alloc: Global, line: Line) -> Result<(), ReadError>
-        ensures { Leaves result (heard_by self.new) (next (heard_by self.old) (said_by line)) }
+        ensures { Leaves result (draft_record self.new) (next (draft_record self.old) (said_by line)) }
     {
         match line {
             Line::Plan => self.take_plan(),
@@ -54,7 +54,7 @@ impl Draft {
 
     #[tactic(auto, unfolding(crate::specs::Steps::plan_next))]
     fn take_plan(&mut self) -> Result<(), ReadError>
-        ensures { Leaves result (heard_by self.new) (plan_next (heard_by self.old)) }
+        ensures { Leaves result (draft_record self.new) (plan_next (draft_record self.old)) }
     {
         if !self.stage.is(Stage::Start) {
             return Err(ReadError::Fault(TextFault::BadLine));
@@ -65,7 +65,7 @@ impl Draft {
 
     #[tactic(auto, unfolding(crate::specs::Steps::device_next))]
     fn take_device(&mut self, name: Text) -> Result<(), ReadError>
-        ensures { Leaves result (heard_by self.new) (device_next (heard_by self.old) name) }
+        ensures { Leaves result (draft_record self.new) (device_next (draft_record self.old) name) }
     {
         if !self.stage.is(Stage::Devices) {
             return Err(ReadError::Fault(TextFault::BadLine));
@@ -80,7 +80,7 @@ impl Draft {
     /// Adds the class that is being read to the whole classes, if all its lines were read.
     #[tactic(auto, unfolding(crate::specs::Steps::closed), using(crate::proofs::Problems::problem_is, crate::proofs::Problems::problem_isnt))]
     fn close(&mut self, alloc: Global) -> Result<(), ReadError>
-        ensures { Leaves result (heard_by self.new) (closed (heard_by self.old)) }
+        ensures { Leaves result (draft_record self.new) (closed (draft_record self.old)) }
     {
         if self.stage.is(Stage::Devices) {
             return Ok(());
@@ -99,7 +99,7 @@ impl Draft {
     /// Adds the class that is being read to the whole classes.
     fn keep_opened(&mut self, alloc: Global) -> Result<(), ReadError>
         requires { IsClass (problem_of (opened_of self.old.opened)) }
-        ensures { Leaves result (heard_by self.new) (Ok (opened_kept (heard_by self.old))) }
+        ensures { Leaves result (draft_record self.new) (Ok (opened_kept (draft_record self.old))) }
     {
         let empty = OpenClass::new(alloc, self.opened.priority);
         let whole = replace(&mut self.opened, empty);
@@ -110,7 +110,7 @@ impl Draft {
 
     #[tactic(auto, unfolding(crate::specs::Steps::class_opened))]
     fn open_class(&mut self, alloc: Global, priority: Priority) -> Result<(), ReadError>
-        ensures { Leaves result (heard_by self.new) (class_opened (heard_by self.old) priority) }
+        ensures { Leaves result (draft_record self.new) (class_opened (draft_record self.old) priority) }
     {
         let level = priority.level();
         if level >= self.below {
@@ -125,7 +125,7 @@ impl Draft {
 
     #[tactic(auto, unfolding(crate::specs::Steps::class_next))]
     fn take_class(&mut self, alloc: Global, priority: Priority) -> Result<(), ReadError>
-        ensures { Leaves result (heard_by self.new) (class_next (heard_by self.old) priority) }
+        ensures { Leaves result (draft_record self.new) (class_next (draft_record self.old) priority) }
     {
         self.close(alloc)?;
         self.open_class(alloc, priority)
@@ -133,14 +133,14 @@ impl Draft {
 
     /// Returns whether a further line of a job may come, and its id is above the id of the job before.
     fn may_have(&self, id: JobId) -> bool
-        ensures { result ≡ may_have (heard_by self.now) id }
+        ensures { result ≡ may_have (draft_record self.now) id }
     {
         self.jobs < Limits::UNFINISHED_JOBS && self.last < id.number()
     }
 
     #[tactic(auto, unfolding(crate::specs::Steps::job_next))]
     fn take_job(&mut self, id: JobId, times: Vec<Option<u64>>) -> Result<(), ReadError>
-        ensures { Leaves result (heard_by self.new) (job_next (heard_by self.old) id times.items) }
+        ensures { Leaves result (draft_record self.new) (job_next (draft_record self.old) id times.items) }
     {
         if !self.stage.is(Stage::Jobs) || times.len() != self.devices.len() {
             return Err(ReadError::Fault(TextFault::BadLine));
@@ -157,7 +157,7 @@ impl Draft {
 
     #[tactic(auto, unfolding(crate::specs::Steps::wait_next))]
     fn take_wait(&mut self, waits: Vec<u64>) -> Result<(), ReadError>
-        ensures { Leaves result (heard_by self.new) (wait_next (heard_by self.old) waits.items) }
+        ensures { Leaves result (draft_record self.new) (wait_next (draft_record self.old) waits.items) }
     {
         if !self.stage.is(Stage::Jobs) || waits.len() != self.devices.len() {
             return Err(ReadError::Fault(TextFault::BadLine));
@@ -169,14 +169,14 @@ impl Draft {
 
     /// Returns whether the device at a place has a name.
     fn is_named(&self, place: usize, name: &Text) -> bool
-        ensures { result ≡ is_named (heard_by self.now) place name.now }
+        ensures { result ≡ is_named (draft_record self.now) place name.now }
     {
         place < self.devices.len() && self.devices[place].as_bytes() == name.as_bytes()
     }
 
     #[tactic(auto, unfolding(crate::specs::Steps::way_next))]
     fn take_way(&mut self, device: &Text, jobs: Vec<JobId>) -> Result<(), ReadError>
-        ensures { Leaves result (heard_by self.new) (way_next (heard_by self.old) device.now jobs.items) }
+        ensures { Leaves result (draft_record self.new) (way_next (draft_record self.old) device.now jobs.items) }
     {
         if !self.stage.is(Stage::Ways) || !self.is_named(self.opened.queues.len(), device) {
             return Err(ReadError::Fault(TextFault::BadLine));
@@ -187,7 +187,7 @@ impl Draft {
 
     #[tactic(auto, unfolding(crate::specs::Steps::total_next))]
     fn take_total(&mut self, total: u64) -> Result<(), ReadError>
-        ensures { Leaves result (heard_by self.new) (total_next (heard_by self.old) total) }
+        ensures { Leaves result (draft_record self.new) (total_next (draft_record self.old) total) }
     {
         if !self.stage.is(Stage::Ways) || self.opened.queues.len() != self.devices.len() {
             return Err(ReadError::Fault(TextFault::BadLine));
@@ -199,7 +199,7 @@ impl Draft {
 
     #[tactic(auto, unfolding(crate::specs::Steps::job_prices_next))]
     fn take_job_prices(&mut self, prices: Vec<i64>) -> Result<(), ReadError>
-        ensures { Leaves result (heard_by self.new) (job_prices_next (heard_by self.old) prices.items) }
+        ensures { Leaves result (draft_record self.new) (job_prices_next (draft_record self.old) prices.items) }
     {
         if !self.stage.is(Stage::JobPrices) {
             return Err(ReadError::Fault(TextFault::BadLine));
@@ -211,7 +211,7 @@ impl Draft {
 
     #[tactic(auto, unfolding(crate::specs::Steps::place_prices_next))]
     fn take_place_prices(&mut self, device: &Text, prices: Vec<i64>) -> Result<(), ReadError>
-        ensures { Leaves result (heard_by self.new) (place_prices_next (heard_by self.old) device.now prices.items) }
+        ensures { Leaves result (draft_record self.new) (place_prices_next (draft_record self.old) device.now prices.items) }
     {
         let place = self.opened.place_prices.len();
         if !self.stage.is(Stage::PlacePrices) || !self.is_named(place, device) {
@@ -224,7 +224,7 @@ impl Draft {
     /// Ends the classes: no class may follow.
     #[tactic(auto, unfolding(crate::specs::Steps::classes_over))]
     fn end_classes(&mut self, alloc: Global) -> Result<(), ReadError>
-        ensures { Leaves result (heard_by self.new) (classes_over (heard_by self.old)) }
+        ensures { Leaves result (draft_record self.new) (classes_over (draft_record self.old)) }
     {
         if self.stage.is(Stage::Stranded) {
             return Ok(());
@@ -234,7 +234,7 @@ impl Draft {
 
     #[tactic(auto, unfolding(crate::specs::Steps::stranded_added))]
     fn add_stranded(&mut self, stranded: Stranded) -> Result<(), ReadError>
-        ensures { Leaves result (heard_by self.new) (stranded_added (heard_by self.old) stranded) }
+        ensures { Leaves result (draft_record self.new) (stranded_added (draft_record self.old) stranded) }
     {
         if !self.may_have(stranded.job) {
             return Err(ReadError::Fault(TextFault::OutOfRange));
@@ -248,7 +248,7 @@ impl Draft {
 
     #[tactic(auto, unfolding(crate::specs::Steps::stranded_next))]
     fn take_stranded(&mut self, alloc: Global, stranded: Stranded) -> Result<(), ReadError>
-        ensures { Leaves result (heard_by self.new) (stranded_next (heard_by self.old) stranded) }
+        ensures { Leaves result (draft_record self.new) (stranded_next (draft_record self.old) stranded) }
     {
         self.end_classes(alloc)?;
         self.add_stranded(stranded)
@@ -256,7 +256,7 @@ impl Draft {
 
     #[tactic(auto, unfolding(crate::specs::Steps::end_next))]
     fn take_end(&mut self, alloc: Global) -> Result<(), ReadError>
-        ensures { Leaves result (heard_by self.new) (end_next (heard_by self.old)) }
+        ensures { Leaves result (draft_record self.new) (end_next (draft_record self.old)) }
     {
         self.end_classes(alloc)?;
         self.stage = Stage::Ended;

@@ -4,7 +4,7 @@ ghost use Rattle.plan_prices.specs.Plan.{HasOneListEach};
 ghost use Rattle.plan_text.specs.NamedPlan.{HasOneEach};
 ghost use Rattle.plan_text.specs.Reading.{Gives};
 ghost use Rattle.plan_text.specs.TextOf.{IsTextOf};
-ghost use Rattle.plan_text.specs.Steps.{Leaves, heard_by};
+ghost use Rattle.plan_text.specs.Steps.{Leaves, draft_record};
 ghost use Rattle.plan_text.specs.Whole.{nothing_heard, line_next, lines_next, ended, plan_from, plan_in, plan_at};
 
 use crate::draft::Draft;
@@ -61,7 +61,7 @@ fn read_from(alloc: Global, lines: &[&[u8]], rest: &[u8]) -> Result<PlanText, Re
 
 /// Reads the lines.
 fn read_lines(alloc: Global, lines: &[&[u8]]) -> Result<Draft, ReadError>
-    ensures { Gives heard_by result (lines_next (nothing_heard Limits.DEFAULT_PRIORITY) (map (λ line. line.now) lines.now)) }
+    ensures { Gives draft_record result (lines_next (nothing_heard Limits.DEFAULT_PRIORITY) (map (λ line. line.now) lines.now)) }
 {
     let mut draft = new_draft(alloc);
     for line in lines {
@@ -72,7 +72,7 @@ fn read_lines(alloc: Global, lines: &[&[u8]]) -> Result<Draft, ReadError>
 
 /// The state before the first line.
 fn new_draft(alloc: Global) -> Draft
-    ensures { heard_by result ≡ nothing_heard Limits.DEFAULT_PRIORITY }
+    ensures { draft_record result ≡ nothing_heard Limits.DEFAULT_PRIORITY }
 {
     Draft {
         stage: Stage::Start,
@@ -89,7 +89,7 @@ fn new_draft(alloc: Global) -> Draft
 /// Takes the step of a line.
 #[tactic(auto, unfolding(crate::specs::Whole::line_next))]
 fn take_line(alloc: Global, draft: &mut Draft, line: &[u8]) -> Result<(), ReadError>
-    ensures { Leaves result (heard_by draft.new) (line_next (heard_by draft.old) line.now) }
+    ensures { Leaves result (draft_record draft.new) (line_next (draft_record draft.old) line.now) }
 {
     if draft.stage.is(Stage::Ended) {
         return Err(ReadError::Fault(TextFault::BadLine));
@@ -102,7 +102,7 @@ fn take_line(alloc: Global, draft: &mut Draft, line: &[u8]) -> Result<(), ReadEr
 /// The plan, if its last line was read and nothing follows it.
 #[tactic(auto, unfolding(crate::specs::Whole::ended))]
 fn finished(draft: Draft, rest: &[u8]) -> Result<PlanText, ReadError>
-    ensures { Gives (λ plan. plan) result (ended (heard_by draft) rest.now) }
+    ensures { Gives (λ plan. plan) result (ended (draft_record draft) rest.now) }
 {
     if !draft.stage.is(Stage::Ended) {
         return Err(ReadError::Fault(TextFault::NoEnd));

@@ -3,14 +3,14 @@ use Rattle.std.specs.Prelude.{ℕ, List, ◌++◌, codes}
 use Rattle.program.specs.declared.exit_status.ExitStatus.{ExitStatus}
 use Rattle.program.specs.declared.exit_status.ExitStatus.TheVariants as Ends
 
-pub record Said : Type 0 where
+pub record ProgramOutput : Type 0 where
   pub text : List ℕ
   pub status : ExitStatus
 
 -- the output for an input that is refused
-abbrev pub refused_as : List ℕ → Said
+abbrev pub refused_as : List ℕ → ProgramOutput
 refused_as name = record { text = codes "refused " ++ (name ++ codes "\n"); status = Ends.Refused }
 
 -- the output with a text before it
-abbrev pub said_after : List ℕ → Said → Said
+abbrev pub said_after : List ℕ → ProgramOutput → ProgramOutput
 said_after text said = record said { text = text ++ said.text }

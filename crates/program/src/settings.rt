@@ -3,7 +3,7 @@ ghost use Rattle.std.specs.Prelude.{◌≡◌, IfOk, IfErr, OnOk, Ok, Some};
 ghost use Rattle.settings_file.specs.Settings.{MeetsLimits};
 ghost use Rattle.settings_file.specs.Fault.{Fault, fault_of};
 ghost use Rattle.settings_file.specs.Reading.{settings_of};
-ghost use Rattle.program.specs.RefusedSettings.{settings_refused, Refuses, RefusesAs, Says};
+ghost use Rattle.program.specs.RefusedSettings.{settings_refused, Refuses, RefusesAs, WritesLine};
 
 use crate::exit_status::ExitStatus;
 use crate::output::write_front;
@@ -49,7 +49,7 @@ pub fn refusal_line(alloc: Global, fault: &SettingsFault) -> Result<Vec<u8>, All
 
 /// Writes a line. Returns the exit status.
 fn say<W: Write>(line: &[u8], err: &mut W) -> ExitStatus
-    ensures { Says line.now (W.contents err.old) (W.contents err.new) result }
+    ensures { WritesLine line.now (W.contents err.old) (W.contents err.new) result }
 {
     if write_front(err, line) < line.len() {
         ExitStatus::Failed

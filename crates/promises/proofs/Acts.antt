@@ -18,7 +18,7 @@ use Rattle.connections.specs.Choice.{Loss, part_of, lost_of, SameAsk, AsksOne}
 use Rattle.server.specs.Polls.{Happening, Polled, Told, Choice, On, Rested, Chosen}
 use Rattle.server.specs.Polls as As
 use Rattle.server.specs.Ledger.{Ledger, Fate, Broken, with_entry}
-use Rattle.server.specs.Rel.{Tells as Says, Chooses, Then}
+use Rattle.server.specs.Rel.{Tells as Informs, Chooses, Then}
 use Rattle.server.specs.Enqueuing.{IsDevice}
 use Rattle.server.specs.Happening.{Unanswered}
 use Rattle.server.specs.Closing.{Leaves, IsGone, ClosesAs, IsBroken, ClosesFirst, NoneBroken, Settles}
@@ -61,7 +61,7 @@ module _ (steps : StepsOnce) (queries : SameQueries) (asks : AsksOne) where
   fixed_gone moment (Some device) = fixed_report steps moment device report.Gone
 
   pub fixed_closes_as : (moment : ℕ) (fate : Fate) (key : ℕ) (e : Entry) → Fixed (ClosesAs moment fate key e)
-  fixed_closes_as moment fate key e = alike_then (fixed_leaves fate key e) (fixed_gone moment (device_of e.talk))
+  fixed_closes_as moment fate key e = alike_then (fixed_leaves fate key e) (fixed_gone moment (device_of e.progress))
 
   closes_first : (moment : ℕ) (l : Ledger) (hs rest : List Happening) (a : Ledger) (ks more : List Happening) (b : Ledger) → hs ++ rest ≡ ks ++ more → ClosesFirst moment l hs a → ClosesFirst moment l ks b → (hs ≡ ks) × (a ≡ b)
   closes_first moment l hs rest a ks more b e p q =
@@ -92,10 +92,10 @@ module _ (steps : StepsOnce) (queries : SameQueries) (asks : AsksOne) where
   silent_at key None l hs a it = it.0
   silent_at key (Some e) l hs a it = it.0
 
-  turned_away : (key id device : ℕ) → Fixed (Then (GivesWay key) (Says (DeviceRefused id (why.Connected device))))
+  turned_away : (key id device : ℕ) → Fixed (Then (GivesWay key) (Informs (DeviceRefused id (why.Connected device))))
   turned_away key id device = alike_then (fixed_gives_way key) (fixed_tells (DeviceRefused id (why.Connected device)))
 
-  turned_first : (key id device : ℕ) (l : Ledger) (hs : List Happening) (a : Ledger) → Then (GivesWay key) (Says (DeviceRefused id (why.Connected device))) l hs a → BeginsAs is_choice false hs
+  turned_first : (key id device : ℕ) (l : Ledger) (hs : List Happening) (a : Ledger) → Then (GivesWay key) (Informs (DeviceRefused id (why.Connected device))) l hs a → BeginsAs is_choice false hs
   turned_first key id device l hs a it =
       begins_just is_choice false (Told (DeviceRefused id (why.Connected device))) [] hs refl (it.whole ∙ (ap (λ (xs : List Happening). xs ++ it.back) (silent_at key (l.entries key) l it.front it.mid it.first) ∙ it.second.0))
 

@@ -11,7 +11,7 @@ use Rattle.events.specs.declared.queue.QueueForm.{QueueForm}
 use Rattle.events.specs.declared.queue.QueueEntry.{QueueEntry}
 use Rattle.events.specs.declared.queue.QueueListing.{QueueListing}
 use Rattle.events.specs.declared.effects.Response.{Response}
-use Rattle.events.specs.declared.effects.Response.TheVariants as Says
+use Rattle.events.specs.declared.effects.Response.TheVariants as responds
 use Rattle.events.specs.declared.effects.IppResponse.{IppResponse}
 use Rattle.events.specs.declared.effects.LpdResponse.{LpdResponse}
 use Rattle.events.specs.declared.effects.LpdResponse.TheVariants as Shown
@@ -66,7 +66,7 @@ loses_first key id request query = begins_then is_choice false (Tells (Refused A
 found_reply : (key : ℕ) (bytes : List ℕ) → Begins is_choice true (Then (Chooses Found) (EnqueuesResponse key bytes))
 found_reply key bytes = begins_then is_choice true (Chooses Found) (EnqueuesResponse key bytes) (begins_chooses is_choice true Found refl)
 
-replies_one : (key id request : ℕ) (query : Bool) (one other : IppResponse) → SameIppAnswer one other → (l : Ledger) (hs rest : List Happening) (a : Ledger) (ks more : List Happening) (b : Ledger) → hs ++ rest ≡ ks ++ more → RepliesWith key id request query (Says.Ipp one) l hs a → RepliesWith key id request query (Says.Ipp other) l ks b → (hs ≡ ks) × (a ≡ b)
+replies_one : (key id request : ℕ) (query : Bool) (one other : IppResponse) → SameIppAnswer one other → (l : Ledger) (hs rest : List Happening) (a : Ledger) (ks more : List Happening) (b : Ledger) → hs ++ rest ≡ ks ++ more → RepliesWith key id request query (responds.Ipp one) l hs a → RepliesWith key id request query (responds.Ipp other) l ks b → (hs ≡ ks) × (a ≡ b)
 replies_one key id request query one other same l hs rest a ks more b e (inl (bytes, is, p)) (inl (said, its, q)) =
     (alike_then (fixed_chooses Found) (fixed_reply key bytes)).one l hs rest a ks more b e p (subst (λ (x : List ℕ). Then (Chooses Found) (EnqueuesResponse key x) l ks b) (sym (same_bytes one other request bytes said same is its)) q)
 replies_one key id request query one other same l hs rest a ks more b e (inl (bytes, is, p)) (inr q) = apart is_choice hs rest ks more e ((found_reply key bytes).begins l hs a p) ((loses_first key id request query).begins l ks b q)
@@ -74,15 +74,15 @@ replies_one key id request query one other same l hs rest a ks more b e (inr p) 
 replies_one key id request query one other same l hs rest a ks more b e (inr p) (inr q) = (loses_reply key id request query).one l hs rest a ks more b e p q
 
 same_replies : (key id request : ℕ) (query : Bool) (one other : Response) → SameAnswer one other → Alike (RepliesWith key id request query one) (RepliesWith key id request query other)
-same_replies key id request query (Says.Ipp one) (Says.Ipp other) same = record { one = replies_one key id request query one other same }
-same_replies key id request query (Says.Lpd one) (Says.Lpd other) same = record { one = λ l hs rest a ks more b e p q. fixed_nothing.one l hs rest a ks more b e p q }
-same_replies key id request query Says.Nothing Says.Nothing same = record { one = λ l hs rest a ks more b e p q. fixed_nothing.one l hs rest a ks more b e p q }
-same_replies key id request query (Says.Ipp one) (Says.Lpd other) same = absurd same
-same_replies key id request query (Says.Ipp one) Says.Nothing same = absurd same
-same_replies key id request query (Says.Lpd one) (Says.Ipp other) same = absurd same
-same_replies key id request query (Says.Lpd one) Says.Nothing same = absurd same
-same_replies key id request query Says.Nothing (Says.Ipp other) same = absurd same
-same_replies key id request query Says.Nothing (Says.Lpd other) same = absurd same
+same_replies key id request query (responds.Ipp one) (responds.Ipp other) same = record { one = replies_one key id request query one other same }
+same_replies key id request query (responds.Lpd one) (responds.Lpd other) same = record { one = λ l hs rest a ks more b e p q. fixed_nothing.one l hs rest a ks more b e p q }
+same_replies key id request query responds.Nothing responds.Nothing same = record { one = λ l hs rest a ks more b e p q. fixed_nothing.one l hs rest a ks more b e p q }
+same_replies key id request query (responds.Ipp one) (responds.Lpd other) same = absurd same
+same_replies key id request query (responds.Ipp one) responds.Nothing same = absurd same
+same_replies key id request query (responds.Lpd one) (responds.Ipp other) same = absurd same
+same_replies key id request query (responds.Lpd one) responds.Nothing same = absurd same
+same_replies key id request query responds.Nothing (responds.Ipp other) same = absurd same
+same_replies key id request query responds.Nothing (responds.Lpd other) same = absurd same
 
 pub fixed_dropped : (key id request : ℕ) → Fixed (Drops key id request)
 fixed_dropped key id request = alike_then (fixed_tells (Refused At.Event (Some id))) (fixed_status key TemporaryError request)
@@ -110,15 +110,15 @@ same_told key id Shown.NoQueue (Shown.Taken other) same = absurd same
 same_told key id Shown.NoQueue (Shown.Queue other) same = absurd same
 
 same_shown : (key id : ℕ) (one other : Response) → SameAnswer one other → Alike (IsShown key id one) (IsShown key id other)
-same_shown key id (Says.Lpd one) (Says.Lpd other) same = same_told key id one other same
-same_shown key id (Says.Ipp one) (Says.Ipp other) same = fixed_nothing
-same_shown key id Says.Nothing Says.Nothing same = fixed_nothing
-same_shown key id (Says.Ipp one) (Says.Lpd other) same = absurd same
-same_shown key id (Says.Ipp one) Says.Nothing same = absurd same
-same_shown key id (Says.Lpd one) (Says.Ipp other) same = absurd same
-same_shown key id (Says.Lpd one) Says.Nothing same = absurd same
-same_shown key id Says.Nothing (Says.Ipp other) same = absurd same
-same_shown key id Says.Nothing (Says.Lpd other) same = absurd same
+same_shown key id (responds.Lpd one) (responds.Lpd other) same = same_told key id one other same
+same_shown key id (responds.Ipp one) (responds.Ipp other) same = fixed_nothing
+same_shown key id responds.Nothing responds.Nothing same = fixed_nothing
+same_shown key id (responds.Ipp one) (responds.Lpd other) same = absurd same
+same_shown key id (responds.Ipp one) responds.Nothing same = absurd same
+same_shown key id (responds.Lpd one) (responds.Ipp other) same = absurd same
+same_shown key id (responds.Lpd one) responds.Nothing same = absurd same
+same_shown key id responds.Nothing (responds.Ipp other) same = absurd same
+same_shown key id responds.Nothing (responds.Lpd other) same = absurd same
 
 -- ---- any client
 

@@ -140,7 +140,7 @@ enqueues_on grows device bytes l hs l' (inr (none, it)) = calms_nothing l hs l' 
 
 pub reply_at : (bytes : Bool → List ℕ) (key : ℕ) (o : Option Entry) → Calms (EnqueuesReplyAt bytes key o)
 reply_at bytes key None = calms_nothing
-reply_at bytes key (Some e) = calms_enqueues key (bytes (closes_of e.talk))
+reply_at bytes key (Some e) = calms_enqueues key (bytes (closes_of e.progress))
 
 pub calms_reply : (key : ℕ) (bytes : List ℕ) → Calms (EnqueuesResponse key bytes)
 calms_reply key bytes l hs l' it = reply_at (λ closes. http_reply closes bytes) key (l.entries key) l hs l' it

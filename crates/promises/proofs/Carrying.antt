@@ -39,8 +39,8 @@ use Rattle.connections.specs.declared.ask.Client.TheVariants as client
 use Rattle.connections.specs.declared.step.Step.{Step}
 use Rattle.connections.specs.declared.step.Step.TheVariants as step
 use Rattle.connections.specs.Steps.{http_status, due_bytes}
-use Rattle.connections.specs.Entry.{PeerRecord, Http, Queue, Link, Entry, opening_entry, device_of, closes_of, broken, owing, given_up, talking, finishing, reading, waiting, needs_memory}
-use Rattle.connections.specs.Asking.{Hears, StepsTo, AsksNext}
+use Rattle.connections.specs.Entry.{PeerRecord, Http, Queue, Link, Entry, opening_entry, device_of, closes_of, broken, owing, given_up, with_progress, finishing, reading, waiting, needs_memory}
+use Rattle.connections.specs.Asking.{ItemComes, StepsTo, AsksNext}
 use Rattle.server.specs.Polls.{Happening, Polled, Told, Choice, Found, On, Rested, Looked, Chosen}
 use Rattle.server.specs.Ledger.{Ledger, Fate, Drained, Broken, at_key, with_entry, job_bytes, opening_ledger}
 use Rattle.print_room.specs.State.{State}
@@ -86,18 +86,18 @@ steady_ended : (e : Entry) → Steady e (record e { ended = true })
 steady_ended e = record { id = refl; taken = refl; more = no_more e (record e { ended = true }) refl; read = λ draining sound. (draining, sound, refl) }
 
 -- the change of the entry by an ask
-steady_talk : (e mid : Entry) (talk : PeerRecord) → mid ≡ talking talk e → (mid.id ≡ e.id) × (mid.taken ≡ e.taken) × (mid.due ≡ e.due) × (mid.read ≡ e.read)
-steady_talk e mid talk is = (ap (λ (x : Entry). x.id) is, ap (λ (x : Entry). x.taken) is, ap (λ (x : Entry). x.due) is, ap (λ (x : Entry). x.read) is)
+steady_progress : (e mid : Entry) (progress : PeerRecord) → mid ≡ with_progress progress e → (mid.id ≡ e.id) × (mid.taken ≡ e.taken) × (mid.due ≡ e.due) × (mid.read ≡ e.read)
+steady_progress e mid progress is = (ap (λ (x : Entry). x.id) is, ap (λ (x : Entry). x.taken) is, ap (λ (x : Entry). x.due) is, ap (λ (x : Entry). x.read) is)
 
 steady_mid : (e mid : Entry) → mid ≡ e → (mid.id ≡ e.id) × (mid.taken ≡ e.taken) × (mid.due ≡ e.due) × (mid.read ≡ e.read)
 steady_mid e mid is = (ap (λ (x : Entry). x.id) is, ap (λ (x : Entry). x.taken) is, ap (λ (x : Entry). x.due) is, ap (λ (x : Entry). x.read) is)
 
-heard_mid : (settings : ServerSettings) (talk : PeerRecord) (e : Entry) (comes : Step) (mid : Entry) → Hears settings talk e comes mid → (mid.id ≡ e.id) × (mid.taken ≡ e.taken) × (mid.due ≡ e.due) × (mid.read ≡ e.read)
-heard_mid settings (Http said closes body) e comes mid next = steady_talk e mid _ next.after
-heard_mid settings (Queue items session) e comes mid (inl next) = steady_talk e mid _ next.after
+heard_mid : (settings : ServerSettings) (progress : PeerRecord) (e : Entry) (comes : Step) (mid : Entry) → ItemComes settings progress e comes mid → (mid.id ≡ e.id) × (mid.taken ≡ e.taken) × (mid.due ≡ e.due) × (mid.read ≡ e.read)
+heard_mid settings (Http said closes body) e comes mid next = steady_progress e mid _ next.after
+heard_mid settings (Queue items session) e comes mid (inl next) = steady_progress e mid _ next.after
 heard_mid settings (Queue items session) e comes mid (inr (inl next)) = steady_mid e mid next.after
 heard_mid settings (Queue items session) e comes mid (inr (inr next)) = steady_mid e mid next.1
-heard_mid settings (Link reports device) e comes mid (inl next) = steady_talk e mid _ next.after
+heard_mid settings (Link reports device) e comes mid (inl next) = steady_progress e mid _ next.after
 heard_mid settings (Link reports device) e comes mid (inr (inl next)) = steady_mid e mid next.after
 heard_mid settings (Link reports device) e comes mid (inr (inr next)) = steady_mid e mid next.1
 
@@ -152,7 +152,7 @@ steady_step e mid new (step.Asks it last) what counts same is = step_asks e mid 
 steady_step e mid new (step.Breaks it) what counts same is = step_fails e mid new counts same is.1
 
 steady_asks : (settings : ServerSettings) (what : Ask) (e new : Entry) → AsksNext settings what e new → Steady e new
-steady_asks settings what e new a = steady_step e a.mid new a.comes what a.counts (heard_mid settings e.talk e a.comes a.mid a.hears) a.steps
+steady_asks settings what e new a = steady_step e a.mid new a.comes what a.counts (heard_mid settings e.progress e a.comes a.mid a.hears) a.steps
 
 -- ---- all connections
 
@@ -309,7 +309,7 @@ carries_enqueues key bytes = carries_where (needs_memory bytes) key bytes
 
 reply_at : (bytes : Bool → List ℕ) (key : ℕ) (o : Option Entry) → Carries (EnqueuesReplyAt bytes key o)
 reply_at bytes key None = carries_nothing
-reply_at bytes key (Some e) = carries_enqueues key (bytes (closes_of e.talk))
+reply_at bytes key (Some e) = carries_enqueues key (bytes (closes_of e.progress))
 
 carries_reply : (key : ℕ) (bytes : List ℕ) → Carries (EnqueuesResponse key bytes)
 carries_reply key bytes c l hs l' a new it = reply_at (λ closes. http_reply closes bytes) key (l.entries key) c l hs l' a new it
@@ -433,7 +433,7 @@ carries_closes : (moment : ℕ) (fate : Fate) (key : ℕ) (e : Entry) (c : Carri
 carries_closes moment fate key e c l hs l' a there new it =
     let both = new_append c it.front it.back (subst (AreNew c) it.whole new) in
     subst (λ (x : Carried). Agrees x l') (sym (ap (carried c) it.whole ∙ carried_append c it.front it.back))
-    (carries_gone moment (device_of e.talk) (carried c it.front) it.mid it.back l' (carries_leaves fate key e c l it.front it.mid a there it.first) both.1 it.second)
+    (carries_gone moment (device_of e.progress) (carried c it.front) it.mid it.back l' (carries_leaves fate key e c l it.front it.mid a there it.first) both.1 it.second)
 
 carries_first : (moment : ℕ) → Carries (ClosesFirst moment)
 carries_first moment c l hs l' a new it = carries_closes moment Broken it.key it.entry c l hs l' a it.there new it.closes

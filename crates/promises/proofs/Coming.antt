@@ -17,7 +17,7 @@ use Rattle.connections.specs.declared.step.Step.{Step}
 use Rattle.connections.specs.declared.step.Step.TheVariants as step
 use Rattle.connections.specs.Steps.{no_memory, due_bytes}
 use Rattle.connections.specs.Entry.{PeerRecord, Http, Queue, Link, Entry, closes_of}
-use Rattle.connections.specs.Asking.{Hears, StepsTo}
+use Rattle.connections.specs.Asking.{ItemComes, StepsTo}
 use Rattle.server.specs.Polls.{Happening, Rested}
 use Rattle.server.specs.Ledger.{Ledger}
 use Rattle.server.specs.Rel.{Nothing, Tells, Chooses, Many}
@@ -31,7 +31,7 @@ use Rattle.promises.specs.Orders.{Handled, AreHandled, AreAt, due_by}
 use Rattle.promises.proofs.Typing.{EventOf, typed}
 use Rattle.promises.specs.Answers.{Act, ClientTalk, IsNext, IsOwed, IsStateOf, asked_by, IsLast, BrokeAfter, IsOneAtMost}
 use Rattle.promises.proofs.Sending.{Counts, due_at, IsFresh, IsClient, same_key, other_key, is_key, Ordered, notes_append, calm_sets, Good, one_entry, not_key, client_none, client_fresh, no_true, counts_device, ordered_then, sent_by, IsLost, lost_device, breaks_same}
-use Rattle.promises.proofs.Handling.{happened, CameAs, Goes, goes_then, goes_calm, TalkedAs, Went, talked_still, one_handled, none_closed, LostAs, lost_by, StopsAs, stops_still}
+use Rattle.promises.proofs.Handling.{happened, CameAs, Goes, goes_then, goes_calm, TalkedAs, Went, progressed_still, one_handled, none_closed, LostAs, lost_by, StopsAs, stops_still}
 use Rattle.promises.proofs.Giving.{calms_chooses, Gave, gave_still, gives_nothing, at_aside, at_here, Just_these, Loose, given, No_memory, gives_dropped, gives_declines, gives_answers}
 use Rattle.promises.proofs.Moving.{Moves, moves_calm, moves_then, moves_many, moves_settles}
 use Rattle.promises.proofs.Stepping.{IsClientAsk, silent_growth, silent_part, device_does, IsClientStep, client_hears, DeviceAsks, device_hears}
@@ -45,7 +45,7 @@ not_broken false is none = none
 
 -- if the connection broke, none of the step's bytes are due, or all of them
 abbrev pub HaltsAs : Step → Entry → List ℕ → List Handled → Entry → Type 0
-HaltsAs comes new base asked e = (e.due ≡ base) ⊎ ((bytes : List ℕ) × IsOwed (closes_of new.talk) comes asked bytes × (e.due ≡ base ++ bytes))
+HaltsAs comes new base asked e = (e.due ≡ base) ⊎ ((bytes : List ℕ) × IsOwed (closes_of new.progress) comes asked bytes × (e.due ≡ base ++ bytes))
 
 -- the result of a client's step: the events that the core handled, and the bytes that are due by the step behind the earlier bytes
 pub record Acted (moment key : ℕ) (comes : Step) (new : Entry) (base : List ℕ) (l : Ledger) (hs : List Happening) (l' : Ledger) : Type 0 where
@@ -60,16 +60,16 @@ pub record Acted (moment key : ℕ) (comes : Step) (new : Entry) (base : List �
   pub one : IsOneAtMost (asked_by key handled)
   pub client : IsClient (l'.entries key)
   pub closed : l'.closed ≡ l.closed
-  pub here : (e : Entry) → l'.entries key ≡ Some e → ClientTalk e.talk → e.broken ≡ false → (e.talk ≡ new.talk) × ((bytes : List ℕ) × IsOwed (closes_of new.talk) comes (asked_by key handled) bytes × (e.due ≡ base ++ bytes))
-  pub halts : (e : Entry) → l'.entries key ≡ Some e → ClientTalk e.talk → e.broken ≡ true → (e.talk ≡ new.talk) × HaltsAs comes new base (asked_by key handled) e
+  pub here : (e : Entry) → l'.entries key ≡ Some e → ClientTalk e.progress → e.broken ≡ false → (e.progress ≡ new.progress) × ((bytes : List ℕ) × IsOwed (closes_of new.progress) comes (asked_by key handled) bytes × (e.due ≡ base ++ bytes))
+  pub halts : (e : Entry) → l'.entries key ≡ Some e → ClientTalk e.progress → e.broken ≡ true → (e.progress ≡ new.progress) × HaltsAs comes new base (asked_by key handled) e
 
 halts_due : (comes : Step) (new d e : Entry) (base : List ℕ) (asked : List Handled) → d.due ≡ e.due → HaltsAs comes new base asked d → HaltsAs comes new base asked e
 halts_due comes new d e base asked same (inl is) = inl (sym same ∙ is)
 halts_due comes new d e base asked same (inr (bytes, owed, is)) = inr (bytes, owed, sym same ∙ is)
 
 -- the core handles no event
-pub acted_calm : (moment key : ℕ) (comes : Step) (new : Entry) (base : List ℕ) (Q : Bool → List ℕ → Type 0) (l : Ledger) (hs : List Happening) (l' : Ledger) → l.entries key ≡ Some new → ClientTalk new.talk
-    → ((bytes : List ℕ) → new.broken ≡ false → Q (closes_of new.talk) bytes → (given : List ℕ) × IsOwed (closes_of new.talk) comes [] given × (new.due ++ bytes ≡ base ++ given)) → HaltsAs comes new base [] new → Gave key Q l hs l' → Acted moment key comes new base l hs l'
+pub acted_calm : (moment key : ℕ) (comes : Step) (new : Entry) (base : List ℕ) (Q : Bool → List ℕ → Type 0) (l : Ledger) (hs : List Happening) (l' : Ledger) → l.entries key ≡ Some new → ClientTalk new.progress
+    → ((bytes : List ℕ) → new.broken ≡ false → Q (closes_of new.progress) bytes → (given : List ℕ) × IsOwed (closes_of new.progress) comes [] given × (new.due ++ bytes ≡ base ++ given)) → HaltsAs comes new base [] new → Gave key Q l hs l' → Acted moment key comes new base l hs l'
 acted_calm moment key comes new base Q l hs l' there client owed halted g = record {
   handled = [];
   sent = λ device. [];
@@ -85,16 +85,16 @@ acted_calm moment key comes new base Q l hs l' there client owed halted g = reco
   here = λ e is of sound.
       let it = g.here e is of sound in
       let this : new ≡ it.0 = one_entry new it.0 (sym there ∙ it.1) in
-      let given = owed it.4.0 (ap (λ (x : Entry). x.broken) this ∙ it.3) (subst (λ (x : Entry). Q (closes_of x.talk) it.4.0) (sym this) it.4.1) in
-      (sym it.2 ∙ ap (λ (x : Entry). x.talk) (sym this), (given.0, given.1, it.4.2 ∙ (ap (λ (x : Entry). x.due ++ it.4.0) (sym this) ∙ given.2)));
+      let given = owed it.4.0 (ap (λ (x : Entry). x.broken) this ∙ it.3) (subst (λ (x : Entry). Q (closes_of x.progress) it.4.0) (sym this) it.4.1) in
+      (sym it.2 ∙ ap (λ (x : Entry). x.progress) (sym this), (given.0, given.1, it.4.2 ∙ (ap (λ (x : Entry). x.due ++ it.4.0) (sym this) ∙ given.2)));
   halts = λ e is of broken.
       let it = g.halts e is of broken in
       let this : new ≡ it.0 = one_entry new it.0 (sym there ∙ it.1) in
-      (sym it.2 ∙ ap (λ (x : Entry). x.talk) (sym this), halts_due comes new new e base [] (ap (λ (x : Entry). x.due) this ∙ it.3) halted);
+      (sym it.2 ∙ ap (λ (x : Entry). x.progress) (sym this), halts_due comes new new e base [] (ap (λ (x : Entry). x.due) this ∙ it.3) halted);
 }
 
 -- the core handles the client's event
-pub acted_event : (moment key id : ℕ) (who : Client) (event : Event) (last : Bool) (new : Entry) (l : Ledger) (hs : List Happening) (l' : Ledger) → EventOf who event → Good l → l.entries key ≡ Some new → ClientTalk new.talk → Ans.IsAnswered moment key id who event l hs l'
+pub acted_event : (moment key id : ℕ) (who : Client) (event : Event) (last : Bool) (new : Entry) (l : Ledger) (hs : List Happening) (l' : Ledger) → EventOf who event → Good l → l.entries key ≡ Some new → ClientTalk new.progress → Ans.IsAnswered moment key id who event l hs l'
     → Acted moment key (step.Asks (ask.Event who event) last) new new.due l hs l'
 acted_event moment key id who event last new l hs l' own good there client (outcome, it) =
     let one = happened moment event outcome l it.front it.mid good it.first in
@@ -116,11 +116,11 @@ acted_event moment key id who event last new l hs l' own good there client (outc
           let gave = g.here e is of sound in
           let was = (one.each key).stays gave.0 gave.1 (subst ClientTalk (sym gave.2) of) in
           let this : new ≡ was.0 = one_entry new was.0 (sym there ∙ was.1) in
-          let talk : new.talk ≡ gave.0.talk = ap (λ (x : Entry). x.talk) this ∙ was.2 in (
-            sym gave.2 ∙ sym talk,
+          let progress : new.progress ≡ gave.0.progress = ap (λ (x : Entry). x.progress) this ∙ was.2 in (
+            sym gave.2 ∙ sym progress,
             (
               gave.4.0,
-              (h, ap (λ (t : Bool). (if t then h ∷ [] else []) ++ []) (is_key key), refl, given (closes_of new.talk) who (reply_of outcome) gave.4.0 (typed who moment event l.core outcome (core_notes it.front) it.mid.core own one.handles) (subst (λ (x : PeerRecord). Loose (closes_of x) who (reply_of outcome) gave.4.0) (sym talk) gave.4.1)),
+              (h, ap (λ (t : Bool). (if t then h ∷ [] else []) ++ []) (is_key key), refl, given (closes_of new.progress) who (reply_of outcome) gave.4.0 (typed who moment event l.core outcome (core_notes it.front) it.mid.core own one.handles) (subst (λ (x : PeerRecord). Loose (closes_of x) who (reply_of outcome) gave.4.0) (sym progress) gave.4.1)),
               gave.4.2 ∙ ap (λ (due : List ℕ). due ++ gave.4.0) (sym was.4 ∙ ap (λ (x : Entry). x.due) (sym this)),
             ),
           );
@@ -128,7 +128,7 @@ acted_event moment key id who event last new l hs l' own good there client (outc
           let gave = g.halts e is of broken in
           let was = (one.each key).stays gave.0 gave.1 (subst ClientTalk (sym gave.2) of) in
           let this : new ≡ was.0 = one_entry new was.0 (sym there ∙ was.1) in
-          (sym gave.2 ∙ (sym was.2 ∙ ap (λ (x : Entry). x.talk) (sym this)), inl (sym gave.3 ∙ (sym was.4 ∙ ap (λ (x : Entry). x.due) (sym this))));
+          (sym gave.2 ∙ (sym was.2 ∙ ap (λ (x : Entry). x.progress) (sym this)), inl (sym gave.3 ∙ (sym was.4 ∙ ap (λ (x : Entry). x.due) (sym this))));
     }
   where
     more : (k : ℕ) → Ordered (λ device. sent_by outcome it.mid.core device ++ []) (l.entries k) (l'.entries k) → Ordered (sent_by outcome it.mid.core) (l.entries k) (l'.entries k)
@@ -141,7 +141,7 @@ acted_event moment key id who event last new l hs l' own good there client (outc
       stays = o.stays;
     }
 
-pub acted_asks : (moment key id : ℕ) (what : Ask) (last : Bool) (new : Entry) (l : Ledger) (hs : List Happening) (l' : Ledger) → IsClientAsk what → Good l → l.entries key ≡ Some new → ClientTalk new.talk → ActsOn moment key id what l hs l' → Acted moment key (step.Asks what last) new new.due l hs l'
+pub acted_asks : (moment key id : ℕ) (what : Ask) (last : Bool) (new : Entry) (l : Ledger) (hs : List Happening) (l' : Ledger) → IsClientAsk what → Good l → l.entries key ≡ Some new → ClientTalk new.progress → ActsOn moment key id what l hs l' → Acted moment key (step.Asks what last) new new.due l hs l'
 acted_asks moment key id ask.Nothing last new l hs l' is good there client it = absurd is
 acted_asks moment key id (ask.Broke growth) last new l hs l' is good there client it = absurd is
 acted_asks moment key id (ask.Event who event) last new l hs l' is good there client it = acted_event moment key id who event last new l hs l' is good there client it
@@ -155,37 +155,37 @@ acted_asks moment key id (ask.Stranger name) last new l hs l' is good there clie
 acted_asks moment key id (ask.Fault device) last new l hs l' is good there client it = absurd is
 
 -- of any step of a client
-pub acted_by : (moment key id : ℕ) (comes : Step) (m new : Entry) (what : Ask) (l : Ledger) (hs : List Happening) (l' : Ledger) → IsClientStep comes → StepsTo comes m what new → ClientTalk m.talk → Good l → l.entries key ≡ Some new → ActsOn moment key id what l hs l' → Acted moment key comes new m.due l hs l'
+pub acted_by : (moment key id : ℕ) (comes : Step) (m new : Entry) (what : Ask) (l : Ledger) (hs : List Happening) (l' : Ledger) → IsClientStep comes → StepsTo comes m what new → ClientTalk m.progress → Good l → l.entries key ≡ Some new → ActsOn moment key id what l hs l' → Acted moment key comes new m.due l hs l'
 acted_by moment key id (step.Due due last) m new what l hs l' fine (inl (is, after)) client good there it =
     let nothing : Nothing l hs l' = subst (λ (a : Ask). ActsOn moment key id a l hs l') is it in
-    acted_calm moment key (step.Due due last) new m.due (Just_these []) l hs l' there (subst (λ (x : Entry). ClientTalk x.talk) (sym after) client)
+    acted_calm moment key (step.Due due last) new m.due (Just_these []) l hs l' there (subst (λ (x : Entry). ClientTalk x.progress) (sym after) client)
     (λ bytes sound none. (due_bytes due, (refl, refl), ap (λ (more : List ℕ). new.due ++ more) none ∙ (append-nil new.due ∙ ap (λ (x : Entry). x.due) after))) (inr (due_bytes due, (refl, refl), ap (λ (x : Entry). x.due) after)) (gives_nothing key (Just_these []) (λ closes. refl) l hs l' nothing)
 acted_by moment key id (step.Due due last) m new what l hs l' fine (inr (is, needs, after)) client good there it =
     let told : Tells (Refused (place_of growth.Output) (Some id)) l hs l' = subst (λ (a : Ask). ActsOn moment key id a l hs l') is it in
-    acted_calm moment key (step.Due due last) new m.due (Just_these []) l hs l' there (subst (λ (x : Entry). ClientTalk x.talk) (sym after) client)
+    acted_calm moment key (step.Due due last) new m.due (Just_these []) l hs l' there (subst (λ (x : Entry). ClientTalk x.progress) (sym after) client)
     (λ bytes sound none. absurd (no_true new.broken (ap (λ (x : Entry). x.broken) after) sound)) (inl (ap (λ (x : Entry). x.due) after)) (gave_still key (Just_these []) l hs l' (ap core_notes told.0 ∙ silent_growth growth.Output id) told.1 (λ closes. refl))
 acted_by moment key id (step.Asks asked last) m new what l hs l' fine (is, after) client good there it =
-    let a = acted_asks moment key id asked last new l hs l' fine good there (subst (λ (x : Entry). ClientTalk x.talk) (sym after) client) (subst (λ (a : Ask). ActsOn moment key id a l hs l') is it) in
+    let a = acted_asks moment key id asked last new l hs l' fine good there (subst (λ (x : Entry). ClientTalk x.progress) (sym after) client) (subst (λ (a : Ask). ActsOn moment key id a l hs l') is it) in
     subst (λ (due : List ℕ). Acted moment key (step.Asks asked last) new due l hs l') (ap (λ (x : Entry). x.due) after) a
 acted_by moment key id (step.Breaks asked) m new what l hs l' fine (is, after) client good there it =
     let told : Tells (Refused (place_of growth.Input) (Some id)) l hs l' = subst (λ (a : Ask). ActsOn moment key id a l hs l') (is ∙ fine) it in
-    acted_calm moment key (step.Breaks asked) new m.due (Just_these []) l hs l' there (subst (λ (x : Entry). ClientTalk x.talk) (sym after) client)
+    acted_calm moment key (step.Breaks asked) new m.due (Just_these []) l hs l' there (subst (λ (x : Entry). ClientTalk x.progress) (sym after) client)
     (λ bytes sound none. absurd (no_true new.broken (ap (λ (x : Entry). x.broken) after) sound)) (inl (ap (λ (x : Entry). x.due) after)) (gave_still key (Just_these []) l hs l' (ap core_notes told.0 ∙ silent_growth growth.Input id) told.1 (λ closes. refl))
 
 -- the next of a client's stream, as an act has it
-pub next_of : (settings : ServerSettings) (talk : PeerRecord) (e : Entry) (comes : Step) (mid : Entry) → ClientTalk talk → e.talk ≡ talk → IsClientStep comes → Hears settings talk e comes mid → (mid.due ≡ e.due) × (((comes ≡ no_memory) × (mid.talk ≡ talk)) ⊎ IsNext settings talk comes mid.talk)
-next_of settings (Http said closes body) e comes mid client is fine next = (ap (λ (x : Entry). x.due) next.after, inr (record { item = next.item; part = next.part; read = e.read; first = next.next; comes = next.comes; is = ap (λ (x : Entry). x.talk) next.after }))
+pub next_of : (settings : ServerSettings) (progress : PeerRecord) (e : Entry) (comes : Step) (mid : Entry) → ClientTalk progress → e.progress ≡ progress → IsClientStep comes → ItemComes settings progress e comes mid → (mid.due ≡ e.due) × (((comes ≡ no_memory) × (mid.progress ≡ progress)) ⊎ IsNext settings progress comes mid.progress)
+next_of settings (Http said closes body) e comes mid client is fine next = (ap (λ (x : Entry). x.due) next.after, inr (record { item = next.item; part = next.part; read = e.read; first = next.next; comes = next.comes; is = ap (λ (x : Entry). x.progress) next.after }))
 next_of settings (Queue items session) e comes mid client is fine (inl next) =
-    (ap (λ (x : Entry). x.due) next.after, inr (inl (record { said = next.said; session_after = next.session_after; comes = next.comes; is = ap (λ (x : Entry). x.talk) next.after })))
-next_of settings (Queue items session) e comes mid client is fine (inr (inl next)) = (ap (λ (x : Entry). x.due) next.after, inr (inr (next.comes, ap (λ (x : Entry). x.talk) next.after ∙ is)))
-next_of settings (Queue items session) e comes mid client is fine (inr (inr next)) = (ap (λ (x : Entry). x.due) next.1, inl (next.0, ap (λ (x : Entry). x.talk) next.1 ∙ is))
+    (ap (λ (x : Entry). x.due) next.after, inr (inl (record { said = next.said; session_after = next.session_after; comes = next.comes; is = ap (λ (x : Entry). x.progress) next.after })))
+next_of settings (Queue items session) e comes mid client is fine (inr (inl next)) = (ap (λ (x : Entry). x.due) next.after, inr (inr (next.comes, ap (λ (x : Entry). x.progress) next.after ∙ is)))
+next_of settings (Queue items session) e comes mid client is fine (inr (inr next)) = (ap (λ (x : Entry). x.due) next.1, inl (next.0, ap (λ (x : Entry). x.progress) next.1 ∙ is))
 next_of settings (Link reports device) e comes mid client is fine next = absurd client
 
-pub steps_talk : (comes : Step) (mid new : Entry) (what : Ask) → StepsTo comes mid what new → new.talk ≡ mid.talk
-steps_talk (step.Due due last) mid new what (inl is) = ap (λ (x : Entry). x.talk) is.1
-steps_talk (step.Due due last) mid new what (inr is) = ap (λ (x : Entry). x.talk) is.2
-steps_talk (step.Asks it last) mid new what is = ap (λ (x : Entry). x.talk) is.1
-steps_talk (step.Breaks it) mid new what is = ap (λ (x : Entry). x.talk) is.1
+pub steps_progress : (comes : Step) (mid new : Entry) (what : Ask) → StepsTo comes mid what new → new.progress ≡ mid.progress
+steps_progress (step.Due due last) mid new what (inl is) = ap (λ (x : Entry). x.progress) is.1
+steps_progress (step.Due due last) mid new what (inr is) = ap (λ (x : Entry). x.progress) is.2
+steps_progress (step.Asks it last) mid new what is = ap (λ (x : Entry). x.progress) is.1
+steps_progress (step.Breaks it) mid new what is = ap (λ (x : Entry). x.progress) is.1
 
 pub not_given : (closes : Bool) (asked : List Handled) (bytes : List ℕ) (comes : Step) → comes ≡ no_memory → IsOwed closes comes asked bytes → ⊥
 not_given closes asked bytes comes is owed = subst (λ (s : Step). IsOwed closes s asked bytes) is owed
@@ -195,7 +195,7 @@ same_state core [] = refl
 same_state core (it ∷ later) = inl refl
 
 pub client_acts : (moment key id : ℕ) (what : Ask) (l : Ledger) (front : List Happening) (mid : Ledger) (back : List Happening) (l' : Ledger) (hs : List Happening) → hs ≡ front ++ back → Good l
-    → (a : Asks key id what l front mid) → ClientTalk a.entry.talk → ActsOn moment key id what mid back l' → Goes moment l hs l'
+    → (a : Asks key id what l front mid) → ClientTalk a.entry.progress → ActsOn moment key id what mid back l' → Goes moment l hs l'
 client_acts moment key id what l front mid back l' hs whole good a client does = record {
   handled = acted.handled;
   good = record { one = λ device k other p q. one device k other (k == key) refl (other == key) refl p q; fresh = λ k. fresh k (k == key) refl };
@@ -204,7 +204,7 @@ client_acts moment key id what l front mid back l' hs whole good a client does =
   told = ap core_notes whole ∙ (notes_append front back ∙ (ap (λ (ns : List Note). ns ++ core_notes back) (ap core_notes a.chosen) ∙ acted.told));
   came = λ k device counts. came k device (k == key) refl counts;
   lost = λ k device is. lost k device (k == key) refl is;
-  talks = λ k e is of sound. talks k e (k == key) refl is of sound;
+  progresses = λ k e is of sound. progresses k e (k == key) refl is of sound;
   stops = λ k e is of broken. stops k e (k == key) refl is of broken;
   closed = none_closed l acted.handled l' (acted.closed ∙ ap (λ (x : Ledger). x.closed) a.after);
 }
@@ -212,11 +212,11 @@ client_acts moment key id what l front mid back l' hs whole good a client does =
     core : mid.core ≡ l.core
     core = ap (λ (x : Ledger). x.core) a.after
 
-    heard_so : IsClientStep a.asks.comes × ClientTalk a.asks.mid.talk
-    heard_so = client_hears l.core.settings a.entry.talk a.entry a.asks.comes a.asks.mid client client a.asks.hears
+    heard_so : IsClientStep a.asks.comes × ClientTalk a.asks.mid.progress
+    heard_so = client_hears l.core.settings a.entry.progress a.entry a.asks.comes a.asks.mid client client a.asks.hears
 
-    new_talk : a.new.talk ≡ a.asks.mid.talk
-    new_talk = steps_talk a.asks.comes a.asks.mid a.new what a.asks.steps
+    new_progress : a.new.progress ≡ a.asks.mid.progress
+    new_progress = steps_progress a.asks.comes a.asks.mid a.new what a.asks.steps
 
     set : mid.entries key ≡ Some a.new
     set = ap (λ (x : Ledger). x.entries key) a.after ∙ at_here key a.new l.entries
@@ -225,7 +225,7 @@ client_acts moment key id what l front mid back l' hs whole good a client does =
     beside k apart = ap (λ (x : Ledger). x.entries k) a.after ∙ at_aside key a.new l.entries k apart
 
     of_client : IsClient (mid.entries key)
-    of_client = subst IsClient (sym set) (subst ClientTalk (sym new_talk) heard_so.1)
+    of_client = subst IsClient (sym set) (subst ClientTalk (sym new_progress) heard_so.1)
 
     good_mid : Good mid
     good_mid = record {
@@ -235,7 +235,7 @@ client_acts moment key id what l front mid back l' hs whole good a client does =
       where
         no_device : (device : ℕ) (o : Option Entry) → IsClient o → IsDevice device o → ⊥
         no_device device None of is = is
-        no_device device (Some e) of is = client_none e.talk device of is
+        no_device device (Some e) of is = client_none e.progress device of is
 
         here : (k : ℕ) → (k == key) ≡ true → IsClient (mid.entries k)
         here k same = subst (λ (j : ℕ). IsClient (mid.entries j)) (sym (same_key k key same)) of_client
@@ -248,7 +248,7 @@ client_acts moment key id what l front mid back l' hs whole good a client does =
 
         fresh_client : (o : Option Entry) → IsClient o → IsFresh o
         fresh_client None of = tt
-        fresh_client (Some e) of = client_fresh e.talk e of
+        fresh_client (Some e) of = client_fresh e.progress e of
 
         fresh_mid : (k : ℕ) (t : Bool) → (k == key) ≡ t → IsFresh (mid.entries k)
         fresh_mid k true is = fresh_client (mid.entries k) (here k is)
@@ -265,7 +265,7 @@ client_acts moment key id what l front mid back l' hs whole good a client does =
 
     no_name : (device : ℕ) (o : Option Entry) → IsClient o → IsDevice device o → ⊥
     no_name device None of is = is
-    no_name device (Some e) of is = client_none e.talk device of is
+    no_name device (Some e) of is = client_none e.progress device of is
 
     one : (device k other : ℕ) (s : Bool) → (k == key) ≡ s → (t : Bool) → (other == key) ≡ t → IsDevice device (l'.entries k) → IsDevice device (l'.entries other) → k ≡ other
     one device k other true is t its p q = absurd (no_name device (l'.entries k) (last k is) p)
@@ -274,7 +274,7 @@ client_acts moment key id what l front mid back l' hs whole good a client does =
 
     fresh_last : (o : Option Entry) → IsClient o → IsFresh o
     fresh_last None of = tt
-    fresh_last (Some e) of = client_fresh e.talk e of
+    fresh_last (Some e) of = client_fresh e.progress e of
 
     fresh : (k : ℕ) (t : Bool) → (k == key) ≡ t → IsFresh (l'.entries k)
     fresh k true is = fresh_last (l'.entries k) (last k is)
@@ -288,32 +288,32 @@ client_acts moment key id what l front mid back l' hs whole good a client does =
     lost k device true is broke = absurd (no_name device (l'.entries k) (last k is) (lost_device device (l'.entries k) broke))
     lost k device false is broke = lost_by device acted.handled acted.sent (l.entries k) (l'.entries k) (acted.sends device (due_at (l.entries k))) ((ordered k (other_key k key is)).breaks device broke)
 
-    went : (e : Entry) → l'.entries key ≡ Some e → ClientTalk e.talk → e.broken ≡ false → ((a.asks.comes ≡ no_memory) × (a.asks.mid.talk ≡ a.entry.talk)) ⊎ IsNext l.core.settings a.entry.talk a.asks.comes a.asks.mid.talk → a.asks.mid.due ≡ a.entry.due → Went l.core key acted.handled (l.entries key) e
-    went e is of sound (inl (none, still)) due = let it = acted.here e is of sound in absurd (not_given (closes_of a.new.talk) (asked_by key acted.handled) it.1.0 a.asks.comes none it.1.1)
+    went : (e : Entry) → l'.entries key ≡ Some e → ClientTalk e.progress → e.broken ≡ false → ((a.asks.comes ≡ no_memory) × (a.asks.mid.progress ≡ a.entry.progress)) ⊎ IsNext l.core.settings a.entry.progress a.asks.comes a.asks.mid.progress → a.asks.mid.due ≡ a.entry.due → Went l.core key acted.handled (l.entries key) e
+    went e is of sound (inl (none, still)) due = let it = acted.here e is of sound in absurd (not_given (closes_of a.new.progress) (asked_by key acted.handled) it.1.0 a.asks.comes none it.1.1)
     went e is of sound (inr next) due =
         let it = acted.here e is of sound in
-        let act : Act = record { before = a.entry.talk; after = a.new.talk; what = a.asks.comes; asked = asked_by key acted.handled; bytes = it.1.0; state = l.core } in
+        let act : Act = record { before = a.entry.progress; after = a.new.progress; what = a.asks.comes; asked = asked_by key acted.handled; bytes = it.1.0; state = l.core } in
         record {
           before = a.entry;
           there = a.there;
           client = client;
           sound = not_broken a.entry.draining a.entry.broken a.asks.counts;
           acts = act ∷ [];
-          are = (refl, record { next = subst (λ (t : PeerRecord). IsNext l.core.settings a.entry.talk a.asks.comes t) (sym new_talk) next; owed = it.1.1 }, it.0);
+          are = (refl, record { next = subst (λ (t : PeerRecord). IsNext l.core.settings a.entry.progress a.asks.comes t) (sym new_progress) next; owed = it.1.1 }, it.0);
           states = All-cons (λ (x : Act). IsStateOf x.state l.core acted.handled) act [] (same_state l.core acted.handled) (All-nil (λ (x : Act). IsStateOf x.state l.core acted.handled));
           asked = sym (append-nil (asked_by key acted.handled));
           due = it.1.2 ∙ (ap (λ (bytes : List ℕ). bytes ++ it.1.0) due ∙ ap (λ (bytes : List ℕ). a.entry.due ++ bytes) (sym (append-nil it.1.0)));
         }
 
-    heard_next : (a.asks.mid.due ≡ a.entry.due) × (((a.asks.comes ≡ no_memory) × (a.asks.mid.talk ≡ a.entry.talk)) ⊎ IsNext l.core.settings a.entry.talk a.asks.comes a.asks.mid.talk)
-    heard_next = next_of l.core.settings a.entry.talk a.entry a.asks.comes a.asks.mid client refl heard_so.0 a.asks.hears
+    heard_next : (a.asks.mid.due ≡ a.entry.due) × (((a.asks.comes ≡ no_memory) × (a.asks.mid.progress ≡ a.entry.progress)) ⊎ IsNext l.core.settings a.entry.progress a.asks.comes a.asks.mid.progress)
+    heard_next = next_of l.core.settings a.entry.progress a.entry a.asks.comes a.asks.mid client refl heard_so.0 a.asks.hears
 
     -- the connection broke: the bytes of its last step aren't due, or they are
-    broke : (e : Entry) → e.talk ≡ a.new.talk → ((a.asks.comes ≡ no_memory) × (a.asks.mid.talk ≡ a.entry.talk)) ⊎ IsNext l.core.settings a.entry.talk a.asks.comes a.asks.mid.talk → a.asks.mid.due ≡ a.entry.due → HaltsAs a.asks.comes a.new a.asks.mid.due (asked_by key acted.handled) e
-        → BrokeAfter l.core key acted.handled acted.handled a.entry.talk a.entry.due e
-    broke e talk next due (inl is) = record {
+    broke : (e : Entry) → e.progress ≡ a.new.progress → ((a.asks.comes ≡ no_memory) × (a.asks.mid.progress ≡ a.entry.progress)) ⊎ IsNext l.core.settings a.entry.progress a.asks.comes a.asks.mid.progress → a.asks.mid.due ≡ a.entry.due → HaltsAs a.asks.comes a.new a.asks.mid.due (asked_by key acted.handled) e
+        → BrokeAfter l.core key acted.handled acted.handled a.entry.progress a.entry.due e
+    broke e progress next due (inl is) = record {
       acts = [];
-      after = a.entry.talk;
+      after = a.entry.progress;
       are = refl;
       states = All-nil (λ (x : Act). IsStateOf x.state l.core acted.handled);
       unanswered = asked_by key acted.handled;
@@ -323,36 +323,36 @@ client_acts moment key id what l front mid back l' hs whole good a client does =
       due = is ∙ (due ∙ sym (append-nil a.entry.due));
     }
       where
-        by : ((a.asks.comes ≡ no_memory) × (a.asks.mid.talk ≡ a.entry.talk)) ⊎ IsNext l.core.settings a.entry.talk a.asks.comes a.asks.mid.talk → IsLast l.core acted.handled a.entry.talk e.talk
-        by (inl (none, still)) = inl (sym (talk ∙ (new_talk ∙ still)))
-        by (inr comes) = inr (l.core, a.asks.comes, same_state l.core acted.handled, subst (λ (t : PeerRecord). IsNext l.core.settings a.entry.talk a.asks.comes t) (sym (talk ∙ new_talk)) comes)
-    broke e talk (inl (none, still)) due (inr (bytes, owed, is)) = absurd (not_given (closes_of a.new.talk) (asked_by key acted.handled) bytes a.asks.comes none owed)
-    broke e talk (inr next) due (inr (bytes, owed, is)) =
-        let act : Act = record { before = a.entry.talk; after = a.new.talk; what = a.asks.comes; asked = asked_by key acted.handled; bytes = bytes; state = l.core } in
+        by : ((a.asks.comes ≡ no_memory) × (a.asks.mid.progress ≡ a.entry.progress)) ⊎ IsNext l.core.settings a.entry.progress a.asks.comes a.asks.mid.progress → IsLast l.core acted.handled a.entry.progress e.progress
+        by (inl (none, still)) = inl (sym (progress ∙ (new_progress ∙ still)))
+        by (inr comes) = inr (l.core, a.asks.comes, same_state l.core acted.handled, subst (λ (t : PeerRecord). IsNext l.core.settings a.entry.progress a.asks.comes t) (sym (progress ∙ new_progress)) comes)
+    broke e progress (inl (none, still)) due (inr (bytes, owed, is)) = absurd (not_given (closes_of a.new.progress) (asked_by key acted.handled) bytes a.asks.comes none owed)
+    broke e progress (inr next) due (inr (bytes, owed, is)) =
+        let act : Act = record { before = a.entry.progress; after = a.new.progress; what = a.asks.comes; asked = asked_by key acted.handled; bytes = bytes; state = l.core } in
         record {
           acts = act ∷ [];
-          after = a.new.talk;
-          are = (refl, record { next = subst (λ (t : PeerRecord). IsNext l.core.settings a.entry.talk a.asks.comes t) (sym new_talk) next; owed = owed }, refl);
+          after = a.new.progress;
+          are = (refl, record { next = subst (λ (t : PeerRecord). IsNext l.core.settings a.entry.progress a.asks.comes t) (sym new_progress) next; owed = owed }, refl);
           states = All-cons (λ (x : Act). IsStateOf x.state l.core acted.handled) act [] (same_state l.core acted.handled) (All-nil (λ (x : Act). IsStateOf x.state l.core acted.handled));
           unanswered = [];
           one = inl refl;
           asked = sym (append-nil (asked_by key acted.handled)) ∙ sym (append-nil (asked_by key acted.handled ++ []));
-          last = inl (sym talk);
+          last = inl (sym progress);
           due = is ∙ (ap (λ (more : List ℕ). more ++ bytes) due ∙ ap (λ (more : List ℕ). a.entry.due ++ more) (sym (append-nil bytes)));
         }
 
-    stops : (k : ℕ) (e : Entry) (t : Bool) → (k == key) ≡ t → l'.entries k ≡ Some e → ClientTalk e.talk → e.broken ≡ true → StopsAs l.core k acted.handled (l.entries k) e
+    stops : (k : ℕ) (e : Entry) (t : Bool) → (k == key) ≡ t → l'.entries k ≡ Some e → ClientTalk e.progress → e.broken ≡ true → StopsAs l.core k acted.handled (l.entries k) e
     stops k e true same is of broken =
         let at : k ≡ key = same_key k key same in
         let it = acted.halts e (subst (λ (j : ℕ). l'.entries j ≡ Some e) at is) of broken in
         subst (λ (j : ℕ). StopsAs l.core j acted.handled (l.entries j) e) (sym at) (inr (inl (a.entry, a.there, client, not_broken a.entry.draining a.entry.broken a.asks.counts, broke e it.0 heard_next.1 heard_next.0 it.1)))
     stops k e false same is of broken = stops_still l.core k acted.handled (l.entries k) (l'.entries k) (ordered k (other_key k key same)).stays (acted.aside k (other_key k key same)) e is of broken
 
-    talks : (k : ℕ) (e : Entry) (t : Bool) → (k == key) ≡ t → l'.entries k ≡ Some e → ClientTalk e.talk → e.broken ≡ false → TalkedAs l.core k acted.handled (l.entries k) e
-    talks k e true same is of sound =
+    progresses : (k : ℕ) (e : Entry) (t : Bool) → (k == key) ≡ t → l'.entries k ≡ Some e → ClientTalk e.progress → e.broken ≡ false → TalkedAs l.core k acted.handled (l.entries k) e
+    progresses k e true same is of sound =
         let at : k ≡ key = same_key k key same in
         subst (λ (j : ℕ). TalkedAs l.core j acted.handled (l.entries j) e) (sym at) (inl (went e (subst (λ (j : ℕ). l'.entries j ≡ Some e) at is) of sound heard_next.1 heard_next.0))
-    talks k e false same is of sound = talked_still l.core k acted.handled (l.entries k) (l'.entries k) (ordered k (other_key k key same)).stays (acted.aside k (other_key k key same)) e is of sound
+    progresses k e false same is of sound = progressed_still l.core k acted.handled (l.entries k) (l'.entries k) (ordered k (other_key k key same)).stays (acted.aside k (other_key k key same)) e is of sound
 
 pub device_acts : (moment key id : ℕ) (what : Ask) (l : Ledger) (front : List Happening) (mid : Ledger) (back : List Happening) (l' : Ledger) (hs : List Happening) → hs ≡ front ++ back → Good l
     → (a : Asks key id what l front mid) → DeviceAsks what a.entry a.new → ActsOn moment key id what mid back l' → Goes moment l hs l'
@@ -363,19 +363,19 @@ device_acts moment key id what l front mid back l' hs whole good a (inr names) d
     let sound : a.entry.broken ≡ false = not_broken a.entry.draining a.entry.broken a.asks.counts in
     let none : a.entry.due ≡ [] = names.fresh (subst IsFresh a.there (good.fresh key)) sound in
     let just : Just key names.device names.name a.entry a.new l front mid =
-    record { good = good; silent = ap core_notes a.chosen; there = a.there; after = a.after; named = names.after; fresh = names.open_talk; due = names.due ∙ none; link = names.link } in
+    record { good = good; silent = ap core_notes a.chosen; there = a.there; after = a.after; named = names.after; fresh = names.open_progress; due = names.due ∙ none; link = names.link } in
     greets moment key id names.device names.name a.entry a.new l front mid back l' hs whole just (subst (λ (it : Ask). ActsOn moment key id it mid back l') names.asks does)
 
 pub acts_by : (moment key id : ℕ) (what : Ask) (l : Ledger) (front : List Happening) (mid : Ledger) (back : List Happening) (l' : Ledger) (hs : List Happening) → hs ≡ front ++ back → Good l
-    → (a : Asks key id what l front mid) → (talk : PeerRecord) → a.entry.talk ≡ talk → ActsOn moment key id what mid back l' → Goes moment l hs l'
+    → (a : Asks key id what l front mid) → (progress : PeerRecord) → a.entry.progress ≡ progress → ActsOn moment key id what mid back l' → Goes moment l hs l'
 acts_by moment key id what l front mid back l' hs whole good a (Http said closes body) is does = client_acts moment key id what l front mid back l' hs whole good a (subst ClientTalk (sym is) tt) does
 acts_by moment key id what l front mid back l' hs whole good a (Queue items session) is does = client_acts moment key id what l front mid back l' hs whole good a (subst ClientTalk (sym is) tt) does
 acts_by moment key id what l front mid back l' hs whole good a (Link reports device) is does =
     device_acts moment key id what l front mid back l' hs whole good a
-    (device_hears l.core.settings reports device a.entry a.asks.comes a.asks.mid what a.new is (subst (λ (t : PeerRecord). Hears l.core.settings t a.entry a.asks.comes a.asks.mid) is a.asks.hears) a.asks.steps) does
+    (device_hears l.core.settings reports device a.entry a.asks.comes a.asks.mid what a.new is (subst (λ (t : PeerRecord). ItemComes l.core.settings t a.entry a.asks.comes a.asks.mid) is a.asks.hears) a.asks.steps) does
 
 pub moves_acts_next : (moment key : ℕ) → Moves moment (ActsNext moment key)
-moves_acts_next moment key l hs l' good (id, what, it) = acts_by moment key id what l it.front it.mid it.back l' hs it.whole good it.first it.first.entry.talk refl it.second
+moves_acts_next moment key l hs l' good (id, what, it) = acts_by moment key id what l it.front it.mid it.back l' hs it.whole good it.first it.first.entry.progress refl it.second
 
 pub moves_acts : (moment key : ℕ) → Moves moment (Acts moment key)
 moves_acts moment key = moves_then moment (ActsNext moment key) (Settles moment) (moves_acts_next moment key) (moves_settles moment)

@@ -9,14 +9,14 @@ use Rattle.std.proofs.lemmas.List.{length-map, get_or-map}
 use Rattle.std.proofs.lemmas.List.Quantifiers.{position-Some}
 use Rattle.std.proofs.lemmas.Slice.Eq.{bytes_eq-Decides}
 use Rattle.settings_file.specs.Settings.{ServerSettings, DeviceEntry, device_names, device_named}
-use Rattle.device_link.specs.Stream.{SaysFirst}
+use Rattle.device_link.specs.Stream.{ParsesFirst}
 use Rattle.connections.specs.declared.ask.Ask.{Ask}
 use Rattle.connections.specs.declared.ask.Ask.TheVariants as ask
 use Rattle.connections.specs.declared.ask.Growth.TheVariants as growth
 use Rattle.connections.specs.declared.step.Step.{Step}
 use Rattle.connections.specs.declared.step.Step.TheVariants as step
-use Rattle.connections.specs.Entry.{PeerRecord, Http, Queue, Link, Entry, device_of, talking, finishing, broken}
-use Rattle.connections.specs.Asking.{Hears, StepsTo}
+use Rattle.connections.specs.Entry.{PeerRecord, Http, Queue, Link, Entry, device_of, with_progress, finishing, broken}
+use Rattle.connections.specs.Asking.{ItemComes, StepsTo}
 use Rattle.connections.specs.Steps.{StepsHello, StepsDevice}
 use Rattle.promises.specs.Answers.{ClientTalk}
 use Rattle.promises.specs.Heard.{said_on, IsRead}
@@ -58,27 +58,27 @@ step_fine (step.Due due last) mid what new is (inr it) = subst IsFine (sym it.0)
 step_fine (step.Asks it last) mid what new is steps = subst IsFine (sym steps.0) (client_fine it is)
 step_fine (step.Breaks it) mid what new is steps = subst IsFine (sym (steps.0 ∙ is)) tt
 
-pub step_talk : (comes : Step) (mid : Entry) (what : Ask) (new : Entry) → StepsTo comes mid what new → new.talk ≡ mid.talk
-step_talk (step.Due due last) mid what new (inl it) = ap (λ (x : Entry). x.talk) it.1
-step_talk (step.Due due last) mid what new (inr it) = ap (λ (x : Entry). x.talk) it.2
-step_talk (step.Asks it last) mid what new steps = ap (λ (x : Entry). x.talk) steps.1
-step_talk (step.Breaks it) mid what new steps = ap (λ (x : Entry). x.talk) steps.1
+pub step_progress : (comes : Step) (mid : Entry) (what : Ask) (new : Entry) → StepsTo comes mid what new → new.progress ≡ mid.progress
+step_progress (step.Due due last) mid what new (inl it) = ap (λ (x : Entry). x.progress) it.1
+step_progress (step.Due due last) mid what new (inr it) = ap (λ (x : Entry). x.progress) it.2
+step_progress (step.Asks it last) mid what new steps = ap (λ (x : Entry). x.progress) steps.1
+step_progress (step.Breaks it) mid what new steps = ap (λ (x : Entry). x.progress) steps.1
 
-pub client_nameless : (talk : PeerRecord) → ClientTalk talk → device_of talk ≡ None
+pub client_nameless : (progress : PeerRecord) → ClientTalk progress → device_of progress ≡ None
 client_nameless (Http said closes body) client = refl
 client_nameless (Queue items session) client = refl
 client_nameless (Link reports device) client = absurd client
 
-pub client_said : (talk : PeerRecord) → ClientTalk talk → said_on talk ≡ []
+pub client_said : (progress : PeerRecord) → ClientTalk progress → said_on progress ≡ []
 client_said (Http said closes body) client = refl
 client_said (Queue items session) client = refl
 client_said (Link reports device) client = absurd client
 
-pub client_grows : (d e : Entry) → d.broken ≡ false → ClientTalk d.talk → ClientTalk e.talk → Grows d e
+pub client_grows : (d e : Entry) → d.broken ≡ false → ClientTalk d.progress → ClientTalk e.progress → Grows d e
 client_grows d e sound before after = record {
-  talk = inr (record { sound = sound; before = client_nameless d.talk before; after = client_nameless e.talk after; fresh = λ reports talk unbroken. absurd (subst ClientTalk talk after) });
+  progress = inr (record { sound = sound; before = client_nameless d.progress before; after = client_nameless e.progress after; fresh = λ reports progress unbroken. absurd (subst ClientTalk progress after) });
   broken = λ is. absurd (no_true d.broken is sound);
-  reads = λ is. none_read e (client_said e.talk after);
+  reads = λ is. none_read e (client_said e.progress after);
 }
 
 -- ---- steps of a device
@@ -101,8 +101,8 @@ pub record SaysIt (settings : ServerSettings) (what : Ask) (e new : Entry) : Typ
   pub place : slice_get (device_names settings) device ≡ Some name
   pub asks : what ≡ ask.Hello device name
   pub reports : List ReportRecord
-  pub before : e.talk ≡ Link reports None
-  pub after : new.talk ≡ Link (reports ++ SaysHello name ∷ []) (Some device)
+  pub before : e.progress ≡ Link reports None
+  pub after : new.progress ≡ Link (reports ++ SaysHello name ∷ []) (Some device)
   pub read : IsRead new
 
 -- a device that has given its name reports
@@ -111,76 +111,76 @@ pub record ReportsIt (what : Ask) (e new : Entry) : Type 0 where
   pub it : Report
   pub asks : what ≡ ask.Report device it
   pub reports : List ReportRecord
-  pub before : e.talk ≡ Link reports (Some device)
-  pub after : new.talk ≡ Link (reports ++ report_of it ∷ []) (Some device)
+  pub before : e.progress ≡ Link reports (Some device)
+  pub after : new.progress ≡ Link (reports ++ report_of it ∷ []) (Some device)
   pub read : IsRead new
 
 abbrev pub DeviceStep : ServerSettings → Ask → Entry → Entry → Type 0
 DeviceStep settings what e new = (IsFine what × Grows e new) ⊎ (SaysIt settings what e new ⊎ ReportsIt what e new)
 
 pub breaks_grows : (e mid new : Entry) → new ≡ broken mid → mid ≡ e → Grows e new
-breaks_grows e mid new after same = grows_as e new (ap (λ (x : Entry). x.talk) whole) (ap (λ (x : Entry). x.read) whole) (λ is. ap (λ (x : Entry). x.broken) whole)
+breaks_grows e mid new after same = grows_as e new (ap (λ (x : Entry). x.progress) whole) (ap (λ (x : Entry). x.read) whole) (λ is. ap (λ (x : Entry). x.broken) whole)
   where
     whole : new ≡ broken e
     whole = after ∙ ap broken same
 
 -- a stranger's connection breaks
-pub stranger_grows : (e new : Entry) (reports more : List ReportRecord) → e.talk ≡ Link reports None → e.broken ≡ false → SaysFirst e.read more → new ≡ broken (talking (Link more None) e) → Grows e new
-stranger_grows e new reports more talk sound says whole = record {
-  talk = inr (record { sound = sound; before = ap device_of talk; after = ap (λ (x : Entry). device_of x.talk) whole; fresh = λ its is unbroken. absurd (no_true new.broken (ap (λ (x : Entry). x.broken) whole) unbroken) });
+pub stranger_grows : (e new : Entry) (reports more : List ReportRecord) → e.progress ≡ Link reports None → e.broken ≡ false → ParsesFirst e.read more → new ≡ broken (with_progress (Link more None) e) → Grows e new
+stranger_grows e new reports more progress sound says whole = record {
+  progress = inr (record { sound = sound; before = ap device_of progress; after = ap (λ (x : Entry). device_of x.progress) whole; fresh = λ its is unbroken. absurd (no_true new.broken (ap (λ (x : Entry). x.broken) whole) unbroken) });
   broken = λ is. ap (λ (x : Entry). x.broken) whole;
-  reads = λ is. first_read new e.read more says (ap (λ (x : Entry). x.read) whole) (ap (λ (x : Entry). said_on x.talk) whole);
+  reads = λ is. first_read new e.read more says (ap (λ (x : Entry). x.read) whole) (ap (λ (x : Entry). said_on x.progress) whole);
 }
 
-pub named_step : (settings : ServerSettings) (name : List ℕ) (place device_after : Option ℕ) (reports : List ReportRecord) (e : Entry) (comes : Step) (mid : Entry) (what : Ask) (new : Entry) → device_named settings name ≡ place → e.talk ≡ Link reports None → e.broken ≡ false → SaysFirst e.read (reports ++ SaysHello name ∷ [])
-    → StepsHello name place comes device_after → mid ≡ talking (Link (reports ++ SaysHello name ∷ []) device_after) e → StepsTo comes mid what new → DeviceStep settings what e new
-named_step settings name None device_after reports e comes mid what new placed talk sound says is after steps =
+pub named_step : (settings : ServerSettings) (name : List ℕ) (place device_after : Option ℕ) (reports : List ReportRecord) (e : Entry) (comes : Step) (mid : Entry) (what : Ask) (new : Entry) → device_named settings name ≡ place → e.progress ≡ Link reports None → e.broken ≡ false → ParsesFirst e.read (reports ++ SaysHello name ∷ [])
+    → StepsHello name place comes device_after → mid ≡ with_progress (Link (reports ++ SaysHello name ∷ []) device_after) e → StepsTo comes mid what new → DeviceStep settings what e new
+named_step settings name None device_after reports e comes mid what new placed progress sound says is after steps =
     let breaks : (what ≡ ask.Stranger name) × (new ≡ broken mid) = subst (λ (s : Step). StepsTo s mid what new) is.0 steps in
-    let whole : new ≡ broken (talking (Link (reports ++ SaysHello name ∷ []) None) e) = breaks.1 ∙ ap broken (after ∙ ap (λ (d : Option ℕ). talking (Link (reports ++ SaysHello name ∷ []) d) e) is.1) in
-    inl (subst IsFine (sym breaks.0) tt, stranger_grows e new reports (reports ++ SaysHello name ∷ []) talk sound says whole)
-named_step settings name (Some device) device_after reports e comes mid what new placed talk sound says is after steps =
+    let whole : new ≡ broken (with_progress (Link (reports ++ SaysHello name ∷ []) None) e) = breaks.1 ∙ ap broken (after ∙ ap (λ (d : Option ℕ). with_progress (Link (reports ++ SaysHello name ∷ []) d) e) is.1) in
+    inl (subst IsFine (sym breaks.0) tt, stranger_grows e new reports (reports ++ SaysHello name ∷ []) progress sound says whole)
+named_step settings name (Some device) device_after reports e comes mid what new placed progress sound says is after steps =
     let asks : (what ≡ ask.Hello device name) × (new ≡ finishing false mid) = subst (λ (s : Step). StepsTo s mid what new) is.0 steps in
-    let whole : new ≡ finishing false (talking (Link (reports ++ SaysHello name ∷ []) (Some device)) e) = asks.1 ∙ ap (finishing false) (after ∙ ap (λ (d : Option ℕ). talking (Link (reports ++ SaysHello name ∷ []) d) e) is.1) in
+    let whole : new ≡ finishing false (with_progress (Link (reports ++ SaysHello name ∷ []) (Some device)) e) = asks.1 ∙ ap (finishing false) (after ∙ ap (λ (d : Option ℕ). with_progress (Link (reports ++ SaysHello name ∷ []) d) e) is.1) in
     inr (inl (record {
       device = device;
       name = name;
       place = place_named settings name device placed;
       asks = asks.0;
       reports = reports;
-      before = talk;
-      after = ap (λ (x : Entry). x.talk) whole;
-      read = first_read new e.read (reports ++ SaysHello name ∷ []) says (ap (λ (x : Entry). x.read) whole) (ap (λ (x : Entry). said_on x.talk) whole);
+      before = progress;
+      after = ap (λ (x : Entry). x.progress) whole;
+      read = first_read new e.read (reports ++ SaysHello name ∷ []) says (ap (λ (x : Entry). x.read) whole) (ap (λ (x : Entry). said_on x.progress) whole);
     }))
 
-pub said_step : (settings : ServerSettings) (reports : List ReportRecord) (device : Option ℕ) (said : ReportRecord) (device_after : Option ℕ) (e : Entry) (comes : Step) (mid : Entry) (what : Ask) (new : Entry) → e.talk ≡ Link reports device → e.broken ≡ false → SaysFirst e.read (reports ++ said ∷ [])
-    → StepsDevice (device_named settings) device said comes device_after → mid ≡ talking (Link (reports ++ said ∷ []) device_after) e → StepsTo comes mid what new → DeviceStep settings what e new
-said_step settings reports None (SaysHello name) device_after e comes mid what new talk sound says is after steps = named_step settings name (device_named settings name) device_after reports e comes mid what new refl talk sound says is after steps
-said_step settings reports None (SaysMedia names) device_after e comes mid what new talk sound says is after steps = absurd is
-said_step settings reports None SaysReady device_after e comes mid what new talk sound says is after steps = absurd is
-said_step settings reports None SaysStop device_after e comes mid what new talk sound says is after steps = absurd is
-said_step settings reports None (SaysBusy time) device_after e comes mid what new talk sound says is after steps = absurd is
-said_step settings reports None (SaysPages job printed) device_after e comes mid what new talk sound says is after steps = absurd is
-said_step settings reports None (SaysDone job) device_after e comes mid what new talk sound says is after steps = absurd is
-said_step settings reports None (SaysFail job) device_after e comes mid what new talk sound says is after steps = absurd is
-said_step settings reports None SaysGone device_after e comes mid what new talk sound says is after steps = absurd is
-said_step settings reports (Some device) said device_after e comes mid what new talk sound says ((it, same, is), named) after steps =
+pub said_step : (settings : ServerSettings) (reports : List ReportRecord) (device : Option ℕ) (said : ReportRecord) (device_after : Option ℕ) (e : Entry) (comes : Step) (mid : Entry) (what : Ask) (new : Entry) → e.progress ≡ Link reports device → e.broken ≡ false → ParsesFirst e.read (reports ++ said ∷ [])
+    → StepsDevice (device_named settings) device said comes device_after → mid ≡ with_progress (Link (reports ++ said ∷ []) device_after) e → StepsTo comes mid what new → DeviceStep settings what e new
+said_step settings reports None (SaysHello name) device_after e comes mid what new progress sound says is after steps = named_step settings name (device_named settings name) device_after reports e comes mid what new refl progress sound says is after steps
+said_step settings reports None (SaysMedia names) device_after e comes mid what new progress sound says is after steps = absurd is
+said_step settings reports None SaysReady device_after e comes mid what new progress sound says is after steps = absurd is
+said_step settings reports None SaysStop device_after e comes mid what new progress sound says is after steps = absurd is
+said_step settings reports None (SaysBusy time) device_after e comes mid what new progress sound says is after steps = absurd is
+said_step settings reports None (SaysPages job printed) device_after e comes mid what new progress sound says is after steps = absurd is
+said_step settings reports None (SaysDone job) device_after e comes mid what new progress sound says is after steps = absurd is
+said_step settings reports None (SaysFail job) device_after e comes mid what new progress sound says is after steps = absurd is
+said_step settings reports None SaysGone device_after e comes mid what new progress sound says is after steps = absurd is
+said_step settings reports (Some device) said device_after e comes mid what new progress sound says ((it, same, is), named) after steps =
     let asks : (what ≡ ask.Report device it) × (new ≡ finishing false mid) = subst (λ (s : Step). StepsTo s mid what new) is steps in
-    let whole : new ≡ finishing false (talking (Link (reports ++ said ∷ []) (Some device)) e) = asks.1 ∙ ap (finishing false) (after ∙ ap (λ (d : Option ℕ). talking (Link (reports ++ said ∷ []) d) e) named) in
+    let whole : new ≡ finishing false (with_progress (Link (reports ++ said ∷ []) (Some device)) e) = asks.1 ∙ ap (finishing false) (after ∙ ap (λ (d : Option ℕ). with_progress (Link (reports ++ said ∷ []) d) e) named) in
     inr (inr (record {
       device = device;
       it = it;
       asks = asks.0;
       reports = reports;
-      before = talk;
-      after = ap (λ (x : Entry). x.talk) whole ∙ ap (λ (r : ReportRecord). Link (reports ++ r ∷ []) (Some device)) (sym same);
-      read = first_read new e.read (reports ++ said ∷ []) says (ap (λ (x : Entry). x.read) whole) (ap (λ (x : Entry). said_on x.talk) whole);
+      before = progress;
+      after = ap (λ (x : Entry). x.progress) whole ∙ ap (λ (r : ReportRecord). Link (reports ++ r ∷ []) (Some device)) (sym same);
+      read = first_read new e.read (reports ++ said ∷ []) says (ap (λ (x : Entry). x.read) whole) (ap (λ (x : Entry). said_on x.progress) whole);
     }))
 
-pub device_step : (settings : ServerSettings) (reports : List ReportRecord) (device : Option ℕ) (e : Entry) (comes : Step) (mid : Entry) (what : Ask) (new : Entry) → e.talk ≡ Link reports device → e.broken ≡ false → Hears settings (Link reports device) e comes mid → StepsTo comes mid what new → DeviceStep settings what e new
-device_step settings reports device e comes mid what new talk sound (inl next) steps = said_step settings reports device next.said next.device_after e comes mid what new talk sound next.next next.comes next.after steps
-device_step settings reports device e comes mid what new talk sound (inr (inl next)) steps =
+pub device_step : (settings : ServerSettings) (reports : List ReportRecord) (device : Option ℕ) (e : Entry) (comes : Step) (mid : Entry) (what : Ask) (new : Entry) → e.progress ≡ Link reports device → e.broken ≡ false → ItemComes settings (Link reports device) e comes mid → StepsTo comes mid what new → DeviceStep settings what e new
+device_step settings reports device e comes mid what new progress sound (inl next) steps = said_step settings reports device next.said next.device_after e comes mid what new progress sound next.next next.comes next.after steps
+device_step settings reports device e comes mid what new progress sound (inr (inl next)) steps =
     let breaks : (what ≡ ask.Fault device) × (new ≡ broken mid) = subst (λ (s : Step). StepsTo s mid what new) next.comes steps in
     inl (subst IsFine (sym breaks.0) tt, breaks_grows e mid new breaks.1 next.after)
-device_step settings reports device e comes mid what new talk sound (inr (inr next)) steps =
+device_step settings reports device e comes mid what new progress sound (inr (inr next)) steps =
     let breaks : (what ≡ ask.Broke growth.Input) × (new ≡ broken mid) = subst (λ (s : Step). StepsTo s mid what new) next.0 steps in
     inl (subst IsFine (sym breaks.0) tt, breaks_grows e mid new breaks.1 next.1)

@@ -167,7 +167,7 @@ enqueues_on grows device bytes l hs l' (inr (none, it)) = quiet_nothing l hs l' 
 
 reply_at : (bytes : Bool → List ℕ) (key : ℕ) (o : Option Entry) → Quietly (EnqueuesReplyAt bytes key o)
 reply_at bytes key None = quiet_nothing
-reply_at bytes key (Some e) = quiet_enqueues key (bytes (closes_of e.talk))
+reply_at bytes key (Some e) = quiet_enqueues key (bytes (closes_of e.progress))
 
 quiet_reply : (key : ℕ) (bytes : List ℕ) → Quietly (EnqueuesResponse key bytes)
 quiet_reply key bytes l hs l' it = reply_at (λ closes. http_reply closes bytes) key (l.entries key) l hs l' it
@@ -473,7 +473,7 @@ module _ (moment : ℕ) where
   leaves_in fate key e l hs l' it came = no_event came moment l hs l' (ap (λ (x : Ledger). x.core) it.2) (ap (event_notes came) it.0)
 
   closes_in : (fate : Fate) (key : ℕ) (e : Entry) → Within (ClosesAs moment fate key e)
-  closes_in fate key e = then_in (leaves_in fate key e) (gone_in (device_of e.talk))
+  closes_in fate key e = then_in (leaves_in fate key e) (gone_in (device_of e.progress))
 
   closes_first_in : Within (ClosesFirst moment)
   closes_first_in l hs l' it = closes_in Broken it.key it.entry l hs l' it.closes

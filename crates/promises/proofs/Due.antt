@@ -52,7 +52,7 @@ fixed_enqueues key bytes = fixed_enqueues_where (needs_memory bytes) key bytes
 
 reply_at : (bytes : Bool → List ℕ) (key : ℕ) (o : Option Entry) → Fixed (EnqueuesReplyAt bytes key o)
 reply_at bytes key None = fixed_nothing
-reply_at bytes key (Some e) = fixed_enqueues key (bytes (closes_of e.talk))
+reply_at bytes key (Some e) = fixed_enqueues key (bytes (closes_of e.progress))
 
 pub fixed_reply : (key : ℕ) (bytes : List ℕ) → Fixed (EnqueuesResponse key bytes)
 fixed_reply key bytes = record { one = λ l hs rest a ks more b e p q. (reply_at (λ closes. http_reply closes bytes) key (l.entries key)).one l hs rest a ks more b e p q }

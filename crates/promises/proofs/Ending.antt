@@ -95,7 +95,7 @@ module _ (moment : ℕ) where
       subst EndHeard (sym it.2) (All-append (λ (x : Entry × Fate). IsHeard x.0) l.closed ((e, fate) ∷ []) ended (All-cons (λ (x : Entry × Fate). IsHeard x.0) (e, fate) [] heard (All-nil (λ (x : Entry × Fate). IsHeard x.0))))
 
   ends_closes : (fate : Fate) (key : ℕ) (e : Entry) → IsHeard e → Ends (ClosesAs moment fate key e)
-  ends_closes fate key e heard = ends_then (ends_leaves fate key e heard) (ends_gone (device_of e.talk))
+  ends_closes fate key e heard = ends_then (ends_leaves fate key e heard) (ends_gone (device_of e.progress))
 
   ends_settles : Ends (Settles moment)
   ends_settles l hs l' it = ends_many (ClosesFirst moment) (λ a ks b first. ends_closes Broken first.key first.entry (broken_heard first.entry first.is_broken) a ks b first.closes) l hs l' it.0

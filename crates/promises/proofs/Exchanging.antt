@@ -9,8 +9,8 @@ use Rattle.http_front.specs.declared.refusal.HttpRejection.{HttpRejection}
 use Rattle.http_front.specs.declared.item.HttpItem.{HttpItem}
 use Rattle.http_front.specs.declared.item.HttpItem.TheVariants as item
 use Rattle.http_front.specs.Reply.{continue_head}
-use Rattle.http_front.specs.Stream.{Said, HasHead, Invites, HasByte, EndsBody, IsRefused, said_by, is_last, Exchanges, SaysFirst, SaysSome, FirstStays}
-use Rattle.http_front.specs.Order.{Place, Between, Headed, Within, is_none, in_order, SaysInOrder}
+use Rattle.http_front.specs.Stream.{HttpElement, HasHead, Invites, HasByte, EndsBody, IsRefused, elements_of, is_last, Exchanges, ParsesFirst, SomeParse, FirstStays}
+use Rattle.http_front.specs.Order.{Place, Between, Headed, Within, is_none, in_order, ElementsInOrder}
 use Rattle.ipp_operations.specs.declared.parsed_request.ParsedRequest.{ParsedRequest}
 use Rattle.ipp_operations.specs.declared.parsed_request.ParsedRequest.TheVariants as asks
 use Rattle.send_queues.specs.Reply.{refusal_head}
@@ -33,16 +33,16 @@ no_false is = cc
 
 -- ---- the order of elements
 
-none_front : (said later : List Said) → is_none (said ++ later) ≡ true → is_none said ≡ true
+none_front : (said later : List HttpElement) → is_none (said ++ later) ≡ true → is_none said ≡ true
 none_front [] later is = refl
 none_front (one ∷ said) later is = is
 
-ends_front : (t : Bool) (said later : List Said) → (in_order Between (said ++ later) ≡ true → in_order Between said ≡ true) → (if t then is_none (said ++ later) else in_order Between (said ++ later)) ≡ true → (if t then is_none said else in_order Between said) ≡ true
+ends_front : (t : Bool) (said later : List HttpElement) → (in_order Between (said ++ later) ≡ true → in_order Between said ≡ true) → (if t then is_none (said ++ later) else in_order Between (said ++ later)) ≡ true → (if t then is_none said else in_order Between said) ≡ true
 ends_front true said later front is = none_front said later is
 ends_front false said later front is = front is
 
 -- a front of elements in order is in order
-order_front : (place : Place) (said later : List Said) → in_order place (said ++ later) ≡ true → in_order place said ≡ true
+order_front : (place : Place) (said later : List HttpElement) → in_order place (said ++ later) ≡ true → in_order place said ≡ true
 order_front place [] later is = refl
 order_front Between (HasHead closes ∷ said) later is = order_front (Headed closes) said later is
 order_front Between (Invites ∷ said) later is = is
@@ -61,11 +61,11 @@ order_front (Within closes count) (EndsBody ∷ said) later is = ends_front (is_
 order_front (Within closes count) (IsRefused refusal ∷ said) later is = none_front said later is
 
 -- the elements that a stream says first are in order
-first_ordered : SaysInOrder → SaysSome → FirstStays → (stream : List ℕ) (said : List Said) → SaysFirst stream said → in_order Between said ≡ true
+first_ordered : ElementsInOrder → SomeParse → FirstStays → (stream : List ℕ) (said : List HttpElement) → ParsesFirst stream said → in_order Between said ≡ true
 first_ordered ordered some stays stream said first =
     let all = some stream in
     let it = stays stream [] said all.0 first (subst (λ (bytes : List ℕ). Exchanges bytes all.0) (sym (append-nil stream)) all.1) in
-    order_front Between said it.0 (subst (λ (xs : List Said). in_order Between xs ≡ true) it.1 (ordered stream all.0 all.1))
+    order_front Between said it.0 (subst (λ (xs : List HttpElement). in_order Between xs ≡ true) it.1 (ordered stream all.0 all.1))
 
 -- ---- where a client is
 
@@ -81,12 +81,12 @@ data Mode : Type 0 where
   Goes : (front : Front) → Mode
   Over : (front : Front) (refusal : Option HttpRejection) → Mode
 
-abbrev goes : Mode → List Said → Bool
+abbrev goes : Mode → List HttpElement → Bool
 goes (Goes front) later = in_order (place_of front) later
 goes (Over front refusal) later = is_none later
 
-abbrev Leads : Mode → List Said → Type 0
-Leads mode said = (later : List Said) → in_order Between (said ++ later) ≡ goes mode later
+abbrev Leads : Mode → List HttpElement → Type 0
+Leads mode said = (later : List HttpElement) → in_order Between (said ++ later) ≡ goes mode later
 
 -- the kept part of the front
 abbrev Keeps : Front → Bool → List ℕ → Type 0
@@ -97,7 +97,7 @@ abbrev Fits : Mode → Bool → List ℕ → Type 0
 Fits (Goes front) closes body = Keeps front closes body
 Fits (Over front refusal) closes body = Unit {0}
 
-abbrev says_mode : Mode → List Said
+abbrev says_mode : Mode → List HttpElement
 says_mode (Goes front) = says_front front ++ says_refusal None
 says_mode (Over front refusal) = says_front front ++ says_refusal refusal
 
@@ -105,19 +105,19 @@ abbrev due_mode : Mode → List ℕ
 due_mode (Goes front) = due_front front ++ due_refusal None
 due_mode (Over front refusal) = due_front front ++ due_refusal refusal
 
-leads_on : (mode now : Mode) (said more : List Said) → Leads mode said → ((later : List Said) → goes mode (more ++ later) ≡ goes now later) → Leads now (said ++ more)
-leads_on mode now said more leads step later = ap (λ (xs : List Said). in_order Between xs) (append_assoc said more later) ∙ (leads (more ++ later) ∙ step later)
+leads_on : (mode now : Mode) (said more : List HttpElement) → Leads mode said → ((later : List HttpElement) → goes mode (more ++ later) ≡ goes now later) → Leads now (said ++ more)
+leads_on mode now said more leads step later = ap (λ (xs : List HttpElement). in_order Between xs) (append_assoc said more later) ∙ (leads (more ++ later) ∙ step later)
 
 -- ---- one item
 
 -- the exchange isn't whole yet
-record Grows (mode now : Mode) (more : List Said) (asked : List Handled) (bytes : List ℕ) : Type 0 where
+record Grows (mode now : Mode) (more : List HttpElement) (asked : List Handled) (bytes : List ℕ) : Type 0 where
   says : says_mode mode ++ more ≡ says_mode now
   due : due_mode mode ++ bytes ≡ due_mode now
   none : asked ≡ []
 
 -- the exchange becomes whole
-record Completes (mode now : Mode) (more : List Said) (asked : List Handled) (bytes : List ℕ) : Type 0 where
+record Completes (mode now : Mode) (more : List HttpElement) (asked : List Handled) (bytes : List ℕ) : Type 0 where
   whole : Exchange
   is : IsExchange whole
   says : says_mode mode ++ more ≡ says_exchange whole
@@ -126,14 +126,14 @@ record Completes (mode now : Mode) (more : List Said) (asked : List Handled) (by
   says_none : says_mode now ≡ []
   due_none : due_mode now ≡ []
 
-record Stepped (mode : Mode) (said more : List Said) (closes : Bool) (body : List ℕ) (asked : List Handled) (bytes : List ℕ) : Type 0 where
+record Stepped (mode : Mode) (said more : List HttpElement) (closes : Bool) (body : List ℕ) (asked : List Handled) (bytes : List ℕ) : Type 0 where
   now : Mode
   leads : Leads now (said ++ more)
   fits : Fits now closes body
   comes : Grows mode now more asked bytes ⊎ Completes mode now more asked bytes
 
 -- a head
-head_comes : (mode : Mode) (said : List Said) (next : Bool) (asked : List Handled) (bytes : List ℕ) → Leads mode said → goes mode (HasHead next ∷ []) ≡ true → asked ≡ [] → bytes ≡ [] → Stepped mode said (HasHead next ∷ []) next [] asked bytes
+head_comes : (mode : Mode) (said : List HttpElement) (next : Bool) (asked : List Handled) (bytes : List ℕ) → Leads mode said → goes mode (HasHead next ∷ []) ≡ true → asked ≡ [] → bytes ≡ [] → Stepped mode said (HasHead next ∷ []) next [] asked bytes
 head_comes (Goes Nothing) said next asked bytes leads ok none quiet = record {
   now = Goes (Begun next false []);
   leads = leads_on (Goes Nothing) (Goes (Begun next false [])) said (HasHead next ∷ []) leads (λ later. refl);
@@ -146,7 +146,7 @@ head_comes (Goes (Begun closes false (byte ∷ body))) said next asked bytes lea
 head_comes (Over front refusal) said next asked bytes leads ok none quiet = absurd (no_false ok)
 
 -- an invitation
-invitation_comes : (mode : Mode) (said : List Said) (closes : Bool) (body : List ℕ) (asked : List Handled) (bytes : List ℕ) → Leads mode said → Fits mode closes body → goes mode (Invites ∷ []) ≡ true → asked ≡ [] → bytes ≡ continue_head → Stepped mode said (Invites ∷ []) closes body asked bytes
+invitation_comes : (mode : Mode) (said : List HttpElement) (closes : Bool) (body : List ℕ) (asked : List Handled) (bytes : List ℕ) → Leads mode said → Fits mode closes body → goes mode (Invites ∷ []) ≡ true → asked ≡ [] → bytes ≡ continue_head → Stepped mode said (Invites ∷ []) closes body asked bytes
 invitation_comes (Goes Nothing) said closes body asked bytes leads fits ok none is = absurd (no_false ok)
 invitation_comes (Goes (Begun also true octets)) said closes body asked bytes leads fits ok none is = absurd (no_false ok)
 invitation_comes (Goes (Begun also false (byte ∷ octets))) said closes body asked bytes leads fits ok none is = absurd (no_false ok)
@@ -158,25 +158,25 @@ invitation_comes (Goes (Begun also false [])) said closes body asked bytes leads
   comes = inl (record { says = refl; due = is ∙ sym (append-nil continue_head); none = none });
 }
 
-byte_on : (closes invites : Bool) (body : List ℕ) (byte : ℕ) (later : List Said) → in_order (place_of (Begun closes invites body)) (HasByte byte ∷ later) ≡ in_order (place_of (Begun closes invites (body ++ byte ∷ []))) later
+byte_on : (closes invites : Bool) (body : List ℕ) (byte : ℕ) (later : List HttpElement) → in_order (place_of (Begun closes invites body)) (HasByte byte ∷ later) ≡ in_order (place_of (Begun closes invites (body ++ byte ∷ []))) later
 byte_on closes true body byte later = ap (λ (n : ℕ). in_order (Within closes n) later) (sym (length-append body (byte ∷ [])))
 byte_on closes false [] byte later = refl
 byte_on closes false (one ∷ body) byte later = ap (λ (n : ℕ). in_order (Within closes n) later) (sym (length-append (one ∷ body) (byte ∷ [])))
 
-bytes_on : (part : List ℕ) (closes invites : Bool) (body : List ℕ) (later : List Said) → in_order (place_of (Begun closes invites body)) (map HasByte part ++ later) ≡ in_order (place_of (Begun closes invites (body ++ part))) later
+bytes_on : (part : List ℕ) (closes invites : Bool) (body : List ℕ) (later : List HttpElement) → in_order (place_of (Begun closes invites body)) (map HasByte part ++ later) ≡ in_order (place_of (Begun closes invites (body ++ part))) later
 bytes_on [] closes invites body later = ap (λ (octets : List ℕ). in_order (place_of (Begun closes invites octets)) later) (sym (append-nil body))
 bytes_on (byte ∷ part) closes invites body later =
     byte_on closes invites body byte (map HasByte part ++ later)
     ∙ (bytes_on part closes invites (body ++ byte ∷ []) later ∙ ap (λ (octets : List ℕ). in_order (place_of (Begun closes invites octets)) later) (append_assoc body (byte ∷ []) part))
 
-says_more : (closes : Bool) (front : List Said) (body part : List ℕ) → ((HasHead closes ∷ (front ++ map HasByte body)) ++ []) ++ map HasByte part ≡ (HasHead closes ∷ (front ++ map HasByte (body ++ part))) ++ []
+says_more : (closes : Bool) (front : List HttpElement) (body part : List ℕ) → ((HasHead closes ∷ (front ++ map HasByte body)) ++ []) ++ map HasByte part ≡ (HasHead closes ∷ (front ++ map HasByte (body ++ part))) ++ []
 says_more closes front body part =
-    ap (λ (xs : List Said). xs ++ map HasByte part) (append-nil (HasHead closes ∷ (front ++ map HasByte body)))
-    ∙ (ap (λ (xs : List Said). HasHead closes ∷ xs) (append_assoc front (map HasByte body) (map HasByte part) ∙ ap (λ (xs : List Said). front ++ xs) (sym (map-append HasByte body part)))
+    ap (λ (xs : List HttpElement). xs ++ map HasByte part) (append-nil (HasHead closes ∷ (front ++ map HasByte body)))
+    ∙ (ap (λ (xs : List HttpElement). HasHead closes ∷ xs) (append_assoc front (map HasByte body) (map HasByte part) ∙ ap (λ (xs : List HttpElement). front ++ xs) (sym (map-append HasByte body part)))
     ∙ sym (append-nil (HasHead closes ∷ (front ++ map HasByte (body ++ part)))))
 
 -- a part of a body, which may be empty
-part_comes : (mode : Mode) (part : List ℕ) (said : List Said) (closes : Bool) (body after : List ℕ) (asked : List Handled) (bytes : List ℕ) → Leads mode said → Fits mode closes body → goes mode (map HasByte part) ≡ true → after ≡ body ++ part → asked ≡ [] → bytes ≡ [] → Stepped mode said (map HasByte part) closes after asked bytes
+part_comes : (mode : Mode) (part : List ℕ) (said : List HttpElement) (closes : Bool) (body after : List ℕ) (asked : List Handled) (bytes : List ℕ) → Leads mode said → Fits mode closes body → goes mode (map HasByte part) ≡ true → after ≡ body ++ part → asked ≡ [] → bytes ≡ [] → Stepped mode said (map HasByte part) closes after asked bytes
 part_comes (Goes Nothing) [] said closes body after asked bytes leads fits ok grows none quiet = record {
   now = Goes Nothing;
   leads = leads_on (Goes Nothing) (Goes Nothing) said [] leads (λ later. refl);
@@ -216,17 +216,17 @@ is_exchange : (closes invites : Bool) (body : List ℕ) (what : Step) (asked : L
 is_exchange closes invites body what asked bytes (inl (it, asks, is)) owed = inl (it, asks, answered_by closes it asked bytes (subst (λ (s : Step). IsOwed closes s asked bytes) is owed))
 is_exchange closes invites body what asked bytes (inr (request, has, is)) owed = (let it = subst (λ (s : Step). IsOwed closes s asked bytes) is owed in inr (request, has, it.0, it.1))
 
-ends_on : (closes invites : Bool) (body : List ℕ) (later : List Said) → in_order (place_of (Begun closes invites body)) (EndsBody ∷ later) ≡ (if is_last closes (length body) then is_none later else in_order Between later)
+ends_on : (closes invites : Bool) (body : List ℕ) (later : List HttpElement) → in_order (place_of (Begun closes invites body)) (EndsBody ∷ later) ≡ (if is_last closes (length body) then is_none later else in_order Between later)
 ends_on closes true body later = refl
 ends_on closes false [] later = refl
 ends_on closes false (byte ∷ body) later = refl
 
-module _ (also invites : Bool) (octets : List ℕ) (said : List Said) (closes : Bool) (body : List ℕ) (asked : List Handled) (bytes : List ℕ) where
+module _ (also invites : Bool) (octets : List ℕ) (said : List HttpElement) (closes : Bool) (body : List ℕ) (asked : List Handled) (bytes : List ℕ) where
   whole : Exchange
   whole = record { closes = also; invites = invites; body = octets; asked = asked; answer = bytes }
 
   end_says : (says_front (Begun also invites octets) ++ says_refusal None) ++ EndsBody ∷ [] ≡ says_exchange (record { closes = also; invites = invites; body = octets; asked = asked; answer = bytes })
-  end_says = ap (λ (xs : List Said). xs ++ EndsBody ∷ []) (append-nil (says_begun also invites octets))
+  end_says = ap (λ (xs : List HttpElement). xs ++ EndsBody ∷ []) (append-nil (says_begun also invites octets))
 
   end_due : (due_front (Begun also invites octets) ++ due_refusal None) ++ bytes ≡ invitation invites ++ bytes
   end_due = ap (λ (xs : List ℕ). xs ++ bytes) (append-nil (invitation invites))
@@ -247,7 +247,7 @@ module _ (also invites : Bool) (octets : List ℕ) (said : List Said) (closes : 
     comes = inr (record { whole = record { closes = also; invites = invites; body = octets; asked = asked; answer = bytes }; is = is; says = end_says; due = end_due; its = refl; says_none = refl; due_none = refl });
   }
 
-body_ends : (mode : Mode) (said : List Said) (closes : Bool) (body : List ℕ) (what : Step) (asked : List Handled) (bytes : List ℕ) → Leads mode said → Fits mode closes body → goes mode (EndsBody ∷ []) ≡ true → Ends closes body what → IsOwed closes what asked bytes → Stepped mode said (EndsBody ∷ []) closes [] asked bytes
+body_ends : (mode : Mode) (said : List HttpElement) (closes : Bool) (body : List ℕ) (what : Step) (asked : List Handled) (bytes : List ℕ) → Leads mode said → Fits mode closes body → goes mode (EndsBody ∷ []) ≡ true → Ends closes body what → IsOwed closes what asked bytes → Stepped mode said (EndsBody ∷ []) closes [] asked bytes
 body_ends (Goes Nothing) said closes body what asked bytes leads fits ok ends owed = absurd (no_false ok)
 body_ends (Goes (Begun also invites octets)) said closes body what asked bytes leads fits ok ends owed =
     end_comes also invites octets said closes [] asked bytes
@@ -255,18 +255,18 @@ body_ends (Goes (Begun also invites octets)) said closes body what asked bytes l
 body_ends (Over front refusal) said closes body what asked bytes leads fits ok ends owed = absurd (no_false ok)
 
 -- a refusal
-refused_on : (place : Place) (refusal : HttpRejection) (later : List Said) → in_order place (IsRefused refusal ∷ later) ≡ is_none later
+refused_on : (place : Place) (refusal : HttpRejection) (later : List HttpElement) → in_order place (IsRefused refusal ∷ later) ≡ is_none later
 refused_on Between refusal later = refl
 refused_on (Headed closes) refusal later = refl
 refused_on (Within closes count) refusal later = refl
 
-refusal_comes : (mode : Mode) (said : List Said) (refusal : HttpRejection) (closes : Bool) (body : List ℕ) (asked : List Handled) (bytes : List ℕ) → Leads mode said → goes mode (IsRefused refusal ∷ []) ≡ true → asked ≡ [] → bytes ≡ refusal_head refusal → Stepped mode said (IsRefused refusal ∷ []) closes body asked bytes
+refusal_comes : (mode : Mode) (said : List HttpElement) (refusal : HttpRejection) (closes : Bool) (body : List ℕ) (asked : List Handled) (bytes : List ℕ) → Leads mode said → goes mode (IsRefused refusal ∷ []) ≡ true → asked ≡ [] → bytes ≡ refusal_head refusal → Stepped mode said (IsRefused refusal ∷ []) closes body asked bytes
 refusal_comes (Goes front) said refusal closes body asked bytes leads ok none is = record {
   now = Over front (Some refusal);
   leads = leads_on (Goes front) (Over front (Some refusal)) said (IsRefused refusal ∷ []) leads (λ later. refused_on (place_of front) refusal later);
   fits = tt;
   comes = inl (record {
-    says = ap (λ (xs : List Said). xs ++ IsRefused refusal ∷ []) (append-nil (says_front front));
+    says = ap (λ (xs : List HttpElement). xs ++ IsRefused refusal ∷ []) (append-nil (says_front front));
     due = ap (λ (xs : List ℕ). xs ++ bytes) (append-nil (due_front front)) ∙ ap (λ (xs : List ℕ). due_front front ++ xs) is;
     none = none;
   });
@@ -274,8 +274,8 @@ refusal_comes (Goes front) said refusal closes body asked bytes leads ok none is
 refusal_comes (Over front other) said refusal closes body asked bytes leads ok none is = absurd (no_false ok)
 
 -- any
-stepped : (what_item : HttpItem) (part : List ℕ) (mode : Mode) (said : List Said) (closes : Bool) (body : List ℕ) (what : Step) (asked : List Handled) (bytes : List ℕ) → Leads mode said → Fits mode closes body → goes mode (said_by what_item part) ≡ true → StepsIpp what_item closes body what
-    → IsOwed (closes_after what_item closes) what asked bytes → Stepped mode said (said_by what_item part) (closes_after what_item closes) (body_after what_item what part body) asked bytes
+stepped : (what_item : HttpItem) (part : List ℕ) (mode : Mode) (said : List HttpElement) (closes : Bool) (body : List ℕ) (what : Step) (asked : List Handled) (bytes : List ℕ) → Leads mode said → Fits mode closes body → goes mode (elements_of what_item part) ≡ true → StepsIpp what_item closes body what
+    → IsOwed (closes_after what_item closes) what asked bytes → Stepped mode said (elements_of what_item part) (closes_after what_item closes) (body_after what_item what part body) asked bytes
 stepped (item.Head next) part mode said closes body what asked bytes leads fits ok comes owed =
     let it = subst (λ (s : Step). IsOwed next s asked bytes) comes owed in head_comes mode said next asked bytes leads ok it.0 it.1
 stepped item.Continue part mode said closes body what asked bytes leads fits ok comes owed =
@@ -290,19 +290,19 @@ stepped (item.Refuse refusal) part mode said closes body what asked bytes leads 
 
 -- ---- all of them
 
-record Walked (mode : Mode) (said : List Said) (acts : List Act) (heard : List Said) : Type 0 where
+record Walked (mode : Mode) (said : List HttpElement) (acts : List Act) (heard : List HttpElement) : Type 0 where
   exchanges : List Exchange
   each : All (λ (x : Exchange). IsExchange x) exchanges
   front : Front
   refusal : Option HttpRejection
-  more : List Said
+  more : List HttpElement
   to : heard ≡ said ++ more
   says : says_mode mode ++ more ≡ flat_map says_exchange exchanges ++ (says_front front ++ says_refusal refusal)
   asked : flat_map (λ (a : Act). a.asked) acts ≡ flat_map (λ (x : Exchange). x.asked) exchanges
   due : due_mode mode ++ flat_map (λ (a : Act). a.bytes) acts ≡ flat_map due_in exchanges ++ (due_front front ++ due_refusal refusal)
   ordered : in_order Between heard ≡ true
 
-walked_none : (mode : Mode) (said heard : List Said) → heard ≡ said → in_order Between said ≡ true → Walked mode said [] heard
+walked_none : (mode : Mode) (said heard : List HttpElement) → heard ≡ said → in_order Between said ≡ true → Walked mode said [] heard
 walked_none (Goes front) said heard same order = record {
   exchanges = [];
   each = All-nil (λ (x : Exchange). IsExchange x);
@@ -313,7 +313,7 @@ walked_none (Goes front) said heard same order = record {
   says = append-nil (says_front front ++ says_refusal None);
   asked = refl;
   due = append-nil (due_front front ++ due_refusal None);
-  ordered = ap (λ (xs : List Said). in_order Between xs) same ∙ order;
+  ordered = ap (λ (xs : List HttpElement). in_order Between xs) same ∙ order;
 }
 walked_none (Over front refusal) said heard same order = record {
   exchanges = [];
@@ -325,7 +325,7 @@ walked_none (Over front refusal) said heard same order = record {
   says = append-nil (says_front front ++ says_refusal refusal);
   asked = refl;
   due = append-nil (due_front front ++ due_refusal refusal);
-  ordered = ap (λ (xs : List Said). in_order Between xs) same ∙ order;
+  ordered = ap (λ (xs : List HttpElement). in_order Between xs) same ∙ order;
 }
 
 -- one list behind another, each a step
@@ -337,7 +337,7 @@ parted : {A : Type 0} (old more later now one all rest : List A) → old ++ more
 parted old more later now one all rest is none two =
     joined old more later one ((one ++ all) ++ rest) is (ap (λ xs. one ++ xs) (ap (λ xs. xs ++ later) (sym none) ∙ two) ∙ sym (append_assoc one all rest))
 
-walked_more : (mode : Mode) (said more : List Said) (closes : Bool) (body : List ℕ) (a : Act) (acts : List Act) (heard : List Said) (s : Stepped mode said more closes body a.asked a.bytes) → Walked s.now (said ++ more) acts heard → Walked mode said (a ∷ acts) heard
+walked_more : (mode : Mode) (said more : List HttpElement) (closes : Bool) (body : List ℕ) (a : Act) (acts : List Act) (heard : List HttpElement) (s : Stepped mode said more closes body a.asked a.bytes) → Walked s.now (said ++ more) acts heard → Walked mode said (a ∷ acts) heard
 walked_more mode said more closes body a acts heard s w = by s.comes
   where
     by : Grows mode s.now more a.asked a.bytes ⊎ Completes mode s.now more a.asked a.bytes → Walked mode said (a ∷ acts) heard
@@ -366,21 +366,21 @@ walked_more mode said more closes body a acts heard s w = by s.comes
       ordered = w.ordered;
     }
 
-same_said : (heard said : List Said) (ends closes : Bool) (left body : List ℕ) → Http heard ends left ≡ Http said closes body → heard ≡ said
+same_said : (heard said : List HttpElement) (ends closes : Bool) (left body : List ℕ) → Http heard ends left ≡ Http said closes body → heard ≡ said
 same_said heard said ends closes left body is = cc
 
-module _ (ordered : SaysInOrder) (some : SaysSome) (stays : FirstStays) where
-  walk : (acts : List Act) (mode : Mode) (said : List Said) (closes : Bool) (body : List ℕ) (heard : List Said) (ends : Bool) (left : List ℕ) → Leads mode said → Fits mode closes body → in_order Between said ≡ true → AreActs (Http said closes body) acts (Http heard ends left) → Walked mode said acts heard
+module _ (ordered : ElementsInOrder) (some : SomeParse) (stays : FirstStays) where
+  walk : (acts : List Act) (mode : Mode) (said : List HttpElement) (closes : Bool) (body : List ℕ) (heard : List HttpElement) (ends : Bool) (left : List ℕ) → Leads mode said → Fits mode closes body → in_order Between said ≡ true → AreActs (Http said closes body) acts (Http heard ends left) → Walked mode said acts heard
   walk [] mode said closes body heard ends left leads fits order are = walked_none mode said heard (same_said heard said ends closes left body are) order
   walk (a ∷ acts) mode said closes body heard ends left leads fits now (before, is, later) =
       let next : NextIpp said closes body a.what a.after = subst (λ (t : PeerRecord). IsNext a.state.settings t a.what a.after) before is.next in
-      let more : List Said = said_by next.item next.part in
+      let more : List HttpElement = elements_of next.item next.part in
       let owed : IsOwed (closes_after next.item closes) a.what a.asked a.bytes = subst (λ (t : PeerRecord). IsOwed (closes_of t) a.what a.asked a.bytes) next.is is.owed in
-      let order : in_order Between (said ++ said_by next.item next.part) ≡ true = first_ordered ordered some stays next.read (said ++ said_by next.item next.part) next.first in
-      let s : Stepped mode said (said_by next.item next.part) (closes_after next.item closes) (body_after next.item a.what next.part body) a.asked a.bytes =
-      stepped next.item next.part mode said closes body a.what a.asked a.bytes leads fits (sym (leads (said_by next.item next.part)) ∙ order) next.comes owed in
-      walked_more mode said (said_by next.item next.part) (closes_after next.item closes) (body_after next.item a.what next.part body) a acts heard s
-      (walk acts s.now (said ++ said_by next.item next.part) (closes_after next.item closes) (body_after next.item a.what next.part body) heard ends left s.leads s.fits
+      let order : in_order Between (said ++ elements_of next.item next.part) ≡ true = first_ordered ordered some stays next.read (said ++ elements_of next.item next.part) next.first in
+      let s : Stepped mode said (elements_of next.item next.part) (closes_after next.item closes) (body_after next.item a.what next.part body) a.asked a.bytes =
+      stepped next.item next.part mode said closes body a.what a.asked a.bytes leads fits (sym (leads (elements_of next.item next.part)) ∙ order) next.comes owed in
+      walked_more mode said (elements_of next.item next.part) (closes_after next.item closes) (body_after next.item a.what next.part body) a acts heard s
+      (walk acts s.now (said ++ elements_of next.item next.part) (closes_after next.item closes) (body_after next.item a.what next.part body) heard ends left s.leads s.fits
       order (subst (λ (t : PeerRecord). AreActs t acts (Http heard ends left)) next.is later))
 
   pub acts_are_exchanges : ActsAreExchanges
@@ -399,33 +399,33 @@ module _ (ordered : SaysInOrder) (some : SaysSome) (stays : FirstStays) where
 
   -- ---- the connections of a trace
 
-  -- the acts of an LPD client, and of a device, lead to no talk of an IPP client
+  -- the acts of an LPD client, and of a device, lead to no progress of an IPP client
   no_lpd : (settings : ServerSettings) (items : List ItemRecord) (session : Option SessionState) (what : Step) (after : PeerRecord) → IsNext settings (Queue items session) what after → (items' : List ItemRecord) × (session' : Option SessionState) × (after ≡ Queue items' session')
   no_lpd settings items session what after (inl next) = (items ++ next.said ∷ [], next.session_after, next.is)
   no_lpd settings items session what after (inr is) = (items, session, is.1)
 
-  no_queue : (said : List Said) (closes : Bool) (body : List ℕ) (items : List ItemRecord) (session : Option SessionState) → Http said closes body ≡ Queue items session → ⊥
+  no_queue : (said : List HttpElement) (closes : Bool) (body : List ℕ) (items : List ItemRecord) (session : Option SessionState) → Http said closes body ≡ Queue items session → ⊥
   no_queue said closes body items session is = cc
 
-  no_link : (said : List Said) (closes : Bool) (body : List ℕ) (talk : PeerRecord) → Http said closes body ≡ talk → talk ≡ opening_peer Devices → ⊥
-  no_link said closes body talk is its = cc
+  no_link : (said : List HttpElement) (closes : Bool) (body : List ℕ) (progress : PeerRecord) → Http said closes body ≡ progress → progress ≡ opening_peer Devices → ⊥
+  no_link said closes body progress is its = cc
 
-  lpd_acts : (acts : List Act) (items : List ItemRecord) (session : Option SessionState) (said : List Said) (closes : Bool) (body : List ℕ) → AreActs (Queue items session) acts (Http said closes body) → ⊥
+  lpd_acts : (acts : List Act) (items : List ItemRecord) (session : Option SessionState) (said : List HttpElement) (closes : Bool) (body : List ℕ) → AreActs (Queue items session) acts (Http said closes body) → ⊥
   lpd_acts [] items session said closes body are = no_queue said closes body items session are
   lpd_acts (a ∷ acts) items session said closes body (before, is, later) =
       let next = no_lpd a.state.settings items session a.what a.after (subst (λ (t : PeerRecord). IsNext a.state.settings t a.what a.after) before is.next) in
       lpd_acts acts next.0 next.1 said closes body (subst (λ (t : PeerRecord). AreActs t acts (Http said closes body)) next.2 later)
 
-  device_acts : (acts : List Act) (said : List Said) (closes : Bool) (body : List ℕ) → AreActs (opening_peer Devices) acts (Http said closes body) → ⊥
+  device_acts : (acts : List Act) (said : List HttpElement) (closes : Bool) (body : List ℕ) → AreActs (opening_peer Devices) acts (Http said closes body) → ⊥
   device_acts [] said closes body are = no_link said closes body (opening_peer Devices) are refl
   device_acts (a ∷ acts) said closes body (before, is, later) = subst (λ (t : PeerRecord). IsNext a.state.settings t a.what a.after) before is.next
 
-  by_door : (door : Door) (acts : List Act) (said : List Said) (closes : Bool) (body : List ℕ) → AreActs (opening_peer door) acts (Http said closes body) → AreExchanges said (flat_map (λ (a : Act). a.asked) acts) (flat_map (λ (a : Act). a.bytes) acts)
+  by_door : (door : Door) (acts : List Act) (said : List HttpElement) (closes : Bool) (body : List ℕ) → AreActs (opening_peer door) acts (Http said closes body) → AreExchanges said (flat_map (λ (a : Act). a.asked) acts) (flat_map (λ (a : Act). a.bytes) acts)
   by_door Ipp acts said closes body are = acts_are_exchanges acts said closes body are
   by_door Lpd acts said closes body are = absurd (lpd_acts acts [] None said closes body are)
   by_door Devices acts said closes body are = absurd (device_acts acts said closes body are)
 
-  answered_so : (opening : State) (key : ℕ) (handled : List Handled) (e : Entry) (said : List Said) (closes : Bool) (body : List ℕ) → e.talk ≡ Http said closes body → IsAnswered opening key handled e → ByExchanges key handled said e
+  answered_so : (opening : State) (key : ℕ) (handled : List Handled) (e : Entry) (said : List HttpElement) (closes : Bool) (body : List ℕ) → e.progress ≡ Http said closes body → IsAnswered opening key handled e → ByExchanges key handled said e
   answered_so opening key handled e said closes body is a =
       let are = by_door a.door a.acts said closes body (subst (λ (t : PeerRecord). AreActs (opening_peer a.door) a.acts t) is a.are) in
       record {
@@ -436,17 +436,17 @@ module _ (ordered : SaysInOrder) (some : SaysSome) (stays : FirstStays) where
       }
 
   -- the result of an IPP client's acts before its connection broke
-  last_http : (opening : State) (handled : List Handled) (after : PeerRecord) (said : List Said) (closes : Bool) (body : List ℕ) → IsLast opening handled after (Http said closes body) → (until : List Said) × (last : Bool) × (left : List ℕ) × (after ≡ Http until last left) × IsOneMore until said
+  last_http : (opening : State) (handled : List Handled) (after : PeerRecord) (said : List HttpElement) (closes : Bool) (body : List ℕ) → IsLast opening handled after (Http said closes body) → (until : List HttpElement) × (last : Bool) × (left : List ℕ) × (after ≡ Http until last left) × IsOneMore until said
   last_http opening handled (Http until last left) said closes body (inl is) = (until, last, left, refl, inl (sym (same_said until said last closes left body is)))
   last_http opening handled (Http until last left) said closes body (inr (state, what, of, next)) =
-      (until, last, left, refl, inr (next.item, next.part, same_said said (until ++ said_by next.item next.part) closes (closes_after next.item last) body (body_after next.item what next.part left) next.is))
+      (until, last, left, refl, inr (next.item, next.part, same_said said (until ++ elements_of next.item next.part) closes (closes_after next.item last) body (body_after next.item what next.part left) next.is))
   last_http opening handled (Queue items session) said closes body (inl is) = absurd (no_queue said closes body items session (sym is))
   last_http opening handled (Queue items session) said closes body (inr (state, what, of, next)) =
       let it = no_lpd state.settings items session what (Http said closes body) next in absurd (no_queue said closes body it.0 it.1 it.2)
   last_http opening handled (Link reports device) said closes body (inl is) = cc
   last_http opening handled (Link reports device) said closes body (inr (state, what, of, next)) = absurd next
 
-  cut_so : (opening : State) (key : ℕ) (handled : List Handled) (e : Entry) (said : List Said) (closes : Bool) (body : List ℕ) → e.talk ≡ Http said closes body → IsCutOff opening key handled e → UntilBroken key handled said e
+  cut_so : (opening : State) (key : ℕ) (handled : List Handled) (e : Entry) (said : List HttpElement) (closes : Bool) (body : List ℕ) → e.progress ≡ Http said closes body → IsCutOff opening key handled e → UntilBroken key handled said e
   cut_so opening key handled e said closes body is cut =
       let b = cut.until in
       let it = last_http opening handled b.after said closes body (subst (λ (t : PeerRecord). IsLast opening handled b.after t) is b.last) in
@@ -463,35 +463,35 @@ module _ (ordered : SaysInOrder) (some : SaysSome) (stays : FirstStays) where
         are = subst (λ (bytes : List ℕ). AreExchanges it.0 (flat_map (λ (x : Act). x.asked) b.acts) bytes) (sym b.due) (by_door cut.door b.acts it.0 it.1 it.2 (subst (λ (t : PeerRecord). AreActs (opening_peer cut.door) b.acts t) it.3 b.are));
       }
 
-  so : (opening : State) (key : ℕ) (handled : List Handled) (e : Entry) (talk : PeerRecord) → e.talk ≡ talk → (ClientTalk talk → e.broken ≡ false → IsAnswered opening key handled e) → (ClientTalk talk → e.broken ≡ true → IsCutOff opening key handled e) → IsByExchanges key handled talk e
+  so : (opening : State) (key : ℕ) (handled : List Handled) (e : Entry) (progress : PeerRecord) → e.progress ≡ progress → (ClientTalk progress → e.broken ≡ false → IsAnswered opening key handled e) → (ClientTalk progress → e.broken ≡ true → IsCutOff opening key handled e) → IsByExchanges key handled progress e
   so opening key handled e (Http said closes body) is answered cut = (λ sound. answered_so opening key handled e said closes body is (answered tt sound), λ broken. cut_so opening key handled e said closes body is (cut tt broken))
   so opening key handled e (Queue items session) is answered cut = tt
   so opening key handled e (Link reports device) is answered cut = tt
 
   -- of a connection that was closed
-  was_so : (opening : State) (handled : List Handled) (e : Entry) (talk : PeerRecord) → e.talk ≡ talk → (t : Bool) → e.broken ≡ t → WasAnswered opening handled e → WasCutOff opening handled e → WasByExchanges handled e
+  was_so : (opening : State) (handled : List Handled) (e : Entry) (progress : PeerRecord) → e.progress ≡ progress → (t : Bool) → e.broken ≡ t → WasAnswered opening handled e → WasCutOff opening handled e → WasByExchanges handled e
   was_so opening handled e (Http said closes body) is false sound answered cut =
       let it = answered (subst ClientTalk (sym is) tt) sound in
-      (it.0, it.1, it.2, it.3, so opening it.0 it.1 e e.talk refl (λ client unbroken. it.4) (λ client broken. absurd (no_false (sym sound ∙ broken))))
+      (it.0, it.1, it.2, it.3, so opening it.0 it.1 e e.progress refl (λ client unbroken. it.4) (λ client broken. absurd (no_false (sym sound ∙ broken))))
   was_so opening handled e (Http said closes body) is true broke answered cut =
       let it = cut (subst ClientTalk (sym is) tt) broke in
-      (it.0, it.1, it.2, it.3, so opening it.0 it.1 e e.talk refl (λ client unbroken. absurd (no_false (sym unbroken ∙ broke))) (λ client broken. it.4))
-  was_so opening handled e (Queue items session) is t broke answered cut = (0, [], handled, refl, subst (λ (talk : PeerRecord). IsByExchanges 0 [] talk e) (sym is) tt)
-  was_so opening handled e (Link reports device) is t broke answered cut = (0, [], handled, refl, subst (λ (talk : PeerRecord). IsByExchanges 0 [] talk e) (sym is) tt)
+      (it.0, it.1, it.2, it.3, so opening it.0 it.1 e e.progress refl (λ client unbroken. absurd (no_false (sym unbroken ∙ broke))) (λ client broken. it.4))
+  was_so opening handled e (Queue items session) is t broke answered cut = (0, [], handled, refl, subst (λ (progress : PeerRecord). IsByExchanges 0 [] progress e) (sym is) tt)
+  was_so opening handled e (Link reports device) is t broke answered cut = (0, [], handled, refl, subst (λ (progress : PeerRecord). IsByExchanges 0 [] progress e) (sym is) tt)
 
   all_so : (opening : State) (handled : List Handled) (closed : List (Entry × Fate)) → All (λ (it : Entry × Fate). WasAnswered opening handled it.0) closed → All (λ (it : Entry × Fate). WasCutOff opening handled it.0) closed → All (λ (it : Entry × Fate). WasByExchanges handled it.0) closed
   all_so opening handled [] answered cut = All-nil (λ (it : Entry × Fate). WasByExchanges handled it.0)
   all_so opening handled (one ∷ closed) answered cut =
       All-cons (λ (it : Entry × Fate). WasByExchanges handled it.0) one closed
-      (was_so opening handled one.0 one.0.talk refl one.0.broken refl (All-head (λ (it : Entry × Fate). WasAnswered opening handled it.0) one closed answered) (All-head (λ (it : Entry × Fate). WasCutOff opening handled it.0) one closed cut))
+      (was_so opening handled one.0 one.0.progress refl one.0.broken refl (All-head (λ (it : Entry × Fate). WasAnswered opening handled it.0) one closed answered) (All-head (λ (it : Entry × Fate). WasCutOff opening handled it.0) one closed cut))
       (all_so opening handled closed (All-tail (λ (it : Entry × Fate). WasAnswered opening handled it.0) one closed answered) (All-tail (λ (it : Entry × Fate). WasCutOff opening handled it.0) one closed cut))
 
-  pub by_exchanges : (opening : State) (trace : Trace) (l : Ledger) → AreAnswered opening trace l → ((key : ℕ) (e : Entry) → l.entries key ≡ Some e → IsFirst e.read e.talk) → All (λ (it : Entry × Fate). IsFirst it.0.read it.0.talk) l.closed → AreByExchanges opening trace l
+  pub by_exchanges : (opening : State) (trace : Trace) (l : Ledger) → AreAnswered opening trace l → ((key : ℕ) (e : Entry) → l.entries key ≡ Some e → IsFirst e.read e.progress) → All (λ (it : Entry × Fate). IsFirst it.0.read it.0.progress) l.closed → AreByExchanges opening trace l
   by_exchanges opening trace l all first gone = record {
     handled = all.handled;
     timed = all.timed;
     run = all.run;
-    each = λ key e there. so opening key all.handled e e.talk refl (all.answered key e there) (all.cut_off key e there);
+    each = λ key e there. so opening key all.handled e e.progress refl (all.answered key e there) (all.cut_off key e there);
     closed = all_so opening all.handled l.closed all.closed all.closed_cut_off;
     first = first;
     closed_first = gone;

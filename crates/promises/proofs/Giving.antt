@@ -62,8 +62,8 @@ pub record Gave (key : ℕ) (Q : Bool → List ℕ → Type 0) (l : Ledger) (hs 
   pub notes : core_notes hs ≡ []
   pub others : (k : ℕ) → k ≢ key → Ordered (λ device. []) (l.entries k) (l'.entries k)
   pub client : IsClient (l.entries key) → IsClient (l'.entries key)
-  pub here : (e : Entry) → l'.entries key ≡ Some e → ClientTalk e.talk → e.broken ≡ false → (d : Entry) × (l.entries key ≡ Some d) × (d.talk ≡ e.talk) × (d.broken ≡ false) × ((bytes : List ℕ) × Q (closes_of d.talk) bytes × (e.due ≡ d.due ++ bytes))
-  pub halts : (e : Entry) → l'.entries key ≡ Some e → ClientTalk e.talk → e.broken ≡ true → (d : Entry) × (l.entries key ≡ Some d) × (d.talk ≡ e.talk) × (d.due ≡ e.due)
+  pub here : (e : Entry) → l'.entries key ≡ Some e → ClientTalk e.progress → e.broken ≡ false → (d : Entry) × (l.entries key ≡ Some d) × (d.progress ≡ e.progress) × (d.broken ≡ false) × ((bytes : List ℕ) × Q (closes_of d.progress) bytes × (e.due ≡ d.due ++ bytes))
+  pub halts : (e : Entry) → l'.entries key ≡ Some e → ClientTalk e.progress → e.broken ≡ true → (d : Entry) × (l.entries key ≡ Some d) × (d.progress ≡ e.progress) × (d.due ≡ e.due)
 
 abbrev pub Gives : ℕ → (Bool → List ℕ → Type 0) → Rel → Type 0
 Gives key Q R = (l : Ledger) (hs : List Happening) (l' : Ledger) → R l hs l' → Gave key Q l hs l'
@@ -76,7 +76,7 @@ gave_still key Q l hs l' silent same none = record {
   notes = silent;
   others = λ k apart. subst (λ (x : Ledger). Ordered (λ device. []) (l.entries k) (x.entries k)) (sym same) (ordered_still (l.entries k));
   client = λ is. subst (λ (x : Ledger). IsClient (x.entries key)) (sym same) is;
-  here = λ e is client sound. (e, subst (λ (x : Ledger). x.entries key ≡ Some e) same is, refl, sound, ([], none (closes_of e.talk), sym (append-nil e.due)));
+  here = λ e is client sound. (e, subst (λ (x : Ledger). x.entries key ≡ Some e) same is, refl, sound, ([], none (closes_of e.progress), sym (append-nil e.due)));
   halts = λ e is client broken. (e, subst (λ (x : Ledger). x.entries key ≡ Some e) same is, refl, refl);
 }
 
@@ -90,21 +90,21 @@ pub at_here : (key : ℕ) (new : Entry) (entries : ℕ → Option Entry) → at_
 at_here key new entries = ap (λ (t : Bool). if t then Some new else entries key) (is_key key)
 
 -- the connection is another, of the same peer, on which these bytes are due too where it isn't broken
-pub gave_sets : (key : ℕ) (Q : Bool → List ℕ → Type 0) (d new : Entry) (l : Ledger) (hs : List Happening) (l' : Ledger) → l.entries key ≡ Some d → new.talk ≡ d.talk
-    → (new.broken ≡ false → (d.broken ≡ false) × ((bytes : List ℕ) × Q (closes_of d.talk) bytes × (new.due ≡ d.due ++ bytes))) → (new.broken ≡ true → d.due ≡ new.due) → core_notes hs ≡ [] → l' ≡ with_entry key new l → Gave key Q l hs l'
-gave_sets key Q d new l hs l' there talk gives breaks silent after = record {
+pub gave_sets : (key : ℕ) (Q : Bool → List ℕ → Type 0) (d new : Entry) (l : Ledger) (hs : List Happening) (l' : Ledger) → l.entries key ≡ Some d → new.progress ≡ d.progress
+    → (new.broken ≡ false → (d.broken ≡ false) × ((bytes : List ℕ) × Q (closes_of d.progress) bytes × (new.due ≡ d.due ++ bytes))) → (new.broken ≡ true → d.due ≡ new.due) → core_notes hs ≡ [] → l' ≡ with_entry key new l → Gave key Q l hs l'
+gave_sets key Q d new l hs l' there progress gives breaks silent after = record {
   core = ap (λ (x : Ledger). x.core) after;
   closed = ap (λ (x : Ledger). x.closed) after;
   notes = silent;
   others = λ k apart. subst (λ (o : Option Entry). Ordered (λ device. []) (l.entries k) o) (sym (ap (λ (x : Ledger). x.entries k) after ∙ at_aside key new l.entries k apart)) (ordered_still (l.entries k));
-  client = λ is. subst IsClient (sym set) (subst ClientTalk (sym talk) (subst IsClient there is));
+  client = λ is. subst IsClient (sym set) (subst ClientTalk (sym progress) (subst IsClient there is));
   here = λ e is client sound.
       let this : new ≡ e = one_entry new e (sym set ∙ is) in
       let given = gives (ap (λ (x : Entry). x.broken) this ∙ sound) in
-      (d, there, sym talk ∙ ap (λ (x : Entry). x.talk) this, given.0, (given.1.0, given.1.1, ap (λ (x : Entry). x.due) (sym this) ∙ given.1.2));
+      (d, there, sym progress ∙ ap (λ (x : Entry). x.progress) this, given.0, (given.1.0, given.1.1, ap (λ (x : Entry). x.due) (sym this) ∙ given.1.2));
   halts = λ e is client broken.
       let this : new ≡ e = one_entry new e (sym set ∙ is) in
-      (d, there, sym talk ∙ ap (λ (x : Entry). x.talk) this, breaks (ap (λ (x : Entry). x.broken) this ∙ broken) ∙ ap (λ (x : Entry). x.due) this);
+      (d, there, sym progress ∙ ap (λ (x : Entry). x.progress) this, breaks (ap (λ (x : Entry). x.broken) this ∙ broken) ∙ ap (λ (x : Entry). x.due) this);
 }
   where
     set : l'.entries key ≡ Some new
@@ -119,7 +119,7 @@ gave_after key Q R S still gives l hs l' it =
     let all : Gave key Q it.mid hs l' = record { core = g.core; closed = g.closed; notes = silent; others = g.others; client = g.client; here = g.here; halts = g.halts } in
     subst (λ (x : Ledger). Gave key Q x hs l') first.1 all
 
-pub gave_as : (key : ℕ) (Q R : Bool → List ℕ → Type 0) (l : Ledger) (hs : List Happening) (l' : Ledger) → ((d : Entry) (bytes : List ℕ) → l.entries key ≡ Some d → Q (closes_of d.talk) bytes → R (closes_of d.talk) bytes) → Gave key Q l hs l' → Gave key R l hs l'
+pub gave_as : (key : ℕ) (Q R : Bool → List ℕ → Type 0) (l : Ledger) (hs : List Happening) (l' : Ledger) → ((d : Entry) (bytes : List ℕ) → l.entries key ≡ Some d → Q (closes_of d.progress) bytes → R (closes_of d.progress) bytes) → Gave key Q l hs l' → Gave key R l hs l'
 gave_as key Q R l hs l' weaker g = record {
   core = g.core;
   closed = g.closed;
@@ -194,7 +194,7 @@ By_closing bytes closes given = given ≡ bytes closes
 pub gives_reply_at : (bytes : Bool → List ℕ) (key : ℕ) (o : Option Entry) (l : Ledger) (hs : List Happening) (l' : Ledger) → l.entries key ≡ o → EnqueuesReplyAt bytes key o l hs l' → Gave key (By_closing bytes) l hs l'
 gives_reply_at bytes key None l hs l' there it = gives_breaks_at key (By_closing bytes) None l hs l' there it
 gives_reply_at bytes key (Some d) l hs l' there it =
-    gave_as key (Just_these (bytes (closes_of d.talk))) (By_closing bytes) l hs l' (λ e given is these. these ∙ ap (λ (x : Entry). bytes (closes_of x.talk)) (one_entry d e (sym there ∙ is))) (gives_enqueues key (bytes (closes_of d.talk)) l hs l' it)
+    gave_as key (Just_these (bytes (closes_of d.progress))) (By_closing bytes) l hs l' (λ e given is these. these ∙ ap (λ (x : Entry). bytes (closes_of x.progress)) (one_entry d e (sym there ∙ is))) (gives_enqueues key (bytes (closes_of d.progress)) l hs l' it)
 
 pub gives_reply : (key : ℕ) (bytes : List ℕ) → Gives key (By_closing (λ closes. http_reply closes bytes)) (EnqueuesResponse key bytes)
 gives_reply key bytes l hs l' it = gives_reply_at (λ closes. http_reply closes bytes) key (l.entries key) l hs l' refl it

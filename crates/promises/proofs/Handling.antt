@@ -135,10 +135,10 @@ lost_by device handled sent x y sends (inr (counts, rest, due)) = inr (record {
 pub record Went (core : State) (key : ℕ) (handled : List Handled) (x : Option Entry) (e : Entry) : Type 0 where
   pub before : Entry
   pub there : x ≡ Some before
-  pub client : ClientTalk before.talk
+  pub client : ClientTalk before.progress
   pub sound : before.broken ≡ false
   pub acts : List Act
-  pub are : AreActs before.talk acts e.talk
+  pub are : AreActs before.progress acts e.progress
   pub states : All (λ (a : Act). IsStateOf a.state core handled) acts
   pub asked : asked_by key handled ≡ flat_map (λ (a : Act). a.asked) acts
   pub due : e.due ≡ before.due ++ flat_map (λ (a : Act). a.bytes) acts
@@ -181,8 +181,8 @@ due_joined : (before mid after : List ℕ) (acts more : List Act) → mid ≡ be
 due_joined before mid after acts more p q =
     q ∙ (ap (λ (bytes : List ℕ). bytes ++ flat_map (λ (a : Act). a.bytes) more) p ∙ (append_assoc before (flat_map (λ (a : Act). a.bytes) acts) (flat_map (λ (a : Act). a.bytes) more) ∙ ap (λ (bytes : List ℕ). before ++ bytes) (sym (flat_map-append (λ (a : Act). a.bytes) acts more))))
 
-pub talked_then : (core mid : State) (key : ℕ) (first later : List Handled) (x y : Option Entry) (e : Entry) → AreHandled core first mid → TalkedAs mid key later y e → ((d : Entry) → y ≡ Some d → ClientTalk d.talk → d.broken ≡ false → TalkedAs core key first x d) → TalkedAs core key (first ++ later) x e
-talked_then core mid key first later x y e run (inr a) before = inr (record {
+pub progressed_then : (core mid : State) (key : ℕ) (first later : List Handled) (x y : Option Entry) (e : Entry) → AreHandled core first mid → TalkedAs mid key later y e → ((d : Entry) → y ≡ Some d → ClientTalk d.progress → d.broken ≡ false → TalkedAs core key first x d) → TalkedAs core key (first ++ later) x e
+progressed_then core mid key first later x y e run (inr a) before = inr (record {
   earlier = first ++ a.earlier;
   since = a.since;
   whole = ap (λ (its : List Handled). first ++ its) a.whole ∙ sym (append_assoc first a.earlier a.since);
@@ -193,7 +193,7 @@ talked_then core mid key first later x y e run (inr a) before = inr (record {
   asked = a.asked;
   due = a.due;
 })
-talked_then core mid key first later x y e run (inl w) before = by (before w.before w.there w.client w.sound)
+progressed_then core mid key first later x y e run (inl w) before = by (before w.before w.there w.client w.sound)
   where
     by : TalkedAs core key first x w.before → TalkedAs core key (first ++ later) x e
     by (inl v) = inl (record {
@@ -202,7 +202,7 @@ talked_then core mid key first later x y e run (inl w) before = by (before w.bef
       client = v.client;
       sound = v.sound;
       acts = v.acts ++ w.acts;
-      are = acts_append v.before.talk w.before.talk e.talk v.acts w.acts v.are w.are;
+      are = acts_append v.before.progress w.before.progress e.progress v.acts w.acts v.are w.are;
       states = All-append (λ (a : Act). IsStateOf a.state core (first ++ later)) v.acts w.acts (states_more core first later v.acts v.states) (states_behind core mid first later w.acts run w.states);
       asked = asked_joined key first later v.acts w.acts v.asked w.asked;
       due = due_joined v.before.due w.before.due e.due v.acts w.acts v.due w.due;
@@ -213,7 +213,7 @@ talked_then core mid key first later x y e run (inl w) before = by (before w.bef
       whole = ap (λ (its : List Handled). its ++ later) b.whole ∙ append_assoc b.earlier b.since later;
       door = b.door;
       acts = b.acts ++ w.acts;
-      are = acts_append (opening_peer b.door) w.before.talk e.talk b.acts w.acts b.are w.are;
+      are = acts_append (opening_peer b.door) w.before.progress e.progress b.acts w.acts b.are w.are;
       states = All-append (λ (a : Act). IsStateOf a.state core (first ++ later)) b.acts w.acts (states_more core first later b.acts b.states) (states_behind core mid first later w.acts run w.states);
       asked = asked_joined key b.since later b.acts w.acts b.asked w.asked;
       due = due_joined [] w.before.due e.due b.acts w.acts b.due w.due;
@@ -224,20 +224,20 @@ talked_then core mid key first later x y e run (inl w) before = by (before w.bef
 -- the connection had broken before; or it went on, and broke; or it was accepted since, and broke
 abbrev pub StopsAs : State → ℕ → List Handled → Option Entry → Entry → Type 0
 StopsAs core key handled x e =
-    ((d : Entry) × (x ≡ Some d) × (d.broken ≡ true) × (d.talk ≡ e.talk) × (d.due ≡ e.due) × (asked_by key handled ≡ []))
-    ⊎ (((d : Entry) × (x ≡ Some d) × ClientTalk d.talk × (d.broken ≡ false) × BrokeAfter core key handled handled d.talk d.due e) ⊎ IsCutOff core key handled e)
+    ((d : Entry) × (x ≡ Some d) × (d.broken ≡ true) × (d.progress ≡ e.progress) × (d.due ≡ e.due) × (asked_by key handled ≡ []))
+    ⊎ (((d : Entry) × (x ≡ Some d) × ClientTalk d.progress × (d.broken ≡ false) × BrokeAfter core key handled handled d.progress d.due e) ⊎ IsCutOff core key handled e)
 
-last_more : (core : State) (first later : List Handled) (after talk : PeerRecord) → IsLast core first after talk → IsLast core (first ++ later) after talk
-last_more core first later after talk (inl is) = inl is
-last_more core first later after talk (inr (state, what, of, next)) = inr (state, what, state_more state core first later of, next)
+last_more : (core : State) (first later : List Handled) (after progress : PeerRecord) → IsLast core first after progress → IsLast core (first ++ later) after progress
+last_more core first later after progress (inl is) = inl is
+last_more core first later after progress (inr (state, what, of, next)) = inr (state, what, state_more state core first later of, next)
 
-last_behind : (core mid : State) (first later : List Handled) (after talk : PeerRecord) → AreHandled core first mid → IsLast mid later after talk → IsLast core (first ++ later) after talk
-last_behind core mid first later after talk run (inl is) = inl is
-last_behind core mid first later after talk run (inr (state, what, of, next)) = inr (state, what, state_behind state core mid first later run of, next)
+last_behind : (core mid : State) (first later : List Handled) (after progress : PeerRecord) → AreHandled core first mid → IsLast mid later after progress → IsLast core (first ++ later) after progress
+last_behind core mid first later after progress run (inl is) = inl is
+last_behind core mid first later after progress run (inr (state, what, of, next)) = inr (state, what, state_behind state core mid first later run of, next)
 
 -- more comes, which it doesn't ask for
-broke_more : (core : State) (key : ℕ) (first later since : List Handled) (before : PeerRecord) (base : List ℕ) (d e : Entry) → BrokeAfter core key first since before base d → d.talk ≡ e.talk → d.due ≡ e.due → asked_by key later ≡ [] → BrokeAfter core key (first ++ later) (since ++ later) before base e
-broke_more core key first later since before base d e b talk due none = record {
+broke_more : (core : State) (key : ℕ) (first later since : List Handled) (before : PeerRecord) (base : List ℕ) (d e : Entry) → BrokeAfter core key first since before base d → d.progress ≡ e.progress → d.due ≡ e.due → asked_by key later ≡ [] → BrokeAfter core key (first ++ later) (since ++ later) before base e
+broke_more core key first later since before base d e b progress due none = record {
   acts = b.acts;
   after = b.after;
   are = b.are;
@@ -245,17 +245,17 @@ broke_more core key first later since before base d e b talk due none = record {
   unanswered = b.unanswered;
   one = b.one;
   asked = asked_append key since later ∙ (ap (λ (its : List Handled). asked_by key since ++ its) none ∙ (append-nil (asked_by key since) ∙ b.asked));
-  last = subst (λ (t : PeerRecord). IsLast core (first ++ later) b.after t) talk (last_more core first later b.after d.talk b.last);
+  last = subst (λ (t : PeerRecord). IsLast core (first ++ later) b.after t) progress (last_more core first later b.after d.progress b.last);
   due = sym due ∙ b.due;
 }
 
 -- the connection had gone on by other acts before
-broke_behind : (core mid : State) (key : ℕ) (first later since : List Handled) (before : PeerRecord) (base : List ℕ) (d e : Entry) (acts : List Act) → AreHandled core first mid → AreActs before acts d.talk → All (λ (a : Act). IsStateOf a.state core first) acts → asked_by key since ≡ flat_map (λ (a : Act). a.asked) acts
-    → d.due ≡ base ++ flat_map (λ (a : Act). a.bytes) acts → BrokeAfter mid key later later d.talk d.due e → BrokeAfter core key (first ++ later) (since ++ later) before base e
+broke_behind : (core mid : State) (key : ℕ) (first later since : List Handled) (before : PeerRecord) (base : List ℕ) (d e : Entry) (acts : List Act) → AreHandled core first mid → AreActs before acts d.progress → All (λ (a : Act). IsStateOf a.state core first) acts → asked_by key since ≡ flat_map (λ (a : Act). a.asked) acts
+    → d.due ≡ base ++ flat_map (λ (a : Act). a.bytes) acts → BrokeAfter mid key later later d.progress d.due e → BrokeAfter core key (first ++ later) (since ++ later) before base e
 broke_behind core mid key first later since before base d e acts run are states asked due b = record {
   acts = acts ++ b.acts;
   after = b.after;
-  are = acts_append before d.talk b.after acts b.acts are b.are;
+  are = acts_append before d.progress b.after acts b.acts are b.are;
   states = All-append (λ (a : Act). IsStateOf a.state core (first ++ later)) acts b.acts (states_more core first later acts states) (states_behind core mid first later b.acts run b.states);
   unanswered = b.unanswered;
   one = b.one;
@@ -263,28 +263,28 @@ broke_behind core mid key first later since before base d e acts run are states 
       ∙ (ap (λ (its : List Handled). its ++ asked_by key later) asked
       ∙ (ap (λ (its : List Handled). flat_map (λ (a : Act). a.asked) acts ++ its) b.asked
       ∙ (sym (append_assoc (flat_map (λ (a : Act). a.asked) acts) (flat_map (λ (a : Act). a.asked) b.acts) b.unanswered) ∙ ap (λ (its : List Handled). its ++ b.unanswered) (sym (flat_map-append (λ (a : Act). a.asked) acts b.acts)))));
-  last = last_behind core mid first later b.after e.talk run b.last;
+  last = last_behind core mid first later b.after e.progress run b.last;
   due = due_joined base d.due e.due acts b.acts due b.due;
 }
 
-pub stops_then : (core mid : State) (key : ℕ) (first later : List Handled) (x y : Option Entry) (e : Entry) → AreHandled core first mid → ClientTalk e.talk → StopsAs mid key later y e → ((d : Entry) → y ≡ Some d → ClientTalk d.talk → d.broken ≡ false → TalkedAs core key first x d)
-    → ((d : Entry) → y ≡ Some d → ClientTalk d.talk → d.broken ≡ true → StopsAs core key first x d) → StopsAs core key (first ++ later) x e
-stops_then core mid key first later x y e run client (inl (d, there, broken, talk, due, none)) talked stopped = by (stopped d there (subst ClientTalk (sym talk) client) broken)
+pub stops_then : (core mid : State) (key : ℕ) (first later : List Handled) (x y : Option Entry) (e : Entry) → AreHandled core first mid → ClientTalk e.progress → StopsAs mid key later y e → ((d : Entry) → y ≡ Some d → ClientTalk d.progress → d.broken ≡ false → TalkedAs core key first x d)
+    → ((d : Entry) → y ≡ Some d → ClientTalk d.progress → d.broken ≡ true → StopsAs core key first x d) → StopsAs core key (first ++ later) x e
+stops_then core mid key first later x y e run client (inl (d, there, broken, progress, due, none)) progressed stopped = by (stopped d there (subst ClientTalk (sym progress) client) broken)
   where
     by : StopsAs core key first x d → StopsAs core key (first ++ later) x e
-    by (inl (f, is, was, same, more, silent)) = inl (f, is, was, same ∙ talk, more ∙ due, asked_append key first later ∙ (ap (λ (its : List Handled). its ++ asked_by key later) silent ∙ none))
-    by (inr (inl (f, is, of, sound, b))) = inr (inl (f, is, of, sound, broke_more core key first later first f.talk f.due d e b talk due none))
+    by (inl (f, is, was, same, more, silent)) = inl (f, is, was, same ∙ progress, more ∙ due, asked_append key first later ∙ (ap (λ (its : List Handled). its ++ asked_by key later) silent ∙ none))
+    by (inr (inl (f, is, of, sound, b))) = inr (inl (f, is, of, sound, broke_more core key first later first f.progress f.due d e b progress due none))
     by (inr (inr c)) = inr (inr (record {
       earlier = c.earlier;
       since = c.since ++ later;
       whole = ap (λ (its : List Handled). its ++ later) c.whole ∙ append_assoc c.earlier c.since later;
       door = c.door;
-      until = broke_more core key first later c.since (opening_peer c.door) [] d e c.until talk due none;
+      until = broke_more core key first later c.since (opening_peer c.door) [] d e c.until progress due none;
     }))
-stops_then core mid key first later x y e run client (inr (inl (d, there, of, sound, b))) talked stopped = by (talked d there of sound)
+stops_then core mid key first later x y e run client (inr (inl (d, there, of, sound, b))) progressed stopped = by (progressed d there of sound)
   where
     by : TalkedAs core key first x d → StopsAs core key (first ++ later) x e
-    by (inl v) = inr (inl (v.before, v.there, v.client, v.sound, broke_behind core mid key first later first v.before.talk v.before.due d e v.acts run v.are v.states v.asked v.due b))
+    by (inl v) = inr (inl (v.before, v.there, v.client, v.sound, broke_behind core mid key first later first v.before.progress v.before.due d e v.acts run v.are v.states v.asked v.due b))
     by (inr a) = inr (inr (record {
       earlier = a.earlier;
       since = a.since ++ later;
@@ -292,7 +292,7 @@ stops_then core mid key first later x y e run client (inr (inl (d, there, of, so
       door = a.door;
       until = broke_behind core mid key first later a.since (opening_peer a.door) [] d e a.acts run a.are a.states a.asked a.due b;
     }))
-stops_then core mid key first later x y e run client (inr (inr c)) talked stopped = inr (inr (record {
+stops_then core mid key first later x y e run client (inr (inr c)) progressed stopped = inr (inr (record {
   earlier = first ++ c.earlier;
   since = c.since;
   whole = ap (λ (its : List Handled). first ++ its) c.whole ∙ sym (append_assoc first c.earlier c.since);
@@ -305,40 +305,40 @@ stops_then core mid key first later x y e run client (inr (inr c)) talked stoppe
     unanswered = c.until.unanswered;
     one = c.until.one;
     asked = c.until.asked;
-    last = last_behind core mid first later c.until.after e.talk run c.until.last;
+    last = last_behind core mid first later c.until.after e.progress run c.until.last;
     due = c.until.due;
   };
 }))
 
 -- the connection broke, or had broken; these events weren't asked on it
-pub stops_still : (core : State) (key : ℕ) (handled : List Handled) (x y : Option Entry) → Stays x y → asked_by key handled ≡ [] → (e : Entry) → y ≡ Some e → ClientTalk e.talk → e.broken ≡ true → StopsAs core key handled x e
+pub stops_still : (core : State) (key : ℕ) (handled : List Handled) (x y : Option Entry) → Stays x y → asked_by key handled ≡ [] → (e : Entry) → y ≡ Some e → ClientTalk e.progress → e.broken ≡ true → StopsAs core key handled x e
 stops_still core key handled x y stays none e is client broken =
     let d = stays e is client in
     by d.0 d.1 d.2 d.4 d.0.broken refl
   where
-    by : (d : Entry) → x ≡ Some d → d.talk ≡ e.talk → d.due ≡ e.due → (t : Bool) → d.broken ≡ t → StopsAs core key handled x e
-    by d there talk due true was = inl (d, there, was, talk, due, none)
-    by d there talk due false was = inr (inl (
+    by : (d : Entry) → x ≡ Some d → d.progress ≡ e.progress → d.due ≡ e.due → (t : Bool) → d.broken ≡ t → StopsAs core key handled x e
+    by d there progress due true was = inl (d, there, was, progress, due, none)
+    by d there progress due false was = inr (inl (
       d,
       there,
-      subst ClientTalk (sym talk) client,
+      subst ClientTalk (sym progress) client,
       was,
       record {
         acts = [];
-        after = d.talk;
+        after = d.progress;
         are = refl;
         states = All-nil (λ (a : Act). IsStateOf a.state core handled);
         unanswered = [];
         one = inl refl;
         asked = none;
-        last = inl talk;
+        last = inl progress;
         due = sym due ∙ sym (append-nil d.due);
       },
     ))
 
 -- the connection is unchanged if these events weren't asked on it
-pub talked_still : (core : State) (key : ℕ) (handled : List Handled) (x y : Option Entry) → Stays x y → asked_by key handled ≡ [] → (e : Entry) → y ≡ Some e → ClientTalk e.talk → e.broken ≡ false → TalkedAs core key handled x e
-talked_still core key handled x y stays none e is client sound =
+pub progressed_still : (core : State) (key : ℕ) (handled : List Handled) (x y : Option Entry) → Stays x y → asked_by key handled ≡ [] → (e : Entry) → y ≡ Some e → ClientTalk e.progress → e.broken ≡ false → TalkedAs core key handled x e
+progressed_still core key handled x y stays none e is client sound =
     let d = stays e is client in
     inl (record {
       before = d.0;
@@ -360,10 +360,10 @@ pub record ClosedAs (l : Ledger) (handled : List Handled) (e : Entry) : Type 0 w
   pub before : List Handled
   pub behind : List Handled
   pub whole : handled ≡ before ++ behind
-  pub came : (device : ℕ) → device_of e.talk ≡ Some device → e.broken ≡ false → CameAs device before (l.entries key) (Some e)
-  pub lost : (device : ℕ) → device_of e.talk ≡ Some device → e.broken ≡ true → LostAs device before (l.entries key) (Some e)
-  pub talks : ClientTalk e.talk → e.broken ≡ false → TalkedAs l.core key before (l.entries key) e
-  pub stops : ClientTalk e.talk → e.broken ≡ true → StopsAs l.core key before (l.entries key) e
+  pub came : (device : ℕ) → device_of e.progress ≡ Some device → e.broken ≡ false → CameAs device before (l.entries key) (Some e)
+  pub lost : (device : ℕ) → device_of e.progress ≡ Some device → e.broken ≡ true → LostAs device before (l.entries key) (Some e)
+  pub progresses : ClientTalk e.progress → e.broken ≡ false → TalkedAs l.core key before (l.entries key) e
+  pub stops : ClientTalk e.progress → e.broken ≡ true → StopsAs l.core key before (l.entries key) e
 
 pub record AllClosed (l : Ledger) (handled : List Handled) (l' : Ledger) : Type 0 where
   pub more : List (Entry × Fate)
@@ -383,8 +383,8 @@ pub record Goes (moment : ℕ) (l : Ledger) (hs : List Happening) (l' : Ledger) 
   pub told : core_notes hs ≡ flat_map (λ (it : Handled). it.notes) handled
   pub came : (key device : ℕ) → Counts device (l'.entries key) → CameAs device handled (l.entries key) (l'.entries key)
   pub lost : (key device : ℕ) → IsLost device (l'.entries key) → LostAs device handled (l.entries key) (l'.entries key)
-  pub talks : (key : ℕ) (e : Entry) → l'.entries key ≡ Some e → ClientTalk e.talk → e.broken ≡ false → TalkedAs l.core key handled (l.entries key) e
-  pub stops : (key : ℕ) (e : Entry) → l'.entries key ≡ Some e → ClientTalk e.talk → e.broken ≡ true → StopsAs l.core key handled (l.entries key) e
+  pub progresses : (key : ℕ) (e : Entry) → l'.entries key ≡ Some e → ClientTalk e.progress → e.broken ≡ false → TalkedAs l.core key handled (l.entries key) e
+  pub stops : (key : ℕ) (e : Entry) → l'.entries key ≡ Some e → ClientTalk e.progress → e.broken ≡ true → StopsAs l.core key handled (l.entries key) e
   pub closed : AllClosed l handled l'
 
 pub due_append : (device : ℕ) (before : List ℕ) (first later : List Handled) → due_by device before (first ++ later) ≡ due_by device (due_by device before first) later
@@ -462,35 +462,35 @@ closed_more l first later e c = record {
   whole = ap (λ (its : List Handled). its ++ later) c.whole ∙ append_assoc c.before c.behind later;
   came = c.came;
   lost = c.lost;
-  talks = c.talks;
+  progresses = c.progresses;
   stops = c.stops;
 }
 
 closed_behind : (l mid : Ledger) (first later : List Handled) (e : Entry) → AreHandled l.core first mid.core → ((key device : ℕ) → Counts device (mid.entries key) → CameAs device first (l.entries key) (mid.entries key))
     → ((key device : ℕ) → IsLost device (mid.entries key) → LostAs device first (l.entries key) (mid.entries key))
-    → ((key : ℕ) (d : Entry) → mid.entries key ≡ Some d → ClientTalk d.talk → d.broken ≡ false → TalkedAs l.core key first (l.entries key) d)
-    → ((key : ℕ) (d : Entry) → mid.entries key ≡ Some d → ClientTalk d.talk → d.broken ≡ true → StopsAs l.core key first (l.entries key) d) → ClosedAs mid later e → ClosedAs l (first ++ later) e
-closed_behind l mid first later e run came lost talks stops c = record {
+    → ((key : ℕ) (d : Entry) → mid.entries key ≡ Some d → ClientTalk d.progress → d.broken ≡ false → TalkedAs l.core key first (l.entries key) d)
+    → ((key : ℕ) (d : Entry) → mid.entries key ≡ Some d → ClientTalk d.progress → d.broken ≡ true → StopsAs l.core key first (l.entries key) d) → ClosedAs mid later e → ClosedAs l (first ++ later) e
+closed_behind l mid first later e run came lost progresses stops c = record {
   key = c.key;
   before = first ++ c.before;
   behind = c.behind;
   whole = ap (λ (its : List Handled). first ++ its) c.whole ∙ sym (append_assoc first c.before c.behind);
   came = λ device named sound. came_then device first c.before (l.entries c.key) (mid.entries c.key) (Some e) (c.came device named sound) (came c.key device);
   lost = λ device named is. lost_then device first c.before (l.entries c.key) (mid.entries c.key) (Some e) (c.lost device named is) (lost c.key device) (came c.key device);
-  talks = λ client sound. talked_then l.core mid.core c.key first c.before (l.entries c.key) (mid.entries c.key) e run (c.talks client sound) (λ d there of unbroken. talks c.key d there of unbroken);
-  stops = λ client broken. stops_then l.core mid.core c.key first c.before (l.entries c.key) (mid.entries c.key) e run client (c.stops client broken) (talks c.key) (stops c.key);
+  progresses = λ client sound. progressed_then l.core mid.core c.key first c.before (l.entries c.key) (mid.entries c.key) e run (c.progresses client sound) (λ d there of unbroken. progresses c.key d there of unbroken);
+  stops = λ client broken. stops_then l.core mid.core c.key first c.before (l.entries c.key) (mid.entries c.key) e run client (c.stops client broken) (progresses c.key) (stops c.key);
 }
 
 pub all_closed_then : (l mid l' : Ledger) (first later : List Handled) → AreHandled l.core first mid.core → ((key device : ℕ) → Counts device (mid.entries key) → CameAs device first (l.entries key) (mid.entries key))
     → ((key device : ℕ) → IsLost device (mid.entries key) → LostAs device first (l.entries key) (mid.entries key))
-    → ((key : ℕ) (d : Entry) → mid.entries key ≡ Some d → ClientTalk d.talk → d.broken ≡ false → TalkedAs l.core key first (l.entries key) d)
-    → ((key : ℕ) (d : Entry) → mid.entries key ≡ Some d → ClientTalk d.talk → d.broken ≡ true → StopsAs l.core key first (l.entries key) d) → AllClosed l first mid → AllClosed mid later l' → AllClosed l (first ++ later) l'
-all_closed_then l mid l' first later run came lost talks stops p q = record {
+    → ((key : ℕ) (d : Entry) → mid.entries key ≡ Some d → ClientTalk d.progress → d.broken ≡ false → TalkedAs l.core key first (l.entries key) d)
+    → ((key : ℕ) (d : Entry) → mid.entries key ≡ Some d → ClientTalk d.progress → d.broken ≡ true → StopsAs l.core key first (l.entries key) d) → AllClosed l first mid → AllClosed mid later l' → AllClosed l (first ++ later) l'
+all_closed_then l mid l' first later run came lost progresses stops p q = record {
   more = p.more ++ q.more;
   closed = q.closed ∙ (ap (λ (xs : List (Entry × Fate)). xs ++ q.more) p.closed ∙ append_assoc l.closed p.more q.more);
   each = All-append (λ (it : Entry × Fate). ClosedAs l (first ++ later) it.0) p.more q.more
       (All-weaker (λ (it : Entry × Fate). ClosedAs l first it.0) (λ (it : Entry × Fate). ClosedAs l (first ++ later) it.0) (λ it c. closed_more l first later it.0 c) p.more p.each)
-      (All-weaker (λ (it : Entry × Fate). ClosedAs mid later it.0) (λ (it : Entry × Fate). ClosedAs l (first ++ later) it.0) (λ it c. closed_behind l mid first later it.0 run came lost talks stops c) q.more q.each);
+      (All-weaker (λ (it : Entry × Fate). ClosedAs mid later it.0) (λ (it : Entry × Fate). ClosedAs l (first ++ later) it.0) (λ it c. closed_behind l mid first later it.0 run came lost progresses stops c) q.more q.each);
 }
 
 pub goes_then : (moment : ℕ) (l : Ledger) (front : List Happening) (mid : Ledger) (back : List Happening) (l' : Ledger) (hs : List Happening) → hs ≡ front ++ back → Goes moment l front mid → Goes moment mid back l' → Goes moment l hs l'
@@ -502,9 +502,9 @@ goes_then moment l front mid back l' hs whole p q = record {
   told = ap core_notes whole ∙ (notes_append front back ∙ (ap (λ (ns : List Note). ns ++ core_notes back) p.told ∙ (ap (λ (ns : List Note). flat_map (λ (it : Handled). it.notes) p.handled ++ ns) q.told ∙ sym (flat_map-append (λ (it : Handled). it.notes) p.handled q.handled))));
   came = λ key device counts. came_then device p.handled q.handled (l.entries key) (mid.entries key) (l'.entries key) (q.came key device counts) (p.came key device);
   lost = λ key device is. lost_then device p.handled q.handled (l.entries key) (mid.entries key) (l'.entries key) (q.lost key device is) (p.lost key device) (p.came key device);
-  talks = λ key e is client sound. talked_then l.core mid.core key p.handled q.handled (l.entries key) (mid.entries key) e p.run (q.talks key e is client sound) (λ d there of unbroken. p.talks key d there of unbroken);
-  stops = λ key e is client broken. stops_then l.core mid.core key p.handled q.handled (l.entries key) (mid.entries key) e p.run client (q.stops key e is client broken) (p.talks key) (p.stops key);
-  closed = all_closed_then l mid l' p.handled q.handled p.run p.came p.lost p.talks p.stops p.closed q.closed;
+  progresses = λ key e is client sound. progressed_then l.core mid.core key p.handled q.handled (l.entries key) (mid.entries key) e p.run (q.progresses key e is client sound) (λ d there of unbroken. p.progresses key d there of unbroken);
+  stops = λ key e is client broken. stops_then l.core mid.core key p.handled q.handled (l.entries key) (mid.entries key) e p.run client (q.stops key e is client broken) (p.progresses key) (p.stops key);
+  closed = all_closed_then l mid l' p.handled q.handled p.run p.came p.lost p.progresses p.stops p.closed q.closed;
 }
 
 pub goes_calm : (moment : ℕ) (l : Ledger) (hs : List Happening) (l' : Ledger) → Good l → Calm l hs l' → Goes moment l hs l'
@@ -516,7 +516,7 @@ goes_calm moment l hs l' good calm = record {
   told = calm.notes;
   came = λ key device counts. let it = (calm.each key).counts device counts in inl (it.0, it.1 ∙ append-nil (due_at (l.entries key)));
   lost = λ key device is. lost_by device [] (λ d. []) (l.entries key) (l'.entries key) (sym (append-nil (due_at (l.entries key)))) ((calm.each key).breaks device is);
-  talks = λ key. talked_still l.core key [] (l.entries key) (l'.entries key) (calm.each key).stays refl;
+  progresses = λ key. progressed_still l.core key [] (l.entries key) (l'.entries key) (calm.each key).stays refl;
   stops = λ key. stops_still l.core key [] (l.entries key) (l'.entries key) (calm.each key).stays refl;
   closed = none_closed l [] l' calm.closed;
 }
@@ -538,8 +538,8 @@ plain_at key o entries here other =
 
 -- a connection came, or was closed
 pub goes_plain : (moment key : ℕ) (o : Option Entry) (l : Ledger) (hs : List Happening) (l' : Ledger) → Good l → core_notes hs ≡ [] → l'.core ≡ l.core → l'.entries ≡ at_key key o l.entries → Plain (l.entries key) o
-    → ((e : Entry) → o ≡ Some e → ClientTalk e.talk → e.broken ≡ false → TalkedAs l.core key [] (l.entries key) e) → ((e : Entry) → o ≡ Some e → e.broken ≡ true → ⊥) → AllClosed l [] l' → Goes moment l hs l'
-goes_plain moment key o l hs l' good silent core after here talks unbroken closed = record {
+    → ((e : Entry) → o ≡ Some e → ClientTalk e.progress → e.broken ≡ false → TalkedAs l.core key [] (l.entries key) e) → ((e : Entry) → o ≡ Some e → e.broken ≡ true → ⊥) → AllClosed l [] l' → Goes moment l hs l'
+goes_plain moment key o l hs l' good silent core after here progresses unbroken closed = record {
   handled = [];
   good = record {
     one = λ device k other p q. good.one device k other ((each k).device device p) ((each other).device device q);
@@ -550,16 +550,16 @@ goes_plain moment key o l hs l' good silent core after here talks unbroken close
   told = silent;
   came = λ k device counts. inl ((each k).counts device counts);
   lost = λ k device is. inl ((each k).lost device is);
-  talks = λ k e is. talked k e (k == key) refl (subst (λ (entries : ℕ → Option Entry). entries k ≡ Some e) after is);
+  progresses = λ k e is. progressed k e (k == key) refl (subst (λ (entries : ℕ → Option Entry). entries k ≡ Some e) after is);
   stops = λ k e is. stopped k e (k == key) refl (subst (λ (entries : ℕ → Option Entry). entries k ≡ Some e) after is);
   closed = closed;
 }
   where
-    talked : (k : ℕ) (e : Entry) (t : Bool) → (k == key) ≡ t → (if t then o else l.entries k) ≡ Some e → ClientTalk e.talk → e.broken ≡ false → TalkedAs l.core k [] (l.entries k) e
-    talked k e true same is client sound = subst (λ (j : ℕ). TalkedAs l.core j [] (l.entries j) e) (sym (same_key k key same)) (talks e is client sound)
-    talked k e false same is client sound = talked_still l.core k [] (l.entries k) (l.entries k) (λ f there of. (f, there, refl, λ still. still, refl)) refl e is client sound
+    progressed : (k : ℕ) (e : Entry) (t : Bool) → (k == key) ≡ t → (if t then o else l.entries k) ≡ Some e → ClientTalk e.progress → e.broken ≡ false → TalkedAs l.core k [] (l.entries k) e
+    progressed k e true same is client sound = subst (λ (j : ℕ). TalkedAs l.core j [] (l.entries j) e) (sym (same_key k key same)) (progresses e is client sound)
+    progressed k e false same is client sound = progressed_still l.core k [] (l.entries k) (l.entries k) (λ f there of. (f, there, refl, λ still. still, refl)) refl e is client sound
 
-    stopped : (k : ℕ) (e : Entry) (t : Bool) → (k == key) ≡ t → (if t then o else l.entries k) ≡ Some e → ClientTalk e.talk → e.broken ≡ true → StopsAs l.core k [] (l.entries k) e
+    stopped : (k : ℕ) (e : Entry) (t : Bool) → (k == key) ≡ t → (if t then o else l.entries k) ≡ Some e → ClientTalk e.progress → e.broken ≡ true → StopsAs l.core k [] (l.entries k) e
     stopped k e true same is client broken = absurd (unbroken e is broken)
     stopped k e false same is client broken = stops_still l.core k [] (l.entries k) (l.entries k) (λ f there of. (f, there, refl, λ still. still, refl)) refl e is client broken
 
@@ -585,7 +585,7 @@ goes_event moment event outcome l hs l' good it = record {
   told = sym (append-nil (core_notes hs));
   came = λ key device counts. inl ((it.each key).counts device counts);
   lost = λ key device is. lost_by device (one_handled moment event outcome hs l' None None ∷ []) (sent_by outcome l'.core) (l.entries key) (l'.entries key) refl ((it.each key).breaks device is);
-  talks = λ key. talked_still l.core key (one_handled moment event outcome hs l' None None ∷ []) (l.entries key) (l'.entries key) (it.each key).stays refl;
+  progresses = λ key. progressed_still l.core key (one_handled moment event outcome hs l' None None ∷ []) (l.entries key) (l'.entries key) (it.each key).stays refl;
   stops = λ key. stops_still l.core key (one_handled moment event outcome hs l' None None ∷ []) (l.entries key) (l'.entries key) (it.each key).stays refl;
   closed = none_closed l (one_handled moment event outcome hs l' None None ∷ []) l' it.closed;
 }
@@ -604,8 +604,8 @@ pub record Awaits (moment device key : ℕ) (l : Ledger) (hs : List Happening) (
   pub lost_due : IsLost device (l'.entries key) → due_at (l'.entries key) ≡ []
   pub came : (other of : ℕ) → (device == of) ≡ false → Counts of (l'.entries other) → CameAs of handled (l.entries other) (l'.entries other)
   pub lost : (other of : ℕ) → (device == of) ≡ false → IsLost of (l'.entries other) → LostAs of handled (l.entries other) (l'.entries other)
-  pub talks : (other : ℕ) (e : Entry) → l'.entries other ≡ Some e → ClientTalk e.talk → e.broken ≡ false → TalkedAs l.core other handled (l.entries other) e
-  pub stops : (other : ℕ) (e : Entry) → l'.entries other ≡ Some e → ClientTalk e.talk → e.broken ≡ true → StopsAs l.core other handled (l.entries other) e
+  pub progresses : (other : ℕ) (e : Entry) → l'.entries other ≡ Some e → ClientTalk e.progress → e.broken ≡ false → TalkedAs l.core other handled (l.entries other) e
+  pub stops : (other : ℕ) (e : Entry) → l'.entries other ≡ Some e → ClientTalk e.progress → e.broken ≡ true → StopsAs l.core other handled (l.entries other) e
   pub closed : l'.closed ≡ l.closed
 
 front_nil : (bytes rest : List ℕ) → bytes ++ rest ≡ [] → bytes ≡ []
@@ -635,8 +635,8 @@ awaits_event moment device key event outcome l front mid back l' hs whole p it n
       lost_due = λ lost. lost_none (sent_by outcome l'.core) device (mid.entries key) (l'.entries key) p.lost_due p.due none ((it.each key).breaks device lost);
       came = λ other of apart counts. came_then of p.handled q.handled (l.entries other) (mid.entries other) (l'.entries other) (q.came other of counts) (p.came other of apart);
       lost = λ other of apart is. lost_then of p.handled q.handled (l.entries other) (mid.entries other) (l'.entries other) (q.lost other of is) (p.lost other of apart) (p.came other of apart);
-      talks = λ other e is client sound. talked_then l.core mid.core other p.handled q.handled (l.entries other) (mid.entries other) e p.run (q.talks other e is client sound) (λ d there of unbroken. p.talks other d there of unbroken);
-      stops = λ other e is client broken. stops_then l.core mid.core other p.handled q.handled (l.entries other) (mid.entries other) e p.run client (q.stops other e is client broken) (p.talks other) (p.stops other);
+      progresses = λ other e is client sound. progressed_then l.core mid.core other p.handled q.handled (l.entries other) (mid.entries other) e p.run (q.progresses other e is client sound) (λ d there of unbroken. p.progresses other d there of unbroken);
+      stops = λ other e is client broken. stops_then l.core mid.core other p.handled q.handled (l.entries other) (mid.entries other) e p.run client (q.stops other e is client broken) (p.progresses other) (p.stops other);
       closed = it.closed ∙ p.closed;
     }
 
@@ -651,11 +651,11 @@ awaits_named moment device key name outcome l front mid back l' hs whole p it = 
   told = ap core_notes whole ∙ (notes_append front back ∙ (ap (λ (ns : List Note). ns ++ core_notes back) p.told ∙ (ap (λ (ns : List Note). flat_map (λ (h : Handled). h.notes) p.handled ++ ns) (sym (append-nil (core_notes back))) ∙ sym (flat_map-append (λ (h : Handled). h.notes) p.handled (last ∷ [])))));
   came = λ other of counts. by other of counts (device == of) refl;
   lost = λ other of is. lost_at other of (device == of) refl ((it.each other).breaks of is);
-  talks = λ other e is client sound.
-      talked_then l.core mid.core other p.handled (last ∷ []) (l.entries other) (mid.entries other) e p.run (talked_still mid.core other (last ∷ []) (mid.entries other) (l'.entries other) (it.each other).stays refl e is client sound)
-      (λ d there of unbroken. p.talks other d there of unbroken);
+  progresses = λ other e is client sound.
+      progressed_then l.core mid.core other p.handled (last ∷ []) (l.entries other) (mid.entries other) e p.run (progressed_still mid.core other (last ∷ []) (mid.entries other) (l'.entries other) (it.each other).stays refl e is client sound)
+      (λ d there of unbroken. p.progresses other d there of unbroken);
   stops = λ other e is client broken.
-      stops_then l.core mid.core other p.handled (last ∷ []) (l.entries other) (mid.entries other) e p.run client (stops_still mid.core other (last ∷ []) (mid.entries other) (l'.entries other) (it.each other).stays refl e is client broken) (p.talks other)
+      stops_then l.core mid.core other p.handled (last ∷ []) (l.entries other) (mid.entries other) e p.run client (stops_still mid.core other (last ∷ []) (mid.entries other) (l'.entries other) (it.each other).stays refl e is client broken) (p.progresses other)
       (p.stops other);
   closed = none_closed l (p.handled ++ last ∷ []) l' (it.closed ∙ p.closed);
 }

@@ -43,7 +43,7 @@ broken_heard e is = inl (or_true e.draining e.broken is)
 -- a part that doesn't concern it leaves it so
 heard_left : (x y : Option Entry) → Left x y → IsHeardAt x → IsHeardAt y
 heard_left None y left heard = subst IsHeardAt (sym (left.none refl)) tt
-heard_left (Some e) y left heard = by (e.broken) refl (device_of e.talk) refl
+heard_left (Some e) y left heard = by (e.broken) refl (device_of e.progress) refl
   where
     out : IsOut y → IsHeardAt y
     out (inl gone) = subst IsHeardAt (sym gone) tt
@@ -53,10 +53,10 @@ heard_left (Some e) y left heard = by (e.broken) refl (device_of e.talk) refl
     more (inl gone) = out gone
     more (inr (orders, is)) = subst IsHeardAt (sym is) heard
 
-    by : (t : Bool) → e.broken ≡ t → (o : Option ℕ) → device_of e.talk ≡ o → IsHeardAt y
-    by true is o talk = out (left.out e refl is)
-    by false is None talk = subst IsHeardAt (sym (left.client e refl is talk)) heard
-    by false is (Some device) talk = more (left.device e device refl is talk)
+    by : (t : Bool) → e.broken ≡ t → (o : Option ℕ) → device_of e.progress ≡ o → IsHeardAt y
+    by true is o progress = out (left.out e refl is)
+    by false is None progress = subst IsHeardAt (sym (left.client e refl is progress)) heard
+    by false is (Some device) progress = more (left.device e device refl is progress)
 
 abbrev Hears : Rel → Type 0
 Hears R = (l : Ledger) (hs : List Happening) (l' : Ledger) → AllHeard l → R l hs l' → AllHeard l'
@@ -178,7 +178,7 @@ hears_gone moment (Some device) = hears_left (IsGone moment (Some device)) (λ o
 
 hears_closes : (moment key : ℕ) (e : Entry) → Hears (ClosesAs moment Drained key e)
 hears_closes moment key e =
-    hears_then (Leaves Drained key e) (IsGone moment (device_of e.talk)) (λ l hs l' heard it. hears_at key None l l' heard tt (ap (λ (x : Ledger). x.entries) it.2)) (hears_gone moment (device_of e.talk))
+    hears_then (Leaves Drained key e) (IsGone moment (device_of e.progress)) (λ l hs l' heard it. hears_at key None l l' heard tt (ap (λ (x : Ledger). x.entries) it.2)) (hears_gone moment (device_of e.progress))
 
 ends_at : (moment key : ℕ) (o : Option Entry) → Hears (EndsAt moment key o)
 ends_at moment key None = hears_nothing

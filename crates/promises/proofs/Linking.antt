@@ -34,7 +34,7 @@ use Rattle.server.specs.Law.{core_notes, moment_of, happenings_of, happenings_in
 use Rattle.promises.specs.Orders.{Handled, AreHandled, AreOf, due_by, AreSent, WasSent, IsFrontSent, WasHalted}
 use Rattle.promises.specs.Answers.{Act, ClientTalk, IsStateOf, IsAnswered, WasAnswered, AreAnswered, IsCutOff, WasCutOff}
 use Rattle.promises.proofs.Sending.{Counts, due_at, Ordered, ordered_still, ordered_keeps, Calm, notes_append, calm_still, calm_sets, breaking, Good, one_entry, IsLost, no_true}
-use Rattle.promises.proofs.Handling.{Plain, goes_plain, CameAs, Goes, handled_append, came_then, goes_then, goes_calm, TalkedAs, talked_then, talked_still, ClosedAs, AllClosed, none_closed, all_closed_then, LostAs, lost_then, CameWith, StopsAs, stops_still, stops_then}
+use Rattle.promises.proofs.Handling.{Plain, goes_plain, CameAs, Goes, handled_append, came_then, goes_then, goes_calm, TalkedAs, progressed_then, progressed_still, ClosedAs, AllClosed, none_closed, all_closed_then, LostAs, lost_then, CameWith, StopsAs, stops_still, stops_then}
 use Rattle.promises.proofs.Giving.{Calms, calms_nothing, calms_chooses, calms_refusal, calms_breaks}
 use Rattle.promises.proofs.Moving.{Moves, moves_calm, moves_then, moves_if, moves_each, moves_happens, moves_unanswered, closes_at, moves_settles}
 use Rattle.promises.proofs.Coming.{moves_serves}
@@ -43,7 +43,7 @@ use Rattle.promises.proofs.Coming.{moves_serves}
 
 -- a connection changes in parts that no device notices
 abbrev pub Keeping : Entry → Entry → Type 0
-Keeping d e = (e.talk ≡ d.talk) × (e.broken ≡ d.broken) × (e.due ≡ d.due)
+Keeping d e = (e.progress ≡ d.progress) × (e.broken ≡ d.broken) × (e.due ≡ d.due)
 
 pub moves_sets : (moment key : ℕ) (d e : Entry) (l : Ledger) (hs : List Happening) (l' : Ledger) → Good l → l.entries key ≡ Some d → Keeping d e → Sets key e l hs l' → Goes moment l hs l'
 moves_sets moment key d e l hs l' good there keeps it = goes_calm moment l hs l' good (calm_sets key d e l hs l' there (ordered_keeps d e keeps.0 keeps.1 keeps.2) (ap core_notes it.0) it.1)
@@ -144,8 +144,8 @@ opening_plain Lpd id x is = record { counts = λ device counts. cc; lost = λ de
 opening_plain Devices id x is = record { counts = λ device counts. cc; lost = λ device lost. cc; device = λ device named. cc; fresh = λ fresh none. refl }
 
 -- a client's connection begins with nothing said, asked or due
-pub opening_talks : (core : State) (door : Door) (id key : ℕ) (x : Option Entry) (e : Entry) → Some (opening_entry door id) ≡ Some e → ClientTalk e.talk → e.broken ≡ false → TalkedAs core key [] x e
-opening_talks core door id key x e is of sound =
+pub opening_progresses : (core : State) (door : Door) (id key : ℕ) (x : Option Entry) (e : Entry) → Some (opening_entry door id) ≡ Some e → ClientTalk e.progress → e.broken ≡ false → TalkedAs core key [] x e
+opening_progresses core door id key x e is of sound =
     let this : opening_entry door id ≡ e = one_entry (opening_entry door id) e is in
     inr (record {
       earlier = [];
@@ -153,7 +153,7 @@ opening_talks core door id key x e is of sound =
       whole = refl;
       door = door;
       acts = [];
-      are = ap (λ (y : Entry). y.talk) (sym this);
+      are = ap (λ (y : Entry). y.progress) (sym this);
       states = All-nil (λ (a : Act). IsStateOf a.state core []);
       asked = refl;
       due = ap (λ (y : Entry). y.due) (sym this);
@@ -165,7 +165,7 @@ opening_sound door id e is broken = no_true e.broken broken (ap (λ (x : Entry).
 
 pub moves_opens : (moment : ℕ) (door : Door) (id : ℕ) → Moves moment (Opens door id)
 moves_opens moment door id l hs l' good (inl (key, free, is, after)) =
-    goes_plain moment key (Some (opening_entry door id)) l hs l' good (ap core_notes is) (ap (λ (x : Ledger). x.core) after) (ap (λ (x : Ledger). x.entries) after) (opening_plain door id (l.entries key) free) (opening_talks l.core door id key (l.entries key)) (opening_sound door id) (none_closed l [] l' (ap (λ (x : Ledger). x.closed) after))
+    goes_plain moment key (Some (opening_entry door id)) l hs l' good (ap core_notes is) (ap (λ (x : Ledger). x.core) after) (ap (λ (x : Ledger). x.entries) after) (opening_plain door id (l.entries key) free) (opening_progresses l.core door id key (l.entries key)) (opening_sound door id) (none_closed l [] l' (ap (λ (x : Ledger). x.closed) after))
 moves_opens moment door id l hs l' good (inr it) = goes_calm moment l hs l' good (calm_still l hs l' (ap core_notes it.0) it.1)
 
 pub accepts_as : (moment : ℕ) (door : Door) (answer : WireAnswer ℕ) → Moves moment (AcceptsAs door answer)
@@ -245,8 +245,8 @@ pub record GoesOn_in (trace : Trace) (l l' : Ledger) : Type 0 where
   pub told : core_notes (happenings_in trace) ≡ flat_map (λ (it : Handled). it.notes) handled
   pub came : (key device : ℕ) → Counts device (l'.entries key) → CameAs device handled (l.entries key) (l'.entries key)
   pub lost : (key device : ℕ) → IsLost device (l'.entries key) → LostAs device handled (l.entries key) (l'.entries key)
-  pub talks : (key : ℕ) (e : Entry) → l'.entries key ≡ Some e → ClientTalk e.talk → e.broken ≡ false → TalkedAs l.core key handled (l.entries key) e
-  pub stops : (key : ℕ) (e : Entry) → l'.entries key ≡ Some e → ClientTalk e.talk → e.broken ≡ true → StopsAs l.core key handled (l.entries key) e
+  pub progresses : (key : ℕ) (e : Entry) → l'.entries key ≡ Some e → ClientTalk e.progress → e.broken ≡ false → TalkedAs l.core key handled (l.entries key) e
+  pub stops : (key : ℕ) (e : Entry) → l'.entries key ≡ Some e → ClientTalk e.progress → e.broken ≡ true → StopsAs l.core key handled (l.entries key) e
   pub closed : AllClosed l handled l'
 
 pub goes_on : (trace : Trace) (l l' : Ledger) → Good l → Runs trace l l' → GoesOn_in trace l l'
@@ -258,7 +258,7 @@ goes_on [] l l' good same = record {
   told = refl;
   came = λ key device counts. inl (subst (λ (x : Ledger). Counts device (x.entries key)) same counts, ap (λ (x : Ledger). due_at (x.entries key)) same);
   lost = λ key device is. inl (subst (λ (x : Ledger). IsLost device (x.entries key)) same is, ap (λ (x : Ledger). due_at (x.entries key)) same);
-  talks = λ key. talked_still l.core key [] (l.entries key) (l'.entries key) (λ f is of. (f, subst (λ (x : Ledger). x.entries key ≡ Some f) same is, refl, λ sound. sound, refl)) refl;
+  progresses = λ key. progressed_still l.core key [] (l.entries key) (l'.entries key) (λ f is of. (f, subst (λ (x : Ledger). x.entries key ≡ Some f) same is, refl, λ sound. sound, refl)) refl;
   stops = λ key. stops_still l.core key [] (l.entries key) (l'.entries key) (λ f is of. (f, subst (λ (x : Ledger). x.entries key ≡ Some f) same is, refl, λ sound. sound, refl)) refl;
   closed = none_closed l [] l' (ap (λ (x : Ledger). x.closed) same);
 }
@@ -274,9 +274,9 @@ goes_on (action ∷ actions) l l' good (mid, does, runs) =
           ∙ (ap (λ (ns : List Note). ns ++ core_notes (happenings_in actions)) first.told ∙ (ap (λ (ns : List Note). flat_map (λ (it : Handled). it.notes) first.handled ++ ns) later.told ∙ sym (flat_map-append (λ (it : Handled). it.notes) first.handled later.handled)));
       came = λ key device counts. came_then device first.handled later.handled (l.entries key) (mid.entries key) (l'.entries key) (later.came key device counts) (first.came key device);
       lost = λ key device is. lost_then device first.handled later.handled (l.entries key) (mid.entries key) (l'.entries key) (later.lost key device is) (first.lost key device) (first.came key device);
-      talks = λ key e is of sound. talked_then l.core mid.core key first.handled later.handled (l.entries key) (mid.entries key) e first.run (later.talks key e is of sound) (λ d there client unbroken. first.talks key d there client unbroken);
-      stops = λ key e is of broken. stops_then l.core mid.core key first.handled later.handled (l.entries key) (mid.entries key) e first.run of (later.stops key e is of broken) (first.talks key) (first.stops key);
-      closed = all_closed_then l mid l' first.handled later.handled first.run first.came first.lost first.talks first.stops first.closed later.closed;
+      progresses = λ key e is of sound. progressed_then l.core mid.core key first.handled later.handled (l.entries key) (mid.entries key) e first.run (later.progresses key e is of sound) (λ d there client unbroken. first.progresses key d there client unbroken);
+      stops = λ key e is of broken. stops_then l.core mid.core key first.handled later.handled (l.entries key) (mid.entries key) e first.run of (later.stops key e is of broken) (first.progresses key) (first.stops key);
+      closed = all_closed_then l mid l' first.handled later.handled first.run first.came first.lost first.progresses first.stops first.closed later.closed;
     }
 
 pub opening_good : (opening : State) → Good (opening_ledger opening)
@@ -312,7 +312,7 @@ module _ (opening : State) (trace : Trace) (l : Ledger) (runs : Runs trace (open
   front_more handled before behind device due whole (first, later, same, rest, is) = (first, later ++ behind, whole ∙ (ap (λ (its : List Handled). its ++ behind) same ∙ append_assoc first later behind), rest, is)
 
   cut_since : (x : Option Entry) (key : ℕ) (handled : List Handled) (e : Entry) → x ≡ None → StopsAs opening key handled x e → IsCutOff opening key handled e
-  cut_since x key handled e none (inl (d, there, broken, talk, due, silent)) = absurd (no_entry x d none there)
+  cut_since x key handled e none (inl (d, there, broken, progress, due, silent)) = absurd (no_entry x d none there)
   cut_since x key handled e none (inr (inl (d, there, client, sound, until))) = absurd (no_entry x d none there)
   cut_since x key handled e none (inr (inr cut)) = cut
 
@@ -341,11 +341,11 @@ module _ (opening : State) (trace : Trace) (l : Ledger) (runs : Runs trace (open
     timed = all.timed;
     run = all.run;
     told = all.told;
-    answered = λ key e there client sound. answered_since None key all.handled e refl (all.talks key e there client sound);
+    answered = λ key e there client sound. answered_since None key all.handled e refl (all.progresses key e there client sound);
     heard = heard;
     closed = subst (λ (closed : List (Entry × Fate)). All (λ (it : Entry × Fate). WasAnswered opening all.handled it.0) closed) (sym all.closed.closed)
         (All-weaker (λ (it : Entry × Fate). ClosedAs (opening_ledger opening) all.handled it.0) (λ (it : Entry × Fate). WasAnswered opening all.handled it.0)
-        (λ it c client sound. (c.key, c.before, c.behind, c.whole, answered_since None c.key c.before it.0 refl (c.talks client sound))) all.closed.more all.closed.each);
+        (λ it c client sound. (c.key, c.before, c.behind, c.whole, answered_since None c.key c.before it.0 refl (c.progresses client sound))) all.closed.more all.closed.each);
     cut_off = λ key e there client broken. cut_since None key all.handled e refl (all.stops key e there client broken);
     closed_cut_off = subst (λ (closed : List (Entry × Fate)). All (λ (it : Entry × Fate). WasCutOff opening all.handled it.0) closed) (sym all.closed.closed)
         (All-weaker (λ (it : Entry × Fate). ClosedAs (opening_ledger opening) all.handled it.0) (λ (it : Entry × Fate). WasCutOff opening all.handled it.0)

@@ -13,7 +13,7 @@ use Rattle.server.specs.Happening.{Happens, Unanswered}
 use Rattle.server.specs.Closing.{Leaves, IsGone, ClosesAs, ClosesFirst, Settles}
 use Rattle.server.specs.Law.{core_notes}
 use Rattle.promises.proofs.Sending.{Counts, due_at, Good, IsLost}
-use Rattle.promises.proofs.Handling.{goes_plain, happened, Goes, goes_then, goes_calm, goes_event, talked_still, ClosedAs, stops_still}
+use Rattle.promises.proofs.Handling.{goes_plain, happened, Goes, goes_then, goes_calm, goes_event, progressed_still, ClosedAs, stops_still}
 use Rattle.promises.proofs.Giving.{Calms, calms_nothing}
 
 -- ---- parts at which events come
@@ -70,7 +70,7 @@ leaves_at moment fate key e l hs l' good there it =
       whole = refl;
       came = λ device named sound. inl (subst (λ (o : Option Entry). Counts device o) (sym there) (named, sound), sym (ap due_at there));
       lost = λ device named is. inl (subst (λ (o : Option Entry). IsLost device o) (sym there) (named, is), sym (ap due_at there));
-      talks = λ client sound. talked_still l.core key [] (l.entries key) (l.entries key) (λ f is of. (f, is, refl, λ unbroken. unbroken, refl)) refl e there client sound;
+      progresses = λ client sound. progressed_still l.core key [] (l.entries key) (l.entries key) (λ f is of. (f, is, refl, λ unbroken. unbroken, refl)) refl e there client sound;
       stops = λ client broken. stops_still l.core key [] (l.entries key) (l.entries key) (λ f is of. (f, is, refl, λ unbroken. unbroken, refl)) refl e there client broken;
     }
 
@@ -81,7 +81,7 @@ moves_gone moment (Some device) = moves_unanswered moment (Is.Report device repo
 pub closes_at : (moment : ℕ) (fate : Fate) (key : ℕ) (e : Entry) (l : Ledger) (hs : List Happening) (l' : Ledger) → Good l → l.entries key ≡ Some e → ClosesAs moment fate key e l hs l' → Goes moment l hs l'
 closes_at moment fate key e l hs l' good there it =
     let first = leaves_at moment fate key e l it.front it.mid good there it.first in
-    goes_then moment l it.front it.mid it.back l' hs it.whole first (moves_gone moment (device_of e.talk) it.mid it.back l' first.good it.second)
+    goes_then moment l it.front it.mid it.back l' hs it.whole first (moves_gone moment (device_of e.progress) it.mid it.back l' first.good it.second)
 
 pub moves_settles : (moment : ℕ) → Moves moment (Settles moment)
 moves_settles moment l hs l' good it = moves_many moment (ClosesFirst moment) (λ a ks b fine first. closes_at moment Broken first.key first.entry a ks b fine first.there first.closes) l hs l' good it.0

@@ -15,7 +15,7 @@ use Rattle.server.specs.Law.{core_notes}
 use Rattle.promises.specs.Orders.{Handled}
 use Rattle.promises.specs.Answers.{ClientTalk}
 use Rattle.promises.proofs.Sending.{Counts, due_at, FreshTalk, IsFresh, same_key, other_key, Ordered, ordered_still, ordered_broken, ordered_given_up, notes_append, Good, one_entry, client_none, IsLost}
-use Rattle.promises.proofs.Handling.{happened, CameAs, Goes, goes_calm, Awaits, awaits_event, awaits_named, gone_sends_none, TalkedAs, talked_still, LostAs, lost_by, StopsAs, stops_still}
+use Rattle.promises.proofs.Handling.{happened, CameAs, Goes, goes_calm, Awaits, awaits_event, awaits_named, gone_sends_none, TalkedAs, progressed_still, LostAs, lost_by, StopsAs, stops_still}
 use Rattle.promises.proofs.Giving.{at_here}
 
 -- ---- a device says its name
@@ -37,7 +37,7 @@ pub record Alone (device key : ℕ) (new : Entry) (l l' : Ledger) : Type 0 where
 pub other_device : (o : Option ℕ) (device of : ℕ) → o ≡ Some device → o ≡ Some of → (device == of) ≡ false → ⊥
 other_device o device of p q apart = other_key device of apart cc
 
-pub awaits : (moment device key : ℕ) (e new : Entry) (l : Ledger) (hs : List Happening) (l' : Ledger) → Good l → core_notes hs ≡ [] → device_of new.talk ≡ Some device → FreshTalk new.talk new → new.due ≡ [] → Alone device key new l l' → Awaits moment device key l hs l'
+pub awaits : (moment device key : ℕ) (e new : Entry) (l : Ledger) (hs : List Happening) (l' : Ledger) → Good l → core_notes hs ≡ [] → device_of new.progress ≡ Some device → FreshTalk new.progress new → new.due ≡ [] → Alone device key new l l' → Awaits moment device key l hs l'
 awaits moment device key e new l hs l' good silent named fresh due alone = record {
   handled = [];
   good = record { one = λ d k o p q. one d k o p q (alone.each k) (alone.each o); fresh = λ k. fresh_at k (alone.each k) };
@@ -49,7 +49,7 @@ awaits moment device key e new l hs l' good silent named fresh due alone = recor
   lost_due = λ lost. due_here (alone.each key);
   came = λ other of apart counts. came other of apart counts (alone.each other);
   lost = λ other of apart is. lost other of apart is (alone.each other);
-  talks = λ other f is of sound. talks other f is of sound (alone.each other);
+  progresses = λ other f is of sound. progresses other f is of sound (alone.each other);
   stops = λ other f is of broken. stops other f is of broken (alone.each other);
   closed = alone.closed;
 }
@@ -58,7 +58,7 @@ awaits moment device key e new l hs l' good silent named fresh due alone = recor
     Each k = ((k ≡ key) × (l'.entries k ≡ Some new)) ⊎ ((k ≢ key) × Ordered (λ d. []) (l.entries k) (l'.entries k) × (IsDevice device (l'.entries k) → ⊥))
 
     is_new : (d k : ℕ) → l'.entries k ≡ Some new → IsDevice d (l'.entries k) → d ≡ device
-    is_new d k here is = let its : device_of new.talk ≡ Some d = subst (λ (o : Option Entry). IsDevice d o) here is in cc
+    is_new d k here is = let its : device_of new.progress ≡ Some d = subst (λ (o : Option Entry). IsDevice d o) here is in cc
 
     one : (d k o : ℕ) → IsDevice d (l'.entries k) → IsDevice d (l'.entries o) → Each k → Each o → k ≡ o
     one d k o p q (inl (here, is)) (inl (there, its)) = here ∙ sym there
@@ -79,27 +79,27 @@ awaits moment device key e new l hs l' good silent named fresh due alone = recor
     due_here (inr (apart, sent, none)) = absurd (apart refl)
 
     came : (other of : ℕ) → (device == of) ≡ false → Counts of (l'.entries other) → Each other → CameAs of [] (l.entries other) (l'.entries other)
-    came other of apart counts (inl (here, is)) = absurd (other_device (device_of new.talk) device of named (subst (λ (o : Option Entry). Counts of o) is counts).0 apart)
+    came other of apart counts (inl (here, is)) = absurd (other_device (device_of new.progress) device of named (subst (λ (o : Option Entry). Counts of o) is counts).0 apart)
     came other of apart counts (inr (aside, sent, none)) = let it = sent.counts of counts in inl (it.0, it.1 ∙ append-nil (due_at (l.entries other)))
 
     lost : (other of : ℕ) → (device == of) ≡ false → IsLost of (l'.entries other) → Each other → LostAs of [] (l.entries other) (l'.entries other)
-    lost other of apart broke (inl (here, is)) = absurd (other_device (device_of new.talk) device of named (subst (λ (o : Option Entry). IsLost of o) is broke).0 apart)
+    lost other of apart broke (inl (here, is)) = absurd (other_device (device_of new.progress) device of named (subst (λ (o : Option Entry). IsLost of o) is broke).0 apart)
     lost other of apart broke (inr (aside, sent, none)) = lost_by of [] (λ d. []) (l.entries other) (l'.entries other) (sym (append-nil (due_at (l.entries other)))) (sent.breaks of broke)
 
-    talks : (other : ℕ) (f : Entry) → l'.entries other ≡ Some f → ClientTalk f.talk → f.broken ≡ false → Each other → TalkedAs l.core other [] (l.entries other) f
-    talks other f is of sound (inl (here, its)) = absurd (client_none new.talk device (subst ClientTalk (sym (ap (λ (x : Entry). x.talk) (one_entry new f (sym its ∙ is)))) of) named)
-    talks other f is of sound (inr (aside, sent, none)) = talked_still l.core other [] (l.entries other) (l'.entries other) sent.stays refl f is of sound
+    progresses : (other : ℕ) (f : Entry) → l'.entries other ≡ Some f → ClientTalk f.progress → f.broken ≡ false → Each other → TalkedAs l.core other [] (l.entries other) f
+    progresses other f is of sound (inl (here, its)) = absurd (client_none new.progress device (subst ClientTalk (sym (ap (λ (x : Entry). x.progress) (one_entry new f (sym its ∙ is)))) of) named)
+    progresses other f is of sound (inr (aside, sent, none)) = progressed_still l.core other [] (l.entries other) (l'.entries other) sent.stays refl f is of sound
 
-    stops : (other : ℕ) (f : Entry) → l'.entries other ≡ Some f → ClientTalk f.talk → f.broken ≡ true → Each other → StopsAs l.core other [] (l.entries other) f
-    stops other f is of broken (inl (here, its)) = absurd (client_none new.talk device (subst ClientTalk (sym (ap (λ (x : Entry). x.talk) (one_entry new f (sym its ∙ is)))) of) named)
+    stops : (other : ℕ) (f : Entry) → l'.entries other ≡ Some f → ClientTalk f.progress → f.broken ≡ true → Each other → StopsAs l.core other [] (l.entries other) f
+    stops other f is of broken (inl (here, its)) = absurd (client_none new.progress device (subst ClientTalk (sym (ap (λ (x : Entry). x.progress) (one_entry new f (sym its ∙ is)))) of) named)
     stops other f is of broken (inr (aside, sent, none)) = stops_still l.core other [] (l.entries other) (l'.entries other) sent.stays refl f is of broken
 
-pub unnamed_device : (talk : PeerRecord) (device : ℕ) → device_of (unnamed talk) ≡ Some device → ⊥
+pub unnamed_device : (progress : PeerRecord) (device : ℕ) → device_of (unnamed progress) ≡ Some device → ⊥
 unnamed_device (Http said closes body) device is = cc
 unnamed_device (Queue items session) device is = cc
 unnamed_device (Link reports other) device is = cc
 
-named_client : (talk : PeerRecord) (device : ℕ) → device_of talk ≡ Some device → ClientTalk (unnamed talk) → ⊥
+named_client : (progress : PeerRecord) (device : ℕ) → device_of progress ≡ Some device → ClientTalk (unnamed progress) → ⊥
 named_client (Http said closes body) device is client = cc
 named_client (Queue items session) device is client = cc
 named_client (Link reports other) device is client = client
@@ -151,7 +151,7 @@ alone_then device key old new other l mid l' good begun apart there is after = r
         inr (
           aside,
           subst (λ (o : Option Entry). Ordered (λ d. []) o (l'.entries k)) (sym (ap l.entries same ∙ stood)) (subst (λ (o : Option Entry). Ordered (λ d. []) (Some other) o) (sym (here k ∙ its)) (ordered_given_up other)),
-          λ named. unnamed_device other.talk device (subst (λ (o : Option Entry). IsDevice device o) (here k ∙ its) named),
+          λ named. unnamed_device other.progress device (subst (λ (o : Option Entry). IsDevice device o) (here k ∙ its) named),
         )
     by k (inr (apart_old, its)) (inl (one, two)) = inl (one, here k ∙ (its ∙ (before k ∙ two)))
     by k (inr (apart_old, its)) (inr (aside, two)) =
@@ -176,10 +176,10 @@ pub record Just (key device : ℕ) (name : List ℕ) (e new : Entry) (l : Ledger
   pub silent : core_notes hs ≡ []
   pub there : l.entries key ≡ Some e
   pub after : mid ≡ with_entry key new l
-  pub named : device_of new.talk ≡ Some device
-  pub fresh : FreshTalk new.talk new
+  pub named : device_of new.progress ≡ Some device
+  pub fresh : FreshTalk new.progress new
   pub due : new.due ≡ []
-  pub link : ClientTalk e.talk → ⊥
+  pub link : ClientTalk e.progress → ⊥
 
 pub greets : (moment key id device : ℕ) (name : List ℕ) (e new : Entry) (l : Ledger) (front : List Happening) (mid : Ledger) (back : List Happening) (l' : Ledger) (hs : List Happening) → hs ≡ front ++ back
     → Just key device name e new l front mid → Greets moment key id device name mid back l' → Goes moment l hs l'
@@ -226,7 +226,7 @@ greets moment key id device name e new l front mid back l' hs whole just (inr (i
     by ended k (inl (same, its)) second =
         subst (λ (o : Option Entry). Ordered (λ d. []) o (l'.entries k)) (sym (ap l.entries same ∙ just.there))
         (subst (λ (o : Option Entry). Ordered (λ d. []) (Some e) o) (sym (ap (λ (x : Ledger). x.entries k) ended ∙ its))
-        (ordered_broken (λ d. []) e (given_up new) refl (λ d is. absurd (unnamed_device new.talk d is)) (λ client. absurd (just.link client)) (λ client. absurd (named_client new.talk device just.named client))))
+        (ordered_broken (λ d. []) e (given_up new) refl (λ d is. absurd (unnamed_device new.progress d is)) (λ client. absurd (just.link client)) (λ client. absurd (named_client new.progress device just.named client))))
     by ended k (inr (apart, its)) (inl (same, two)) = absurd (apart same)
     by ended k (inr (apart, its)) (inr (aside, two)) =
         subst (λ (o : Option Entry). Ordered (λ d. []) (l.entries k) o) (sym (ap (λ (x : Ledger). x.entries k) ended ∙ (its ∙ (ap (λ (x : Ledger). x.entries k) just.after ∙ two)))) (ordered_still (l.entries k))

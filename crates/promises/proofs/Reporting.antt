@@ -30,7 +30,7 @@ use Rattle.connections.specs.declared.ask.Ask.TheVariants as ask
 use Rattle.connections.specs.declared.ask.Client.{Client}
 use Rattle.connections.specs.declared.ask.Client.TheVariants as client
 use Rattle.connections.specs.Entry.{PeerRecord, Http, Queue, Link, Entry, opening_entry, device_of, given_up, broken, reading, unnamed, waiting}
-use Rattle.connections.specs.Asking.{Hears, IsHeard}
+use Rattle.connections.specs.Asking.{ItemComes, IsHeard}
 use Rattle.server.specs.Polls.{Happening, Choice, Found, On, Rested, Looked}
 use Rattle.server.specs.Ledger.{Ledger, Fate, Drained, Broken, opening_ledger, at_key, with_entry, without}
 use Rattle.server.specs.Rel.{Rel, Nothing, Polls, Tells, Chooses, Then, If, Or, Many, Each}
@@ -52,7 +52,7 @@ use Rattle.promises.proofs.Stepping.{silent_growth, silent_part, client_hears}
 use Rattle.promises.proofs.Coming.{not_broken}
 use Rattle.promises.proofs.Speaking.{FreshOf, Grows, no_both, read_as, grows_as, grows_reading, broken_stays, named_stays, IsNew, Kept, kept_same, kept_open, here, aside, by_key, KeptAll, reported_kept, reported_as, gone_told, reported_left, told_if, More, reported_more, reported_named, reported_over, unnamed_nameless, SoundAt, kept_sound, Sound, sound_by, sound_kept, sound_left, none_read, AllGreeted, greeted_but, greeted_on, greeted_kept, greeted_left, greeted_first, greeted_more, greeted_nameless}
 use Rattle.promises.proofs.Calms.{Calm, Calms, kept_still, kept_next, no_notes, calm_still, calm_sets, calms_nothing, calms_tells, calms_polls, calms_choice, grows_broken, calms_breaks, calms_dropped, calms_declines, calms_answers, body_answers, OneEvent, happened, handles_behind}
-use Rattle.promises.proofs.Devices.{IsFine, step_fine, step_talk, client_grows, ReportsIt, DeviceStep, device_step}
+use Rattle.promises.proofs.Devices.{IsFine, step_fine, step_progress, client_grows, ReportsIt, DeviceStep, device_step}
 use Rattle.promises.proofs.Combining.{or_within, if_within, many_within, each_within}
 
 -- ---- from one ledger to the next
@@ -207,7 +207,7 @@ module _ (turn : Bool) (moment : ℕ) where
 
 -- ---- closings
 
-gone_event : (moment device key : ℕ) (fate : Fate) (e : Entry) (l : Ledger) (front : List Happening) (m : Ledger) (back : List Happening) (l' : Ledger) (hs : List Happening) → hs ≡ front ++ back → core_notes front ≡ [] → l.entries key ≡ Some e → device_of e.talk ≡ Some device → m ≡ without key e fate l
+gone_event : (moment device key : ℕ) (fate : Fate) (e : Entry) (l : Ledger) (front : List Happening) (m : Ledger) (back : List Happening) (l' : Ledger) (hs : List Happening) → hs ≡ front ++ back → core_notes front ≡ [] → l.entries key ≡ Some e → device_of e.progress ≡ Some device → m ≡ without key e fate l
     → Unanswered moment (Is.Report device report.Gone) m back l' → Goes true moment l hs l'
 gone_event moment device key fate e l front m back l' hs whole silent there named after (outcome, it) =
     let one = happened moment (Is.Report device report.Gone) outcome m back l' it in
@@ -220,7 +220,7 @@ gone_event moment device key fate e l front m back l' hs whole silent there name
     (λ Name names s all. greeted_kept Name m l' one.kept (subst (AllGreeted Name) (sym after) (greeted_left Name key e fate l there all)))
 
 closes_at : (moment : ℕ) (fate : Fate) (key : ℕ) (e : Entry) (l : Ledger) (hs : List Happening) (l' : Ledger) → l.entries key ≡ Some e → ClosesAs moment fate key e l hs l' → Goes true moment l hs l'
-closes_at moment fate key e l hs l' there it = by (device_of e.talk) refl it.second
+closes_at moment fate key e l hs l' there it = by (device_of e.progress) refl it.second
   where
     after : it.mid ≡ without key e fate l
     after = it.first.2
@@ -228,7 +228,7 @@ closes_at moment fate key e l hs l' there it = by (device_of e.talk) refl it.sec
     silent : core_notes it.front ≡ []
     silent = ap core_notes it.first.0
 
-    by : (o : Option ℕ) → device_of e.talk ≡ o → IsGone moment o it.mid it.back l' → Goes true moment l hs l'
+    by : (o : Option ℕ) → device_of e.progress ≡ o → IsGone moment o it.mid it.back l' → Goes true moment l hs l'
     by None is gone =
         goes_none true moment l hs l' (ap (λ (x : Ledger). x.core) (gone.1 ∙ after)) (no_notes hs it.front it.back it.whole silent ∙ ap core_notes gone.0) (λ s. subst Sound (sym (gone.1 ∙ after)) (sound_left key e fate l there s))
         (λ s of before r.
@@ -287,8 +287,8 @@ fine_does moment key id (ask.Fault device) fine = calmly_in true moment (calms_t
 
 -- ---- a device reports
 
-fresh_named : (device : ℕ) (e : Entry) → device_of e.talk ≡ Some device → FreshOf e
-fresh_named device e named reports is unbroken = absurd (no_both (device_of e.talk) device (ap device_of is) named)
+fresh_named : (device : ℕ) (e : Entry) → device_of e.progress ≡ Some device → FreshOf e
+fresh_named device e named reports is unbroken = absurd (no_both (device_of e.progress) device (ap device_of is) named)
 
 -- the connections under the keys once one key was set
 set_here : (key : ℕ) (n : Entry) (l m : Ledger) → m ≡ with_entry key n l → m.entries key ≡ Some n
@@ -307,9 +307,9 @@ reports_on : (moment key : ℕ) (what : Ask) (d n : Entry) (l : Ledger) (front :
 reports_on moment key what d n l front m back l' hs whole silent there after s (outcome, it) =
     goes_one true moment (Is.Report s.device s.it) outcome l hs l'
     (handles_behind moment (Is.Report s.device s.it) outcome l.core m.core l'.core (core_notes hs) (core_notes back) (ap (λ (x : Ledger). x.core) after) (no_notes hs front back whole silent) one.handles)
-    (λ sound. sound_but key l l' closed others sound (subst SoundAt (sym now.1) (fresh_named s.device now.0 (ap device_of talk), now.2.reads s.read)))
+    (λ sound. sound_but key l l' closed others sound (subst SoundAt (sym now.1) (fresh_named s.device now.0 (ap device_of progress), now.2.reads s.read)))
     (λ sound device before r. reported_more device s.device key (report_of s.it) before l l' more r)
-    (λ Name names sound all. greeted_but Name key now.0 l l' closed (λ k apart e at. greeted_on Name l l' k (others k apart) all e at) now.1 (greeted_more Name s.device (report_of s.it) s.reports d now.0 s.before talk (all.each key d there)) all)
+    (λ Name names sound all. greeted_but Name key now.0 l l' closed (λ k apart e at. greeted_on Name l l' k (others k apart) all e at) now.1 (greeted_more Name s.device (report_of s.it) s.reports d now.0 s.before progress (all.each key d there)) all)
   where
     one : OneEvent moment (Is.Report s.device s.it) outcome m back l'
     one = happened moment (Is.Report s.device s.it) outcome m back l' it
@@ -323,11 +323,11 @@ reports_on moment key what d n l front m back l' hs whole silent there after s (
     now : Kept (Some n) (l'.entries key)
     now = kept_open n (m.entries key) (l'.entries key) (set_here key n l m after) (one.kept.each key)
 
-    talk : now.0.talk ≡ Link (s.reports ++ report_of s.it ∷ []) (Some s.device)
-    talk = named_stays s.device n now.0 (ap device_of s.after) now.2 ∙ s.after
+    progress : now.0.progress ≡ Link (s.reports ++ report_of s.it ∷ []) (Some s.device)
+    progress = named_stays s.device n now.0 (ap device_of s.after) now.2 ∙ s.after
 
     more : More s.device key (report_of s.it) l l'
-    more = record { d = d; f = now.0; reports = s.reports; there = there; talk = s.before; now = now.1; after = talk; others = others; closed = closed }
+    more = record { d = d; f = now.0; reports = s.reports; there = there; progress = s.before; now = now.1; after = progress; others = others; closed = closed }
 
 -- ---- a device says its name
 
@@ -337,27 +337,27 @@ record Saying (device : ℕ) (name : List ℕ) (key : ℕ) (d n : Entry) (l m : 
   sound : d.broken ≡ false
   after : m ≡ with_entry key n l
   reports : List ReportRecord
-  before : d.talk ≡ Link reports None
+  before : d.progress ≡ Link reports None
   place : slice_get (device_names l.core.settings) device ≡ Some name
-  talk : n.talk ≡ Link (reports ++ SaysHello name ∷ []) (Some device)
+  progress : n.progress ≡ Link (reports ++ SaysHello name ∷ []) (Some device)
   read : IsRead n
 
-first_said : (device : ℕ) (name : List ℕ) (key : ℕ) (d n : Entry) (l m : Ledger) (s : Saying device name key d n l m) → Sound l → n.talk ≡ Link (SaysHello name ∷ []) (Some device)
-first_said device name key d n l m s sound = s.talk ∙ ap (λ (reports : List ReportRecord). Link (reports ++ SaysHello name ∷ []) (Some device)) ((subst SoundAt s.there (sound.each key)).0 s.reports s.before s.sound)
+first_said : (device : ℕ) (name : List ℕ) (key : ℕ) (d n : Entry) (l m : Ledger) (s : Saying device name key d n l m) → Sound l → n.progress ≡ Link (SaysHello name ∷ []) (Some device)
+first_said device name key d n l m s sound = s.progress ∙ ap (λ (reports : List ReportRecord). Link (reports ++ SaysHello name ∷ []) (Some device)) ((subst SoundAt s.there (sound.each key)).0 s.reports s.before s.sound)
 
 says_alone : (moment device : ℕ) (name : List ℕ) (key : ℕ) (d n : Entry) (l : Ledger) (front : List Happening) (m : Ledger) (back : List Happening) (l' : Ledger) (hs : List Happening) → hs ≡ front ++ back → core_notes front ≡ [] → Saying device name key d n l m → IsAlone device key m
     → Unanswered moment (Is.Report device (report.Hello name)) m back l' → Goes true moment l hs l'
 says_alone moment device name key d n l front m back l' hs whole silent s alone (outcome, it) =
     goes_one true moment (Is.Report device (report.Hello name)) outcome l hs l'
     (handles_behind moment (Is.Report device (report.Hello name)) outcome l.core m.core l'.core (core_notes hs) (core_notes back) (ap (λ (x : Ledger). x.core) s.after) (no_notes hs front back whole silent) one.handles)
-    (λ sound. sound_but key l l' closed others sound (subst SoundAt (sym now.1) (fresh_named device now.0 (ap device_of (talk ∙ s.talk)), now.2.reads s.read)))
+    (λ sound. sound_but key l l' closed others sound (subst SoundAt (sym now.1) (fresh_named device now.0 (ap device_of (progress ∙ s.progress)), now.2.reads s.read)))
     (λ sound of before r.
     reported_named of device key name before l l'
-    (record { d = d; f = now.0; there = s.there; nameless = ap device_of s.before; sound = s.sound; now = now.1; after = talk ∙ first_said device name key d n l m s sound; closed = closed })
+    (record { d = d; f = now.0; there = s.there; nameless = ap device_of s.before; sound = s.sound; now = now.1; after = progress ∙ first_said device name key d n l m s sound; closed = closed })
     (λ k apart is. alone k apart (subst (IsDevice device) (sym (set_aside key n l m s.after k apart)) is)) others r)
     (λ Name names sound all.
     greeted_but Name key now.0 l l' closed (λ k apart e at. greeted_on Name l l' k (others k apart) all e at) now.1
-    (greeted_first Name device name now.0 (talk ∙ first_said device name key d n l m s sound) (names name device s.place)) all)
+    (greeted_first Name device name now.0 (progress ∙ first_said device name key d n l m s sound) (names name device s.place)) all)
   where
     one : OneEvent moment (Is.Report device (report.Hello name)) outcome m back l'
     one = happened moment (Is.Report device (report.Hello name)) outcome m back l' it
@@ -371,17 +371,17 @@ says_alone moment device name key d n l front m back l' hs whole silent s alone 
     now : Kept (Some n) (l'.entries key)
     now = kept_open n (m.entries key) (l'.entries key) (set_here key n l m s.after) (one.kept.each key)
 
-    talk : now.0.talk ≡ n.talk
-    talk = named_stays device n now.0 (ap device_of s.talk) now.2
+    progress : now.0.progress ≡ n.progress
+    progress = named_stays device n now.0 (ap device_of s.progress) now.2
 
-open_as : (ended : Bool) (device : ℕ) (o : Option Entry) → IsDeviceAs ended device o → (e : Entry) × (o ≡ Some e) × (device_of e.talk ≡ Some device)
+open_as : (ended : Bool) (device : ℕ) (o : Option Entry) → IsDeviceAs ended device o → (e : Entry) × (o ≡ Some e) × (device_of e.progress ≡ Some device)
 open_as ended device None is = absurd is
 open_as ended device (Some e) is = (e, refl, is.0)
 
 gives_way_at : (key : ℕ) (e : Entry) (o : Option Entry) (l : Ledger) (hs : List Happening) (l' : Ledger) → o ≡ Some e → GivesWayAt key o l hs l' → (hs ≡ []) × (l' ≡ with_entry key (given_up e) l)
 gives_way_at key e o l hs l' there it = subst (λ (x : Option Entry). GivesWayAt key x l hs l') there it
 
-unnamed_said : (talk : PeerRecord) → said_on (unnamed talk) ≡ said_on talk
+unnamed_said : (progress : PeerRecord) → said_on (unnamed progress) ≡ said_on progress
 unnamed_said (Http said closes body) = refl
 unnamed_said (Queue items session) = refl
 unnamed_said (Link reports device) = refl
@@ -404,9 +404,9 @@ says_again moment device name key id d n l front m back l' hs whole silent s it 
 
     grows : Grows d (given_up n)
     grows = record {
-      talk = inr (record { sound = s.sound; before = ap device_of s.before; after = unnamed_nameless n.talk; fresh = λ reports is unbroken. absurd (no_true true refl unbroken) });
+      progress = inr (record { sound = s.sound; before = ap device_of s.before; after = unnamed_nameless n.progress; fresh = λ reports is unbroken. absurd (no_true true refl unbroken) });
       broken = λ is. refl;
-      reads = λ is. read_as n (given_up n) (unnamed_said n.talk) refl s.read;
+      reads = λ is. read_as n (given_up n) (unnamed_said n.progress) refl s.read;
     }
 
     each : (k : ℕ) → Kept (l.entries k) (l'.entries k)
@@ -437,7 +437,7 @@ says_over moment device name key other d n l front m back l' hs whole silent s h
   reported = λ sound of before r.
       reported_as of (before ++ told_if of device (SaysGone ∷ SaysHello name ∷ [])) (before ++ reports_by of (one ∷ two ∷ [])) l' (ap (λ (reports : List ReportRecord). before ++ reports) (both_told (device == of) SaysGone (SaysHello name)))
       (reported_over of device key other name before l l'
-      (record { d = d; f = now.0; there = s.there; nameless = ap device_of s.before; sound = s.sound; now = now.1; after = talk ∙ first_said device name key d n l m s sound; closed = closed })
+      (record { d = d; f = now.0; there = s.there; nameless = ap device_of s.before; sound = s.sound; now = now.1; after = progress ∙ first_said device name key d n l m s sound; closed = closed })
       (record { o = old.0; g = up.0; apart = has.0; there = there; named = old.2; now = up.1; after = broken_stays (given_up old.0) up.0 refl up.2; broke = up.2.broken refl; others = others }) r);
   greeted = λ Name names sound all.
       greeted_but Name key now.0 l l' closed
@@ -445,7 +445,7 @@ says_over moment device name key other d n l front m back l' hs whole silent s h
       by_key k other
       (λ is. greeted_at_given Name e (ap l'.entries (sym is) ∙ at))
       (λ away. greeted_on Name l l' k (others k apart away) all e at))
-      now.1 (greeted_first Name device name now.0 (talk ∙ first_said device name key d n l m s sound) (names l.core name device (inl refl) s.place)) all;
+      now.1 (greeted_first Name device name now.0 (progress ∙ first_said device name key d n l m s sound) (names l.core name device (inl refl) s.place)) all;
 }
   where
     over : TakesOver moment other device name it.mid it.back l'
@@ -460,7 +460,7 @@ says_over moment device name key other d n l front m back l' hs whole silent s h
     said : Unanswered moment (Is.Report device (report.Hello name)) last.mid last.back l'
     said = last.second
 
-    old : (e : Entry) × (m.entries other ≡ Some e) × (device_of e.talk ≡ Some device)
+    old : (e : Entry) × (m.entries other ≡ Some e) × (device_of e.progress ≡ Some device)
     old = open_as true device (m.entries other) has.1
 
     way : (over.front ≡ []) × (over.mid ≡ with_entry other (given_up old.0) it.mid)
@@ -496,8 +496,8 @@ says_over moment device name key other d n l front m back l' hs whole silent s h
     now : Kept (Some n) (l'.entries key)
     now = kept_open n (over.mid.entries key) (l'.entries key) (set_aside other (given_up old.0) m over.mid given key (λ same. has.0 (sym same)) ∙ set_here key n l m s.after) (kept.each key)
 
-    talk : now.0.talk ≡ n.talk
-    talk = named_stays device n now.0 (ap device_of s.talk) now.2
+    progress : now.0.progress ≡ n.progress
+    progress = named_stays device n now.0 (ap device_of s.progress) now.2
 
     up : Kept (Some (given_up old.0)) (l'.entries other)
     up = kept_open (given_up old.0) (over.mid.entries other) (l'.entries other) (set_here other (given_up old.0) m over.mid given) (kept.each other)
@@ -507,16 +507,16 @@ says_over moment device name key other d n l front m back l' hs whole silent s h
 
     greeted_at_given : (Name : List ℕ → ℕ → Type 0) (e : Entry) → l'.entries other ≡ Some e → IsGreeted Name e
     greeted_at_given Name e at =
-        subst (λ (z : Entry). IsGreeted Name z) (one_entry up.0 e (sym up.1 ∙ at)) (greeted_nameless Name up.0 (ap device_of (broken_stays (given_up old.0) up.0 refl up.2) ∙ unnamed_nameless old.0.talk))
+        subst (λ (z : Entry). IsGreeted Name z) (one_entry up.0 e (sym up.1 ∙ at)) (greeted_nameless Name up.0 (ap device_of (broken_stays (given_up old.0) up.0 refl up.2) ∙ unnamed_nameless old.0.progress))
 
     sounds : Sound l → (k : ℕ) → SoundAt (l'.entries k)
     sounds sound k =
-        by_key k key (λ same. subst SoundAt (sym (ap l'.entries same ∙ now.1)) (fresh_named device now.0 (ap device_of (talk ∙ s.talk)), now.2.reads s.read))
+        by_key k key (λ same. subst SoundAt (sym (ap l'.entries same ∙ now.1)) (fresh_named device now.0 (ap device_of (progress ∙ s.progress)), now.2.reads s.read))
         (λ apart.
         by_key k other
         (λ at.
         subst SoundAt (sym (ap l'.entries at))
-        (kept_sound (Some (given_up old.0)) (l'.entries other) up ((λ reports is unbroken. absurd (no_true true refl unbroken)), read_as old.0 (given_up old.0) (unnamed_said old.0.talk) refl (subst SoundAt there (sound.each other)).1)))
+        (kept_sound (Some (given_up old.0)) (l'.entries other) up ((λ reports is unbroken. absurd (no_true true refl unbroken)), read_as old.0 (given_up old.0) (unnamed_said old.0.progress) refl (subst SoundAt there (sound.each other)).1)))
         (λ away. kept_sound (l.entries k) (l'.entries k) (others k apart away) (sound.each k)))
 
 greets_on : (moment device : ℕ) (name : List ℕ) (key id : ℕ) (d n : Entry) (l : Ledger) (front : List Happening) (m : Ledger) (back : List Happening) (l' : Ledger) (hs : List Happening) → hs ≡ front ++ back → core_notes front ≡ [] → Saying device name key d n l m → Greets moment key id device name m back l' → Goes true moment l hs l'
@@ -530,30 +530,30 @@ fine_acts : (moment key id : ℕ) (what : Ask) (l : Ledger) (front : List Happen
 fine_acts moment key id what l front m back l' hs whole a fine grows does =
     goes_then true moment l front m back l' hs whole (goes_calm true moment l front m (calm_sets key a.entry a.new l front m a.there grows (ap core_notes a.chosen) a.after)) (fine_does moment key id what fine m back l' does)
 
-client_acts : (moment key id : ℕ) (what : Ask) (l : Ledger) (front : List Happening) (m : Ledger) (back : List Happening) (l' : Ledger) (hs : List Happening) → hs ≡ front ++ back → (a : Asks key id what l front m) → ClientTalk a.entry.talk → ActsOn moment key id what m back l' → Goes true moment l hs l'
+client_acts : (moment key id : ℕ) (what : Ask) (l : Ledger) (front : List Happening) (m : Ledger) (back : List Happening) (l' : Ledger) (hs : List Happening) → hs ≡ front ++ back → (a : Asks key id what l front m) → ClientTalk a.entry.progress → ActsOn moment key id what m back l' → Goes true moment l hs l'
 client_acts moment key id what l front m back l' hs whole a own does =
-    let next = client_hears l.core.settings a.entry.talk a.entry a.asks.comes a.asks.mid own own a.asks.hears in
+    let next = client_hears l.core.settings a.entry.progress a.entry a.asks.comes a.asks.mid own own a.asks.hears in
     fine_acts moment key id what l front m back l' hs whole a (step_fine a.asks.comes a.asks.mid what a.new next.0 a.asks.steps)
-    (client_grows a.entry a.new (not_broken a.entry.draining a.entry.broken a.asks.counts) own (subst ClientTalk (sym (step_talk a.asks.comes a.asks.mid what a.new a.asks.steps)) next.1)) does
+    (client_grows a.entry a.new (not_broken a.entry.draining a.entry.broken a.asks.counts) own (subst ClientTalk (sym (step_progress a.asks.comes a.asks.mid what a.new a.asks.steps)) next.1)) does
 
 device_acts : (moment key id : ℕ) (what : Ask) (l : Ledger) (front : List Happening) (m : Ledger) (back : List Happening) (l' : Ledger) (hs : List Happening) → hs ≡ front ++ back → (a : Asks key id what l front m) → DeviceStep l.core.settings what a.entry a.new → ActsOn moment key id what m back l' → Goes true moment l hs l'
 device_acts moment key id what l front m back l' hs whole a (inl (fine, grows)) does = fine_acts moment key id what l front m back l' hs whole a fine grows does
 device_acts moment key id what l front m back l' hs whole a (inr (inl s)) does =
     greets_on moment s.device s.name key id a.entry a.new l front m back l' hs whole (ap core_notes a.chosen)
-    (record { there = a.there; sound = not_broken a.entry.draining a.entry.broken a.asks.counts; after = a.after; reports = s.reports; before = s.before; place = s.place; talk = s.after; read = s.read })
+    (record { there = a.there; sound = not_broken a.entry.draining a.entry.broken a.asks.counts; after = a.after; reports = s.reports; before = s.before; place = s.place; progress = s.after; read = s.read })
     (subst (λ (it : Ask). ActsOn moment key id it m back l') s.asks does)
 device_acts moment key id what l front m back l' hs whole a (inr (inr s)) does =
     reports_on moment key what a.entry a.new l front m back l' hs whole (ap core_notes a.chosen) a.there a.after s (subst (λ (it : Ask). ActsOn moment key id it m back l') s.asks does)
 
-acts_by : (moment key id : ℕ) (what : Ask) (l : Ledger) (front : List Happening) (m : Ledger) (back : List Happening) (l' : Ledger) (hs : List Happening) → hs ≡ front ++ back → (a : Asks key id what l front m) → (talk : PeerRecord) → a.entry.talk ≡ talk → ActsOn moment key id what m back l' → Goes true moment l hs l'
+acts_by : (moment key id : ℕ) (what : Ask) (l : Ledger) (front : List Happening) (m : Ledger) (back : List Happening) (l' : Ledger) (hs : List Happening) → hs ≡ front ++ back → (a : Asks key id what l front m) → (progress : PeerRecord) → a.entry.progress ≡ progress → ActsOn moment key id what m back l' → Goes true moment l hs l'
 acts_by moment key id what l front m back l' hs whole a (Http said closes body) is does = client_acts moment key id what l front m back l' hs whole a (subst ClientTalk (sym is) tt) does
 acts_by moment key id what l front m back l' hs whole a (Queue items session) is does = client_acts moment key id what l front m back l' hs whole a (subst ClientTalk (sym is) tt) does
 acts_by moment key id what l front m back l' hs whole a (Link reports device) is does =
     device_acts moment key id what l front m back l' hs whole a
-    (device_step l.core.settings reports device a.entry a.asks.comes a.asks.mid what a.new is (not_broken a.entry.draining a.entry.broken a.asks.counts) (subst (λ (t : PeerRecord). Hears l.core.settings t a.entry a.asks.comes a.asks.mid) is a.asks.hears) a.asks.steps) does
+    (device_step l.core.settings reports device a.entry a.asks.comes a.asks.mid what a.new is (not_broken a.entry.draining a.entry.broken a.asks.counts) (subst (λ (t : PeerRecord). ItemComes l.core.settings t a.entry a.asks.comes a.asks.mid) is a.asks.hears) a.asks.steps) does
 
 acts_next_in : (moment key : ℕ) → Within true moment (ActsNext moment key)
-acts_next_in moment key l hs l' (id, what, it) = acts_by moment key id what l it.front it.mid it.back l' hs it.whole it.first it.first.entry.talk refl it.second
+acts_next_in moment key l hs l' (id, what, it) = acts_by moment key id what l it.front it.mid it.back l' hs it.whole it.first it.first.entry.progress refl it.second
 
 -- ---- a turn
 
@@ -636,9 +636,9 @@ module _ (moment : ℕ) where
   ends_in key l hs l' it = ends_at key (l.entries key) l hs l' refl it
 
   opening_new : (door : Door) (id : ℕ) → IsNew (opening_entry door id)
-  opening_new Ipp id = record { nameless = refl; fresh = λ reports talk unbroken. cc; read = none_read (opening_entry Ipp id) refl }
-  opening_new Lpd id = record { nameless = refl; fresh = λ reports talk unbroken. cc; read = none_read (opening_entry Lpd id) refl }
-  opening_new Devices id = record { nameless = refl; fresh = λ reports talk unbroken. cc; read = none_read (opening_entry Devices id) refl }
+  opening_new Ipp id = record { nameless = refl; fresh = λ reports progress unbroken. cc; read = none_read (opening_entry Ipp id) refl }
+  opening_new Lpd id = record { nameless = refl; fresh = λ reports progress unbroken. cc; read = none_read (opening_entry Lpd id) refl }
+  opening_new Devices id = record { nameless = refl; fresh = λ reports progress unbroken. cc; read = none_read (opening_entry Devices id) refl }
 
   opens_in : (door : Door) (id : ℕ) → Within true moment (Opens door id)
   opens_in door id l hs l' (inl (key, free, is, after)) =

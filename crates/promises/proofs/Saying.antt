@@ -16,7 +16,7 @@ use Rattle.wires.specs.declared.wire.Progress.TheVariants as wire
 use Rattle.wires.specs.declared.wire.Door.{Door}
 use Rattle.wires.specs.declared.wire.Door.TheVariants.{Ipp, Lpd, Devices}
 use Rattle.connections.specs.Entry.{PeerRecord, Http, Queue, Link, Entry, opening_entry, device_of, closes_of, broken, owing, given_up, unnamed, reading, waiting, needs_memory}
-use Rattle.connections.specs.Asking.{Hears, StepsTo, AsksNext}
+use Rattle.connections.specs.Asking.{ItemComes, StepsTo, AsksNext}
 use Rattle.connections.specs.declared.ask.Ask.{Ask}
 use Rattle.connections.specs.declared.ask.Ask.TheVariants as ask
 use Rattle.connections.specs.declared.ask.Client.{Client}
@@ -59,7 +59,7 @@ use Rattle.server.specs.Turn.{Ticks, Notes, is_tick_due, TicksIfDue, Covers, Rou
 use Rattle.promises.specs.Exchanges.{IsFirst}
 
 abbrev First : Entry → Type 0
-First e = IsFirst e.read e.talk
+First e = IsFirst e.read e.progress
 
 abbrev FirstAt : Option Entry → Type 0
 FirstAt None = Unit {0}
@@ -124,25 +124,25 @@ breaks_all key l hs l' first it = breaks_at key (l.entries key) l hs l' first (f
 -- ---- the asks of a connection, and their results
 
 -- more was read
-first_more : (read bytes : List ℕ) (talk : PeerRecord) → IsFirst read talk → IsFirst (read ++ bytes) talk
+first_more : (read bytes : List ℕ) (progress : PeerRecord) → IsFirst read progress → IsFirst (read ++ bytes) progress
 first_more read bytes (Http said closes body) is = record { next = is.next; left = is.left ++ bytes; leads = (is.leads.0, leads_more is.leads.0 Head read bytes said is.next is.left is.leads.1) }
 first_more read bytes (Queue items session) is = tt
 first_more read bytes (Link reports device) is = tt
 
-first_unnamed : (read : List ℕ) (talk : PeerRecord) → IsFirst read talk → IsFirst read (unnamed talk)
+first_unnamed : (read : List ℕ) (progress : PeerRecord) → IsFirst read progress → IsFirst read (unnamed progress)
 first_unnamed read (Http said closes body) is = is
 first_unnamed read (Queue items session) is = tt
 first_unnamed read (Link reports device) is = tt
 
 -- the next of its stream
-first_mid : (settings : ServerSettings) (talk : PeerRecord) (e : Entry) (comes : Step) (mid : Entry) → IsFirst e.read e.talk → Hears settings talk e comes mid → IsFirst mid.read mid.talk
-first_mid settings (Http said closes body) e comes mid is next = subst (λ (x : Entry). IsFirst x.read x.talk) (sym next.after) next.next
-first_mid settings (Queue items session) e comes mid is (inl next) = subst (λ (x : Entry). IsFirst x.read x.talk) (sym next.after) tt
-first_mid settings (Queue items session) e comes mid is (inr (inl next)) = subst (λ (x : Entry). IsFirst x.read x.talk) (sym next.after) is
-first_mid settings (Queue items session) e comes mid is (inr (inr next)) = subst (λ (x : Entry). IsFirst x.read x.talk) (sym next.1) is
-first_mid settings (Link reports device) e comes mid is (inl next) = subst (λ (x : Entry). IsFirst x.read x.talk) (sym next.after) tt
-first_mid settings (Link reports device) e comes mid is (inr (inl next)) = subst (λ (x : Entry). IsFirst x.read x.talk) (sym next.after) is
-first_mid settings (Link reports device) e comes mid is (inr (inr next)) = subst (λ (x : Entry). IsFirst x.read x.talk) (sym next.1) is
+first_mid : (settings : ServerSettings) (progress : PeerRecord) (e : Entry) (comes : Step) (mid : Entry) → IsFirst e.read e.progress → ItemComes settings progress e comes mid → IsFirst mid.read mid.progress
+first_mid settings (Http said closes body) e comes mid is next = subst (λ (x : Entry). IsFirst x.read x.progress) (sym next.after) next.next
+first_mid settings (Queue items session) e comes mid is (inl next) = subst (λ (x : Entry). IsFirst x.read x.progress) (sym next.after) tt
+first_mid settings (Queue items session) e comes mid is (inr (inl next)) = subst (λ (x : Entry). IsFirst x.read x.progress) (sym next.after) is
+first_mid settings (Queue items session) e comes mid is (inr (inr next)) = subst (λ (x : Entry). IsFirst x.read x.progress) (sym next.1) is
+first_mid settings (Link reports device) e comes mid is (inl next) = subst (λ (x : Entry). IsFirst x.read x.progress) (sym next.after) tt
+first_mid settings (Link reports device) e comes mid is (inr (inl next)) = subst (λ (x : Entry). IsFirst x.read x.progress) (sym next.after) is
+first_mid settings (Link reports device) e comes mid is (inr (inr next)) = subst (λ (x : Entry). IsFirst x.read x.progress) (sym next.1) is
 
 first_step : (comes : Step) (mid new : Entry) (what : Ask) → First mid → StepsTo comes mid what new → First new
 first_step (step.Due due last) mid new what is (inl it) = subst First (sym it.1) is
@@ -151,7 +151,7 @@ first_step (step.Asks asked last) mid new what is it = subst First (sym it.1) is
 first_step (step.Breaks asked) mid new what is it = subst First (sym it.1) is
 
 first_asks : (settings : ServerSettings) (what : Ask) (e new : Entry) → First e → AsksNext settings what e new → First new
-first_asks settings what e new first a = first_step a.comes a.mid new what (first_mid settings e.talk e a.comes a.mid first a.hears) a.steps
+first_asks settings what e new first a = first_step a.comes a.mid new what (first_mid settings e.progress e a.comes a.mid first a.hears) a.steps
 
 keeps_or : (R S : Rel) → Keeps R → Keeps S → Keeps (Or R S)
 keeps_or R S r s l hs l' first (inl it) = r l hs l' first it
@@ -235,7 +235,7 @@ keeps_leaves fate key e l hs l' first is it = record {
 }
 
 keeps_closes : (moment : ℕ) (fate : Fate) (key : ℕ) (e : Entry) (l : Ledger) (hs : List Happening) (l' : Ledger) → AllFirst l → First e → ClosesAs moment fate key e l hs l' → AllFirst l'
-keeps_closes moment fate key e l hs l' first is it = keeps_gone moment (device_of e.talk) it.mid it.back l' (keeps_leaves fate key e l it.front it.mid first is it.first) it.second
+keeps_closes moment fate key e l hs l' first is it = keeps_gone moment (device_of e.progress) it.mid it.back l' (keeps_leaves fate key e l it.front it.mid first is it.first) it.second
 
 closes_first : (moment : ℕ) → Keeps (ClosesFirst moment)
 closes_first moment l hs l' first it = keeps_closes moment Broken it.key it.entry l hs l' first (there l it.key it.entry first it.there) it.closes
@@ -247,7 +247,7 @@ keeps_settles moment l hs l' first it = keeps_many (ClosesFirst moment) (closes_
 
 reply_at : (bytes : Bool → List ℕ) (key : ℕ) (o : Option Entry) → Keeps (EnqueuesReplyAt bytes key o)
 reply_at bytes key None = keeps_nothing
-reply_at bytes key (Some e) = keeps_enqueues key (bytes (closes_of e.talk))
+reply_at bytes key (Some e) = keeps_enqueues key (bytes (closes_of e.progress))
 
 keeps_reply : (key : ℕ) (bytes : List ℕ) → Keeps (EnqueuesResponse key bytes)
 keeps_reply key bytes l hs l' first it = reply_at (λ closes. http_reply closes bytes) key (l.entries key) l hs l' first it
@@ -300,7 +300,7 @@ keeps_answers key id client.LpdCommand query None = keeps_then (Tells (Refused A
 
 gives_way_at : (key : ℕ) (o : Option Entry) (l : Ledger) (hs : List Happening) (l' : Ledger) → AllFirst l → FirstAt o → GivesWayAt key o l hs l' → AllFirst l'
 gives_way_at key None l hs l' first is it = keeps_nothing l hs l' first it
-gives_way_at key (Some e) l hs l' first is it = keeps_sets key (given_up e) l hs l' first (first_unnamed e.read e.talk is) it
+gives_way_at key (Some e) l hs l' first is it = keeps_sets key (given_up e) l hs l' first (first_unnamed e.read e.progress is) it
 
 keeps_gives_way : (key : ℕ) → Keeps (GivesWay key)
 keeps_gives_way key l hs l' first it = gives_way_at key (l.entries key) l hs l' first (first.here key) it
@@ -344,7 +344,7 @@ keeps_fails moment key = keeps_then (Breaks key) (Settles moment) (breaks_all ke
 
 own_fed : (moment key : ℕ) (e : Entry) (bytes : List ℕ) (l : Ledger) (hs : List Happening) (l' : Ledger) → AllFirst l → First e → FedWhole moment key e bytes l hs l' → AllFirst l'
 own_fed moment key e bytes l hs l' first is (inl it) =
-    keeps_serves moment key it.mid it.back l' (keeps_sets key (reading bytes e) l it.front it.mid first (first_more e.read bytes e.talk is) it.first) it.second
+    keeps_serves moment key it.mid it.back l' (keeps_sets key (reading bytes e) l it.front it.mid first (first_more e.read bytes e.progress is) it.first) it.second
 own_fed moment key e bytes l hs l' first is (inr it) =
     keeps_settles moment it.mid it.back l' (keeps_at key (Some (broken e)) l it.mid first is (ap (λ (x : Ledger). x.entries) it.first.1) (ap (λ (x : Ledger). x.closed) it.first.1)) it.second
 
@@ -484,8 +484,8 @@ module _ (opening : State) (trace : Trace) (l : Ledger) (runs : Runs trace (open
   all : AllFirst l
   all = keeps_trace trace (opening_ledger opening) l (opening_all opening) runs
 
-  pub all_first : (key : ℕ) (e : Entry) → l.entries key ≡ Some e → IsFirst e.read e.talk
+  pub all_first : (key : ℕ) (e : Entry) → l.entries key ≡ Some e → IsFirst e.read e.progress
   all_first key e is = there l key e all is
 
-  pub gone_first : All (λ (it : Entry × Fate). IsFirst it.0.read it.0.talk) l.closed
+  pub gone_first : All (λ (it : Entry × Fate). IsFirst it.0.read it.0.progress) l.closed
   gone_first = all.gone

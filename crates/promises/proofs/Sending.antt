@@ -26,12 +26,12 @@ use Rattle.promises.specs.Orders.{began, canceled, cancel_for, start_for}
 -- a device said its name on this connection, and it isn't broken
 abbrev pub Counts : ℕ → Option Entry → Type 0
 Counts device None = ⊥
-Counts device (Some e) = (device_of e.talk ≡ Some device) × (e.broken ≡ false)
+Counts device (Some e) = (device_of e.progress ≡ Some device) × (e.broken ≡ false)
 
 -- the connection has the device's name, and is broken
 abbrev pub IsLost : ℕ → Option Entry → Type 0
 IsLost device None = ⊥
-IsLost device (Some e) = (device_of e.talk ≡ Some device) × (e.broken ≡ true)
+IsLost device (Some e) = (device_of e.progress ≡ Some device) × (e.broken ≡ true)
 
 abbrev pub due_at : Option Entry → List ℕ
 due_at None = []
@@ -46,11 +46,11 @@ FreshTalk (Link reports (Some device)) e = Unit {0}
 
 abbrev pub IsFresh : Option Entry → Type 0
 IsFresh None = Unit {0}
-IsFresh (Some e) = FreshTalk e.talk e
+IsFresh (Some e) = FreshTalk e.progress e
 
 abbrev pub IsClient : Option Entry → Type 0
 IsClient None = Unit {0}
-IsClient (Some e) = ClientTalk e.talk
+IsClient (Some e) = ClientTalk e.progress
 
 pub counts_device : (device : ℕ) (o : Option Entry) → Counts device o → IsDevice device o
 counts_device device None is = absurd is
@@ -77,7 +77,7 @@ no_bytes device = []
 
 -- a client's connection is unchanged, except that bytes may have been read or taken and that it may have broken
 abbrev pub Stays : Option Entry → Option Entry → Type 0
-Stays x y = (e : Entry) → y ≡ Some e → ClientTalk e.talk → (d : Entry) × (x ≡ Some d) × (d.talk ≡ e.talk) × (e.broken ≡ false → d.broken ≡ false) × (d.due ≡ e.due)
+Stays x y = (e : Entry) → y ≡ Some e → ClientTalk e.progress → (d : Entry) × (x ≡ Some d) × (d.progress ≡ e.progress) × (e.broken ≡ false → d.broken ≡ false) × (d.due ≡ e.due)
 
 stays_then : (x y z : Option Entry) → Stays x y → Stays y z → Stays x z
 stays_then x y z p q e is client =
@@ -148,74 +148,74 @@ pub no_true : (t : Bool) → t ≡ true → t ≡ false → ⊥
 no_true true p q = cc
 no_true false p q = cc
 
-pub client_none : (talk : PeerRecord) (device : ℕ) → ClientTalk talk → device_of talk ≡ Some device → ⊥
+pub client_none : (progress : PeerRecord) (device : ℕ) → ClientTalk progress → device_of progress ≡ Some device → ⊥
 client_none (Http said closes body) device client is = cc
 client_none (Queue items session) device client is = cc
 client_none (Link reports other) device client is = client
 
-pub client_fresh : (talk : PeerRecord) (e : Entry) → ClientTalk talk → FreshTalk talk e
+pub client_fresh : (progress : PeerRecord) (e : Entry) → ClientTalk progress → FreshTalk progress e
 client_fresh (Http said closes body) e client = tt
 client_fresh (Queue items session) e client = tt
 client_fresh (Link reports device) e client = absurd client
 
-broken_fresh : (talk : PeerRecord) (e : Entry) → e.broken ≡ true → FreshTalk talk e
+broken_fresh : (progress : PeerRecord) (e : Entry) → e.broken ≡ true → FreshTalk progress e
 broken_fresh (Http said closes body) e is = tt
 broken_fresh (Queue items session) e is = tt
 broken_fresh (Link reports None) e is = λ not_broken. absurd (no_true e.broken is not_broken)
 broken_fresh (Link reports (Some device)) e is = tt
 
 -- a connection that is broken now, of the same peer, on which the same is due
-pub ordered_broken : (sent : ℕ → List ℕ) (d e : Entry) → e.broken ≡ true → ((device : ℕ) → device_of e.talk ≡ Some device → (device_of d.talk ≡ Some device) × (e.due ≡ d.due)) → (ClientTalk d.talk → ClientTalk e.talk) → (ClientTalk e.talk → (d.talk ≡ e.talk) × (d.due ≡ e.due)) → Ordered sent (Some d) (Some e)
+pub ordered_broken : (sent : ℕ → List ℕ) (d e : Entry) → e.broken ≡ true → ((device : ℕ) → device_of e.progress ≡ Some device → (device_of d.progress ≡ Some device) × (e.due ≡ d.due)) → (ClientTalk d.progress → ClientTalk e.progress) → (ClientTalk e.progress → (d.progress ≡ e.progress) × (d.due ≡ e.due)) → Ordered sent (Some d) (Some e)
 ordered_broken sent d e is of_device of_client same_client = record {
   counts = λ device counts. absurd (no_true e.broken is counts.1);
   breaks = λ device lost. by device (of_device device lost.0) d.broken refl;
   device = λ device named. (of_device device named).0;
-  fresh = λ fresh. broken_fresh e.talk e is;
+  fresh = λ fresh. broken_fresh e.progress e is;
   client = of_client;
   stays = λ f same client.
       let this = one_entry e f same in
-      let it = same_client (subst (λ (x : Entry). ClientTalk x.talk) (sym this) client) in
-      (d, refl, it.0 ∙ ap (λ (x : Entry). x.talk) this, λ sound. absurd (no_true e.broken is (ap (λ (x : Entry). x.broken) this ∙ sound)), it.1 ∙ ap (λ (x : Entry). x.due) this);
+      let it = same_client (subst (λ (x : Entry). ClientTalk x.progress) (sym this) client) in
+      (d, refl, it.0 ∙ ap (λ (x : Entry). x.progress) this, λ sound. absurd (no_true e.broken is (ap (λ (x : Entry). x.broken) this ∙ sound)), it.1 ∙ ap (λ (x : Entry). x.due) this);
 }
   where
-    by : (device : ℕ) → (device_of d.talk ≡ Some device) × (e.due ≡ d.due) → (t : Bool) → d.broken ≡ t → BreaksAs sent device (Some d) (Some e)
+    by : (device : ℕ) → (device_of d.progress ≡ Some device) × (e.due ≡ d.due) → (t : Bool) → d.broken ≡ t → BreaksAs sent device (Some d) (Some e)
     by device (named, due) true was = inl ((named, was), due)
     by device (named, due) false was = inr ((named, was), sent device, ap (λ (bytes : List ℕ). bytes ++ sent device) due)
 
-still_fresh : (talk : PeerRecord) (d e : Entry) → e.broken ≡ d.broken → e.due ≡ d.due → FreshTalk talk d → FreshTalk talk e
+still_fresh : (progress : PeerRecord) (d e : Entry) → e.broken ≡ d.broken → e.due ≡ d.due → FreshTalk progress d → FreshTalk progress e
 still_fresh (Http said closes body) d e same due fresh = tt
 still_fresh (Queue items session) d e same due fresh = tt
 still_fresh (Link reports None) d e same due fresh = λ is. due ∙ fresh (sym same ∙ is)
 still_fresh (Link reports (Some device)) d e same due fresh = tt
 
 -- a connection that changed in parts that no device notices
-pub ordered_keeps : (d e : Entry) → e.talk ≡ d.talk → e.broken ≡ d.broken → e.due ≡ d.due → Ordered (λ device. []) (Some d) (Some e)
-ordered_keeps d e talk same due = record {
-  counts = λ device is. ((ap device_of (sym talk) ∙ is.0, sym same ∙ is.1), due ∙ sym (append-nil d.due));
-  breaks = λ device is. inl ((ap device_of (sym talk) ∙ is.0, sym same ∙ is.1), due);
-  device = λ device is. ap device_of (sym talk) ∙ is;
-  fresh = λ fresh. subst (λ (t : PeerRecord). FreshTalk t e) (sym talk) (still_fresh d.talk d e same due fresh);
-  client = λ client. subst ClientTalk (sym talk) client;
-  stays = λ f is client. let this = one_entry e f is in (d, refl, sym talk ∙ ap (λ (x : Entry). x.talk) this, λ sound. sym same ∙ (ap (λ (x : Entry). x.broken) this ∙ sound), sym due ∙ ap (λ (x : Entry). x.due) this);
+pub ordered_keeps : (d e : Entry) → e.progress ≡ d.progress → e.broken ≡ d.broken → e.due ≡ d.due → Ordered (λ device. []) (Some d) (Some e)
+ordered_keeps d e progress same due = record {
+  counts = λ device is. ((ap device_of (sym progress) ∙ is.0, sym same ∙ is.1), due ∙ sym (append-nil d.due));
+  breaks = λ device is. inl ((ap device_of (sym progress) ∙ is.0, sym same ∙ is.1), due);
+  device = λ device is. ap device_of (sym progress) ∙ is;
+  fresh = λ fresh. subst (λ (t : PeerRecord). FreshTalk t e) (sym progress) (still_fresh d.progress d e same due fresh);
+  client = λ client. subst ClientTalk (sym progress) client;
+  stays = λ f is client. let this = one_entry e f is in (d, refl, sym progress ∙ ap (λ (x : Entry). x.progress) this, λ sound. sym same ∙ (ap (λ (x : Entry). x.broken) this ∙ sound), sym due ∙ ap (λ (x : Entry). x.due) this);
 }
 
-unnamed_none : (talk : PeerRecord) (device : ℕ) → device_of (unnamed talk) ≡ Some device → device_of talk ≡ Some device
+unnamed_none : (progress : PeerRecord) (device : ℕ) → device_of (unnamed progress) ≡ Some device → device_of progress ≡ Some device
 unnamed_none (Http said closes body) device is = is
 unnamed_none (Queue items session) device is = is
 unnamed_none (Link reports other) device is = cc
 
-unnamed_client : (talk : PeerRecord) → ClientTalk talk → ClientTalk (unnamed talk)
+unnamed_client : (progress : PeerRecord) → ClientTalk progress → ClientTalk (unnamed progress)
 unnamed_client (Http said closes body) client = tt
 unnamed_client (Queue items session) client = tt
 unnamed_client (Link reports device) client = absurd client
 
-unnamed_talk : (talk : PeerRecord) → ClientTalk (unnamed talk) → talk ≡ unnamed talk
-unnamed_talk (Http said closes body) client = refl
-unnamed_talk (Queue items session) client = refl
-unnamed_talk (Link reports device) client = absurd client
+unnamed_progress : (progress : PeerRecord) → ClientTalk (unnamed progress) → progress ≡ unnamed progress
+unnamed_progress (Http said closes body) client = refl
+unnamed_progress (Queue items session) client = refl
+unnamed_progress (Link reports device) client = absurd client
 
 pub ordered_given_up : (e : Entry) → Ordered (λ device. []) (Some e) (Some (given_up e))
-ordered_given_up e = ordered_broken (λ device. []) e (given_up e) refl (λ device named. (unnamed_none e.talk device named, refl)) (unnamed_client e.talk) (λ client. (unnamed_talk e.talk client, refl))
+ordered_given_up e = ordered_broken (λ device. []) e (given_up e) refl (λ device named. (unnamed_none e.progress device named, refl)) (unnamed_client e.progress) (λ client. (unnamed_progress e.progress client, refl))
 
 -- ---- ledgers
 
@@ -336,17 +336,17 @@ one_device o device other p q = cc
 to_this : (device other : ℕ) (bytes : List ℕ) → device ≡ other → bytes ≡ to_device device bytes other
 to_this device other bytes same = subst (λ (d : ℕ). bytes ≡ to_device device bytes d) same (sym (ap (λ (t : Bool). if t then bytes else []) (is_key device)))
 
-owing_to : (device : ℕ) (bytes : List ℕ) (e : Entry) → device_of e.talk ≡ Some device → e.broken ≡ false → Ordered (to_device device bytes) (Some e) (Some (owing bytes e))
+owing_to : (device : ℕ) (bytes : List ℕ) (e : Entry) → device_of e.progress ≡ Some device → e.broken ≡ false → Ordered (to_device device bytes) (Some e) (Some (owing bytes e))
 owing_to device bytes e is unbroken = record {
   breaks = λ other lost. absurd (no_true e.broken lost.1 unbroken);
-  counts = λ other counts. (counts, ap (λ (more : List ℕ). e.due ++ more) (to_this device other bytes (one_device (device_of e.talk) device other is counts.0)));
+  counts = λ other counts. (counts, ap (λ (more : List ℕ). e.due ++ more) (to_this device other bytes (one_device (device_of e.progress) device other is counts.0)));
   device = λ other named. named;
-  fresh = λ fresh. named_fresh e.talk (owing bytes e) is;
+  fresh = λ fresh. named_fresh e.progress (owing bytes e) is;
   client = λ client. client;
-  stays = λ f same client. absurd (client_none e.talk device (subst ClientTalk (sym (ap (λ (x : Entry). x.talk) (one_entry (owing bytes e) f same))) client) is);
+  stays = λ f same client. absurd (client_none e.progress device (subst ClientTalk (sym (ap (λ (x : Entry). x.progress) (one_entry (owing bytes e) f same))) client) is);
 }
   where
-    named_fresh : (talk : PeerRecord) (it : Entry) → device_of talk ≡ Some device → FreshTalk talk it
+    named_fresh : (progress : PeerRecord) (it : Entry) → device_of progress ≡ Some device → FreshTalk progress it
     named_fresh (Http said closes body) it named = tt
     named_fresh (Queue items session) it named = tt
     named_fresh (Link reports None) it named = cc
@@ -355,7 +355,7 @@ owing_to device bytes e is unbroken = record {
 broken_unsent : (sent : ℕ → List ℕ) (e : Entry) → e.broken ≡ true → Unsent sent (Some e)
 broken_unsent sent e is device counts = absurd (no_true e.broken is counts.1)
 
-enqueues_open : (grows : Bool) (device key : ℕ) (bytes : List ℕ) (e : Entry) (l : Ledger) (hs : List Happening) (l' : Ledger) → e.broken ≡ false → l.entries key ≡ Some e → device_of e.talk ≡ Some device → ((other : ℕ) → other ≢ key → IsDevice device (l.entries other) → ⊥) → EnqueuesOpen grows key bytes e l hs l' → Sent (to_device device bytes) l hs l'
+enqueues_open : (grows : Bool) (device key : ℕ) (bytes : List ℕ) (e : Entry) (l : Ledger) (hs : List Happening) (l' : Ledger) → e.broken ≡ false → l.entries key ≡ Some e → device_of e.progress ≡ Some device → ((other : ℕ) → other ≢ key → IsDevice device (l.entries other) → ⊥) → EnqueuesOpen grows key bytes e l hs l' → Sent (to_device device bytes) l hs l'
 enqueues_open false device key bytes e l hs l' unbroken there is others it =
     sent_sets (to_device device bytes) key e (owing bytes e) l hs l' there (owing_to device bytes e is unbroken) (λ other apart. unsent_to device bytes (l.entries other) (others other apart))
     (ap core_notes it.0) it.1
@@ -367,7 +367,7 @@ enqueues_open true device key bytes e l hs l' unbroken there is others (inr it) 
     sent_sets (to_device device bytes) key e (broken e) l hs l' there (ordered_broken (to_device device bytes) e (broken e) refl (λ other named. (named, refl)) (λ client. client) (λ client. (refl, refl))) (λ other apart. unsent_to device bytes (l.entries other) (others other apart))
     (ap core_notes it.0) it.1
 
-enqueues_if : (t grows : Bool) (device key : ℕ) (bytes : List ℕ) (e : Entry) (l : Ledger) (hs : List Happening) (l' : Ledger) → e.broken ≡ t → l.entries key ≡ Some e → device_of e.talk ≡ Some device → ((other : ℕ) → other ≢ key → IsDevice device (l.entries other) → ⊥) → If t Nothing (EnqueuesOpen grows key bytes e) l hs l' → Sent (to_device device bytes) l hs l'
+enqueues_if : (t grows : Bool) (device key : ℕ) (bytes : List ℕ) (e : Entry) (l : Ledger) (hs : List Happening) (l' : Ledger) → e.broken ≡ t → l.entries key ≡ Some e → device_of e.progress ≡ Some device → ((other : ℕ) → other ≢ key → IsDevice device (l.entries other) → ⊥) → If t Nothing (EnqueuesOpen grows key bytes e) l hs l' → Sent (to_device device bytes) l hs l'
 enqueues_if false grows device key bytes e l hs l' broken there is others it = enqueues_open grows device key bytes e l hs l' broken there is others it
 enqueues_if true grows device key bytes e l hs l' broken there is others it = sent_still (to_device device bytes) l hs l' (ap core_notes it.0) it.1 unsent
   where

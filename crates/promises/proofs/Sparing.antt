@@ -53,8 +53,8 @@ IsOut now = (now ≡ None) ⊎ ((e : Entry) × (now ≡ Some e) × (e.broken ≡
 -- the changes of a connection that a part doesn't concern
 pub record Left (x y : Option Entry) : Type 0 where
   pub none : x ≡ None → y ≡ None
-  pub client : (e : Entry) → x ≡ Some e → e.broken ≡ false → device_of e.talk ≡ None → y ≡ Some e
-  pub device : (e : Entry) (device : ℕ) → x ≡ Some e → e.broken ≡ false → device_of e.talk ≡ Some device → IsOut y ⊎ ((orders : List ℕ) × (y ≡ Some (owing orders e)))
+  pub client : (e : Entry) → x ≡ Some e → e.broken ≡ false → device_of e.progress ≡ None → y ≡ Some e
+  pub device : (e : Entry) (device : ℕ) → x ≡ Some e → e.broken ≡ false → device_of e.progress ≡ Some device → IsOut y ⊎ ((orders : List ℕ) × (y ≡ Some (owing orders e)))
   pub out : (e : Entry) → x ≡ Some e → e.broken ≡ true → IsOut y
 
 owing_none : (e : Entry) → Some e ≡ Some (owing [] e)
@@ -63,16 +63,16 @@ owing_none e = ap (λ (due : List ℕ). Some (record e { due = due })) (sym (app
 pub left_same : (x y : Option Entry) → y ≡ x → Left x y
 left_same x y same = record {
   none = λ is. same ∙ is;
-  client = λ e is sound talk. same ∙ is;
-  device = λ e device is sound talk. inr ([], (same ∙ is) ∙ owing_none e);
+  client = λ e is sound progress. same ∙ is;
+  device = λ e device is sound progress. inr ([], (same ∙ is) ∙ owing_none e);
   out = λ e is broken. inr (e, same ∙ is, broken);
 }
 
 pub left_then : (x y z : Option Entry) → Left x y → Left y z → Left x z
 left_then x y z p q = record {
   none = λ is. q.none (p.none is);
-  client = λ e is sound talk. q.client e (p.client e is sound talk) sound talk;
-  device = λ e device is sound talk. of_device e device sound talk (p.device e device is sound talk);
+  client = λ e is sound progress. q.client e (p.client e is sound progress) sound progress;
+  device = λ e device is sound progress. of_device e device sound progress (p.device e device is sound progress);
   out = λ e is broken. still_out (p.out e is broken);
 }
   where
@@ -84,16 +84,16 @@ left_then x y z p q = record {
     more_due e orders (inl gone) = inl gone
     more_due e orders (inr (more, is)) = inr (orders ++ more, is ∙ ap (λ (due : List ℕ). Some (record e { due = due })) (append_assoc e.due orders more))
 
-    of_device : (e : Entry) (device : ℕ) → e.broken ≡ false → device_of e.talk ≡ Some device → IsOut y ⊎ ((orders : List ℕ) × (y ≡ Some (owing orders e))) → IsOut z ⊎ ((orders : List ℕ) × (z ≡ Some (owing orders e)))
-    of_device e device sound talk (inl gone) = inl (still_out gone)
-    of_device e device sound talk (inr (orders, is)) = more_due e orders (q.device (owing orders e) device is sound talk)
+    of_device : (e : Entry) (device : ℕ) → e.broken ≡ false → device_of e.progress ≡ Some device → IsOut y ⊎ ((orders : List ℕ) × (y ≡ Some (owing orders e))) → IsOut z ⊎ ((orders : List ℕ) × (z ≡ Some (owing orders e)))
+    of_device e device sound progress (inl gone) = inl (still_out gone)
+    of_device e device sound progress (inr (orders, is)) = more_due e orders (q.device (owing orders e) device is sound progress)
 
 -- a device's connection breaks
-left_out : (d : Entry) (device : ℕ) (y : Option Entry) → device_of d.talk ≡ Some device → IsOut y → Left (Some d) y
+left_out : (d : Entry) (device : ℕ) (y : Option Entry) → device_of d.progress ≡ Some device → IsOut y → Left (Some d) y
 left_out d device y named gone = record {
   none = λ is. cc;
-  client = λ e is sound talk. let same : d ≡ e = cc in absurd (never (device_of d.talk) named (ap (λ (x : Entry). device_of x.talk) same ∙ talk));
-  device = λ e other is sound talk. inl gone;
+  client = λ e is sound progress. let same : d ≡ e = cc in absurd (never (device_of d.progress) named (ap (λ (x : Entry). device_of x.progress) same ∙ progress));
+  device = λ e other is sound progress. inl gone;
   out = λ e is broken. gone;
 }
   where
@@ -101,11 +101,11 @@ left_out d device y named gone = record {
     never o p q = cc
 
 -- more is due on it, where it is a device's
-left_owing : (d : Entry) (device : ℕ) (bytes : List ℕ) → device_of d.talk ≡ Some device → d.broken ≡ false → Left (Some d) (Some (owing bytes d))
+left_owing : (d : Entry) (device : ℕ) (bytes : List ℕ) → device_of d.progress ≡ Some device → d.broken ≡ false → Left (Some d) (Some (owing bytes d))
 left_owing d device bytes named unbroken = record {
   none = λ is. cc;
-  client = λ e is sound talk. let same : d ≡ e = cc in absurd (never (device_of d.talk) named (ap (λ (x : Entry). device_of x.talk) same ∙ talk));
-  device = λ e other is sound talk. let same : d ≡ e = cc in inr (bytes, ap (λ (x : Entry). Some (owing bytes x)) same);
+  client = λ e is sound progress. let same : d ≡ e = cc in absurd (never (device_of d.progress) named (ap (λ (x : Entry). device_of x.progress) same ∙ progress));
+  device = λ e other is sound progress. let same : d ≡ e = cc in inr (bytes, ap (λ (x : Entry). Some (owing bytes x)) same);
   out = λ e is broken. let same : d ≡ e = cc in absurd (untrue d.broken unbroken (ap (λ (x : Entry). x.broken) same ∙ broken));
 }
   where
@@ -120,8 +120,8 @@ left_owing d device bytes named unbroken = record {
 left_closed : (d : Entry) → d.broken ≡ true → Left (Some d) None
 left_closed d is = record {
   none = λ same. refl;
-  client = λ e same sound talk. let one : d ≡ e = cc in absurd (untrue d.broken is (ap (λ (x : Entry). x.broken) one ∙ sound));
-  device = λ e device same sound talk. inl (inl refl);
+  client = λ e same sound progress. let one : d ≡ e = cc in absurd (untrue d.broken is (ap (λ (x : Entry). x.broken) one ∙ sound));
+  device = λ e device same sound progress. inl (inl refl);
   out = λ e same broken. inl refl;
 }
   where
@@ -214,7 +214,7 @@ module _ (other key : ℕ) (apart : other ≢ key) where
 
   reply_at : (bytes : Bool → List ℕ) (o : Option Entry) → Leaves_it other (EnqueuesReplyAt bytes key o)
   reply_at bytes None = left_nothing other
-  reply_at bytes (Some e) = left_enqueues (bytes (closes_of e.talk))
+  reply_at bytes (Some e) = left_enqueues (bytes (closes_of e.progress))
 
   left_reply : (bytes : List ℕ) → Leaves_it other (EnqueuesResponse key bytes)
   left_reply bytes l hs l' it = reply_at (λ closes. http_reply closes bytes) (l.entries key) l hs l' it
@@ -269,7 +269,7 @@ module _ (other key : ℕ) (apart : other ≢ key) where
 
 -- ---- events, which concern devices' connections
 
-enqueues_open : (grows : Bool) (other key device : ℕ) (bytes : List ℕ) (e : Entry) (l : Ledger) (hs : List Happening) (l' : Ledger) → l.entries key ≡ Some e → device_of e.talk ≡ Some device → e.broken ≡ false → EnqueuesOpen grows key bytes e l hs l' → Left (l.entries other) (l'.entries other)
+enqueues_open : (grows : Bool) (other key device : ℕ) (bytes : List ℕ) (e : Entry) (l : Ledger) (hs : List Happening) (l' : Ledger) → l.entries key ≡ Some e → device_of e.progress ≡ Some device → e.broken ≡ false → EnqueuesOpen grows key bytes e l hs l' → Left (l.entries other) (l'.entries other)
 enqueues_open false other key device bytes e l hs l' there named sound it =
     left_at other key (Some (owing bytes e)) l l' (ap (λ (x : Ledger). x.entries) it.1)
     (λ same. subst (λ (o : Option Entry). Left o (Some (owing bytes e))) (sym (ap l.entries same ∙ there)) (left_owing e device bytes named sound))
@@ -279,7 +279,7 @@ enqueues_open true other key device bytes e l hs l' there named sound (inl it) =
 enqueues_open true other key device bytes e l hs l' there named sound (inr it) =
     left_at other key (Some (broken e)) l l' (ap (λ (x : Ledger). x.entries) it.1) (λ same. subst (λ (o : Option Entry). Left o (Some (broken e))) (sym (ap l.entries same ∙ there)) (left_out e device (Some (broken e)) named (inr (broken e, refl, refl))))
 
-enqueues_if : (t grows : Bool) (other key device : ℕ) (bytes : List ℕ) (e : Entry) (l : Ledger) (hs : List Happening) (l' : Ledger) → e.broken ≡ t → l.entries key ≡ Some e → device_of e.talk ≡ Some device → If t Nothing (EnqueuesOpen grows key bytes e) l hs l' → Left (l.entries other) (l'.entries other)
+enqueues_if : (t grows : Bool) (other key device : ℕ) (bytes : List ℕ) (e : Entry) (l : Ledger) (hs : List Happening) (l' : Ledger) → e.broken ≡ t → l.entries key ≡ Some e → device_of e.progress ≡ Some device → If t Nothing (EnqueuesOpen grows key bytes e) l hs l' → Left (l.entries other) (l'.entries other)
 enqueues_if true grows other key device bytes e l hs l' is there named it = left_nothing other l hs l' it
 enqueues_if false grows other key device bytes e l hs l' is there named it = enqueues_open grows other key device bytes e l hs l' there named is it
 
@@ -324,7 +324,7 @@ closes_first other moment l hs l' it =
     let leaves = it.closes.first in
     let gone : Left (l.entries other) (it.closes.mid.entries other) =
     left_at other it.key None l it.closes.mid (ap (λ (x : Ledger). x.entries) leaves.2) (λ same. subst (λ (o : Option Entry). Left o None) (sym (ap l.entries same ∙ it.there)) (left_closed it.entry it.is_broken)) in
-    left_then (l.entries other) (it.closes.mid.entries other) (l'.entries other) gone (left_gone other moment (device_of it.entry.talk) it.closes.mid it.closes.back l' it.closes.second)
+    left_then (l.entries other) (it.closes.mid.entries other) (l'.entries other) gone (left_gone other moment (device_of it.entry.progress) it.closes.mid it.closes.back l' it.closes.second)
 
 pub left_settles : (other moment : ℕ) → Leaves_it other (Settles moment)
 left_settles other moment l hs l' it = left_many other (ClosesFirst moment) (closes_first other moment) l hs l' it.0
@@ -423,7 +423,7 @@ module _ (other moment key : ℕ) (apart : other ≢ key) where
 
   closes_as : (e : Entry) → Leaves_it other (ClosesAs moment Drained key e)
   closes_as e =
-      left_joined other (Leaves Drained key e) (IsGone moment (device_of e.talk)) (λ l hs l' it. left_at other key None l l' (ap (λ (x : Ledger). x.entries) it.2) (aside other key apart)) (left_gone other moment (device_of e.talk))
+      left_joined other (Leaves Drained key e) (IsGone moment (device_of e.progress)) (λ l hs l' it. left_at other key None l l' (ap (λ (x : Ledger). x.entries) it.2) (aside other key apart)) (left_gone other moment (device_of e.progress))
 
   ends_at : (o : Option Entry) → Leaves_it other (EndsAt moment key o)
   ends_at None = left_nothing other
@@ -549,7 +549,7 @@ sound_of false never = refl
 
 spared : (x y : Option Entry) → (IsBroken x → ⊥) → (IsBroken y → ⊥) → Left x y → IsSpared x y
 spared None y sound after left = left.none refl
-spared (Some e) y sound after left = by (device_of e.talk) refl
+spared (Some e) y sound after left = by (device_of e.progress) refl
   where
     unbroken : e.broken ≡ false
     unbroken = sound_of e.broken sound
@@ -559,9 +559,9 @@ spared (Some e) y sound after left = by (device_of e.talk) refl
     of_device (inl (inr (d, is, broken))) = absurd (no_break y d after is broken)
     of_device (inr more) = inr more
 
-    by : (o : Option ℕ) → device_of e.talk ≡ o → SparedAs o e y
-    by None talk = left.client e refl unbroken talk
-    by (Some device) talk = of_device (left.device e device refl unbroken talk)
+    by : (o : Option ℕ) → device_of e.progress ≡ o → SparedAs o e y
+    by None progress = left.client e refl unbroken progress
+    by (Some device) progress = of_device (left.device e device refl unbroken progress)
 
 pub spares_all : (moment : ℕ) → SparesAll moment
 spares_all moment = record {

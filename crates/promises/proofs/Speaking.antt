@@ -6,31 +6,31 @@ use Rattle.std.proofs.lemmas.Grind.{flat_map-append}
 use Rattle.std.proofs.lemmas.List.{map-append}
 use Rattle.std.proofs.lemmas.List.Elements.{All-append, All-cons, All-nil, All-weaker, filter-append}
 use Rattle.base_types.specs.Report.{ReportRecord, SaysHello, IsGone as SaysGone}
-use Rattle.device_link.specs.Stream.{SaysFirst}
+use Rattle.device_link.specs.Stream.{ParsesFirst}
 use Rattle.connections.specs.Entry.{PeerRecord, Http, Queue, Link, Entry, device_of, reading, unnamed}
 use Rattle.server.specs.Ledger.{Ledger, Fate, at_key, without}
 use Rattle.server.specs.Enqueuing.{IsDevice}
 use Rattle.server.specs.Greeting.{IsAlone}
 use Rattle.promises.specs.Orders.{names}
-use Rattle.promises.specs.Heard.{said_on, life_of, is_of, talk_of, HasBroken, IsGivenUp, IsNow, IsReported, IsGreeted, IsRead}
+use Rattle.promises.specs.Heard.{said_on, life_of, is_of, progress_of, HasBroken, IsGivenUp, IsNow, IsReported, IsGreeted, IsRead}
 use Rattle.promises.proofs.Sending.{same_key, other_key, is_key, not_key, one_entry, no_true}
 
 -- ---- a connection
 
 -- a connection without a name that isn't broken has no report
 abbrev pub FreshOf : Entry → Type 0
-FreshOf e = (reports : List ReportRecord) → e.talk ≡ Link reports None → e.broken ≡ false → reports ≡ []
+FreshOf e = (reports : List ReportRecord) → e.progress ≡ Link reports None → e.broken ≡ false → reports ≡ []
 
 -- the connection had no device, and has none
 pub record Unnamed (d e : Entry) : Type 0 where
   pub sound : d.broken ≡ false
-  pub before : device_of d.talk ≡ None
-  pub after : device_of e.talk ≡ None
+  pub before : device_of d.progress ≡ None
+  pub after : device_of e.progress ≡ None
   pub fresh : FreshOf e
 
 -- the changes of a connection, except for the reports of a device on it
 pub record Grows (d e : Entry) : Type 0 where
-  pub talk : (e.talk ≡ d.talk) ⊎ Unnamed d e
+  pub progress : (e.progress ≡ d.progress) ⊎ Unnamed d e
   pub broken : d.broken ≡ true → e.broken ≡ true
   pub reads : IsRead d → IsRead e
 
@@ -44,23 +44,23 @@ no_both o device p q = cc
 pub no_entry : (o : Option Entry) (e : Entry) → o ≡ None → o ≡ Some e → ⊥
 no_entry o e p q = cc
 
-pub read_as : (d e : Entry) → said_on e.talk ≡ said_on d.talk → e.read ≡ d.read → IsRead d → IsRead e
-read_as d e said read (front, rest, whole, says) = (front, rest, read ∙ whole, subst (λ (reports : List ReportRecord). SaysFirst front reports) (sym said) says)
+pub read_as : (d e : Entry) → said_on e.progress ≡ said_on d.progress → e.read ≡ d.read → IsRead d → IsRead e
+read_as d e said read (front, rest, whole, says) = (front, rest, read ∙ whole, subst (λ (reports : List ReportRecord). ParsesFirst front reports) (sym said) says)
 
-pub grows_as : (d e : Entry) → e.talk ≡ d.talk → e.read ≡ d.read → (d.broken ≡ true → e.broken ≡ true) → Grows d e
-grows_as d e talk read broken = record { talk = inl talk; broken = broken; reads = read_as d e (ap said_on talk) read }
+pub grows_as : (d e : Entry) → e.progress ≡ d.progress → e.read ≡ d.read → (d.broken ≡ true → e.broken ≡ true) → Grows d e
+grows_as d e progress read broken = record { progress = inl progress; broken = broken; reads = read_as d e (ap said_on progress) read }
 
 pub grows_reading : (d : Entry) (piece : List ℕ) → Grows d (reading piece d)
 grows_reading d piece = record {
-  talk = inl refl;
+  progress = inl refl;
   broken = λ is. is;
   reads = λ (front, rest, whole, says). (front, rest ++ piece, ap (λ (bytes : List ℕ). bytes ++ piece) whole ∙ append_assoc front rest piece, says);
 }
 
 grows_then : (d e f : Entry) → Grows d e → Grows e f → Grows d f
-grows_then d e f g h = record { talk = by g.talk h.talk; broken = λ is. h.broken (g.broken is); reads = λ is. h.reads (g.reads is) }
+grows_then d e f g h = record { progress = by g.progress h.progress; broken = λ is. h.broken (g.broken is); reads = λ is. h.reads (g.reads is) }
   where
-    by : (e.talk ≡ d.talk) ⊎ Unnamed d e → (f.talk ≡ e.talk) ⊎ Unnamed e f → (f.talk ≡ d.talk) ⊎ Unnamed d f
+    by : (e.progress ≡ d.progress) ⊎ Unnamed d e → (f.progress ≡ e.progress) ⊎ Unnamed e f → (f.progress ≡ d.progress) ⊎ Unnamed d f
     by (inl p) (inl q) = inl (q ∙ p)
     by (inl p) (inr u) = inr (record { sound = false_before d.broken e.broken g.broken u.sound; before = ap device_of (sym p) ∙ u.before; after = u.after; fresh = u.fresh })
     by (inr u) (inl q) = inr (record {
@@ -72,30 +72,30 @@ grows_then d e f g h = record { talk = by g.talk h.talk; broken = λ is. h.broke
     by (inr u) (inr v) = inr (record { sound = u.sound; before = u.before; after = v.after; fresh = v.fresh })
 
 -- a connection with a device keeps the device
-pub named_stays : (device : ℕ) (d e : Entry) → device_of d.talk ≡ Some device → Grows d e → e.talk ≡ d.talk
-named_stays device d e named g = by g.talk
+pub named_stays : (device : ℕ) (d e : Entry) → device_of d.progress ≡ Some device → Grows d e → e.progress ≡ d.progress
+named_stays device d e named g = by g.progress
   where
-    by : (e.talk ≡ d.talk) ⊎ Unnamed d e → e.talk ≡ d.talk
+    by : (e.progress ≡ d.progress) ⊎ Unnamed d e → e.progress ≡ d.progress
     by (inl same) = same
-    by (inr u) = absurd (no_both (device_of d.talk) device u.before named)
+    by (inr u) = absurd (no_both (device_of d.progress) device u.before named)
 
-pub broken_stays : (d e : Entry) → d.broken ≡ true → Grows d e → e.talk ≡ d.talk
-broken_stays d e broken g = by g.talk
+pub broken_stays : (d e : Entry) → d.broken ≡ true → Grows d e → e.progress ≡ d.progress
+broken_stays d e broken g = by g.progress
   where
-    by : (e.talk ≡ d.talk) ⊎ Unnamed d e → e.talk ≡ d.talk
+    by : (e.progress ≡ d.progress) ⊎ Unnamed d e → e.progress ≡ d.progress
     by (inl same) = same
     by (inr u) = absurd (no_true d.broken broken u.sound)
 
 -- a connection that was accepted
 pub record IsNew (e : Entry) : Type 0 where
-  pub nameless : device_of e.talk ≡ None
+  pub nameless : device_of e.progress ≡ None
   pub fresh : FreshOf e
   pub read : IsRead e
 
 new_grows : (e f : Entry) → Grows e f → IsNew e → IsNew f
-new_grows e f g new = by g.talk
+new_grows e f g new = by g.progress
   where
-    by : (f.talk ≡ e.talk) ⊎ Unnamed e f → IsNew f
+    by : (f.progress ≡ e.progress) ⊎ Unnamed e f → IsNew f
     by (inl same) = record { nameless = ap device_of same ∙ new.nameless; fresh = λ reports is unbroken. new.fresh reports (sym same ∙ is) (false_before e.broken f.broken g.broken unbroken); read = g.reads new.read }
     by (inr u) = record { nameless = u.after; fresh = u.fresh; read = g.reads new.read }
 
@@ -125,19 +125,19 @@ kept_open d x y there kept = subst (λ (o : Option Entry). Kept o y) there kept
 -- no connection has a device that it didn't have before
 pub named_was : (device : ℕ) (x y : Option Entry) → Kept x y → IsDevice device y → IsDevice device x
 named_was device None y (inl is) named = subst (IsDevice device) is named
-named_was device None y (inr (e, is, new)) named = absurd (no_both (device_of e.talk) device new.nameless (subst (IsDevice device) is named))
-named_was device (Some d) y (e, is, g) named = by g.talk
+named_was device None y (inr (e, is, new)) named = absurd (no_both (device_of e.progress) device new.nameless (subst (IsDevice device) is named))
+named_was device (Some d) y (e, is, g) named = by g.progress
   where
-    now : device_of e.talk ≡ Some device
+    now : device_of e.progress ≡ Some device
     now = subst (IsDevice device) is named
 
-    by : (e.talk ≡ d.talk) ⊎ Unnamed d e → device_of d.talk ≡ Some device
+    by : (e.progress ≡ d.progress) ⊎ Unnamed d e → device_of d.progress ≡ Some device
     by (inl same) = ap device_of (sym same) ∙ now
-    by (inr u) = absurd (no_both (device_of e.talk) device u.after now)
+    by (inr u) = absurd (no_both (device_of e.progress) device u.after now)
 
 -- a broken connection without a device stays, until it is closed
 abbrev pub Passes : Option Entry → Option Entry → Type 0
-Passes x y = (e : Entry) → x ≡ Some e → device_of e.talk ≡ None → e.broken ≡ true → (f : Entry) × (y ≡ Some f) × (f.talk ≡ e.talk) × (f.broken ≡ true)
+Passes x y = (e : Entry) → x ≡ Some e → device_of e.progress ≡ None → e.broken ≡ true → (f : Entry) × (y ≡ Some f) × (f.progress ≡ e.progress) × (f.broken ≡ true)
 
 pub kept_passes : (x y : Option Entry) → Kept x y → Passes x y
 kept_passes x y kept e there nameless broken =
@@ -145,24 +145,24 @@ kept_passes x y kept e there nameless broken =
     (it.0, it.1, broken_stays e it.0 broken it.2, it.2.broken broken)
 
 -- a connection with a device, or an unbroken connection, isn't a broken connection without a device
-pub passes_named : (device : ℕ) (d : Entry) (x y : Option Entry) → x ≡ Some d → device_of d.talk ≡ Some device → Passes x y
+pub passes_named : (device : ℕ) (d : Entry) (x y : Option Entry) → x ≡ Some d → device_of d.progress ≡ Some device → Passes x y
 passes_named device d x y there named e is nameless broken =
-    absurd (no_both (device_of d.talk) device (ap (λ (z : Entry). device_of z.talk) (one_entry d e (sym there ∙ is)) ∙ nameless) named)
+    absurd (no_both (device_of d.progress) device (ap (λ (z : Entry). device_of z.progress) (one_entry d e (sym there ∙ is)) ∙ nameless) named)
 
 pub passes_sound : (d : Entry) (x y : Option Entry) → x ≡ Some d → d.broken ≡ false → Passes x y
 passes_sound d x y there sound e is nameless broken = absurd (no_true d.broken (ap (λ (z : Entry). z.broken) (one_entry d e (sym there ∙ is)) ∙ broken) sound)
 
 -- the reports of a device on its connection stay
 pub record Keeps (device : ℕ) (x y : Option Entry) : Type 0 where
-  pub named : (now : List ReportRecord) (e : Entry) → x ≡ Some e → e.talk ≡ Link now (Some device) → (f : Entry) × (y ≡ Some f) × (f.talk ≡ Link now (Some device))
+  pub named : (now : List ReportRecord) (e : Entry) → x ≡ Some e → e.progress ≡ Link now (Some device) → (f : Entry) × (y ≡ Some f) × (f.progress ≡ Link now (Some device))
   pub was : IsDevice device y → IsDevice device x
   pub passes : Passes x y
 
 pub kept_keeps : (device : ℕ) (x y : Option Entry) → Kept x y → Keeps device x y
 kept_keeps device x y kept = record {
-  named = λ now e there talk.
+  named = λ now e there progress.
       let it : Kept (Some e) y = kept_open e x y there kept in
-      (it.0, it.1, named_stays device e it.0 (ap device_of talk) it.2 ∙ talk);
+      (it.0, it.1, named_stays device e it.0 (ap device_of progress) it.2 ∙ progress);
   was = named_was device x y kept;
   passes = kept_passes x y kept;
 }
@@ -170,7 +170,7 @@ kept_keeps device x y kept = record {
 -- of another device
 pub keeps_neither : (device : ℕ) (x y : Option Entry) → (IsDevice device x → ⊥) → (IsDevice device y → ⊥) → Passes x y → Keeps device x y
 keeps_neither device x y before after passes = record {
-  named = λ now e there talk. absurd (before (subst (IsDevice device) (sym there) (ap device_of talk)));
+  named = λ now e there progress. absurd (before (subst (IsDevice device) (sym there) (ap device_of progress)));
   was = λ is. absurd (after is);
   passes = passes;
 }
@@ -198,22 +198,22 @@ pub record KeptAll (l l' : Ledger) : Type 0 where
 
 now_keeps : (device : ℕ) (now : List ReportRecord) (l l' : Ledger) → ((k : ℕ) → Keeps device (l.entries k) (l'.entries k)) → IsNow device now l → IsNow device now l'
 now_keeps device now l l' keeps (inl (absent, none)) = inl (λ k is. absent k ((keeps k).was is), none)
-now_keeps device now l l' keeps (inr (key, e, there, talk, alone)) =
-    let it = (keeps key).named now e there talk in
+now_keeps device now l l' keeps (inr (key, e, there, progress, alone)) =
+    let it = (keeps key).named now e there progress in
     inr (key, it.0, it.1, it.2, λ k apart is. alone k apart ((keeps k).was is))
 
-pub broken_passes : (talk : PeerRecord) (l l' : Ledger) → device_of talk ≡ None → l'.closed ≡ l.closed → ((k : ℕ) → Passes (l.entries k) (l'.entries k)) → HasBroken talk l → HasBroken talk l'
-broken_passes talk l l' nameless closed passes (inl (key, e, there, is, broken)) =
+pub broken_passes : (progress : PeerRecord) (l l' : Ledger) → device_of progress ≡ None → l'.closed ≡ l.closed → ((k : ℕ) → Passes (l.entries k) (l'.entries k)) → HasBroken progress l → HasBroken progress l'
+broken_passes progress l l' nameless closed passes (inl (key, e, there, is, broken)) =
     let it = passes key e there (ap device_of is ∙ nameless) broken in
     inl (key, it.0, it.1, it.2 ∙ is, it.3)
-broken_passes talk l l' nameless closed passes (inr (before, it, behind, whole, is, broken)) = inr (before, it, behind, closed ∙ whole, is, broken)
+broken_passes progress l l' nameless closed passes (inr (before, it, behind, whole, is, broken)) = inr (before, it, behind, closed ∙ whole, is, broken)
 
-pub given_passes : (device : ℕ) (past : List PeerRecord) (l l' : Ledger) → l'.closed ≡ l.closed → ((k : ℕ) → Passes (l.entries k) (l'.entries k)) → All (λ (talk : PeerRecord). is_of device talk ≡ false → IsGivenUp talk l) past → All (λ (talk : PeerRecord). is_of device talk ≡ false → IsGivenUp talk l') past
+pub given_passes : (device : ℕ) (past : List PeerRecord) (l l' : Ledger) → l'.closed ≡ l.closed → ((k : ℕ) → Passes (l.entries k) (l'.entries k)) → All (λ (progress : PeerRecord). is_of device progress ≡ false → IsGivenUp progress l) past → All (λ (progress : PeerRecord). is_of device progress ≡ false → IsGivenUp progress l') past
 given_passes device past l l' closed passes all =
-    All-weaker (λ (talk : PeerRecord). is_of device talk ≡ false → IsGivenUp talk l) (λ (talk : PeerRecord). is_of device talk ≡ false → IsGivenUp talk l') (λ talk up isnt. let it = up isnt in (it.0, broken_passes talk l l' it.0 closed passes it.1)) past all
+    All-weaker (λ (progress : PeerRecord). is_of device progress ≡ false → IsGivenUp progress l) (λ (progress : PeerRecord). is_of device progress ≡ false → IsGivenUp progress l') (λ progress up isnt. let it = up isnt in (it.0, broken_passes progress l l' it.0 closed passes it.1)) past all
 
-closed_same : (device : ℕ) (past : List PeerRecord) (l l' : Ledger) → l'.closed ≡ l.closed → filter (is_of device) past ≡ filter (is_of device) (map talk_of l.closed) → filter (is_of device) past ≡ filter (is_of device) (map talk_of l'.closed)
-closed_same device past l l' same is = is ∙ ap (λ (closed : List (Entry × Fate)). filter (is_of device) (map talk_of closed)) (sym same)
+closed_same : (device : ℕ) (past : List PeerRecord) (l l' : Ledger) → l'.closed ≡ l.closed → filter (is_of device) past ≡ filter (is_of device) (map progress_of l.closed) → filter (is_of device) past ≡ filter (is_of device) (map progress_of l'.closed)
+closed_same device past l l' same is = is ∙ ap (λ (closed : List (Entry × Fate)). filter (is_of device) (map progress_of closed)) (sym same)
 
 pub reported_keeps : (device : ℕ) (told : List ReportRecord) (l l' : Ledger) → l'.closed ≡ l.closed → ((k : ℕ) → Keeps device (l.entries k) (l'.entries k)) → IsReported device told l → IsReported device told l'
 reported_keeps device told l l' closed keeps r = record {
@@ -234,31 +234,31 @@ reported_as device told other l same r = subst (λ (reports : List ReportRecord)
 -- ---- a connection's end
 
 -- a connection ended on which this was said
-past_more : (past : List PeerRecord) (talk : PeerRecord) (now told : List ReportRecord) → told ≡ flat_map life_of past ++ now → said_on talk ≡ now → told ++ SaysGone ∷ [] ≡ flat_map life_of (past ++ talk ∷ []) ++ []
-past_more past talk now told whole said =
+past_more : (past : List PeerRecord) (progress : PeerRecord) (now told : List ReportRecord) → told ≡ flat_map life_of past ++ now → said_on progress ≡ now → told ++ SaysGone ∷ [] ≡ flat_map life_of (past ++ progress ∷ []) ++ []
+past_more past progress now told whole said =
     ap (λ (reports : List ReportRecord). reports ++ SaysGone ∷ []) whole
     ∙ (append_assoc (flat_map life_of past) now (SaysGone ∷ [])
     ∙ (ap (λ (reports : List ReportRecord). flat_map life_of past ++ (reports ++ SaysGone ∷ [])) (sym said)
-    ∙ sym (append-nil (flat_map life_of (past ++ talk ∷ [])) ∙ (flat_map-append life_of past (talk ∷ []) ∙ ap (λ (reports : List ReportRecord). flat_map life_of past ++ reports) (append-nil (life_of talk))))))
+    ∙ sym (append-nil (flat_map life_of (past ++ progress ∷ [])) ∙ (flat_map-append life_of past (progress ∷ []) ∙ ap (λ (reports : List ReportRecord). flat_map life_of past ++ reports) (append-nil (life_of progress))))))
 
-closed_more : (device : ℕ) (closed : List (Entry × Fate)) (it : Entry × Fate) → filter (is_of device) (map talk_of (closed ++ it ∷ [])) ≡ filter (is_of device) (map talk_of closed) ++ filter (is_of device) (talk_of it ∷ [])
-closed_more device closed it = ap (filter (is_of device)) (map-append talk_of closed (it ∷ [])) ∙ filter-append (is_of device) (map talk_of closed) (talk_of it ∷ [])
+closed_more : (device : ℕ) (closed : List (Entry × Fate)) (it : Entry × Fate) → filter (is_of device) (map progress_of (closed ++ it ∷ [])) ≡ filter (is_of device) (map progress_of closed) ++ filter (is_of device) (progress_of it ∷ [])
+closed_more device closed it = ap (filter (is_of device)) (map-append progress_of closed (it ∷ [])) ∙ filter-append (is_of device) (map progress_of closed) (progress_of it ∷ [])
 
 -- a broken connection is closed, or still open
-broken_left : (talk : PeerRecord) (key : ℕ) (e : Entry) (fate : Fate) (l : Ledger) → l.entries key ≡ Some e → HasBroken talk l → HasBroken talk (without key e fate l)
-broken_left talk key e fate l there (inl (k, d, at, is, broken)) =
+broken_left : (progress : PeerRecord) (key : ℕ) (e : Entry) (fate : Fate) (l : Ledger) → l.entries key ≡ Some e → HasBroken progress l → HasBroken progress (without key e fate l)
+broken_left progress key e fate l there (inl (k, d, at, is, broken)) =
     by_key k key
     (λ same.
     let this : d ≡ e = one_entry d e (sym at ∙ (ap l.entries same ∙ there)) in
-    inr (l.closed, (e, fate), [], refl, ap (λ (x : Entry). x.talk) (sym this) ∙ is, ap (λ (x : Entry). x.broken) (sym this) ∙ broken))
+    inr (l.closed, (e, fate), [], refl, ap (λ (x : Entry). x.progress) (sym this) ∙ is, ap (λ (x : Entry). x.broken) (sym this) ∙ broken))
     (λ apart. inl (k, d, aside key None l.entries k apart ∙ at, is, broken))
-broken_left talk key e fate l there (inr (before, it, behind, whole, is, broken)) =
+broken_left progress key e fate l there (inr (before, it, behind, whole, is, broken)) =
     inr (before, it, behind ++ (e, fate) ∷ [], ap (λ (closed : List (Entry × Fate)). closed ++ (e, fate) ∷ []) whole ∙ append_assoc before (it ∷ behind) ((e, fate) ∷ []), is, broken)
 
-given_left : (device key : ℕ) (e : Entry) (fate : Fate) (past : List PeerRecord) (l : Ledger) → l.entries key ≡ Some e → All (λ (talk : PeerRecord). is_of device talk ≡ false → IsGivenUp talk l) past → All (λ (talk : PeerRecord). is_of device talk ≡ false → IsGivenUp talk (without key e fate l)) past
+given_left : (device key : ℕ) (e : Entry) (fate : Fate) (past : List PeerRecord) (l : Ledger) → l.entries key ≡ Some e → All (λ (progress : PeerRecord). is_of device progress ≡ false → IsGivenUp progress l) past → All (λ (progress : PeerRecord). is_of device progress ≡ false → IsGivenUp progress (without key e fate l)) past
 given_left device key e fate past l there all =
-    All-weaker (λ (talk : PeerRecord). is_of device talk ≡ false → IsGivenUp talk l) (λ (talk : PeerRecord). is_of device talk ≡ false → IsGivenUp talk (without key e fate l))
-    (λ talk up isnt. let it = up isnt in (it.0, broken_left talk key e fate l there it.1)) past all
+    All-weaker (λ (progress : PeerRecord). is_of device progress ≡ false → IsGivenUp progress l) (λ (progress : PeerRecord). is_of device progress ≡ false → IsGivenUp progress (without key e fate l))
+    (λ progress up isnt. let it = up isnt in (it.0, broken_left progress key e fate l there it.1)) past all
 
 -- the reports that the core is told as a connection ends
 abbrev pub gone_told : ℕ → Option ℕ → List ReportRecord
@@ -267,64 +267,64 @@ gone_told device (Some other) = if other == device then SaysGone ∷ [] else []
 
 -- the one open connection that bears a device's name
 pub record OneOf (device : ℕ) (now : List ReportRecord) (key : ℕ) (e : Entry) (l : Ledger) : Type 0 where
-  pub talk : e.talk ≡ Link now (Some device)
+  pub progress : e.progress ≡ Link now (Some device)
   pub alone : IsAlone device key l
 
-pub only_one : (device : ℕ) (now : List ReportRecord) (key : ℕ) (e : Entry) (l : Ledger) → l.entries key ≡ Some e → device_of e.talk ≡ Some device → IsNow device now l → OneOf device now key e l
+pub only_one : (device : ℕ) (now : List ReportRecord) (key : ℕ) (e : Entry) (l : Ledger) → l.entries key ≡ Some e → device_of e.progress ≡ Some device → IsNow device now l → OneOf device now key e l
 only_one device now key e l there named (inl (absent, none)) = absurd (absent key (subst (IsDevice device) (sym there) named))
-only_one device now key e l there named (inr (k, d, at, talk, alone)) = by_key key k same other
+only_one device now key e l there named (inr (k, d, at, progress, alone)) = by_key key k same other
   where
     same : key ≡ k → OneOf device now key e l
     same is = record {
-      talk = ap (λ (x : Entry). x.talk) (one_entry e d (sym there ∙ (ap l.entries is ∙ at))) ∙ talk;
+      progress = ap (λ (x : Entry). x.progress) (one_entry e d (sym there ∙ (ap l.entries is ∙ at))) ∙ progress;
       alone = subst (λ (j : ℕ). IsAlone device j l) (sym is) alone;
     }
 
     other : key ≢ k → OneOf device now key e l
     other apart = absurd (alone key apart (subst (IsDevice device) (sym there) named))
 
-left_named : (device key : ℕ) (e : Entry) (fate : Fate) (told : List ReportRecord) (l : Ledger) → l.entries key ≡ Some e → device_of e.talk ≡ Some device → IsReported device told l → IsReported device (told ++ SaysGone ∷ []) (without key e fate l)
+left_named : (device key : ℕ) (e : Entry) (fate : Fate) (told : List ReportRecord) (l : Ledger) → l.entries key ≡ Some e → device_of e.progress ≡ Some device → IsReported device told l → IsReported device (told ++ SaysGone ∷ []) (without key e fate l)
 left_named device key e fate told l there named r = record {
-  past = r.past ++ e.talk ∷ [];
+  past = r.past ++ e.progress ∷ [];
   now = [];
-  whole = past_more r.past e.talk r.now told r.whole (ap said_on one.talk);
-  closed = filter-append (is_of device) r.past (e.talk ∷ []) ∙ (ap (λ (talks : List PeerRecord). talks ++ filter (is_of device) (e.talk ∷ [])) r.closed ∙ sym (closed_more device l.closed (e, fate)));
-  given_up = All-append (λ (talk : PeerRecord). is_of device talk ≡ false → IsGivenUp talk (without key e fate l)) r.past (e.talk ∷ []) (given_left device key e fate r.past l there r.given_up)
-      (All-cons (λ (talk : PeerRecord). is_of device talk ≡ false → IsGivenUp talk (without key e fate l)) e.talk [] (λ isnt. absurd (no_true (is_of device e.talk) this isnt)) (All-nil (λ (talk : PeerRecord). is_of device talk ≡ false → IsGivenUp talk (without key e fate l))));
+  whole = past_more r.past e.progress r.now told r.whole (ap said_on one.progress);
+  closed = filter-append (is_of device) r.past (e.progress ∷ []) ∙ (ap (λ (progresses : List PeerRecord). progresses ++ filter (is_of device) (e.progress ∷ [])) r.closed ∙ sym (closed_more device l.closed (e, fate)));
+  given_up = All-append (λ (progress : PeerRecord). is_of device progress ≡ false → IsGivenUp progress (without key e fate l)) r.past (e.progress ∷ []) (given_left device key e fate r.past l there r.given_up)
+      (All-cons (λ (progress : PeerRecord). is_of device progress ≡ false → IsGivenUp progress (without key e fate l)) e.progress [] (λ isnt. absurd (no_true (is_of device e.progress) this isnt)) (All-nil (λ (progress : PeerRecord). is_of device progress ≡ false → IsGivenUp progress (without key e fate l))));
   is_now = inl (λ k is. by_key k key (λ same. subst (IsDevice device) (here key None l.entries k same) is) (λ apart. one.alone k apart (subst (IsDevice device) (aside key None l.entries k apart) is)), refl);
 }
   where
     one : OneOf device r.now key e l
     one = only_one device r.now key e l there named r.is_now
 
-    this : is_of device e.talk ≡ true
+    this : is_of device e.progress ≡ true
     this = ap (names device) named ∙ is_key device
 
-left_other : (device key : ℕ) (e : Entry) (fate : Fate) (told : List ReportRecord) (l : Ledger) → l.entries key ≡ Some e → is_of device e.talk ≡ false → IsReported device told l → IsReported device told (without key e fate l)
+left_other : (device key : ℕ) (e : Entry) (fate : Fate) (told : List ReportRecord) (l : Ledger) → l.entries key ≡ Some e → is_of device e.progress ≡ false → IsReported device told l → IsReported device told (without key e fate l)
 left_other device key e fate told l there isnt r = record {
   past = r.past;
   now = r.now;
   whole = r.whole;
-  closed = r.closed ∙ (sym (append-nil (filter (is_of device) (map talk_of l.closed))) ∙ (ap (λ (talks : List PeerRecord). filter (is_of device) (map talk_of l.closed) ++ talks) (sym none) ∙ sym (closed_more device l.closed (e, fate))));
+  closed = r.closed ∙ (sym (append-nil (filter (is_of device) (map progress_of l.closed))) ∙ (ap (λ (progresses : List PeerRecord). filter (is_of device) (map progress_of l.closed) ++ progresses) (sym none) ∙ sym (closed_more device l.closed (e, fate))));
   given_up = given_left device key e fate r.past l there r.given_up;
   is_now = by r.is_now;
 }
   where
-    none : filter (is_of device) (e.talk ∷ []) ≡ []
-    none = ap (λ (t : Bool). cond t (e.talk ∷ []) []) isnt
+    none : filter (is_of device) (e.progress ∷ []) ≡ []
+    none = ap (λ (t : Bool). cond t (e.progress ∷ []) []) isnt
 
-    never : device_of e.talk ≡ Some device → ⊥
-    never named = no_true (is_of device e.talk) (ap (names device) named ∙ is_key device) isnt
+    never : device_of e.progress ≡ Some device → ⊥
+    never named = no_true (is_of device e.progress) (ap (names device) named ∙ is_key device) isnt
 
     was : (k : ℕ) → IsDevice device (at_key key None l.entries k) → IsDevice device (l.entries k)
     was k is = by_key k key (λ same. absurd (subst (IsDevice device) (here key None l.entries k same) is)) (λ apart. subst (IsDevice device) (aside key None l.entries k apart) is)
 
     by : IsNow device r.now l → IsNow device r.now (without key e fate l)
     by (inl (absent, nothing)) = inl (λ k is. absent k (was k is), nothing)
-    by (inr (k, d, at, talk, alone)) =
-        inr (k, d, aside key None l.entries k (λ same. never (ap (λ (x : Entry). device_of x.talk) (one_entry e d (sym there ∙ (ap l.entries (sym same) ∙ at))) ∙ ap device_of talk)) ∙ at, talk, λ j apart is. alone j apart (was j is))
+    by (inr (k, d, at, progress, alone)) =
+        inr (k, d, aside key None l.entries k (λ same. never (ap (λ (x : Entry). device_of x.progress) (one_entry e d (sym there ∙ (ap l.entries (sym same) ∙ at))) ∙ ap device_of progress)) ∙ at, progress, λ j apart is. alone j apart (was j is))
 
-pub reported_left : (device key : ℕ) (o : Option ℕ) (e : Entry) (fate : Fate) (told : List ReportRecord) (l : Ledger) → l.entries key ≡ Some e → device_of e.talk ≡ o → IsReported device told l → IsReported device (told ++ gone_told device o) (without key e fate l)
+pub reported_left : (device key : ℕ) (o : Option ℕ) (e : Entry) (fate : Fate) (told : List ReportRecord) (l : Ledger) → l.entries key ≡ Some e → device_of e.progress ≡ o → IsReported device told l → IsReported device (told ++ gone_told device o) (without key e fate l)
 reported_left device key None e fate told l there is r =
     reported_as device told (told ++ []) (without key e fate l) (sym (append-nil told)) (left_other device key e fate told l there (ap (names device) is) r)
 reported_left device key (Some other) e fate told l there is r = by (other == device) refl
@@ -334,10 +334,10 @@ reported_left device key (Some other) e fate told l there is r = by (other == de
     by false apart = reported_as device told (told ++ []) (without key e fate l) (sym (append-nil told)) (left_other device key e fate told l there (ap (names device) is ∙ apart) r)
 
 -- the connection is closed, and then no report of a device changes any more
-pub reported_closed : (device key : ℕ) (e : Entry) (fate : Fate) (told : List ReportRecord) (l m l' : Ledger) → l.entries key ≡ Some e → m ≡ without key e fate l → KeptAll m l' → IsReported device told l → IsReported device (told ++ gone_told device (device_of e.talk)) l'
+pub reported_closed : (device key : ℕ) (e : Entry) (fate : Fate) (told : List ReportRecord) (l m l' : Ledger) → l.entries key ≡ Some e → m ≡ without key e fate l → KeptAll m l' → IsReported device told l → IsReported device (told ++ gone_told device (device_of e.progress)) l'
 reported_closed device key e fate told l m l' there after kept r =
-    reported_kept device (told ++ gone_told device (device_of e.talk)) m l' kept
-    (subst (λ (x : Ledger). IsReported device (told ++ gone_told device (device_of e.talk)) x) (sym after) (reported_left device key (device_of e.talk) e fate told l there refl r))
+    reported_kept device (told ++ gone_told device (device_of e.progress)) m l' kept
+    (subst (λ (x : Ledger). IsReported device (told ++ gone_told device (device_of e.progress)) x) (sym after) (reported_left device key (device_of e.progress) e fate told l there refl r))
 
 -- ---- a device says more
 
@@ -349,14 +349,14 @@ more_told : (past : List PeerRecord) (now told : List ReportRecord) (said : Repo
 more_told past now told said whole = ap (λ (reports : List ReportRecord). reports ++ said ∷ []) whole ∙ append_assoc (flat_map life_of past) now (said ∷ [])
 
 -- the other device's
-other_device : (device dev : ℕ) → (dev == device) ≡ false → (o : Option Entry) (e : Entry) → o ≡ Some e → device_of e.talk ≡ Some dev → IsDevice device o → ⊥
+other_device : (device dev : ℕ) → (dev == device) ≡ false → (o : Option Entry) (e : Entry) → o ≡ Some e → device_of e.progress ≡ Some dev → IsDevice device o → ⊥
 other_device device dev apart o e there named is =
     let same : Some dev ≡ Some device = sym named ∙ subst (IsDevice device) there is in
     let this : dev ≡ device = cc in
     other_key dev device apart this
 
-nameless_none : (device : ℕ) (o : Option Entry) (e : Entry) → o ≡ Some e → device_of e.talk ≡ None → IsDevice device o → ⊥
-nameless_none device o e there nameless is = no_both (device_of e.talk) device nameless (subst (IsDevice device) there is)
+nameless_none : (device : ℕ) (o : Option Entry) (e : Entry) → o ≡ Some e → device_of e.progress ≡ None → IsDevice device o → ⊥
+nameless_none device o e there nameless is = no_both (device_of e.progress) device nameless (subst (IsDevice device) there is)
 
 same_reports : (one other : List ReportRecord) (device dev : ℕ) → Link one (Some device) ≡ Link other (Some dev) → one ≡ other
 same_reports one other device dev same = cc
@@ -367,9 +367,9 @@ pub record More (dev key : ℕ) (said : ReportRecord) (l l' : Ledger) : Type 0 w
   pub f : Entry
   pub reports : List ReportRecord
   pub there : l.entries key ≡ Some d
-  pub talk : d.talk ≡ Link reports (Some dev)
+  pub progress : d.progress ≡ Link reports (Some dev)
   pub now : l'.entries key ≡ Some f
-  pub after : f.talk ≡ Link (reports ++ said ∷ []) (Some dev)
+  pub after : f.progress ≡ Link (reports ++ said ∷ []) (Some dev)
   pub others : (k : ℕ) → k ≢ key → Kept (l.entries k) (l'.entries k)
   pub closed : l'.closed ≡ l.closed
 
@@ -377,12 +377,12 @@ pub reported_more : (device dev key : ℕ) (said : ReportRecord) (told : List Re
 reported_more device dev key said told l l' m r = by (dev == device) refl
   where
     passes : (k : ℕ) → Passes (l.entries k) (l'.entries k)
-    passes k = by_key k key (λ same. passes_named dev m.d (l.entries k) (l'.entries k) (ap l.entries same ∙ m.there) (ap device_of m.talk)) (λ apart. kept_passes (l.entries k) (l'.entries k) (m.others k apart))
+    passes k = by_key k key (λ same. passes_named dev m.d (l.entries k) (l'.entries k) (ap l.entries same ∙ m.there) (ap device_of m.progress)) (λ apart. kept_passes (l.entries k) (l'.entries k) (m.others k apart))
 
     this : dev ≡ device → IsReported device (told ++ said ∷ []) l'
     this same =
-        let one = only_one device r.now key m.d l m.there (ap device_of m.talk ∙ ap (λ (x : ℕ). Some x) same) r.is_now in
-        let are : m.reports ≡ r.now = same_reports m.reports r.now dev device (sym m.talk ∙ one.talk) in
+        let one = only_one device r.now key m.d l m.there (ap device_of m.progress ∙ ap (λ (x : ℕ). Some x) same) r.is_now in
+        let are : m.reports ≡ r.now = same_reports m.reports r.now dev device (sym m.progress ∙ one.progress) in
         record {
           past = r.past;
           now = r.now ++ said ∷ [];
@@ -406,7 +406,7 @@ reported_more device dev key said told l l' m r = by (dev == device) refl
         (λ k.
         by_key k key
         (λ same.
-        keeps_neither device (l.entries k) (l'.entries k) (other_device device dev apart (l.entries k) m.d (ap l.entries same ∙ m.there) (ap device_of m.talk))
+        keeps_neither device (l.entries k) (l'.entries k) (other_device device dev apart (l.entries k) m.d (ap l.entries same ∙ m.there) (ap device_of m.progress))
         (other_device device dev apart (l'.entries k) m.f (ap l'.entries same ∙ m.now) (ap device_of m.after)) (passes k))
         (λ other. kept_keeps device (l.entries k) (l'.entries k) (m.others k other))) r)
 
@@ -416,10 +416,10 @@ pub record Named (dev key : ℕ) (name : List ℕ) (l l' : Ledger) : Type 0 wher
   pub d : Entry
   pub f : Entry
   pub there : l.entries key ≡ Some d
-  pub nameless : device_of d.talk ≡ None
+  pub nameless : device_of d.progress ≡ None
   pub sound : d.broken ≡ false
   pub now : l'.entries key ≡ Some f
-  pub after : f.talk ≡ Link (SaysHello name ∷ []) (Some dev)
+  pub after : f.progress ≡ Link (SaysHello name ∷ []) (Some dev)
   pub closed : l'.closed ≡ l.closed
 
 -- on the first connection that it has
@@ -432,8 +432,8 @@ reported_named device dev key name told l l' m alone others r = by (dev == devic
 
     none : dev ≡ device → IsNow device r.now l → r.now ≡ []
     none same (inl (absent, is)) = is
-    none same (inr (k, e, at, talk, only)) =
-        let is : IsDevice device (l.entries k) = subst (IsDevice device) (sym at) (ap device_of talk) in
+    none same (inr (k, e, at, progress, only)) =
+        let is : IsDevice device (l.entries k) = subst (IsDevice device) (sym at) (ap device_of progress) in
         by_key k key (λ here. absurd (nameless_none device (l.entries k) m.d (ap l.entries here ∙ m.there) m.nameless is)) (λ apart. absurd (alone k apart (subst (λ (x : ℕ). IsDevice x (l.entries k)) (sym same) is)))
 
     this : dev ≡ device → IsReported device (told ++ SaysHello name ∷ []) l'
@@ -470,13 +470,13 @@ pub record Over (dev key other : ℕ) (l l' : Ledger) : Type 0 where
   pub g : Entry
   pub apart : other ≢ key
   pub there : l.entries other ≡ Some o
-  pub named : device_of o.talk ≡ Some dev
+  pub named : device_of o.progress ≡ Some dev
   pub now : l'.entries other ≡ Some g
-  pub after : g.talk ≡ unnamed o.talk
+  pub after : g.progress ≡ unnamed o.progress
   pub broke : g.broken ≡ true
   pub others : (k : ℕ) → k ≢ key → k ≢ other → Kept (l.entries k) (l'.entries k)
 
-pub unnamed_nameless : (talk : PeerRecord) → device_of (unnamed talk) ≡ None
+pub unnamed_nameless : (progress : PeerRecord) → device_of (unnamed progress) ≡ None
 unnamed_nameless (Http said closes body) = refl
 unnamed_nameless (Queue items session) = refl
 unnamed_nameless (Link reports device) = refl
@@ -484,8 +484,8 @@ unnamed_nameless (Link reports device) = refl
 pub reported_over : (device dev key other : ℕ) (name : List ℕ) (told : List ReportRecord) (l l' : Ledger) → Named dev key name l l' → Over dev key other l l' → IsReported device told l → IsReported device (told ++ told_if device dev (SaysGone ∷ SaysHello name ∷ [])) l'
 reported_over device dev key other name told l l' m v r = by (dev == device) refl
   where
-    nameless : device_of v.g.talk ≡ None
-    nameless = ap device_of v.after ∙ unnamed_nameless v.o.talk
+    nameless : device_of v.g.progress ≡ None
+    nameless = ap device_of v.after ∙ unnamed_nameless v.o.progress
 
     passes : (k : ℕ) → Passes (l.entries k) (l'.entries k)
     passes k =
@@ -495,7 +495,7 @@ reported_over device dev key other name told l l' m v r = by (dev == device) ref
     this : dev ≡ device → IsReported device (told ++ SaysGone ∷ SaysHello name ∷ []) l'
     this same =
         let one = only_one device r.now other v.o l v.there (v.named ∙ ap (λ (x : ℕ). Some x) same) r.is_now in
-        let talk : v.g.talk ≡ Link r.now None = v.after ∙ ap unnamed one.talk in
+        let progress : v.g.progress ≡ Link r.now None = v.after ∙ ap unnamed one.progress in
         record {
           past = r.past ++ Link r.now None ∷ [];
           now = SaysHello name ∷ [];
@@ -503,7 +503,7 @@ reported_over device dev key other name told l l' m v r = by (dev == device) ref
               ∙ ap (λ (reports : List ReportRecord). reports ++ SaysHello name ∷ []) (past_more r.past (Link r.now None) r.now told r.whole refl ∙ append-nil (flat_map life_of (r.past ++ Link r.now None ∷ [])));
           closed = filter-append (is_of device) r.past (Link r.now None ∷ []) ∙ (append-nil (filter (is_of device) r.past) ∙ closed_same device r.past l l' m.closed r.closed);
           given_up = All-append (λ (it : PeerRecord). is_of device it ≡ false → IsGivenUp it l') r.past (Link r.now None ∷ []) (given_passes device r.past l l' m.closed passes r.given_up)
-              (All-cons (λ (it : PeerRecord). is_of device it ≡ false → IsGivenUp it l') (Link r.now None) [] (λ isnt. (refl, inl (other, v.g, v.now, talk, v.broke))) (All-nil (λ (it : PeerRecord). is_of device it ≡ false → IsGivenUp it l')));
+              (All-cons (λ (it : PeerRecord). is_of device it ≡ false → IsGivenUp it l') (Link r.now None) [] (λ isnt. (refl, inl (other, v.g, v.now, progress, v.broke))) (All-nil (λ (it : PeerRecord). is_of device it ≡ false → IsGivenUp it l')));
           is_now = inr (
             key,
             m.f,
@@ -540,10 +540,10 @@ SoundAt (Some e) = FreshOf e × IsRead e
 pub kept_sound : (x y : Option Entry) → Kept x y → SoundAt x → SoundAt y
 kept_sound None y (inl is) sound = subst SoundAt (sym is) tt
 kept_sound None y (inr (e, is, new)) sound = subst SoundAt (sym is) (new.fresh, new.read)
-kept_sound (Some d) y (e, is, g) sound = subst SoundAt (sym is) (by g.talk, g.reads sound.1)
+kept_sound (Some d) y (e, is, g) sound = subst SoundAt (sym is) (by g.progress, g.reads sound.1)
   where
-    by : (e.talk ≡ d.talk) ⊎ Unnamed d e → FreshOf e
-    by (inl same) = λ reports talk unbroken. sound.0 reports (sym same ∙ talk) (false_before d.broken e.broken g.broken unbroken)
+    by : (e.progress ≡ d.progress) ⊎ Unnamed d e → FreshOf e
+    by (inl same) = λ reports progress unbroken. sound.0 reports (sym same ∙ progress) (false_before d.broken e.broken g.broken unbroken)
     by (inr u) = u.fresh
 
 -- of all connections
@@ -563,11 +563,11 @@ sound_left key e fate l there sound = record {
   closed = All-append (λ (it : Entry × Fate). IsRead it.0) l.closed ((e, fate) ∷ []) sound.closed (All-cons (λ (it : Entry × Fate). IsRead it.0) (e, fate) [] (subst SoundAt there (sound.each key)).1 (All-nil (λ (it : Entry × Fate). IsRead it.0)));
 }
 
-pub first_read : (e : Entry) (read : List ℕ) (reports : List ReportRecord) → SaysFirst read reports → e.read ≡ read → said_on e.talk ≡ reports → IsRead e
-first_read e read reports says same said = (read, [], same ∙ sym (append-nil read), subst (λ (its : List ReportRecord). SaysFirst read its) (sym said) says)
+pub first_read : (e : Entry) (read : List ℕ) (reports : List ReportRecord) → ParsesFirst read reports → e.read ≡ read → said_on e.progress ≡ reports → IsRead e
+first_read e read reports says same said = (read, [], same ∙ sym (append-nil read), subst (λ (its : List ReportRecord). ParsesFirst read its) (sym said) says)
 
 -- the connection has no report
-pub none_read : (e : Entry) → said_on e.talk ≡ [] → IsRead e
+pub none_read : (e : Entry) → said_on e.progress ≡ [] → IsRead e
 none_read e said = first_read e e.read [] (record { next = false; left = e.read; leads = (refl, refl) }) refl said
 
 -- ---- whose name was said
@@ -577,19 +577,19 @@ pub record AllGreeted (Name : List ℕ → ℕ → Type 0) (l : Ledger) : Type 0
   pub closed : All (λ (it : Entry × Fate). IsGreeted Name it.0) l.closed
 
 greeted_grows : (Name : List ℕ → ℕ → Type 0) (d e : Entry) → Grows d e → IsGreeted Name d → IsGreeted Name e
-greeted_grows Name d e g was device reports talk = by g.talk
+greeted_grows Name d e g was device reports progress = by g.progress
   where
-    by : (e.talk ≡ d.talk) ⊎ Unnamed d e → (name : List ℕ) × (rest : List ReportRecord) × (reports ≡ SaysHello name ∷ rest) × Name name device
-    by (inl same) = was device reports (sym same ∙ talk)
-    by (inr u) = absurd (no_both (device_of e.talk) device u.after (ap device_of talk))
+    by : (e.progress ≡ d.progress) ⊎ Unnamed d e → (name : List ℕ) × (rest : List ReportRecord) × (reports ≡ SaysHello name ∷ rest) × Name name device
+    by (inl same) = was device reports (sym same ∙ progress)
+    by (inr u) = absurd (no_both (device_of e.progress) device u.after (ap device_of progress))
 
 -- a connection without a device
-pub greeted_nameless : (Name : List ℕ → ℕ → Type 0) (e : Entry) → device_of e.talk ≡ None → IsGreeted Name e
-greeted_nameless Name e nameless device reports talk = absurd (no_both (device_of e.talk) device nameless (ap device_of talk))
+pub greeted_nameless : (Name : List ℕ → ℕ → Type 0) (e : Entry) → device_of e.progress ≡ None → IsGreeted Name e
+greeted_nameless Name e nameless device reports progress = absurd (no_both (device_of e.progress) device nameless (ap device_of progress))
 
 greeted_at : (Name : List ℕ → ℕ → Type 0) (x y : Option Entry) → Kept x y → ((d : Entry) → x ≡ Some d → IsGreeted Name d) → (e : Entry) → y ≡ Some e → IsGreeted Name e
 greeted_at Name None y (inl is) was e there = absurd (no_entry y e is there)
-greeted_at Name None y (inr (f, is, new)) was e there = greeted_nameless Name e (ap (λ (z : Entry). device_of z.talk) (sym (one_entry f e (sym is ∙ there))) ∙ new.nameless)
+greeted_at Name None y (inr (f, is, new)) was e there = greeted_nameless Name e (ap (λ (z : Entry). device_of z.progress) (sym (one_entry f e (sym is ∙ there))) ∙ new.nameless)
 greeted_at Name (Some d) y (f, is, g) was e there = subst (λ (z : Entry). IsGreeted Name z) (one_entry f e (sym is ∙ there)) (greeted_grows Name d f g (was d refl))
 
 -- of all but one key
@@ -618,13 +618,13 @@ same_link : (one other : List ReportRecord) (dev device : ℕ) → Link one (Som
 same_link one other dev device same = (cc, cc)
 
 -- with its name alone, and with one more report
-pub greeted_first : (Name : List ℕ → ℕ → Type 0) (dev : ℕ) (name : List ℕ) (e : Entry) → e.talk ≡ Link (SaysHello name ∷ []) (Some dev) → Name name dev → IsGreeted Name e
-greeted_first Name dev name e talk is device reports same =
-    let both = same_link (SaysHello name ∷ []) reports dev device (sym talk ∙ same) in
+pub greeted_first : (Name : List ℕ → ℕ → Type 0) (dev : ℕ) (name : List ℕ) (e : Entry) → e.progress ≡ Link (SaysHello name ∷ []) (Some dev) → Name name dev → IsGreeted Name e
+greeted_first Name dev name e progress is device reports same =
+    let both = same_link (SaysHello name ∷ []) reports dev device (sym progress ∙ same) in
     (name, [], sym both.0, subst (Name name) both.1 is)
 
-pub greeted_more : (Name : List ℕ → ℕ → Type 0) (dev : ℕ) (said : ReportRecord) (before : List ReportRecord) (d e : Entry) → d.talk ≡ Link before (Some dev) → e.talk ≡ Link (before ++ said ∷ []) (Some dev) → IsGreeted Name d → IsGreeted Name e
-greeted_more Name dev said before d e was talk greeted device reports same =
-    let both = same_link (before ++ said ∷ []) reports dev device (sym talk ∙ same) in
+pub greeted_more : (Name : List ℕ → ℕ → Type 0) (dev : ℕ) (said : ReportRecord) (before : List ReportRecord) (d e : Entry) → d.progress ≡ Link before (Some dev) → e.progress ≡ Link (before ++ said ∷ []) (Some dev) → IsGreeted Name d → IsGreeted Name e
+greeted_more Name dev said before d e was progress greeted device reports same =
+    let both = same_link (before ++ said ∷ []) reports dev device (sym progress ∙ same) in
     let it = greeted dev before was in
     (it.0, it.1 ++ said ∷ [], sym both.0 ∙ ap (λ (its : List ReportRecord). its ++ said ∷ []) it.2, subst (Name it.0) both.1 it.3)

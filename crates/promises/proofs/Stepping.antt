@@ -4,7 +4,7 @@ use Rattle.base_types.specs.Report.{ReportRecord, SaysHello, SaysMedia, SaysRead
 use Rattle.settings_file.specs.Settings.{ServerSettings, device_named}
 use Rattle.http_front.specs.declared.item.HttpItem.{HttpItem}
 use Rattle.http_front.specs.declared.item.HttpItem.TheVariants as item
-use Rattle.lpd.specs.Items.{ItemRecord, Says as SaysCommand, Aborts, Announces, HasFile}
+use Rattle.lpd.specs.Items.{ItemRecord, HasCommand as SaysCommand, Aborts, Announces, HasFile}
 use Rattle.lpd.specs.Session.{SessionState}
 use Rattle.events.specs.declared.event.Event.TheVariants as Is
 use Rattle.dispatcher.specs.declared.listener.DeviceRefusal.TheVariants as why
@@ -23,8 +23,8 @@ use Rattle.connections.specs.declared.step.Step.{Step}
 use Rattle.connections.specs.declared.step.Step.TheVariants as step
 use Rattle.connections.specs.Session.{Hearing, Goes as GoesOn, Stops, Submits, Commands, heard}
 use Rattle.connections.specs.Steps.{asked_step, EndsBody, StepsIpp, AsksAs, StepsLpd, StepsHello, StepsDevice, silent, no_memory}
-use Rattle.connections.specs.Entry.{PeerRecord, Http, Queue, Link, Entry, device_of, broken, talking, finishing}
-use Rattle.connections.specs.Asking.{Hears, StepsTo}
+use Rattle.connections.specs.Entry.{PeerRecord, Http, Queue, Link, Entry, device_of, broken, with_progress, finishing}
+use Rattle.connections.specs.Asking.{ItemComes, StepsTo}
 use Rattle.server.specs.Polls.{Happening, Told}
 use Rattle.server.specs.Ledger.{Ledger}
 use Rattle.server.specs.Rel.{Tells}
@@ -167,11 +167,11 @@ lpd_client queues before (SaysCommand command) comes after is = asks_client (hea
 lpd_client queues before Aborts comes after is = asks_client (heard queues before Aborts) comes after is
 lpd_client queues before (Announces head) comes after is = asks_client (heard queues before (Announces head)) comes after is
 
-pub client_hears : (settings : ServerSettings) (talk : PeerRecord) (e : Entry) (comes : Step) (mid : Entry) → ClientTalk talk → ClientTalk e.talk → Hears settings talk e comes mid → IsClientStep comes × ClientTalk mid.talk
-client_hears settings (Http said closes body) e comes mid client here next = (ipp_client next.item closes body comes next.comes, subst (λ (x : Entry). ClientTalk x.talk) (sym next.after) tt)
-client_hears settings (Queue items session) e comes mid client here (inl next) = (lpd_client _ session next.said comes next.session_after next.comes, subst (λ (x : Entry). ClientTalk x.talk) (sym next.after) tt)
-client_hears settings (Queue items session) e comes mid client here (inr (inl next)) = (subst IsClientStep (sym next.comes) tt, subst (λ (x : Entry). ClientTalk x.talk) (sym next.after) here)
-client_hears settings (Queue items session) e comes mid client here (inr (inr next)) = (subst IsClientStep (sym next.0) refl, subst (λ (x : Entry). ClientTalk x.talk) (sym next.1) here)
+pub client_hears : (settings : ServerSettings) (progress : PeerRecord) (e : Entry) (comes : Step) (mid : Entry) → ClientTalk progress → ClientTalk e.progress → ItemComes settings progress e comes mid → IsClientStep comes × ClientTalk mid.progress
+client_hears settings (Http said closes body) e comes mid client here next = (ipp_client next.item closes body comes next.comes, subst (λ (x : Entry). ClientTalk x.progress) (sym next.after) tt)
+client_hears settings (Queue items session) e comes mid client here (inl next) = (lpd_client _ session next.said comes next.session_after next.comes, subst (λ (x : Entry). ClientTalk x.progress) (sym next.after) tt)
+client_hears settings (Queue items session) e comes mid client here (inr (inl next)) = (subst IsClientStep (sym next.comes) tt, subst (λ (x : Entry). ClientTalk x.progress) (sym next.after) here)
+client_hears settings (Queue items session) e comes mid client here (inr (inr next)) = (subst IsClientStep (sym next.0) refl, subst (λ (x : Entry). ClientTalk x.progress) (sym next.1) here)
 client_hears settings (Link reports device) e comes mid client here next = absurd client
 
 -- ---- steps of a device
@@ -181,69 +181,69 @@ pub record Names (what : Ask) (e new : Entry) : Type 0 where
   pub device : ℕ
   pub name : List ℕ
   pub asks : what ≡ ask.Hello device name
-  pub before : device_of e.talk ≡ None
-  pub fresh : FreshTalk e.talk e → e.broken ≡ false → e.due ≡ []
-  pub after : device_of new.talk ≡ Some device
+  pub before : device_of e.progress ≡ None
+  pub fresh : FreshTalk e.progress e → e.broken ≡ false → e.due ≡ []
+  pub after : device_of new.progress ≡ Some device
   pub still : new.broken ≡ e.broken
   pub due : new.due ≡ e.due
-  pub open_talk : FreshTalk new.talk new
-  pub link : ClientTalk e.talk → ⊥
+  pub open_progress : FreshTalk new.progress new
+  pub link : ClientTalk e.progress → ⊥
 
 -- the asks of a device's connection: an ask of a connection with a device, whose due bytes don't change, or the ask that gives the device's name
 abbrev pub DeviceAsks : Ask → Entry → Entry → Type 0
 DeviceAsks what e new = (IsDeviceAsk what × Ordered (λ device. []) (Some e) (Some new)) ⊎ Names what e new
 
-pub talk_none : (talk : PeerRecord) (reports : List ReportRecord) → talk ≡ Link reports None → device_of talk ≡ None
-talk_none talk reports is = ap device_of is
+pub progress_none : (progress : PeerRecord) (reports : List ReportRecord) → progress ≡ Link reports None → device_of progress ≡ None
+progress_none progress reports is = ap device_of is
 
-pub link_fresh : (talk : PeerRecord) (reports : List ReportRecord) (e : Entry) → talk ≡ Link reports None → FreshTalk talk e → e.broken ≡ false → e.due ≡ []
-link_fresh talk reports e is fresh = subst (λ (t : PeerRecord). FreshTalk t e) is fresh
+pub link_fresh : (progress : PeerRecord) (reports : List ReportRecord) (e : Entry) → progress ≡ Link reports None → FreshTalk progress e → e.broken ≡ false → e.due ≡ []
+link_fresh progress reports e is fresh = subst (λ (t : PeerRecord). FreshTalk t e) is fresh
 
 -- the connection breaks
-pub link_breaks : (what it : Ask) (e mid new : Entry) → what ≡ it → IsDeviceAsk it → new ≡ broken mid → mid.due ≡ e.due → ((device : ℕ) → device_of mid.talk ≡ Some device → device_of e.talk ≡ Some device) → (ClientTalk e.talk → ClientTalk mid.talk) → (ClientTalk mid.talk → ⊥) → DeviceAsks what e new
+pub link_breaks : (what it : Ask) (e mid new : Entry) → what ≡ it → IsDeviceAsk it → new ≡ broken mid → mid.due ≡ e.due → ((device : ℕ) → device_of mid.progress ≡ Some device → device_of e.progress ≡ Some device) → (ClientTalk e.progress → ClientTalk mid.progress) → (ClientTalk mid.progress → ⊥) → DeviceAsks what e new
 link_breaks what it e mid new asks fine after due of_device of_client never =
     inl (subst IsDeviceAsk (sym asks) fine, subst (λ (x : Entry). Ordered (λ device. []) (Some e) (Some x)) (sym after) (ordered_broken (λ device. []) e (broken mid) refl (λ device named. (of_device device named, due)) of_client (λ client. absurd (never client))))
 
-pub not_client : (talk : PeerRecord) (reports : List ReportRecord) (device : Option ℕ) → talk ≡ Link reports device → ClientTalk talk → ⊥
-not_client talk reports device is client = subst ClientTalk is client
+pub not_client : (progress : PeerRecord) (reports : List ReportRecord) (device : Option ℕ) → progress ≡ Link reports device → ClientTalk progress → ⊥
+not_client progress reports device is client = subst ClientTalk is client
 
-pub named_hears : (settings : ServerSettings) (reports : List ReportRecord) (name : List ℕ) (place : Option ℕ) (device_after : Option ℕ) (e : Entry) (comes : Step) (mid : Entry) (what : Ask) (new : Entry) → e.talk ≡ Link reports None
-    → StepsHello name place comes device_after → mid ≡ talking (Link (reports ++ SaysHello name ∷ []) device_after) e → StepsTo comes mid what new → DeviceAsks what e new
-named_hears settings reports name None device_after e comes mid what new talk is after steps =
+pub named_hears : (settings : ServerSettings) (reports : List ReportRecord) (name : List ℕ) (place : Option ℕ) (device_after : Option ℕ) (e : Entry) (comes : Step) (mid : Entry) (what : Ask) (new : Entry) → e.progress ≡ Link reports None
+    → StepsHello name place comes device_after → mid ≡ with_progress (Link (reports ++ SaysHello name ∷ []) device_after) e → StepsTo comes mid what new → DeviceAsks what e new
+named_hears settings reports name None device_after e comes mid what new progress is after steps =
     let breaks : (what ≡ ask.Stranger name) × (new ≡ broken mid) = subst (λ (s : Step). StepsTo s mid what new) is.0 steps in
-    let unknown : device_of mid.talk ≡ None = ap (λ (x : Entry). device_of x.talk) after ∙ is.1 in
-    link_breaks what (ask.Stranger name) e mid new breaks.0 tt breaks.1 (ap (λ (x : Entry). x.due) after) (λ device named. cc) (λ client. absurd (not_client e.talk reports None talk client)) (λ client. not_client mid.talk (reports ++ SaysHello name ∷ []) device_after (ap (λ (x : Entry). x.talk) after) client)
-named_hears settings reports name (Some device) device_after e comes mid what new talk is after steps =
+    let unknown : device_of mid.progress ≡ None = ap (λ (x : Entry). device_of x.progress) after ∙ is.1 in
+    link_breaks what (ask.Stranger name) e mid new breaks.0 tt breaks.1 (ap (λ (x : Entry). x.due) after) (λ device named. cc) (λ client. absurd (not_client e.progress reports None progress client)) (λ client. not_client mid.progress (reports ++ SaysHello name ∷ []) device_after (ap (λ (x : Entry). x.progress) after) client)
+named_hears settings reports name (Some device) device_after e comes mid what new progress is after steps =
     let asks : (what ≡ ask.Hello device name) × (new ≡ finishing false mid) = subst (λ (s : Step). StepsTo s mid what new) is.0 steps in
-    let whole : new ≡ finishing false (talking (Link (reports ++ SaysHello name ∷ []) (Some device)) e) = asks.1 ∙ ap (finishing false) (after ∙ ap (λ (d : Option ℕ). talking (Link (reports ++ SaysHello name ∷ []) d) e) is.1) in
+    let whole : new ≡ finishing false (with_progress (Link (reports ++ SaysHello name ∷ []) (Some device)) e) = asks.1 ∙ ap (finishing false) (after ∙ ap (λ (d : Option ℕ). with_progress (Link (reports ++ SaysHello name ∷ []) d) e) is.1) in
     inr (record {
       device = device;
       name = name;
       asks = asks.0;
-      before = talk_none e.talk reports talk;
-      fresh = λ fresh. link_fresh e.talk reports e talk fresh;
-      after = ap (λ (x : Entry). device_of x.talk) whole;
+      before = progress_none e.progress reports progress;
+      fresh = λ fresh. link_fresh e.progress reports e progress fresh;
+      after = ap (λ (x : Entry). device_of x.progress) whole;
       still = ap (λ (x : Entry). x.broken) whole;
       due = ap (λ (x : Entry). x.due) whole;
-      open_talk = subst (λ (x : Entry). FreshTalk x.talk x) (sym whole) tt;
-      link = not_client e.talk reports None talk;
+      open_progress = subst (λ (x : Entry). FreshTalk x.progress x) (sym whole) tt;
+      link = not_client e.progress reports None progress;
     })
 
-pub report_hears : (settings : ServerSettings) (reports : List ReportRecord) (device : Option ℕ) (said : ReportRecord) (device_after : Option ℕ) (e : Entry) (comes : Step) (mid : Entry) (what : Ask) (new : Entry) → e.talk ≡ Link reports device
-    → StepsDevice (device_named settings) device said comes device_after → mid ≡ talking (Link (reports ++ said ∷ []) device_after) e → StepsTo comes mid what new → DeviceAsks what e new
-report_hears settings reports None (SaysHello name) device_after e comes mid what new talk is after steps = named_hears settings reports name (device_named settings name) device_after e comes mid what new talk is after steps
-report_hears settings reports None (SaysMedia names) device_after e comes mid what new talk is after steps = absurd is
-report_hears settings reports None SaysReady device_after e comes mid what new talk is after steps = absurd is
-report_hears settings reports None SaysStop device_after e comes mid what new talk is after steps = absurd is
-report_hears settings reports None (SaysBusy time) device_after e comes mid what new talk is after steps = absurd is
-report_hears settings reports None (SaysPages job printed) device_after e comes mid what new talk is after steps = absurd is
-report_hears settings reports None (SaysDone job) device_after e comes mid what new talk is after steps = absurd is
-report_hears settings reports None (SaysFail job) device_after e comes mid what new talk is after steps = absurd is
-report_hears settings reports None SaysGone device_after e comes mid what new talk is after steps = absurd is
-report_hears settings reports (Some device) said device_after e comes mid what new talk ((it, same, is), named) after steps =
+pub report_hears : (settings : ServerSettings) (reports : List ReportRecord) (device : Option ℕ) (said : ReportRecord) (device_after : Option ℕ) (e : Entry) (comes : Step) (mid : Entry) (what : Ask) (new : Entry) → e.progress ≡ Link reports device
+    → StepsDevice (device_named settings) device said comes device_after → mid ≡ with_progress (Link (reports ++ said ∷ []) device_after) e → StepsTo comes mid what new → DeviceAsks what e new
+report_hears settings reports None (SaysHello name) device_after e comes mid what new progress is after steps = named_hears settings reports name (device_named settings name) device_after e comes mid what new progress is after steps
+report_hears settings reports None (SaysMedia names) device_after e comes mid what new progress is after steps = absurd is
+report_hears settings reports None SaysReady device_after e comes mid what new progress is after steps = absurd is
+report_hears settings reports None SaysStop device_after e comes mid what new progress is after steps = absurd is
+report_hears settings reports None (SaysBusy time) device_after e comes mid what new progress is after steps = absurd is
+report_hears settings reports None (SaysPages job printed) device_after e comes mid what new progress is after steps = absurd is
+report_hears settings reports None (SaysDone job) device_after e comes mid what new progress is after steps = absurd is
+report_hears settings reports None (SaysFail job) device_after e comes mid what new progress is after steps = absurd is
+report_hears settings reports None SaysGone device_after e comes mid what new progress is after steps = absurd is
+report_hears settings reports (Some device) said device_after e comes mid what new progress ((it, same, is), named) after steps =
     let asks : (what ≡ ask.Report device it) × (new ≡ finishing false mid) = subst (λ (s : Step). StepsTo s mid what new) is steps in
-    let whole : new ≡ finishing false (talking (Link (reports ++ said ∷ []) (Some device)) e) = asks.1 ∙ ap (finishing false) (after ∙ ap (λ (d : Option ℕ). talking (Link (reports ++ said ∷ []) d) e) named) in
-    let before : device_of e.talk ≡ Some device = ap device_of talk in
+    let whole : new ≡ finishing false (with_progress (Link (reports ++ said ∷ []) (Some device)) e) = asks.1 ∙ ap (finishing false) (after ∙ ap (λ (d : Option ℕ). with_progress (Link (reports ++ said ∷ []) d) e) named) in
+    let before : device_of e.progress ≡ Some device = ap device_of progress in
     inl (
       subst IsDeviceAsk (sym asks.0) tt,
       subst (λ (x : Entry). Ordered (λ d. []) (Some e) (Some x)) (sym whole) (record {
@@ -251,17 +251,17 @@ report_hears settings reports (Some device) said device_after e comes mid what n
         breaks = λ d is. inl ((before ∙ is.0, is.1), refl);
         device = λ d is. before ∙ is;
         fresh = λ fresh. tt;
-        client = λ client. absurd (not_client e.talk reports (Some device) talk client);
-        stays = λ f is client. absurd (subst ClientTalk (sym (ap (λ (x : Entry). x.talk) (one_entry (finishing false (talking (Link (reports ++ said ∷ []) (Some device)) e)) f is))) client);
+        client = λ client. absurd (not_client e.progress reports (Some device) progress client);
+        stays = λ f is client. absurd (subst ClientTalk (sym (ap (λ (x : Entry). x.progress) (one_entry (finishing false (with_progress (Link (reports ++ said ∷ []) (Some device)) e)) f is))) client);
       }),
     )
 
-pub device_hears : (settings : ServerSettings) (reports : List ReportRecord) (device : Option ℕ) (e : Entry) (comes : Step) (mid : Entry) (what : Ask) (new : Entry) → e.talk ≡ Link reports device → Hears settings (Link reports device) e comes mid → StepsTo comes mid what new → DeviceAsks what e new
-device_hears settings reports device e comes mid what new talk (inl next) steps = report_hears settings reports device next.said next.device_after e comes mid what new talk next.comes next.after steps
-device_hears settings reports device e comes mid what new talk (inr (inl next)) steps =
+pub device_hears : (settings : ServerSettings) (reports : List ReportRecord) (device : Option ℕ) (e : Entry) (comes : Step) (mid : Entry) (what : Ask) (new : Entry) → e.progress ≡ Link reports device → ItemComes settings (Link reports device) e comes mid → StepsTo comes mid what new → DeviceAsks what e new
+device_hears settings reports device e comes mid what new progress (inl next) steps = report_hears settings reports device next.said next.device_after e comes mid what new progress next.comes next.after steps
+device_hears settings reports device e comes mid what new progress (inr (inl next)) steps =
     let breaks : (what ≡ ask.Fault device) × (new ≡ broken mid) = subst (λ (s : Step). StepsTo s mid what new) next.comes steps in
-    link_breaks what (ask.Fault device) e mid new breaks.0 tt breaks.1 (ap (λ (x : Entry). x.due) next.after) (λ d is. ap (λ (x : Entry). device_of x.talk) (sym next.after) ∙ is) (λ client. absurd (not_client e.talk reports device talk client))
-    (λ client. not_client e.talk reports device talk (subst (λ (x : Entry). ClientTalk x.talk) next.after client))
-device_hears settings reports device e comes mid what new talk (inr (inr next)) steps =
+    link_breaks what (ask.Fault device) e mid new breaks.0 tt breaks.1 (ap (λ (x : Entry). x.due) next.after) (λ d is. ap (λ (x : Entry). device_of x.progress) (sym next.after) ∙ is) (λ client. absurd (not_client e.progress reports device progress client))
+    (λ client. not_client e.progress reports device progress (subst (λ (x : Entry). ClientTalk x.progress) next.after client))
+device_hears settings reports device e comes mid what new progress (inr (inr next)) steps =
     let breaks : (what ≡ ask.Broke growth.Input) × (new ≡ broken mid) = subst (λ (s : Step). StepsTo s mid what new) next.0 steps in
-    link_breaks what (ask.Broke growth.Input) e mid new breaks.0 tt breaks.1 (ap (λ (x : Entry). x.due) next.1) (λ d is. ap (λ (x : Entry). device_of x.talk) (sym next.1) ∙ is) (λ client. absurd (not_client e.talk reports device talk client)) (λ client. not_client e.talk reports device talk (subst (λ (x : Entry). ClientTalk x.talk) next.1 client))
+    link_breaks what (ask.Broke growth.Input) e mid new breaks.0 tt breaks.1 (ap (λ (x : Entry). x.due) next.1) (λ d is. ap (λ (x : Entry). device_of x.progress) (sym next.1) ∙ is) (λ client. absurd (not_client e.progress reports device progress client)) (λ client. not_client e.progress reports device progress (subst (λ (x : Entry). ClientTalk x.progress) next.1 client))

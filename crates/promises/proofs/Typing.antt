@@ -11,7 +11,7 @@ use Rattle.lpd.specs.Session.{SentRecord}
 use Rattle.events.specs.declared.event.Event.{Event}
 use Rattle.events.specs.declared.event.Event.TheVariants as Is
 use Rattle.events.specs.declared.effects.Response.{Response}
-use Rattle.events.specs.declared.effects.Response.TheVariants as Says
+use Rattle.events.specs.declared.effects.Response.TheVariants as responds
 use Rattle.events.specs.declared.effects.LpdResponse.TheVariants as Shown
 use Rattle.events.specs.declared.effects.Effects.{Effects}
 use Rattle.events.specs.declared.status.Status.{Status}
@@ -288,24 +288,24 @@ commands (RemovesJobs queue agent operands) Is.Tick is = absurd is
 -- ---- how it is answered
 
 abbrev pub IsTyped : Client → Response → Type 0
-IsTyped (client.Ipp request) (Says.Ipp answer) = Unit {0}
-IsTyped (client.Ipp request) (Says.Lpd answer) = ⊥
-IsTyped (client.Ipp request) Says.Nothing = ⊥
-IsTyped client.LpdJob (Says.Ipp answer) = ⊥
-IsTyped client.LpdJob (Says.Lpd (Shown.Taken taken)) = Unit {0}
-IsTyped client.LpdJob (Says.Lpd (Shown.Queue listing)) = ⊥
-IsTyped client.LpdJob (Says.Lpd Shown.NoQueue) = ⊥
-IsTyped client.LpdJob Says.Nothing = ⊥
-IsTyped client.LpdCommand (Says.Ipp answer) = ⊥
-IsTyped client.LpdCommand (Says.Lpd (Shown.Taken taken)) = ⊥
-IsTyped client.LpdCommand (Says.Lpd (Shown.Queue listing)) = Unit {0}
-IsTyped client.LpdCommand (Says.Lpd Shown.NoQueue) = Unit {0}
-IsTyped client.LpdCommand Says.Nothing = Unit {0}
+IsTyped (client.Ipp request) (responds.Ipp answer) = Unit {0}
+IsTyped (client.Ipp request) (responds.Lpd answer) = ⊥
+IsTyped (client.Ipp request) responds.Nothing = ⊥
+IsTyped client.LpdJob (responds.Ipp answer) = ⊥
+IsTyped client.LpdJob (responds.Lpd (Shown.Taken taken)) = Unit {0}
+IsTyped client.LpdJob (responds.Lpd (Shown.Queue listing)) = ⊥
+IsTyped client.LpdJob (responds.Lpd Shown.NoQueue) = ⊥
+IsTyped client.LpdJob responds.Nothing = ⊥
+IsTyped client.LpdCommand (responds.Ipp answer) = ⊥
+IsTyped client.LpdCommand (responds.Lpd (Shown.Taken taken)) = ⊥
+IsTyped client.LpdCommand (responds.Lpd (Shown.Queue listing)) = Unit {0}
+IsTyped client.LpdCommand (responds.Lpd Shown.NoQueue) = Unit {0}
+IsTyped client.LpdCommand responds.Nothing = Unit {0}
 
 ipp_answer : (id : ℕ) (status : Status) (unsupported : List IppAttribute) (groups : List IppGroup) (answer : Response) → IsResponse status unsupported groups answer → IsTyped (client.Ipp id) answer
-ipp_answer id status unsupported groups (Says.Ipp answer) is = tt
-ipp_answer id status unsupported groups (Says.Lpd answer) is = absurd is
-ipp_answer id status unsupported groups Says.Nothing is = absurd is
+ipp_answer id status unsupported groups (responds.Ipp answer) is = tt
+ipp_answer id status unsupported groups (responds.Lpd answer) is = absurd is
+ipp_answer id status unsupported groups responds.Nothing is = absurd is
 
 -- by either of two
 result_by : {A B : Type 0} {P : Type 0} (r : Result A B) (Q : A → Type 0) (R : B → Type 0) → ((a : A) → Q a → P) → ((b : B) → R b → P) → MatchResult r Q R → P
@@ -316,21 +316,21 @@ option_by : {A : Type 0} {P : Type 0} (o : Option A) (N : Type 0) (Q : A → Typ
 option_by None N Q n q it = n it
 option_by (Some a) N Q n q it = q a it
 
-lpd_taken : (taken : Bool) (answer : Response) → answer ≡ Says.Lpd (Shown.Taken taken) → IsTyped client.LpdJob answer
+lpd_taken : (taken : Bool) (answer : Response) → answer ≡ responds.Lpd (Shown.Taken taken) → IsTyped client.LpdJob answer
 lpd_taken taken answer is = subst (λ (a : Response). IsTyped client.LpdJob a) (sym is) tt
 
-lpd_none : (answer : Response) → answer ≡ Says.Lpd Shown.NoQueue → IsTyped client.LpdCommand answer
+lpd_none : (answer : Response) → answer ≡ responds.Lpd Shown.NoQueue → IsTyped client.LpdCommand answer
 lpd_none answer is = subst (λ (a : Response). IsTyped client.LpdCommand a) (sym is) tt
 
-lpd_nothing : (answer : Response) → answer ≡ Says.Nothing → IsTyped client.LpdCommand answer
+lpd_nothing : (answer : Response) → answer ≡ responds.Nothing → IsTyped client.LpdCommand answer
 lpd_nothing answer is = subst (λ (a : Response). IsTyped client.LpdCommand a) (sym is) tt
 
 lpd_listed : (now place : ℕ) (request : ListQueue) (state : State) (answer : Response) → IsListed now place request state answer → IsTyped client.LpdCommand answer
-lpd_listed now place request state (Says.Ipp answer) is = absurd is
-lpd_listed now place request state (Says.Lpd (Shown.Taken taken)) is = absurd is
-lpd_listed now place request state (Says.Lpd (Shown.Queue listing)) is = tt
-lpd_listed now place request state (Says.Lpd Shown.NoQueue) is = absurd is
-lpd_listed now place request state Says.Nothing is = absurd is
+lpd_listed now place request state (responds.Ipp answer) is = absurd is
+lpd_listed now place request state (responds.Lpd (Shown.Taken taken)) is = absurd is
+lpd_listed now place request state (responds.Lpd (Shown.Queue listing)) is = tt
+lpd_listed now place request state (responds.Lpd Shown.NoQueue) is = absurd is
+lpd_listed now place request state responds.Nothing is = absurd is
 
 held : (id now : ℕ) (until : HoldUntil) (request : JobRequest) (old : State) (reply : Effects) (new : State) → HoldsUntil now request until old reply new → IsTyped (client.Ipp id) reply.answer
 held id now hold.NoHold request old reply new it = result_by _ _ _ (λ a (done : ChangesIt now old Release [] a reply new). ipp_answer id _ _ _ reply.answer done.replies.answer) (λ b (refused : Refuses now old b reply new). ipp_answer id _ _ _ reply.answer refused.replies.answer) it

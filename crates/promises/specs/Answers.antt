@@ -3,13 +3,13 @@ use Rattle.std.specs.Prelude.{ℕ, ◌≡◌, ◌⊎◌, ◌==◌, Bool, true, f
 use Rattle.std.specs.List.{flat_map}
 use Rattle.settings_file.specs.Settings.{ServerSettings}
 use Rattle.http_front.specs.declared.item.HttpItem.{HttpItem}
-use Rattle.http_front.specs.Stream.{Said, said_by, SaysFirst}
+use Rattle.http_front.specs.Stream.{HttpElement, elements_of, ParsesFirst}
 use Rattle.lpd.specs.Items.{ItemRecord}
 use Rattle.lpd.specs.Session.{SessionState}
 use Rattle.wires.specs.declared.wire.Door.{Door}
 use Rattle.print_room.specs.State.{State}
 use Rattle.events.specs.declared.effects.Response.{Response}
-use Rattle.events.specs.declared.effects.Response.TheVariants as Says
+use Rattle.events.specs.declared.effects.Response.TheVariants as responds
 use Rattle.events.specs.declared.effects.LpdResponse.TheVariants as Shown
 use Rattle.events.specs.declared.effects.Effects.{Effects}
 use Rattle.events.specs.declared.status.Status.TheVariants.{TemporaryError}
@@ -44,13 +44,13 @@ pub record Act : Type 0 where
   pub state : State
 
 -- the next item of an IPP client, by the bytes that were read
-pub record NextIpp (said : List Said) (closes : Bool) (body : List ℕ) (what : Step) (after : PeerRecord) : Type 0 where
+pub record NextIpp (said : List HttpElement) (closes : Bool) (body : List ℕ) (what : Step) (after : PeerRecord) : Type 0 where
   pub item : HttpItem
   pub part : List ℕ
   pub read : List ℕ
-  pub first : SaysFirst read (said ++ said_by item part)
+  pub first : ParsesFirst read (said ++ elements_of item part)
   pub comes : StepsIpp item closes body what
-  pub is : after ≡ Http (said ++ said_by item part) (closes_after item closes) (body_after item what part body)
+  pub is : after ≡ Http (said ++ elements_of item part) (closes_after item closes) (body_after item what part body)
 
 -- the next item of an LPD client
 pub record NextLpd (queues : List ℕ → Bool) (items : List ItemRecord) (session : Option SessionState) (what : Step) (after : PeerRecord) : Type 0 where
@@ -69,20 +69,20 @@ IsNext settings (Link reports device) what after = ⊥
 
 -- the reply to an IPP request; or, if memory for it was refused, the status TemporaryError
 abbrev pub GivenIpp : Bool → ℕ → Response → List ℕ → Type 0
-GivenIpp closes request (Says.Ipp answer) bytes = ((spelt : List ℕ) × IsReply answer request spelt × (bytes ≡ http_reply closes spelt)) ⊎ (bytes ≡ http_status closes TemporaryError request)
-GivenIpp closes request (Says.Lpd answer) bytes = ⊥
-GivenIpp closes request Says.Nothing bytes = ⊥
+GivenIpp closes request (responds.Ipp answer) bytes = ((spelt : List ℕ) × IsReply answer request spelt × (bytes ≡ http_reply closes spelt)) ⊎ (bytes ≡ http_status closes TemporaryError request)
+GivenIpp closes request (responds.Lpd answer) bytes = ⊥
+GivenIpp closes request responds.Nothing bytes = ⊥
 
 -- the acknowledgement or the refusal of an LPD job
 abbrev pub GivenJob : Response → List ℕ → Type 0
-GivenJob (Says.Lpd (Shown.Taken taken)) bytes = bytes ≡ ack_of (Shown.Taken taken) ∷ []
+GivenJob (responds.Lpd (Shown.Taken taken)) bytes = bytes ≡ ack_of (Shown.Taken taken) ∷ []
 GivenJob _ bytes = ⊥
 
 -- the text of a queue; a removal has no answer
 abbrev pub GivenCommand : Response → List ℕ → Type 0
-GivenCommand (Says.Lpd (Shown.Queue listing)) bytes = bytes ≡ text_of (Shown.Queue listing)
-GivenCommand (Says.Lpd Shown.NoQueue) bytes = bytes ≡ text_of Shown.NoQueue
-GivenCommand Says.Nothing bytes = bytes ≡ []
+GivenCommand (responds.Lpd (Shown.Queue listing)) bytes = bytes ≡ text_of (Shown.Queue listing)
+GivenCommand (responds.Lpd Shown.NoQueue) bytes = bytes ≡ text_of Shown.NoQueue
+GivenCommand responds.Nothing bytes = bytes ≡ []
 GivenCommand _ bytes = ⊥
 
 -- the answer by the core's reply, or if memory for the event was refused; a command has no answer then, and its connection breaks
@@ -141,14 +141,14 @@ pub record IsAnswered (opening : State) (key : ℕ) (handled : List Handled) (e 
   pub whole : handled ≡ earlier ++ since
   pub door : Door
   pub acts : List Act
-  pub are : AreActs (opening_peer door) acts e.talk
+  pub are : AreActs (opening_peer door) acts e.progress
   pub states : All (λ (a : Act). IsStateOf a.state opening handled) acts
   pub asked : asked_by key since ≡ flat_map (λ (a : Act). a.asked) acts
   pub due : e.due ≡ flat_map (λ (a : Act). a.bytes) acts
 
 -- the next item, if there is one, makes no bytes due: the connection broke at it
 abbrev pub IsLast : State → List Handled → PeerRecord → PeerRecord → Type 0
-IsLast opening handled after talk = (after ≡ talk) ⊎ ((state : State) × (what : Step) × IsStateOf state opening handled × IsNext state.settings after what talk)
+IsLast opening handled after progress = (after ≡ progress) ⊎ ((state : State) × (what : Step) × IsStateOf state opening handled × IsNext state.settings after what progress)
 
 -- at most one event
 abbrev pub IsOneAtMost : List Handled → Type 0
@@ -163,7 +163,7 @@ pub record BrokeAfter (opening : State) (key : ℕ) (handled since : List Handle
   pub unanswered : List Handled
   pub one : IsOneAtMost unanswered
   pub asked : asked_by key since ≡ flat_map (λ (a : Act). a.asked) acts ++ unanswered
-  pub last : IsLast opening handled after e.talk
+  pub last : IsLast opening handled after e.progress
   pub due : e.due ≡ base ++ flat_map (λ (a : Act). a.bytes) acts
 
 -- The bytes due on a client's connection that broke are those of its acts before.
@@ -182,11 +182,11 @@ ClientTalk (Link reports device) = ⊥
 
 -- a client's connection that was closed without having broken was answered, by the events before
 abbrev pub WasAnswered : State → List Handled → Entry → Type 0
-WasAnswered opening handled e = ClientTalk e.talk → e.broken ≡ false → (key : ℕ) × (before : List Handled) × (behind : List Handled) × (handled ≡ before ++ behind) × IsAnswered opening key before e
+WasAnswered opening handled e = ClientTalk e.progress → e.broken ≡ false → (key : ℕ) × (before : List Handled) × (behind : List Handled) × (handled ≡ before ++ behind) × IsAnswered opening key before e
 
 -- a client's connection that broke and was closed was answered until it broke
 abbrev pub WasCutOff : State → List Handled → Entry → Type 0
-WasCutOff opening handled e = ClientTalk e.talk → e.broken ≡ true → (key : ℕ) × (before : List Handled) × (behind : List Handled) × (handled ≡ before ++ behind) × IsCutOff opening key before e
+WasCutOff opening handled e = ClientTalk e.progress → e.broken ≡ true → (key : ℕ) × (before : List Handled) × (behind : List Handled) × (handled ≡ before ++ behind) × IsCutOff opening key before e
 
 -- The events of a trace are one run of the core, which tells the listener's notes. Each open connection of a client that isn't broken is answered by the run, and so was each that was closed without having broken. A broken one was answered until it broke. On each open connection all that was read was acted on, unless it is draining or broken.
 pub record AreAnswered (opening : State) (trace : Trace) (l : Ledger) : Type 0 where
@@ -194,8 +194,8 @@ pub record AreAnswered (opening : State) (trace : Trace) (l : Ledger) : Type 0 w
   pub timed : AreOf trace handled
   pub run : AreHandled opening handled l.core
   pub told : core_notes (happenings_in trace) ≡ flat_map (λ (it : Handled). it.notes) handled
-  pub answered : (key : ℕ) (e : Entry) → l.entries key ≡ Some e → ClientTalk e.talk → e.broken ≡ false → IsAnswered opening key handled e
+  pub answered : (key : ℕ) (e : Entry) → l.entries key ≡ Some e → ClientTalk e.progress → e.broken ≡ false → IsAnswered opening key handled e
   pub heard : (key : ℕ) (e : Entry) → l.entries key ≡ Some e → IsHeard e
   pub closed : All (λ (it : Entry × Fate). WasAnswered opening handled it.0) l.closed
-  pub cut_off : (key : ℕ) (e : Entry) → l.entries key ≡ Some e → ClientTalk e.talk → e.broken ≡ true → IsCutOff opening key handled e
+  pub cut_off : (key : ℕ) (e : Entry) → l.entries key ≡ Some e → ClientTalk e.progress → e.broken ≡ true → IsCutOff opening key handled e
   pub closed_cut_off : All (λ (it : Entry × Fate). WasCutOff opening handled it.0) l.closed

@@ -6,7 +6,7 @@ use Rattle.http_front.specs.declared.refusal.HttpRejection.{HttpRejection}
 use Rattle.http_front.specs.declared.refusal.HttpRejection.TheVariants.{BadRequest}
 use Rattle.http_front.specs.declared.item.HttpItem.{HttpItem}
 use Rattle.http_front.specs.Reply.{continue_head}
-use Rattle.http_front.specs.Stream.{Said, HasHead, Invites, HasByte, EndsBody, IsRefused, said_by, SaysFirst}
+use Rattle.http_front.specs.Stream.{HttpElement, HasHead, Invites, HasByte, EndsBody, IsRefused, elements_of, ParsesFirst}
 use Rattle.http_front.specs.Order.{Between, in_order}
 use Rattle.events.specs.declared.status.Status.TheVariants.{TemporaryError}
 use Rattle.dispatcher.specs.Run.{reply_of}
@@ -37,10 +37,10 @@ pub record Exchange : Type 0 where
   pub answer : List ℕ
 
 -- a head, the invitation that it waits for, and a front of a body
-abbrev pub says_begun : Bool → Bool → List ℕ → List Said
+abbrev pub says_begun : Bool → Bool → List ℕ → List HttpElement
 says_begun closes invites body = HasHead closes ∷ ((if invites then Invites ∷ [] else []) ++ map HasByte body)
 
-abbrev pub says_exchange : Exchange → List Said
+abbrev pub says_exchange : Exchange → List HttpElement
 says_exchange x = says_begun x.closes x.invites x.body ++ EndsBody ∷ []
 
 -- A body without a whole header (RFC 8010, section 3.1.1) is answered by the head of a refusal, and a refused body by its status; no event is asked. For a body with an event, the core handles exactly that event, and the answer is the reply that it gave, or the status that memory was refused (RFC 8011, section 4.1).
@@ -70,7 +70,7 @@ pub data Front : Type 0 where
   Nothing : Front
   Begun : (closes invites : Bool) (body : List ℕ) → Front
 
-abbrev pub says_front : Front → List Said
+abbrev pub says_front : Front → List HttpElement
 says_front Nothing = []
 says_front (Begun closes invites body) = says_begun closes invites body
 
@@ -79,7 +79,7 @@ due_front Nothing = []
 due_front (Begun closes invites body) = invitation invites
 
 -- the rest may be refused
-abbrev pub says_refusal : Option HttpRejection → List Said
+abbrev pub says_refusal : Option HttpRejection → List HttpElement
 says_refusal None = []
 says_refusal (Some refusal) = IsRefused refusal ∷ []
 
@@ -90,7 +90,7 @@ due_refusal (Some refusal) = refusal_head refusal
 -- ---- the law
 
 -- A client's stream is whole exchanges, one after the other, and then at most the front of one more, or a refusal. Nothing follows an exchange that closes, one with too short a body, or a refusal. The bytes due are those of the exchanges, and the events asked are exactly theirs, in order.
-pub record AreExchanges (heard : List Said) (handled : List Handled) (bytes : List ℕ) : Type 0 where
+pub record AreExchanges (heard : List HttpElement) (handled : List Handled) (bytes : List ℕ) : Type 0 where
   pub order : in_order Between heard ≡ true
   pub exchanges : List Exchange
   pub each : All (λ (x : Exchange). IsExchange x) exchanges
@@ -103,26 +103,26 @@ pub record AreExchanges (heard : List Said) (handled : List Handled) (bytes : Li
 -- all acts of an IPP client are such exchanges
 abbrev pub ActsAreExchanges : Type 0
 ActsAreExchanges =
-    (acts : List Act) (said : List Said) (closes : Bool) (body : List ℕ) → AreActs (opening_peer Ipp) acts (Http said closes body)
+    (acts : List Act) (said : List HttpElement) (closes : Bool) (body : List ℕ) → AreActs (opening_peer Ipp) acts (Http said closes body)
     → AreExchanges said (flat_map (λ (a : Act). a.asked) acts) (flat_map (λ (a : Act). a.bytes) acts)
 
 -- the events asked on a connection since it was accepted, and the bytes due on it, are those of exchanges
-pub record ByExchanges (key : ℕ) (handled : List Handled) (said : List Said) (e : Entry) : Type 0 where
+pub record ByExchanges (key : ℕ) (handled : List Handled) (said : List HttpElement) (e : Entry) : Type 0 where
   pub earlier : List Handled
   pub since : List Handled
   pub whole : handled ≡ earlier ++ since
   pub are : AreExchanges said (asked_by key since) e.due
 
 -- at most one more item was acted on
-abbrev pub IsOneMore : List Said → List Said → Type 0
-IsOneMore until said = (said ≡ until) ⊎ ((item : HttpItem) × (part : List ℕ) × (said ≡ until ++ said_by item part))
+abbrev pub IsOneMore : List HttpElement → List HttpElement → Type 0
+IsOneMore until said = (said ≡ until) ⊎ ((item : HttpItem) × (part : List ℕ) × (said ≡ until ++ elements_of item part))
 
 -- A connection broke: the bytes due are those of the exchanges before, and at most one more event was asked, which has no answer.
-pub record UntilBroken (key : ℕ) (handled : List Handled) (said : List Said) (e : Entry) : Type 0 where
+pub record UntilBroken (key : ℕ) (handled : List Handled) (said : List HttpElement) (e : Entry) : Type 0 where
   pub earlier : List Handled
   pub since : List Handled
   pub whole : handled ≡ earlier ++ since
-  pub until : List Said
+  pub until : List HttpElement
   pub last : IsOneMore until said
   pub answered : List Handled
   pub unanswered : List Handled
@@ -132,24 +132,24 @@ pub record UntilBroken (key : ℕ) (handled : List Handled) (said : List Said) (
 
 abbrev pub IsByExchanges : ℕ → List Handled → PeerRecord → Entry → Type 0
 IsByExchanges key handled (Http said closes body) e = (e.broken ≡ false → ByExchanges key handled said e) × (e.broken ≡ true → UntilBroken key handled said e)
-IsByExchanges key handled talk e = Unit {0}
+IsByExchanges key handled progress e = Unit {0}
 
 -- a connection that was closed has this property, by the events before
 abbrev pub WasByExchanges : List Handled → Entry → Type 0
-WasByExchanges handled e = (key : ℕ) × (before : List Handled) × (behind : List Handled) × (handled ≡ before ++ behind) × IsByExchanges key before e.talk e
+WasByExchanges handled e = (key : ℕ) × (before : List Handled) × (behind : List Handled) × (handled ≡ before ++ behind) × IsByExchanges key before e.progress e
 
 -- the items acted on are a front of those that the bytes read say by HTTP
 abbrev pub IsFirst : List ℕ → PeerRecord → Type 0
-IsFirst read (Http said closes body) = SaysFirst read said
-IsFirst read talk = Unit {0}
+IsFirst read (Http said closes body) = ParsesFirst read said
+IsFirst read progress = Unit {0}
 
 -- The events of a trace are one run of the core, by which each IPP client is answered exchange by exchange, even if its connection was closed. On each connection the exchanges are a front of the exchanges that its bytes say. On an open connection they are all of these, unless the connection is draining or broken.
 pub record AreByExchanges (opening : State) (trace : Trace) (l : Ledger) : Type 0 where
   pub handled : List Handled
   pub timed : AreOf trace handled
   pub run : AreHandled opening handled l.core
-  pub each : (key : ℕ) (e : Entry) → l.entries key ≡ Some e → IsByExchanges key handled e.talk e
+  pub each : (key : ℕ) (e : Entry) → l.entries key ≡ Some e → IsByExchanges key handled e.progress e
   pub closed : All (λ (it : Entry × Fate). WasByExchanges handled it.0) l.closed
-  pub first : (key : ℕ) (e : Entry) → l.entries key ≡ Some e → IsFirst e.read e.talk
-  pub closed_first : All (λ (it : Entry × Fate). IsFirst it.0.read it.0.talk) l.closed
+  pub first : (key : ℕ) (e : Entry) → l.entries key ≡ Some e → IsFirst e.read e.progress
+  pub closed_first : All (λ (it : Entry × Fate). IsFirst it.0.read it.0.progress) l.closed
   pub heard : (key : ℕ) (e : Entry) → l.entries key ≡ Some e → IsHeard e

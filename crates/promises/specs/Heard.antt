@@ -3,7 +3,7 @@ use Rattle.std.specs.Prelude.{ℕ, ◌≡◌, ◌⊎◌, ◌==◌, Bool, true, f
 use Rattle.std.specs.List.{flat_map}
 use Rattle.base_types.specs.Report.{ReportRecord, SaysHello, IsGone, report_of}
 use Rattle.settings_file.specs.Settings.{device_names}
-use Rattle.device_link.specs.Stream.{SaysFirst}
+use Rattle.device_link.specs.Stream.{ParsesFirst}
 use Rattle.print_room.specs.State.{State}
 use Rattle.events.specs.declared.event.Event.{Event}
 use Rattle.events.specs.declared.event.Event.TheVariants as Is
@@ -74,30 +74,30 @@ said_on (Link reports device) = reports
 
 -- a whole connection: its reports, and then that the device is gone
 abbrev pub life_of : PeerRecord → List ReportRecord
-life_of talk = said_on talk ++ IsGone ∷ []
+life_of progress = said_on progress ++ IsGone ∷ []
 
 -- the device gave its name on the connection, and has had no other connection since
 abbrev pub is_of : ℕ → PeerRecord → Bool
-is_of device talk = names device (device_of talk)
+is_of device progress = names device (device_of progress)
 
-abbrev pub talk_of : Entry × Fate → PeerRecord
-talk_of it = it.0.talk
+abbrev pub progress_of : Entry × Fate → PeerRecord
+progress_of it = it.0.progress
 
 -- a connection with these reports broke: it is to be closed, or was
 abbrev pub HasBroken : PeerRecord → Ledger → Type 0
-HasBroken talk l =
-    ((key : ℕ) × (e : Entry) × (l.entries key ≡ Some e) × (e.talk ≡ talk) × (e.broken ≡ true))
-    ⊎ ((before : List (Entry × Fate)) × (it : Entry × Fate) × (behind : List (Entry × Fate)) × (l.closed ≡ before ++ it ∷ behind) × (it.0.talk ≡ talk) × (it.0.broken ≡ true))
+HasBroken progress l =
+    ((key : ℕ) × (e : Entry) × (l.entries key ≡ Some e) × (e.progress ≡ progress) × (e.broken ≡ true))
+    ⊎ ((before : List (Entry × Fate)) × (it : Entry × Fate) × (behind : List (Entry × Fate)) × (l.closed ≡ before ++ it ∷ behind) × (it.0.progress ≡ progress) × (it.0.broken ≡ true))
 
 -- the device has another connection: this connection has no device any more, and broke
 abbrev pub IsGivenUp : PeerRecord → Ledger → Type 0
-IsGivenUp talk l = (device_of talk ≡ None) × HasBroken talk l
+IsGivenUp progress l = (device_of progress ≡ None) × HasBroken progress l
 
 -- the reports of a device on its one open connection, if it has one
 abbrev pub IsNow : ℕ → List ReportRecord → Ledger → Type 0
 IsNow device now l =
     (IsAbsent device l × (now ≡ []))
-    ⊎ ((key : ℕ) × (e : Entry) × (l.entries key ≡ Some e) × (e.talk ≡ Link now (Some device)) × IsAlone device key l)
+    ⊎ ((key : ℕ) × (e : Entry) × (l.entries key ≡ Some e) × (e.progress ≡ Link now (Some device)) × IsAlone device key l)
 
 -- ---- the law
 
@@ -106,13 +106,13 @@ pub record IsReported (device : ℕ) (told : List ReportRecord) (l : Ledger) : T
   pub past : List PeerRecord
   pub now : List ReportRecord
   pub whole : told ≡ flat_map life_of past ++ now
-  pub closed : filter (is_of device) past ≡ filter (is_of device) (map talk_of l.closed)
-  pub given_up : All (λ (talk : PeerRecord). is_of device talk ≡ false → IsGivenUp talk l) past
+  pub closed : filter (is_of device) past ≡ filter (is_of device) (map progress_of l.closed)
+  pub given_up : All (λ (progress : PeerRecord). is_of device progress ≡ false → IsGivenUp progress l) past
   pub is_now : IsNow device now l
 
 -- the reports acted on are those that a front of the bytes read says first
 abbrev pub IsRead : Entry → Type 0
-IsRead e = (front : List ℕ) × (rest : List ℕ) × (e.read ≡ front ++ rest) × SaysFirst front (said_on e.talk)
+IsRead e = (front : List ℕ) × (rest : List ℕ) × (e.read ≡ front ++ rest) × ParsesFirst front (said_on e.progress)
 
 -- a state of the run: the opening, or the state after an event
 abbrev pub IsStateIn : State → State → List Came → Type 0
@@ -125,7 +125,7 @@ IsNameIn opening came name device = (state : State) × IsStateIn state opening c
 
 -- the first report on a connection of a device is the device's name
 abbrev pub IsGreeted : (List ℕ → ℕ → Type 0) → Entry → Type 0
-IsGreeted Name e = (device : ℕ) (reports : List ReportRecord) → e.talk ≡ Link reports (Some device) → (name : List ℕ) × (rest : List ReportRecord) × (reports ≡ SaysHello name ∷ rest) × Name name device
+IsGreeted Name e = (device : ℕ) (reports : List ReportRecord) → e.progress ≡ Link reports (Some device) → (name : List ℕ) × (rest : List ReportRecord) × (reports ≡ SaysHello name ∷ rest) × Name name device
 
 -- The events of a trace are one run of the core, which tells the listener's notes. For each device the reports among the events that came in turns are those on its connections, and the end of each connection. The settings have the name that the device gave. The reports of a connection are a front of those that its bytes say. On each connection, open or closed, they are all that its bytes say, unless it is draining or broken.
 pub record AreHeard (opening : State) (trace : Trace) (l : Ledger) : Type 0 where

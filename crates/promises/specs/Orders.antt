@@ -91,7 +91,7 @@ due_by device before (it ∷ later) = due_by device ((if names device it.named t
 
 -- a device's connection that was closed without having broken was sent its orders, by the events before
 abbrev pub WasSent : List Handled → Entry → Type 0
-WasSent handled e = (device : ℕ) → device_of e.talk ≡ Some device → e.broken ≡ false → (before : List Handled) × (behind : List Handled) × (handled ≡ before ++ behind) × (e.due ≡ due_by device [] before)
+WasSent handled e = (device : ℕ) → device_of e.progress ≡ Some device → e.broken ≡ false → (before : List Handled) × (behind : List Handled) × (handled ≡ before ++ behind) × (e.due ≡ due_by device [] before)
 
 -- the bytes due are a front of the orders for a device, by the events up to one of these
 abbrev pub IsFrontSent : List Handled → ℕ → List ℕ → Type 0
@@ -99,7 +99,7 @@ IsFrontSent handled device due = (before : List Handled) × (behind : List Handl
 
 -- a device's connection that broke was sent a front of its orders
 abbrev pub WasHalted : List Handled → Entry → Type 0
-WasHalted handled e = (device : ℕ) → device_of e.talk ≡ Some device → e.broken ≡ true → IsFrontSent handled device e.due
+WasHalted handled e = (device : ℕ) → device_of e.progress ≡ Some device → e.broken ≡ true → IsFrontSent handled device e.due
 
 -- The events of a trace are one run of the core, which tells the listener's notes. On each open connection of a device that isn't broken, the bytes due are the run's orders for the device since it gave its name: the line of each cancel, and for each job the line and the documents as they were when the job began. The same holds for each that was closed without having broken, by the events before. On one that broke, a front of the orders is due.
 pub record AreSent (opening : State) (trace : Trace) (l : Ledger) : Type 0 where
@@ -107,7 +107,7 @@ pub record AreSent (opening : State) (trace : Trace) (l : Ledger) : Type 0 where
   pub timed : AreOf trace handled
   pub run : AreHandled opening handled l.core
   pub told : core_notes (happenings_in trace) ≡ flat_map (λ (it : Handled). it.notes) handled
-  pub due : (key : ℕ) (e : Entry) (device : ℕ) → l.entries key ≡ Some e → device_of e.talk ≡ Some device → e.broken ≡ false → e.due ≡ due_by device [] handled
+  pub due : (key : ℕ) (e : Entry) (device : ℕ) → l.entries key ≡ Some e → device_of e.progress ≡ Some device → e.broken ≡ false → e.due ≡ due_by device [] handled
   pub closed : All (λ (it : Entry × Fate). WasSent handled it.0) l.closed
   pub halted : (key : ℕ) (e : Entry) → l.entries key ≡ Some e → WasHalted handled e
   pub closed_halted : All (λ (it : Entry × Fate). WasHalted handled it.0) l.closed

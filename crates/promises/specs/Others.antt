@@ -14,7 +14,7 @@ SparedAs (Some device) e now = (now ≡ None) ⊎ ((orders : List ℕ) × (now �
 
 abbrev pub IsSpared : Option Entry → Option Entry → Type 0
 IsSpared None now = now ≡ None
-IsSpared (Some e) now = SparedAs (device_of e.talk) e now
+IsSpared (Some e) now = SparedAs (device_of e.progress) e now
 
 -- the part of a turn that is about the connection under a key spares the others, if none is broken before
 abbrev pub SparesOthers : (ℕ → Rel) → Type 0

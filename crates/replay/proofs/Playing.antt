@@ -18,7 +18,7 @@ use Rattle.traces.specs.TraceLine.{IsLine, Finds}
 use Rattle.replay.specs.declared.wire.TraceWire.{TraceWire}
 use Rattle.replay.specs.Acting.{standing, Moves, IsReady, Becomes, Does, TakesTurn, TakesTurns, TakesTillQuiet}
 use Rattle.traces.specs.Connections.{numbered, with_connection, new_peer, changed_at, connections_text, seen, emptied}
-use Rattle.replay.specs.Log.{LogRecord, Hears, happening_text, happenings_text}
+use Rattle.replay.specs.Log.{LogRecord, LogsNote, happening_text, happenings_text}
 use Rattle.replay.specs.Playing.{Standing, Calls, Serves, Turns, Plays, IsReplyLine, most_turns, opened, on_peer}
 use Rattle.replay.specs.Wire.{WirePolls, PeersSee, any_stirs, all_turns}
 use Rattle.replay.proofs.Reach.{moves_nothing, moves_then}
@@ -30,7 +30,7 @@ use Rattle.replay.proofs.Telling.{heard_alone, heard_beside, moved_beside, all_h
 abbrev Printed : LogRecord → List ℕ → LogRecord → Type 0
 Printed log heard after = (log.heard ≡ Some heard) × (after ≡ record log { heard = Some [] })
 
-pub serves : (old new : Play) (body line heard text : List ℕ) (answer : Outcome) (log : LogRecord) → IsReady old → RefinesBody (alone Hears) old.moment body old.log old.engine log new.engine answer → IsReplyLine answer line → Printed log heard new.log → text ≡ line ++ heard → new.wire.failed ≡ old.wire.failed → standing new ≡ standing old
+pub serves : (old new : Play) (body line heard text : List ℕ) (answer : Outcome) (log : LogRecord) → IsReady old → RefinesBody (alone LogsNote) old.moment body old.log old.engine log new.engine answer → IsReplyLine answer line → Printed log heard new.log → text ≡ line ++ heard → new.wire.failed ≡ old.wire.failed → standing new ≡ standing old
     → Does old new (λ actions. Serves old.log.texts old.log.names old.moment body actions text × (standing new ≡ standing old))
 serves old new body line heard text answer log ready served replies printed is fine still =
     let all = all_heard old.log log new.log served.happenings heard (heard_alone old.log log served.happenings served.leads) ready.silent printed.0 printed.1 in
@@ -42,7 +42,7 @@ serves old new body line heard text answer log ready served replies printed is f
       prompt = fine ∙ ready.prompt;
     }
 
-pub calls : (old new : Play) (action : List Happening → Action) (heard : List ℕ) (result : Result (Unit {0}) AllocError) (log : LogRecord) → IsReady old → Engine.RefinesCall (alone Hears) action old.log old.engine log new.engine result → IsOk result → Printed log heard new.log → new.wire.failed ≡ old.wire.failed → standing new ≡ standing old
+pub calls : (old new : Play) (action : List Happening → Action) (heard : List ℕ) (result : Result (Unit {0}) AllocError) (log : LogRecord) → IsReady old → Engine.RefinesCall (alone LogsNote) action old.log old.engine log new.engine result → IsOk result → Printed log heard new.log → new.wire.failed ≡ old.wire.failed → standing new ≡ standing old
     → Does old new (λ actions. Calls old.log.texts old.log.names action actions heard × (standing new ≡ standing old))
 calls old new action heard result log ready called good printed fine still =
     let all = all_heard old.log log new.log called.happenings heard (heard_alone old.log log called.happenings called.leads) ready.silent printed.0 printed.1 in
@@ -56,7 +56,7 @@ calls old new action heard result log ready called good printed fine still =
 
 -- ---- turns
 
-pub took_turn : (old new : Play) (stirred : Bool) (wire : TraceWire) → wire ≡ record old.wire { stirred = false } → Engine.RefinesTurn (both WirePolls Hears) old.moment (wire, old.log) old.engine (new.wire, new.log) new.engine → stirred ≡ new.wire.stirred → new.moment ≡ old.moment → new.connections ≡ old.connections → TakesTurn old new stirred
+pub took_turn : (old new : Play) (stirred : Bool) (wire : TraceWire) → wire ≡ record old.wire { stirred = false } → Engine.RefinesTurn (both WirePolls LogsNote) old.moment (wire, old.log) old.engine (new.wire, new.log) new.engine → stirred ≡ new.wire.stirred → new.moment ≡ old.moment → new.connections ≡ old.connections → TakesTurn old new stirred
 took_turn old new stirred wire begins turned is still same =
     let heard = heard_beside (wire, old.log) (new.wire, new.log) turned.happenings turned.leads in
     let moved = moved_beside (wire, old.log) (new.wire, new.log) turned.happenings turned.leads in

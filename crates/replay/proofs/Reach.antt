@@ -6,7 +6,7 @@ use Rattle.server.specs.Refinement.{StandsAt}
 use Rattle.server.specs.Turn.{Trace}
 use Rattle.program.specs.declared.exit_status.ExitStatus.{ExitStatus}
 use Rattle.program.specs.declared.exit_status.ExitStatus.TheVariants as Ends
-use Rattle.program.specs.Said.{Said, refused_as, said_after}
+use Rattle.program.specs.Said.{ProgramOutput, refused_as, said_after}
 use Rattle.replay.specs.declared.play.Play.{Play}
 use Rattle.traces.specs.declared.line.Line.{Line}
 use Rattle.replay.specs.Acting.{standing, Moves, IsReady, Acts, PlaysAll, PlaysFirst}
@@ -26,7 +26,7 @@ pub record Reached (texts : Bool) (names : List (List ℕ)) (first : ℕ) (all :
   pub passed : List (List ℕ)
   pub whole : all ≡ passed ++ rest
   pub moves : Moves start actions engine
-  pub gives : (tail : List (List ℕ)) (later : Trace) (said : Said) → LinesPlay texts names number tail now later said → LinesPlay texts names first (passed ++ tail) begun (actions ++ later) (said_after done said)
+  pub gives : (tail : List (List ℕ)) (later : Trace) (said : ProgramOutput) → LinesPlay texts names number tail now later said → LinesPlay texts names first (passed ++ tail) begun (actions ++ later) (said_after done said)
 
 -- before the first line
 pub reached_start : (texts : Bool) (names : List (List ℕ)) (number : ℕ) (lines : List (List ℕ)) (now : Standing) (engine : EngineState) → Reached texts names number lines now engine [] number lines now engine
@@ -93,7 +93,7 @@ pub at_bad : (play now : Play) (number next printed : ℕ) (lines rest : List (L
     → Reached play.log.texts play.log.names number lines (standing play) play.engine done next rest (standing now) now.engine → rest ≡ bytes ∷ more → IsBad play.log.names bytes (standing now) → printed ≡ next
     → left ≡ before ++ (done ++ (refused_as (codes "line " ++ decimal printed)).text) → status ≡ Ends.Refused → PlaysAll play number lines before (record { text = left; status = status })
 at_bad play now number next printed lines rest before done left bytes more status r cut bad same is ends =
-    let refused : Said = refused_as (codes "line " ++ decimal next) in
+    let refused : ProgramOutput = refused_as (codes "line " ++ decimal next) in
     let step = r.gives (bytes ∷ more) [] refused (inl (bad, refl, refl)) in
     let whole : r.passed ++ bytes ∷ more ≡ lines = ap (λ ls. r.passed ++ ls) (sym cut) ∙ sym r.whole in
     record {

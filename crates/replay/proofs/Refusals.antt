@@ -7,7 +7,7 @@ use Rattle.settings_file.specs.Reading.{IsFaultOf}
 use Rattle.traces.specs.Lines.{HasNoStop, lines_of}
 use Rattle.program.specs.declared.exit_status.ExitStatus.{ExitStatus}
 use Rattle.program.specs.declared.exit_status.ExitStatus.TheVariants as Ends
-use Rattle.program.specs.Said.{Said, said_after}
+use Rattle.program.specs.Said.{ProgramOutput, said_after}
 use Rattle.program.specs.RefusedSettings.{settings_refused}
 use Rattle.std.specs.Str.{IsUtf8}
 use Rattle.settings_file.specs.Settings.{ServerSettings, device_names}
@@ -19,7 +19,7 @@ use Rattle.replay.specs.Log.{LogRecord}
 use Rattle.replay.specs.Playing.{LinesPlay}
 use Rattle.replay.specs.Replay.{LinesGive, SettingsGive, SettingsLeave, TraceGives, start}
 
-abbrev refusal : List ℕ → Said
+abbrev refusal : List ℕ → ProgramOutput
 refusal text = record { text = text; status = Ends.Refused }
 
 line_alone : (out old line : List ℕ) → old ≡ [] → out ≡ old ++ line → out ≡ line
@@ -44,10 +44,10 @@ trace_gives_no_settings texts trace named old out status unsplit is none said tw
 -- ---- settings that are good
 
 -- the text printed behind an empty text
-alone : (before : List ℕ) (text : Said) → before ≡ [] → said_after before text ≡ text
+alone : (before : List ℕ) (text : ProgramOutput) → before ≡ [] → said_after before text ≡ text
 alone before text none = ap (λ b. said_after b text) none
 
-lines_give : (texts : Bool) (read : ServerSettings) (play : Play) (number : ℕ) (lines : List (List ℕ)) (before : List ℕ) (all : Said) → IsStart texts read play → before ≡ [] → PlaysAll play number lines before all → LinesGive texts read number lines all
+lines_give : (texts : Bool) (read : ServerSettings) (play : Play) (number : ℕ) (lines : List (List ℕ)) (before : List ℕ) (all : ProgramOutput) → IsStart texts read play → before ≡ [] → PlaysAll play number lines before all → LinesGive texts read number lines all
 lines_give texts read play number lines before all starts none plays =
     let stands = plays.moves (opening read 1) [] starts.stands in
     let as_printed : plays.said ≡ all = sym (plays.printed ∙ alone before plays.said none) in

@@ -7,7 +7,7 @@ use Rattle.printer_objects.specs.declared.operation.Operation.TheVariants as ope
 use Rattle.events.specs.declared.event.Event.{Event}
 use Rattle.events.specs.declared.event.Event.TheVariants as Is
 use Rattle.events.specs.declared.effects.Response.{Response}
-use Rattle.events.specs.declared.effects.Response.TheVariants as Says
+use Rattle.events.specs.declared.effects.Response.TheVariants as responds
 use Rattle.events.specs.declared.effects.Effects.{Effects}
 use Rattle.events.specs.declared.status.Status.{Status}
 use Rattle.events.specs.declared.status.Status.TheVariants as Went
@@ -45,9 +45,9 @@ use Rattle.replay.specs.OneRun.{IsReplyOf}
 
 -- an answer to a request of IPP
 abbrev IsOfIpp : Response → Type 0
-IsOfIpp (Says.Ipp answer) = Unit {0}
-IsOfIpp (Says.Lpd answer) = ⊥
-IsOfIpp Says.Nothing = ⊥
+IsOfIpp (responds.Ipp answer) = Unit {0}
+IsOfIpp (responds.Lpd answer) = ⊥
+IsOfIpp responds.Nothing = ⊥
 
 -- an event that is a request of IPP
 abbrev IsRequest : Event → Type 0
@@ -72,9 +72,9 @@ IsRequest Is.Tick = ⊥
 -- ---- the answer to a request
 
 says_so : (status : Status) (unsupported : List IppAttribute) (groups : List IppGroup) (answer : Response) → IsResponse status unsupported groups answer → IsOfIpp answer
-says_so status unsupported groups (Says.Ipp answer) is = tt
-says_so status unsupported groups (Says.Lpd answer) is = is
-says_so status unsupported groups Says.Nothing is = is
+says_so status unsupported groups (responds.Ipp answer) is = tt
+says_so status unsupported groups (responds.Lpd answer) is = is
+says_so status unsupported groups responds.Nothing is = is
 
 says : (status : Status) (unsupported : List IppAttribute) (groups : List IppGroup) (reply : Effects) → IsResponse status unsupported groups reply.answer → IsOfIpp reply.answer
 says status unsupported groups reply answer = says_so status unsupported groups reply.answer answer
@@ -202,9 +202,9 @@ body_is_request body id event asks = of_body body id event (header_of body) asks
 -- ---- the bytes of a body's answer
 
 are_of_reply : (request : ℕ) (answer : Response) (bytes : List ℕ) → IsOfIpp answer → IsBytes request answer bytes → IsReplyOf answer request bytes
-are_of_reply request (Says.Ipp answer) bytes is are = are
-are_of_reply request (Says.Lpd answer) bytes is are = absurd is
-are_of_reply request Says.Nothing bytes is are = absurd is
+are_of_reply request (responds.Ipp answer) bytes is are = are
+are_of_reply request (responds.Lpd answer) bytes is are = absurd is
+are_of_reply request responds.Nothing bytes is are = absurd is
 
 pub body_replied : (body : List ℕ) (moment request : ℕ) (event : Event) (outcome : Outcome) (reply : Effects) (bytes : List ℕ) (old : State) (notes : List Note) (new : State) → Asks body (Body.Event request event) → reply_of outcome ≡ Some reply → Handles moment event old outcome notes new → IsBytes request reply.answer bytes → IsReplyOf reply.answer request bytes
 body_replied body moment request event outcome reply bytes old notes new asks answered handled are =

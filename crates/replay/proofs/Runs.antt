@@ -25,7 +25,7 @@ use Rattle.dispatcher.specs.Notes.{Note, Tells}
 use Rattle.server.specs.Polls.{Happening, Polled, Told, Chosen, seen}
 use Rattle.server.specs.Turn.{Outcome as Given, Replied, BadRequest, OutOfMemory, Action, Served_body, Reported, Ticked, Trace, Allows}
 use Rattle.server.proofs.Laws.{action_seen, none_seen, seen_apart}
-use Rattle.program.specs.Said.{Said, said_after}
+use Rattle.program.specs.Said.{ProgramOutput, said_after}
 use Rattle.traces.specs.declared.line.Line.{Line}
 use Rattle.traces.specs.declared.line.Line.TheVariants as Form
 use Rattle.replay.specs.Log.{note_text, happenings_text}
@@ -204,7 +204,7 @@ is_none names bytes s plain (inr (line, is, early)) = absurd (never (may_come li
 -- ---- all lines
 
 -- one run of the core from a state on, and the text printed for the run
-record AreMeant (texts : Bool) (names : List (List ℕ)) (number : ℕ) (lines : List (List ℕ)) (moment : ℕ) (old : State) (said : Said) : Type 0 where
+record AreMeant (texts : Bool) (names : List (List ℕ)) (number : ℕ) (lines : List (List ℕ)) (moment : ℕ) (old : State) (said : ProgramOutput) : Type 0 where
   part : Part
   new : State
   run : Run (PrintsEach texts names) old [] part.events part.outcomes new part.heard
@@ -214,7 +214,7 @@ record AreMeant (texts : Bool) (names : List (List ℕ)) (number : ℕ) (lines :
 abbrev IsPlain : List (List ℕ) → List ℕ → Type 0
 IsPlain names bytes = (line : Line) → IsLine names bytes line → IsOfNoConnection line
 
-lines_meant : (texts : Bool) (names : List (List ℕ)) (number : ℕ) (lines : List (List ℕ)) (old : Standing) (actions : Trace) (said : Said) (a b : Ledger) → SpeaksOfNoConnection names lines → LinesPlay texts names number lines old actions said → Allows actions a b → AreMeant texts names number lines old.moment a.core said
+lines_meant : (texts : Bool) (names : List (List ℕ)) (number : ℕ) (lines : List (List ℕ)) (old : Standing) (actions : Trace) (said : ProgramOutput) (a b : Ledger) → SpeaksOfNoConnection names lines → LinesPlay texts names number lines old actions said → Allows actions a b → AreMeant texts names number lines old.moment a.core said
 lines_meant texts names number [] old actions said a b plain (none, ends) runs = record { part = nothing; new = a.core; run = (refl, refl); printed = (refl, ends) }
 lines_meant texts names number (bytes ∷ more) old actions said a b plain (inl (bad, none, refused)) runs =
     record { part = nothing; new = a.core; run = (refl, refl); printed = inl (is_none names bytes old (All-head (IsPlain names) bytes more plain) bad, refl, refused) }
@@ -240,7 +240,7 @@ lines_meant texts names number (bytes ∷ more) old actions said a b plain (inr 
       );
     }
 
-pub lines_run : (texts : Bool) (settings : ServerSettings) (number : ℕ) (lines : List (List ℕ)) (said : Said) → SpeaksOfNoConnection (device_names settings) lines → LinesGive texts settings number lines said → IsOneRun texts settings number lines said
+pub lines_run : (texts : Bool) (settings : ServerSettings) (number : ℕ) (lines : List (List ℕ)) (said : ProgramOutput) → SpeaksOfNoConnection (device_names settings) lines → LinesGive texts settings number lines said → IsOneRun texts settings number lines said
 lines_run texts settings number lines said plain gives =
     let run = lines_meant texts (device_names settings) number lines start gives.actions said (opening_ledger (opening settings 1)) gives.ledger plain gives.plays gives.runs in
     record { part = run.part; new = run.new; run = run.run; printed = run.printed }

@@ -5,7 +5,7 @@ use Rattle.std.specs.Option.{ForSome}
 use Rattle.std.proofs.lemmas.Option.{none-some}
 use Rattle.server.specs.Polls.{Happening, Polled, Told, Chosen, Leads, both, alone}
 use Rattle.replay.specs.declared.wire.TraceWire.{TraceWire}
-use Rattle.replay.specs.Log.{LogRecord, Hears, note_text, happening_text, happenings_text}
+use Rattle.replay.specs.Log.{LogRecord, LogsNote, note_text, happening_text, happenings_text}
 use Rattle.replay.specs.Wire.{WirePolls, PeersSee, any_stirs, happening_stirs}
 
 -- a relation that is kept by a view of the states
@@ -22,7 +22,7 @@ leads_append moves a b c (h ∷ hs) ks p q = (p.0, p.1, leads_append moves p.0 b
 -- the log hears notes, and no polls
 abbrev Listens : LogRecord → Happening → LogRecord → Type 0
 Listens old (Polled poll) new = new ≡ old
-Listens old (Told note) new = Hears old note new
+Listens old (Told note) new = LogsNote old note new
 Listens old (Chosen choice) new = ⊥
 
 -- the notes of a log for happenings, if it has lost no note
@@ -55,23 +55,23 @@ heard_all old new (h ∷ hs) (mid, first, later) =
           (begun.0, begun.1, rest.2 ∙ ap (λ t. t ++ happenings_text mid.texts mid.names hs) begun.2 ∙ append_assoc begun.0 (happening_text old.texts old.names h) _ ∙ ap (λ t. begun.0 ++ (happening_text old.texts old.names h ++ t)) named);
     }
 
-listens_alone : (old : LogRecord) (h : Happening) (new : LogRecord) → alone Hears old h new → Listens old h new
+listens_alone : (old : LogRecord) (h : Happening) (new : LogRecord) → alone LogsNote old h new → Listens old h new
 listens_alone old (Polled poll) new none = absurd none
 listens_alone old (Told note) new hears = hears
 listens_alone old (Chosen choice) new none = absurd none
 
 -- without a wire
-pub heard_alone : (old new : LogRecord) (hs : List Happening) → Leads (alone Hears) old hs new → HasHeard old hs new
-heard_alone old new hs leads = heard_all old new hs (leads_as (alone Hears) Listens (λ l. l) listens_alone old new hs leads)
+pub heard_alone : (old new : LogRecord) (hs : List Happening) → Leads (alone LogsNote) old hs new → HasHeard old hs new
+heard_alone old new hs leads = heard_all old new hs (leads_as (alone LogsNote) Listens (λ l. l) listens_alone old new hs leads)
 
-listens_beside : (old : TraceWire × LogRecord) (h : Happening) (new : TraceWire × LogRecord) → both WirePolls Hears old h new → Listens old.1 h new.1
+listens_beside : (old : TraceWire × LogRecord) (h : Happening) (new : TraceWire × LogRecord) → both WirePolls LogsNote old h new → Listens old.1 h new.1
 listens_beside old (Polled poll) new (moved, same) = same
 listens_beside old (Told note) new (hears, same) = hears
 listens_beside old (Chosen choice) new none = absurd none
 
 -- beside a wire
-pub heard_beside : (old new : TraceWire × LogRecord) (hs : List Happening) → Leads (both WirePolls Hears) old hs new → HasHeard old.1 hs new.1
-heard_beside old new hs leads = heard_all old.1 new.1 hs (leads_as (both WirePolls Hears) Listens (λ s. s.1) listens_beside old new hs leads)
+pub heard_beside : (old new : TraceWire × LogRecord) (hs : List Happening) → Leads (both WirePolls LogsNote) old hs new → HasHeard old.1 hs new.1
+heard_beside old new hs leads = heard_all old.1 new.1 hs (leads_as (both WirePolls LogsNote) Listens (λ s. s.1) listens_beside old new hs leads)
 
 -- all notes are printed, and then the log is as it was
 pub all_heard : (old new after : LogRecord) (hs : List Happening) (text : List ℕ) → HasHeard old hs new → old.heard ≡ Some [] → new.heard ≡ Some text → after ≡ record new { heard = Some [] } → (text ≡ happenings_text old.texts old.names hs) × (after ≡ old)
@@ -122,10 +122,10 @@ moved_all old new (h ∷ hs) (mid, first, later) =
           (begun.0, (mid.memory.peers.items, begun.1, rest.1));
     }
 
-sees_beside : (old : TraceWire × LogRecord) (h : Happening) (new : TraceWire × LogRecord) → both WirePolls Hears old h new → WireSees old.0 h new.0
+sees_beside : (old : TraceWire × LogRecord) (h : Happening) (new : TraceWire × LogRecord) → both WirePolls LogsNote old h new → WireSees old.0 h new.0
 sees_beside old (Polled poll) new (moved, same) = moved
 sees_beside old (Told note) new (hears, same) = same
 sees_beside old (Chosen choice) new none = absurd none
 
-pub moved_beside : (old new : TraceWire × LogRecord) (hs : List Happening) → Leads (both WirePolls Hears) old hs new → HasMoved old.0 hs new.0
-moved_beside old new hs leads = moved_all old.0 new.0 hs (leads_as (both WirePolls Hears) WireSees (λ s. s.0) sees_beside old new hs leads)
+pub moved_beside : (old new : TraceWire × LogRecord) (hs : List Happening) → Leads (both WirePolls LogsNote) old hs new → HasMoved old.0 hs new.0
+moved_beside old new hs leads = moved_all old.0 new.0 hs (leads_as (both WirePolls LogsNote) WireSees (λ s. s.0) sees_beside old new hs leads)

@@ -9,7 +9,7 @@ use Rattle.server.specs.Turn.{Trace, Turned}
 use Rattle.server.specs.State.{EngineState}
 use Rattle.server.specs.Refinement.{StandsAt}
 use Rattle.program.specs.declared.exit_status.ExitStatus.TheVariants as Ends
-use Rattle.program.specs.Said.{Said, said_after}
+use Rattle.program.specs.Said.{ProgramOutput, said_after}
 use Rattle.replay.specs.declared.play.Play.{Play}
 use Rattle.traces.specs.declared.line.Line.{Line}
 use Rattle.replay.specs.Log.{happenings_text}
@@ -85,9 +85,9 @@ Acts old bytes output true new output' =
 Acts old bytes output false new output' = IsBad old.log.names bytes (standing old) × (output' ≡ output)
 
 -- the text and the status of lines, of which the first has this number, for each trace at which the server stood before, with the actions of the lines
-pub record PlaysAll (old : Play) (number : ℕ) (lines : List (List ℕ)) (before : List ℕ) (all : Said) : Type 0 where
+pub record PlaysAll (old : Play) (number : ℕ) (lines : List (List ℕ)) (before : List ℕ) (all : ProgramOutput) : Type 0 where
   pub actions : Trace
-  pub said : Said
+  pub said : ProgramOutput
   pub new : EngineState
   pub plays : LinesPlay old.log.texts old.log.names number lines (standing old) actions said
   pub moves : Moves old.engine actions new

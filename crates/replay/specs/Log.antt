@@ -18,8 +18,8 @@ note_text texts names (DeviceRefused id why) = []
 note_text texts names (Refused place id) = []
 
 -- the text of a note is appended, or memory was refused
-abbrev pub Hears : LogRecord → Note → LogRecord → Type 0
-Hears old note new =
+abbrev pub LogsNote : LogRecord → Note → LogRecord → Type 0
+LogsNote old note new =
     (new ≡ record old { heard = option_map (λ text. text ++ note_text old.texts old.names note) old.heard })
     ⊎ (new ≡ record old { heard = None })
 

@@ -8,7 +8,7 @@ use Rattle.print_room.specs.State.{State}
 use Rattle.events.specs.declared.event.Event.{Event}
 use Rattle.events.specs.declared.event.Event.TheVariants as Is
 use Rattle.events.specs.declared.effects.Response.{Response}
-use Rattle.events.specs.declared.effects.Response.TheVariants as Says
+use Rattle.events.specs.declared.effects.Response.TheVariants as responds
 use Rattle.events.specs.declared.effects.Effects.{Effects}
 use Rattle.dispatcher.specs.declared.run.Timed.{Timed}
 use Rattle.dispatcher.specs.declared.outcome.Outcome.{Outcome}
@@ -19,7 +19,7 @@ use Rattle.ipp_operations.specs.declared.parsed_request.ParsedRequest.TheVariant
 use Rattle.ipp_operations.specs.ParsedRequest.{Asks}
 use Rattle.ipp_operations.specs.Reply.{IsReply, refusal_bytes}
 use Rattle.program.specs.declared.exit_status.ExitStatus.TheVariants as Ends
-use Rattle.program.specs.Said.{Said, refused_as, said_after}
+use Rattle.program.specs.Said.{ProgramOutput, refused_as, said_after}
 use Rattle.traces.specs.declared.line.Line.{Line}
 use Rattle.traces.specs.declared.line.Line.TheVariants as Form
 use Rattle.traces.specs.TraceLine.{IsLine}
@@ -73,9 +73,9 @@ pub record IsOne (event : Event) (moment : ℕ) (reply : Effects) (part : Part) 
 
 -- the bytes of the reply to the request with this id
 abbrev pub IsReplyOf : Response → ℕ → List ℕ → Type 0
-IsReplyOf (Says.Ipp answer) request_id bytes = IsReply answer request_id bytes
-IsReplyOf (Says.Lpd answer) request_id bytes = ⊥
-IsReplyOf Says.Nothing request_id bytes = ⊥
+IsReplyOf (responds.Ipp answer) request_id bytes = IsReply answer request_id bytes
+IsReplyOf (responds.Lpd answer) request_id bytes = ⊥
+IsReplyOf responds.Nothing request_id bytes = ⊥
 
 -- the part of a run for a body, and the printed text of its reply
 abbrev pub BodyMeans : ParsedRequest → ℕ → Part → List ℕ → Type 0
@@ -106,16 +106,16 @@ abbrev pub IsNoLine : List (List ℕ) → List ℕ → Type 0
 IsNoLine names bytes = (line : Line) → ¬ (IsLine names bytes line)
 
 -- The part of a run for the lines, in order, up to the first bytes that aren't a line; and the text: for each line the text of its reply, and then that of the notes of its event.
-abbrev pub LinesMean : List (List ℕ) → ℕ → List (List ℕ) → ℕ → Part → Said → Type 0
+abbrev pub LinesMean : List (List ℕ) → ℕ → List (List ℕ) → ℕ → Part → ProgramOutput → Type 0
 LinesMean names number [] moment all said = (all ≡ nothing) × (said ≡ record { text = []; status = Ends.Done })
 LinesMean names number (bytes ∷ more) moment all said =
     (IsNoLine names bytes × (all ≡ nothing) × (said ≡ refused_as (codes "line " ++ decimal number)))
-    ⊎ ((line : Line) × (part : Part) × (text : List ℕ) × (later : Part) × (rest : Said)
+    ⊎ ((line : Line) × (part : Part) × (text : List ℕ) × (later : Part) × (rest : ProgramOutput)
     × IsLine names bytes line × Means line moment part text × LinesMean names (suc number) more (moment_after line moment) later rest
     × (all ≡ then_part part later) × (said ≡ said_after (text ++ concat part.heard) rest))
 
 -- one run of the core over the events of the lines, from the start of a server with these settings, and its text
-pub record IsOneRun (texts : Bool) (settings : ServerSettings) (number : ℕ) (lines : List (List ℕ)) (said : Said) : Type 0 where
+pub record IsOneRun (texts : Bool) (settings : ServerSettings) (number : ℕ) (lines : List (List ℕ)) (said : ProgramOutput) : Type 0 where
   pub part : Part
   pub new : State
   pub run : Run (PrintsEach texts (device_names settings)) (opening settings 1) [] part.events part.outcomes new part.heard

@@ -12,7 +12,7 @@ use Rattle.server.specs.Turn.{Trace, Allows}
 use Rattle.program.specs.declared.exit_status.ExitStatus.{ExitStatus}
 use Rattle.program.specs.declared.exit_status.ExitStatus.TheVariants as Ends
 use Rattle.program.specs.Input.{IsWhole, GaveMore}
-use Rattle.program.specs.Said.{Said, refused_as}
+use Rattle.program.specs.Said.{ProgramOutput, refused_as}
 use Rattle.program.specs.RefusedSettings.{settings_refused}
 use Rattle.traces.specs.Lines.{lines_of, IsSplit, HasNoStop}
 use Rattle.replay.specs.Playing.{Standing, LinesPlay}
@@ -24,7 +24,7 @@ abbrev pub start : Standing
 start = record { moment = 0; connections = []; peers = [] }
 
 -- The text and the status of lines, of which the first has this number: those of the actions that a server with these settings takes for them from its start on.
-pub record LinesGive (texts : Bool) (settings : ServerSettings) (number : ℕ) (lines : List (List ℕ)) (said : Said) : Type 0 where
+pub record LinesGive (texts : Bool) (settings : ServerSettings) (number : ℕ) (lines : List (List ℕ)) (said : ProgramOutput) : Type 0 where
   pub actions : Trace
   pub ledger : Ledger
   pub plays : LinesPlay texts (device_names settings) number lines start actions said
@@ -33,7 +33,7 @@ pub record LinesGive (texts : Bool) (settings : ServerSettings) (number : ℕ) (
 -- ---- a trace
 
 -- the text and the status of settings, with the lines behind the first `count` lines
-abbrev pub SettingsGive : Bool → List ℕ → List ℕ → ℕ → Said → Type 0
+abbrev pub SettingsGive : Bool → List ℕ → List ℕ → ℕ → ProgramOutput → Type 0
 SettingsGive texts settings rest count said =
     (¬ (IsUtf8 settings) × (said ≡ settings_refused not_toml))
     ⊎ (IsUtf8 settings × MatchResult (settings_of settings)
@@ -41,7 +41,7 @@ SettingsGive texts settings rest count said =
     (λ fault. said ≡ settings_refused fault))
 
 -- the text and the status of a trace; without the line that ends the settings it is refused
-abbrev pub TraceGives : Bool → List ℕ → Said → Type 0
+abbrev pub TraceGives : Bool → List ℕ → ProgramOutput → Type 0
 TraceGives texts trace said =
     (HasNoStop trace × (said ≡ settings_refused not_toml))
     ⊎ ((settings : List ℕ) × (rest : List ℕ) × (count : ℕ) × IsSplit trace settings rest count × SettingsGive texts settings rest count said)
@@ -66,7 +66,7 @@ TraceLeaves texts trace left =
 -- ---- the program
 
 -- the text and the status of an input, which is a whole trace or has too many bytes
-abbrev pub InputGives : Bool → Option (List ℕ) → Option (List ℕ) → Said → Type 0
+abbrev pub InputGives : Bool → Option (List ℕ) → Option (List ℕ) → ProgramOutput → Type 0
 InputGives texts before after said =
     ((trace : List ℕ) × IsWhole INPUT_BYTES before after trace × TraceGives texts trace said)
     ⊎ (GaveMore INPUT_BYTES before after × (said ≡ refused_as (codes "size")))
@@ -76,10 +76,10 @@ abbrev pub InputLeaves : Bool → Option (List ℕ) → Option (List ℕ) → Li
 InputLeaves texts before after left =
     (left ≡ [])
     ⊎ ((trace : List ℕ) × IsWhole INPUT_BYTES before after trace × TraceLeaves texts trace left)
-    ⊎ ((said : Said) × InputGives texts before after said × (left ≡ said.text))
+    ⊎ ((said : ProgramOutput) × InputGives texts before after said × (left ≡ said.text))
 
 -- The text of the input was written as a whole; or memory, the reader or the writer failed, and a front of the text so far was written.
 abbrev pub Replays : Bool → Option (List ℕ) → Option (List ℕ) → Option (List ℕ) → Option (List ℕ) → ExitStatus → Type 0
 Replays texts before after held holds status =
-    ((said : Said) × InputGives texts before after said × Appends held holds said.text × (status ≡ said.status))
+    ((said : ProgramOutput) × InputGives texts before after said × Appends held holds said.text × (status ≡ said.status))
     ⊎ ((status ≡ Ends.Failed) × (left : List ℕ) × (n : ℕ) × InputLeaves texts before after left × Appends held holds (take n left))

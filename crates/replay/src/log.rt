@@ -32,9 +32,9 @@ impl Model for Log {
 }
 
 impl Listener for Log {
-    ghost use Rattle.replay.specs.Log.{Hears};
+    ghost use Rattle.replay.specs.Log.{LogsNote};
 
-    ghost told = { Hears };
+    ghost told = { LogsNote };
 
     fn dispatched(&mut self, made: &Dispatched<'_>) {
         match self.dispatch_text(made) {

@@ -2,7 +2,7 @@ use Rattle.std.proofs.Common.{subst, sym, refl, arith, ◌≡◌, ◌∙◌, ◌
 use Rattle.std.proofs.lemmas.List.{append-nil}
 use Rattle.http_front.specs.declared.reader.Step.TheVariants as step
 use Rattle.http_front.specs.declared.awaited.Awaited.TheVariants as await
-use Rattle.http_front.specs.Stream.{Steps, Advances, Stands, said_by, FrontIs, Waits}
+use Rattle.http_front.specs.Stream.{Steps, Advances, HasRead, elements_of, FrontIs, Waits}
 use Rattle.http_front.proofs.Fronts.{rank_passed}
 use Rattle.http_front.proofs.Steps.{advances_nothing, advances_then, tells_all}
 use Rattle.http_front.proofs.reader.HttpReader.next_item.Goals as goal
@@ -19,7 +19,7 @@ returns-in-Nothing-clause-answer c =
 pub returns-in-Gives-clause-answer : goal.returns-in-Gives-clause-answer
 returns-in-Gives-clause-answer c =
     let gave : Steps c.loop-item.self (step.Gives c.in-Gives.item) c.step.new.self = c.in-Gives.ensures in
-    (advances_then c.args.self.now c.loop-item.self c.step.new.self (said_by c.in-Gives.item c.step.new.self.part) c.loop-item.invariant.0 gave.0, gave.1)
+    (advances_then c.args.self.now c.loop-item.self c.step.new.self (elements_of c.in-Gives.item c.step.new.self.part) c.loop-item.invariant.0 gave.0, gave.1)
 
 pub loop-item-preserved : goal.loop-item-preserved
 loop-item-preserved c =
@@ -30,7 +30,7 @@ pub returns-in-Waits-clause-answer : goal.returns-in-Waits-clause-answer
 returns-in-Waits-clause-answer c =
     let waits : Steps c.loop-item.self step.Waits c.step.new.self = c.in-Waits.ensures in (
       subst (λ new. Advances c.args.self.now [] new) (sym waits.0) c.loop-item.invariant.0,
-      λ stream given stands. tells_all c.loop-item.self waits.1 stream given (subst (λ g. Stands stream g c.loop-item.self) (append-nil given) (c.loop-item.invariant.0 stream given stands)),
+      λ stream given stands. tells_all c.loop-item.self waits.1 stream given (subst (λ g. HasRead stream g c.loop-item.self) (append-nil given) (c.loop-item.invariant.0 stream given stands)),
     )
 
 pub returns-in-Gives-clause-falls : goal.returns-in-Gives-clause-falls

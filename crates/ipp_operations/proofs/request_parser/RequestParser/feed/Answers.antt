@@ -2,7 +2,7 @@ use Rattle.std.proofs.Common.{◌≡◌, ◌++◌, Bool, true, cond, List, ℕ, 
 use Rattle.std.proofs.lemmas.List.{take_rest}
 use Rattle.std.proofs.lemmas.Result.{on_ok_weaker}
 use Rattle.ipp_codec.specs.declared.stage.Stage.TheVariants.{Whole, Faulty}
-use Rattle.ipp_operations.specs.Reader.{ReaderState, Heard, reads_document}
+use Rattle.ipp_operations.specs.Reader.{ReaderState, HasRead, reads_document}
 use Rattle.ipp_operations.proofs.Hearing.{heard_no_head, heard_head}
 use Rattle.ipp_operations.proofs.request_parser.RequestParser.feed.Goals as goal
 
@@ -10,7 +10,7 @@ pub returns-in-Err-Fault-clause-fed : goal.returns-in-Err-Fault-clause-fed
 returns-in-Err-Fault-clause-fed c = λ bytes heard.
     let fed = rw c.in-Err-Fault.field-0-is at c.in-Err-Fault.ensures.fed in
     let reader : ReaderState = record { decoder = c.self.inside.decoder; document = c.self.inside.document } in
-    let same : Heard bytes reader = subst (λ (r : ReaderState). Heard bytes r) (sym c.self.view_is) heard in
+    let same : HasRead bytes reader = subst (λ (r : ReaderState). HasRead bytes r) (sym c.self.view_is) heard in
     heard_no_head bytes c.args.piece.now reader.document reader.decoder c.feed.new.self fed.0 c.feed.ensures.over (λ h. let e : Whole ≡ Faulty c.in-Err-Fault.field-0-0 = sym h ∙ fed.1 in absurd cc) same
 
 pub returns-else-is_err-clause-fed : goal.returns-else-is_err-clause-fed
@@ -23,7 +23,7 @@ returns-else-is_err-clause-fed c =
     let reads : reads_document new.head ≡ true = ap reads_document (sym c.head.ensures) ∙ sym c.reads_document.ensures ∙ c.if-not-reads_document.false in
     on_ok_weaker c.push-kept.result
     (λ more bytes heard.
-    let same : Heard bytes reader = subst (λ (r : ReaderState). Heard bytes r) (sym c.self.view_is) heard in
+    let same : HasRead bytes reader = subst (λ (r : ReaderState). HasRead bytes r) (sym c.self.view_is) heard in
     let later = more ∙ ap (λ (l : List ℕ). reader.document ++ l) (take_rest piece count) ∙ sym (ap (λ (b : Bool). cond b (reader.document ++ drop count piece) reader.document) reads) in
     heard_head bytes piece reader.document c.push-kept.new.self reader.decoder new count fed.0 c.feed.ensures.over fed.1 fed.2 later same)
     c.push-kept.ensures.ok

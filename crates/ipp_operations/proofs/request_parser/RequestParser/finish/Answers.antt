@@ -1,6 +1,6 @@
 use Rattle.std.proofs.Common.{sym, subst}
 use Rattle.std.proofs.lemmas.Result.{IfOk-weaker}
-use Rattle.ipp_operations.specs.Reader.{ReaderState, Heard}
+use Rattle.ipp_operations.specs.Reader.{ReaderState, HasRead}
 use Rattle.ipp_operations.proofs.Hearing.{holds}
 use Rattle.ipp_operations.proofs.request_parser.RequestParser.finish.Goals as goal
 
@@ -8,5 +8,5 @@ pub returns-clause-asked : goal.returns-clause-asked
 returns-clause-asked c =
     let reader : ReaderState = record { decoder = c.self.inside.decoder; document = c.self.inside.document } in
     IfOk-weaker c.parsed.result _ _
-    (λ said asks bytes heard. let same : Heard bytes reader = subst (λ (r : ReaderState). Heard bytes r) (sym c.self.view_is) heard in asks bytes same.stands (holds bytes reader same))
+    (λ said asks bytes heard. let same : HasRead bytes reader = subst (λ (r : ReaderState). HasRead bytes r) (sym c.self.view_is) heard in asks bytes same.stands (holds bytes reader same))
     c.parsed.ensures.asked
