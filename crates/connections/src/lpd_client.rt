@@ -18,17 +18,7 @@ use settings_file::Settings;
 use std::alloc::{AllocError, Global};
 use std::marker::Model;
 
-<<<<<<< HEAD
-/// An LPD client, as far as its stream was acted on.
-=======
-/// The acknowledgement of a file or of a command (RFC 1179, section 6).
-const ACCEPTED: u8 = 0;
-
-/// The refusal of a file or of a command (RFC 1179, section 6).
-pub const REFUSED: u8 = 1;
-
 /// An LPD client, with the state of its stream.
->>>>>>> h3
 #[derive(Drop)]
 pub struct LpdClient {
     alloc: Global,

@@ -242,20 +242,7 @@ fn place_word(place: AllocationSite) -> &'static str {
     }
 }
 
-<<<<<<< HEAD
-/// Why a connection is closed.
-=======
-/// The word for a door, which is the option of its port.
-fn door_word(door: Door) -> &'static str {
-    match door {
-        Door::Ipp => "ipp",
-        Door::Lpd => "lpd",
-        Door::Devices => "devices",
-    }
-}
-
 /// The word for the reason of a close.
->>>>>>> h3
 fn leave_word(leave: CloseReason) -> &'static str {
     match leave {
         CloseReason::Served => "served",

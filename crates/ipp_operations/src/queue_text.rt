@@ -9,18 +9,13 @@ use job_objects::{JobReasons, JobState};
 use printer_objects::PrinterState;
 use std::alloc::{AllocError, Global};
 
-<<<<<<< HEAD
 /// The byte that accepts what an LPD client sent (RFC 1179, section 6).
 pub const ACCEPTED: u8 = 0;
 
-/// The byte that refuses it.
+/// The byte that refuses what an LPD client sent (RFC 1179, section 6).
 pub const REFUSED: u8 = 1;
 
-/// The byte that answers an LPD client once its files make a job: [`ACCEPTED`] where the job was taken, else
-/// [`REFUSED`].
-=======
-/// The byte for an LPD client whose files are a whole job: 0 if the job was taken, else 1.
->>>>>>> h3
+/// The byte for an LPD client whose files are a whole job: [`ACCEPTED`] if the job was taken, else [`REFUSED`].
 pub fn lpd_ack(answer: &LpdResponse) -> u8
     ensures { result ≡ ack_of answer.now }
 {
