@@ -296,7 +296,11 @@ fn drop_taken(text: &mut Vec<u8>, count: usize)
     ensures left { text.new.items ≡ drop count text.old.items }
     ensures capacity { vec_capacity text.new ≡ vec_capacity text.old }
 {
-    text.drain(..count);
+    if count == text.len() {
+        text.clear();
+    } else {
+        text.drain(..count);
+    }
 }
 
 /// The waiting text and a line, as octets.
