@@ -18,6 +18,10 @@ plan_words (Some plan) = hear.Planned ∷ (map class_word plan.classes ++ map he
 abbrev pub dispatch_words : Option PlanRecord → List Started → List LoggedNote
 dispatch_words plan started = plan_words plan ++ map hear.Began started
 
+-- what was heard, with these words behind it, if none is lost
+abbrev pub heard_with : List LoggedNote → Option (List LoggedNote) → Option (List LoggedNote)
+heard_with words heard = option_map (λ kept. kept ++ words) heard
+
 -- what is heard of a note
 abbrev pub words_of : Note → List LoggedNote
 words_of (Planned plan started) = dispatch_words plan started

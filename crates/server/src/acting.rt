@@ -1,9 +1,9 @@
 //! While a connection asks, it is handled.
 ghost use Rattle.std.specs.Prelude.{◌≡◌};
-ghost use Rattle.server.specs.Polls.{both, alone};
+ghost use Rattle.server.specs.Polls.{both};
 ghost use Rattle.server.specs.Acting.{ActsOn, place_of, place_of_part};
 ghost use Rattle.server.specs.Polling.{Serves};
-ghost use Rattle.server.specs.Refinement.{Refines, RefinesQuietly, AsksBy};
+ghost use Rattle.server.specs.Refinement.{Refines, Does, AsksBy};
 
 use crate::engine::Engine;
 use base_types::Moment;
@@ -48,7 +48,7 @@ impl<P: Planner + Drop> Engine<P> {
 
     /// Handles what is asked, for who asks.
     fn act<N: Listener>(&mut self, moment: Moment, asker: Asker, ask: Ask, notes: &mut N)
-        ensures { RefinesQuietly (alone N.told) (ActsOn moment asker.key asker.id ask) notes.old self.old notes.new self.new }
+        ensures { Does N.told (ActsOn moment asker.key asker.id ask) notes.old self.old notes.new self.new }
     {
         match ask {
             Ask::Nothing => {}

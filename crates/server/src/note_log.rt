@@ -1,8 +1,8 @@
 //! A listener that keeps what it is told.
-ghost use Rattle.std.specs.Prelude.{◌≡◌, ◌++◌, [], ◌∷◌, Some, None, IfOk, OnOk, OnErr, option_map, map};
+ghost use Rattle.std.specs.Prelude.{◌≡◌, ◌++◌, [], ◌∷◌, Some, None, IfOk, OnOk, OnErr, map};
 ghost use Rattle.std.specs.Option.{option_copied};
 ghost use Rattle.dispatcher.specs.Dispatched.{plan_of, started_of};
-ghost use Rattle.server.specs.NoteLog.{plan_words, class_word, dispatch_words};
+ghost use Rattle.server.specs.NoteLog.{plan_words, class_word, dispatch_words, heard_with};
 
 use base_types::{Priority, Stranded};
 use dispatcher::{AllocationSite, DeviceRefusal, Dispatched, Listener, Started};
@@ -108,7 +108,7 @@ impl NoteLog {
 
     /// Keeps one thing that was heard.
     fn enqueue(&mut self, heard: LoggedNote) -> Result<(), AllocError>
-        ensures ok { OnOk result (self.new ≡ option_map (λ kept. kept ++ heard ∷ []) self.old) }
+        ensures ok { OnOk result (self.new ≡ heard_with (heard ∷ []) self.old) }
         ensures err { OnErr result (self.new ≡ self.old) }
     {
         self.heard.push(heard)?;
@@ -117,7 +117,7 @@ impl NoteLog {
 
     /// Keeps what is heard of a dispatch.
     fn keep_dispatch(&mut self, made: &Dispatched<'_>) -> Result<(), AllocError>
-        ensures { OnOk result (self.new ≡ option_map (λ kept. kept ++ dispatch_words (plan_of made.now) (started_of made.now)) self.old) }
+        ensures { OnOk result (self.new ≡ heard_with (dispatch_words (plan_of made.now) (started_of made.now)) self.old) }
     {
         put_plan(&mut self.heard, made.plan())?;
         put_started(&mut self.heard, made.started())

@@ -1,8 +1,8 @@
 //! When time goes on.
 ghost use Rattle.std.specs.Prelude.{◌≡◌, max};
-ghost use Rattle.server.specs.Polls.{both, alone};
+ghost use Rattle.server.specs.Polls.{both};
 ghost use Rattle.server.specs.Turn.{Ticks, TicksIfDue, is_due};
-ghost use Rattle.server.specs.Refinement.{Refines, RefinesReporting};
+ghost use Rattle.server.specs.Refinement.{Refines, Reports};
 
 use crate::engine::Engine;
 use base_types::Moment;
@@ -41,7 +41,7 @@ impl<P: Planner + Drop> Engine<P> {
 
     /// A tick. Whether a growth was refused.
     pub(crate) fn tick_now<N: Listener>(&mut self, moment: Moment, notes: &mut N) -> bool
-        ensures { RefinesReporting (alone N.told) (Ticks moment) notes.old self.old notes.new self.new result }
+        ensures { Reports N.told (Ticks moment) notes.old self.old notes.new self.new result }
     {
         self.ticked = Some(moment.later(self.core.last()));
         self.handle(moment, Event::Tick, notes).refused

@@ -8,6 +8,7 @@ use Rattle.server.specs.Happening.{Starts}
 use Rattle.server.specs.State.{EngineState, with_slots}
 use Rattle.server.specs.Refinement.{RefinesReporting}
 use Rattle.server.proofs.Steps.{openly_then, openly_nothing, openly_at, or_assoc, or_false, drop_past}
+use Rattle.server.proofs.Happening.{starts_all}
 use Rattle.server.proofs.starting.start_all.Goals as goal
 
 pub loop-started-init : goal.loop-started-init
@@ -27,4 +28,5 @@ returns g c = λ a core same.
     let b : EngineState = with_slots c.loop-started.connections.slots a in
     let done = c.loop-started.invariant a core same c.loop-started.notes (with_slots c.loop-started.connections.slots a) false (subst (λ (xs : List Started). RefinesReporting (alone g.N.Listener.told) (EachOf xs Starts) c.loop-started.notes (with_slots c.loop-started.connections.slots a) c.loop-started.notes (with_slots c.loop-started.connections.slots a) false) (sym none) (openly_nothing (alone g.N.Listener.told) c.loop-started.notes (with_slots c.loop-started.connections.slots a))) in
     let flagged = subst (λ (t : Bool). RefinesReporting (alone g.N.Listener.told) (EachOf c.begun-started-items.result.now Starts) c.args.notes.now a c.loop-started.notes (with_slots c.loop-started.connections.slots a) t) (or_false c.loop-started.refused) done in
-    subst (λ (xs : List Started). RefinesReporting (alone g.N.Listener.told) (EachOf xs Starts) c.args.notes.now a c.loop-started.notes (with_slots c.loop-started.connections.slots a) c.loop-started.refused) c.begun-started-items.ensures flagged
+    starts_all (alone g.N.Listener.told) _ _ a (with_slots c.loop-started.connections.slots a) c.args.core.now c.loop-started.refused core
+    (subst (λ (xs : List Started). RefinesReporting (alone g.N.Listener.told) (EachOf xs Starts) c.args.notes.now a c.loop-started.notes (with_slots c.loop-started.connections.slots a) c.loop-started.refused) c.begun-started-items.ensures flagged)
