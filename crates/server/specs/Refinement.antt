@@ -18,7 +18,7 @@ use Rattle.connections.specs.Slots.{work_at, is_of}
 use Rattle.server.specs.declared.served.Served.{Served}
 use Rattle.server.specs.declared.served.Served.TheVariants as as_served
 use Rattle.server.specs.Polls.{Happening, Leads, alone}
-use Rattle.server.specs.Ledger.{Ledger, Fate, opening_ledger}
+use Rattle.server.specs.Ledger.{Ledger, Fate, Drained, opening_ledger}
 use Rattle.server.specs.Rel.{Rel, Seen}
 use Rattle.server.specs.Acting.{Asks}
 use Rattle.server.specs.Closing.{ClosesAt}
@@ -109,6 +109,11 @@ pub record IsOther (device key other : ℕ) (e : EngineState) : Type 0 where
 pub record RefinesClosing {S : Type 0} (moves : S → Happening → S → Type 0) (moment : ℕ) (fate : Fate) (key : ℕ) (world : S) (old : EngineState) (world' : S) (new : EngineState) : Type 0 where
   pub does : RefinesQuietly moves (ClosesAt moment fate key) world old world' new
   pub fewer : count_by is_some new.slots < count_by is_some old.slots
+
+-- if one was open there it was closed so, by each fate that it may have: as drained only where nothing waited on it
+abbrev pub RefinesAnyFate : {S : Type 0} → (S → Happening → S → Type 0) → ℕ → ℕ → S → EngineState → S → EngineState → Type 0
+RefinesAnyFate moves moment key world old world' new =
+    (fate : Fate) (c : ConnectionState) → slot_at old key ≡ Some c → (fate ≡ Drained → c.output ≡ []) → RefinesClosing moves moment fate key world old world' new
 
 -- ---- traces
 

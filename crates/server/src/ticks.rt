@@ -1,6 +1,6 @@
 //! When time goes on.
 ghost use Rattle.std.specs.Prelude.{◌≡◌, max};
-ghost use Rattle.server.specs.Polls.{both};
+ghost use Rattle.server.specs.World.{moved};
 ghost use Rattle.server.specs.Turn.{Ticks, TicksIfDue, is_due};
 ghost use Rattle.server.specs.Refinement.{Refines, Reports};
 
@@ -17,17 +17,12 @@ pub const TICK_TIME: u64 = 1000;
 /// Ticks, by which jobs whose documents don't come are aborted and a dispatch is tried again.
 impl<P: Planner + Drop> Engine<P> {
     /// A tick, if one is due.
-    pub(crate) fn tick_if_due<W: Wire, N: Listener>(
-        &mut self,
-        moment: Moment,
-        wire: &mut W,
-        notes: &mut N,
-    )
-        ensures { Refines (both W.polled N.told) (TicksIfDue moment) (wire.old, notes.old) self.old (wire.new, notes.new) self.new }
+    pub(crate) fn tick_if_due<W: Wire + Listener>(&mut self, moment: Moment, world: &mut W)
+        ensures { Refines (moved W.polled W.told) (TicksIfDue moment) world.old self.old world.new self.new }
     {
         if self.is_tick_due(moment) {
-            self.tick_now(moment, notes);
-            self.settle(moment, wire, notes);
+            self.tick_now(moment, world);
+            self.settle(moment, world);
         }
     }
 
