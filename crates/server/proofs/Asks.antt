@@ -1,5 +1,5 @@
 -- What connections ask, and what comes of it.
-use Rattle.std.proofs.Common.{◌≡◌, ◌<◌, arith, ℕ, List, [], ◌∷◌, refl, sym, ◌∙◌, ap, subst, Option, Some, None, inl, inr}
+use Rattle.std.proofs.Common.{◌≡◌, ◌<◌, arith, ℕ, [], ◌∷◌, refl, sym, ◌∙◌, ap, subst, Option, Some, None, inl, inr}
 use Rattle.std.specs.Prelude.{slice_index_or}
 use Rattle.print_room.specs.State.{State}
 use Rattle.wires.specs.Poll.{Poll}

@@ -53,6 +53,7 @@ impl<P: Planner + Drop> Engine<P> {
 /// IPP clients.
 impl<P: Planner + Drop> Engine<P> {
     /// A reply becomes due, or that the request was dropped.
+    #[tactic(auto, using(crate::proofs::Joins::replies_none))]
     fn reply<N: Listener>(
         &mut self,
         asker: Asker,
@@ -70,6 +71,7 @@ impl<P: Planner + Drop> Engine<P> {
     }
 
     /// A request was dropped, out of memory, which it is answered.
+    #[tactic(auto, using(crate::proofs::Joins::tells_then))]
     pub(crate) fn drop_request<N: Listener>(&mut self, asker: Asker, request: u32, notes: &mut N)
         ensures { Does N.told (Drops asker.key asker.id request) notes.old self.old notes.new self.new }
     {
@@ -124,6 +126,7 @@ impl<P: Planner + Drop> Engine<P> {
     }
 
     /// Memory for a file or for its job was refused, and so is it.
+    #[tactic(auto, using(crate::proofs::Joins::tells_then))]
     pub(crate) fn decline<N: Listener>(
         &mut self,
         place: AllocationSite,

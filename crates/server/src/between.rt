@@ -18,6 +18,7 @@ use std::alloc::AllocError;
 impl<P: Planner + Drop> Engine<P> {
     /// One IPP body, between turns, without HTTP. The error is that a growth was refused, which the
     /// listener is told of.
+    #[tactic(auto, using(crate::proofs::Serving::one_body))]
     pub fn serve_body<N: Listener>(
         &mut self,
         body: &[u8],
@@ -30,6 +31,7 @@ impl<P: Planner + Drop> Engine<P> {
     }
 
     /// What a body comes to.
+    #[tactic(auto, using(crate::proofs::Joins::body_read, crate::proofs::Joins::body_unread))]
     fn serve_now<N: Listener>(
         &mut self,
         moment: Moment,

@@ -27,6 +27,7 @@ impl<P: Planner + Drop> Engine<P> {
     }
 
     /// One accept at a door.
+    #[tactic(auto, using(crate::proofs::Joins::comes))]
     fn accept<W: Wire + Listener>(&mut self, door: Door, world: &mut W)
         ensures { Refines (moved W.polled W.told) (AcceptsOne door) world.old self.old world.new self.new }
     {

@@ -29,6 +29,7 @@ impl<P: Planner + Drop> Engine<P> {
     }
 
     /// The connections that are open now are read and written, and closed where they are done.
+    #[tactic(auto, using(crate::proofs::Joins::rounds))]
     fn round<W: Wire + Listener>(&mut self, moment: Moment, world: &mut W)
         ensures { Refines (moved W.polled W.told) (Round moment) world.old self.old world.new self.new }
     {
@@ -46,6 +47,7 @@ impl<P: Planner + Drop> Engine<P> {
     }
 
     /// Each connection is read, all into the same room.
+    #[tactic(auto, using(crate::proofs::Joins::next_more))]
     fn read_all<W: Wire + Listener>(&mut self, moment: Moment, keys: usize, world: &mut W)
         ensures { Refines (moved W.polled W.told) (Each keys (ReadsOne moment)) world.old self.old world.new self.new }
     {
@@ -56,6 +58,7 @@ impl<P: Planner + Drop> Engine<P> {
     }
 
     /// What waits is written.
+    #[tactic(auto, using(crate::proofs::Joins::next_more))]
     fn write_all<W: Wire + Listener>(&mut self, moment: Moment, keys: usize, world: &mut W)
         ensures { Refines (moved W.polled W.told) (Each keys (WritesOne moment)) world.old self.old world.new self.new }
     {
@@ -65,6 +68,7 @@ impl<P: Planner + Drop> Engine<P> {
     }
 
     /// The connections that are done are closed.
+    #[tactic(auto, using(crate::proofs::Joins::next_more))]
     fn end_all<W: Wire + Listener>(&mut self, moment: Moment, keys: usize, world: &mut W)
         ensures { Refines (moved W.polled W.told) (Each keys (EndsOne moment)) world.old self.old world.new self.new }
     {
