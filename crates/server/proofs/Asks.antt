@@ -1,5 +1,5 @@
 -- What connections ask, and what comes of it.
-use Rattle.std.proofs.Common.{◌≡◌, ◌<◌, arith, ℕ, List, [], ◌∷◌, refl, sym, ◌∙◌, ap, subst, Option, Some, None, inl, inr}
+use Rattle.std.proofs.Common.{◌≡◌, ◌<◌, arith, ℕ, [], ◌∷◌, refl, sym, ◌∙◌, ap, subst, Option, Some, None, inl, inr}
 use Rattle.std.specs.Prelude.{slice_index_or}
 use Rattle.print_room.specs.State.{State}
 use Rattle.wires.specs.Poll.{Poll}
@@ -11,8 +11,9 @@ use Rattle.connections.specs.Asking.{AsksNext, Asking}
 use Rattle.connections.specs.Connections.{load}
 use Rattle.connections.specs.Representation.{RepresentsConnection, Becomes}
 use Rattle.connections.specs.Slots.{Slots, OnSlot, AsksAt, work_at}
-use Rattle.server.specs.Polls.{Happening, Chosen, both, alone}
+use Rattle.server.specs.Polls.{Happening, Chosen, alone}
 use Rattle.server.specs.Polls as As
+use Rattle.server.specs.World.{moved}
 use Rattle.server.specs.Rel.{Then}
 use Rattle.server.specs.Ledger.{with_entry}
 use Rattle.connections.specs.Choice.{part_of, lost_of}
@@ -22,7 +23,7 @@ use Rattle.server.specs.Polling.{Acts, IsHeardAt}
 use Rattle.server.specs.State.{EngineState, with_slots}
 use Rattle.server.specs.Refinement.{Represents, RefinesQuietly, AsksBy}
 use Rattle.server.specs.Refinement as Refinement
-use Rattle.server.proofs.Steps.{does_then, does_with, aloud, seen_as, seen_then}
+use Rattle.server.proofs.Steps.{does_then, does_moved, aloud, seen_as, seen_then}
 use Rattle.server.proofs.Slots.{set_there, quiet_at, work_there}
 use Rattle.server.proofs.Places.{found, absent, fits_set}
 use Rattle.server.proofs.Reading.{fits_still}
@@ -72,10 +73,10 @@ asks_by a slots key (Some asked) on = something_asked a slots key asked on
 -- ---- what comes of it
 
 -- it is asked, comes about, and what broke is closed
-pub acts : {W N : Type 0} (polled : W → Poll → W → Type 0) (told : N → Note → N → Type 0) (w w' : W) (n n' n'' : N) (a b c d : EngineState) (moment key : ℕ) (asked : ConnectionAsk)
-    → AsksBy key (Some asked) a b → RefinesQuietly (alone told) (ActsOn moment key asked.id asked.ask) n b n' c → RefinesQuietly (both polled told) (Settles moment) (w, n') c (w', n'') d → Refinement.Refines (both polled told) (Acts moment key) (w, n) a (w', n'') d
-acts polled told w w' n n' n'' a b c d moment key asked asks does settled =
-    let acted : Refinement.Refines (alone told) (ActsNext moment key) n a n' c = record {
+pub acts : {S : Type 0} (polled : S → Poll → S → Type 0) (told : S → Note → S → Type 0) (u v w : S) (a b c d : EngineState) (moment key : ℕ) (asked : ConnectionAsk)
+    → AsksBy key (Some asked) a b → RefinesQuietly (alone told) (ActsOn moment key asked.id asked.ask) u b v c → RefinesQuietly (moved polled told) (Settles moment) v c w d → Refinement.Refines (moved polled told) (Acts moment key) u a w d
+acts polled told u v w a b c d moment key asked asks does settled =
+    let acted : Refinement.Refines (alone told) (ActsNext moment key) u a v c = record {
       happenings = does.happenings;
       leads = does.leads;
       stands = λ l fits.
@@ -83,7 +84,7 @@ acts polled told w w' n n' n'' a b c d moment key asked asks does settled =
           let r = does.stands s.0 s.2 in
           (r.0, seen_as (Then (Asks key asked.id asked.ask) (ActsOn moment key asked.id asked.ask)) (ActsNext moment key) l does.happenings r.0 (λ hs it. (asked.id, asked.ask, it)) (seen_then (Asks key asked.id asked.ask) (ActsOn moment key asked.id asked.ask) l [] s.0 does.happenings r.0 s.1 r.1), r.2);
     } in
-    does_then (both polled told) (ActsNext moment key) (Settles moment) (w, n) (w, n') (w', n'') a c d (does_with polled told (ActsNext moment key) w n n' a c acted) (aloud (both polled told) (Settles moment) (w, n') (w', n'') c d settled)
+    does_then (moved polled told) (ActsNext moment key) (Settles moment) u v w a c d (does_moved polled told (ActsNext moment key) u v a c acted) (aloud (moved polled told) (Settles moment) v w c d settled)
 
 -- what comes of what was asked, which is this
 pub does_as : {S : Type 0} (moves : S → Happening → S → Type 0) (moment key id : ℕ) (asked what : Ask) (u v : S) (a b : EngineState) → asked ≡ what → RefinesQuietly moves (ActsOn moment key id what) u a v b → RefinesQuietly moves (ActsOn moment key id asked) u a v b

@@ -1,5 +1,5 @@
 -- Bytes become due on a connection, or memory for them is refused.
-use Rattle.std.specs.Prelude.{ℕ, ◌≡◌, ◌⊎◌, Bool, true, List, [], ◌∷◌, Option, Some, None}
+use Rattle.std.specs.Prelude.{ℕ, ◌≡◌, ◌⊎◌, Bool, List, [], ◌∷◌, Option, Some, None}
 use Rattle.events.specs.declared.status.Status.{Status}
 use Rattle.send_queues.specs.Reply.{http_reply}
 use Rattle.dispatcher.specs.declared.listener.AllocationSite.{AllocationSite}

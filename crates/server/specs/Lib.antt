@@ -1,4 +1,5 @@
 pub mod Polls
+pub mod World
 pub mod Ledger
 pub mod Rel
 pub mod Enqueuing

@@ -2,6 +2,7 @@
 use Rattle.std.specs.Prelude.{ℕ, ◌≡◌, ◌≢◌, ◌<◌, ◌≤◌, Bool, true, false, List, [], ◌∷◌, ◌++◌, count_by, is_some, Option, Some, None, Vec, Result, Ok, Err, IsOk, IsErr}
 use Rattle.std.specs.declared.alloc.AllocError.{AllocError}
 use Rattle.std.specs.declared.alloc.Global.{Global}
+use Rattle.slab.specs.Slab.{Slab}
 use Rattle.print_room.specs.State.{State}
 use Rattle.events.specs.declared.effects.Response.{Response}
 use Rattle.events.specs.declared.effects.Effects.{Effects}
@@ -16,13 +17,13 @@ use Rattle.connections.specs.Representation.{RepresentsConnection}
 use Rattle.connections.specs.Slots.{work_at, is_of}
 use Rattle.server.specs.declared.served.Served.{Served}
 use Rattle.server.specs.declared.served.Served.TheVariants as as_served
-use Rattle.server.specs.Polls.{Happening, Leads}
-use Rattle.server.specs.Ledger.{Ledger, Fate, opening_ledger}
+use Rattle.server.specs.Polls.{Happening, Leads, alone}
+use Rattle.server.specs.Ledger.{Ledger, Fate, Drained, opening_ledger}
 use Rattle.server.specs.Rel.{Rel, Seen}
 use Rattle.server.specs.Acting.{Asks}
 use Rattle.server.specs.Closing.{ClosesAt}
 use Rattle.server.specs.Polling.{IsHeardAt}
-use Rattle.server.specs.State.{EngineState, slot_at}
+use Rattle.server.specs.State.{EngineState, slot_at, with_slots}
 use Rattle.server.specs.Turn.{Turned, Served_body, Action, Trace, Allows, has_refusal, Outcome, Replied, BadRequest, OutOfMemory, served_as, IsBytes}
 
 abbrev pub RepresentsOpen : Option Entry → Option ConnectionState → Type 0
@@ -68,6 +69,23 @@ pub record RefinesAnswering {S : Type 0} (moves : S → Happening → S → Type
   pub does : RefinesQuietly moves (R served) world old world' new
   pub is : answer ≡ served_as does.happenings served
 
+-- ---- where there is no wire: only a listener is told
+
+-- this is done, and feeds no reader
+abbrev pub Does : {N : Type 0} → (N → Note → N → Type 0) → Rel → N → EngineState → N → EngineState → Type 0
+Does told R listener old listener' new = RefinesQuietly (alone told) R listener old listener' new
+
+-- the same, with whether a growth was refused
+abbrev pub Reports : {N : Type 0} → (N → Note → N → Type 0) → Rel → N → EngineState → N → EngineState → Bool → Type 0
+Reports told R listener old listener' new refused = RefinesReporting (alone told) R listener old listener' new refused
+
+-- the same, of the connections of any engine with this core
+abbrev pub ReportsAmong : {N : Type 0} → (N → Note → N → Type 0) → Rel → State → N → Slab ConnectionState → N → Slab ConnectionState → Bool → Type 0
+ReportsAmong told R core listener old listener' new refused =
+    (engine : EngineState) → engine.core ≡ core → engine.slots ≡ old.slots → Reports told R listener engine listener' (with_slots new.slots engine) refused
+
+-- ---- what is asked
+
 -- what the connection under a key asks, or that it has nothing to ask, as the ledger has it
 abbrev pub AsksAs : ℕ → Option ConnectionAsk → Ledger → Ledger → Type 0
 AsksAs key None l l' = IsHeardAt (l.entries key) × (l' ≡ l)
@@ -91,6 +109,13 @@ pub record IsOther (device key other : ℕ) (e : EngineState) : Type 0 where
 pub record RefinesClosing {S : Type 0} (moves : S → Happening → S → Type 0) (moment : ℕ) (fate : Fate) (key : ℕ) (world : S) (old : EngineState) (world' : S) (new : EngineState) : Type 0 where
   pub does : RefinesQuietly moves (ClosesAt moment fate key) world old world' new
   pub fewer : count_by is_some new.slots < count_by is_some old.slots
+
+-- if one was open there it was closed so, by each fate that it may have: as drained only where nothing waited on it
+abbrev pub RefinesAnyFate : {S : Type 0} → (S → Happening → S → Type 0) → ℕ → ℕ → S → EngineState → S → EngineState → Type 0
+RefinesAnyFate moves moment key world old world' new =
+    (fate : Fate) (c : ConnectionState) → slot_at old key ≡ Some c → (fate ≡ Drained → c.output ≡ []) → RefinesClosing moves moment fate key world old world' new
+
+-- ---- traces
 
 -- the engine stands at a trace, which began with this core
 abbrev pub StandsAt : State → Trace → EngineState → Type 0
@@ -121,6 +146,10 @@ abbrev pub said_of : Result Served AllocError → Outcome
 said_of (Ok (as_served.Reply bytes)) = Replied bytes.items
 said_of (Ok as_served.BadRequest) = BadRequest
 said_of (Err error) = OutOfMemory
+
+-- what came of a body that is answered so, where there is no wire
+abbrev pub AnswersBody : {N : Type 0} → (N → Note → N → Type 0) → (Outcome → Rel) → N → EngineState → N → EngineState → Result Served AllocError → Type 0
+AnswersBody told R listener old listener' new result = RefinesAnswering (alone told) R listener old listener' new (said_of result)
 
 -- the bytes of an answer; where memory for them is refused the listener is told
 abbrev pub AnswerAs : {N : Type 0} → (N → Note → N → Type 0) → ℕ → Response → N → Result (Vec ℕ Global) AllocError → N → Type 0

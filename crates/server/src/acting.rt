@@ -1,9 +1,9 @@
 //! While a connection asks, it is handled.
 ghost use Rattle.std.specs.Prelude.{◌≡◌};
-ghost use Rattle.server.specs.Polls.{both, alone};
+ghost use Rattle.server.specs.World.{moved};
 ghost use Rattle.server.specs.Acting.{ActsOn, place_of, place_of_part};
 ghost use Rattle.server.specs.Polling.{Serves};
-ghost use Rattle.server.specs.Refinement.{Refines, RefinesQuietly, AsksBy};
+ghost use Rattle.server.specs.Refinement.{Refines, Does, AsksBy};
 
 use crate::engine::Engine;
 use base_types::Moment;
@@ -23,19 +23,13 @@ pub(crate) struct Asker {
 /// What connections ask, handled one at a time.
 impl<P: Planner + Drop> Engine<P> {
     /// While the connection under a key asks, it is handled, and what broke is closed.
-    pub(crate) fn serve<W: Wire, N: Listener>(
-        &mut self,
-        moment: Moment,
-        key: usize,
-        wire: &mut W,
-        notes: &mut N,
-    )
-        ensures { Refines (both W.polled N.told) (Serves moment key) (wire.old, notes.old) self.old (wire.new, notes.new) self.new }
+    pub(crate) fn serve<W: Wire + Listener>(&mut self, moment: Moment, key: usize, world: &mut W)
+        ensures { Refines (moved W.polled W.told) (Serves moment key) world.old self.old world.new self.new }
     {
         while let Some(asked) = self.ask(key) {
             let ConnectionAsk { id, ask } = asked;
-            self.act(moment, Asker { key, id }, ask, notes);
-            self.settle(moment, wire, notes);
+            self.act(moment, Asker { key, id }, ask, world);
+            self.settle(moment, world);
         }
     }
 
@@ -48,7 +42,7 @@ impl<P: Planner + Drop> Engine<P> {
 
     /// Handles what is asked, for who asks.
     fn act<N: Listener>(&mut self, moment: Moment, asker: Asker, ask: Ask, notes: &mut N)
-        ensures { RefinesQuietly (alone N.told) (ActsOn moment asker.key asker.id ask) notes.old self.old notes.new self.new }
+        ensures { Does N.told (ActsOn moment asker.key asker.id ask) notes.old self.old notes.new self.new }
     {
         match ask {
             Ask::Nothing => {}

@@ -1,9 +1,8 @@
 //! What clients' events are answered.
 ghost use Rattle.std.specs.Prelude.{◌≡◌};
 ghost use Rattle.ipp_operations.specs.QueueText.{text_of};
-ghost use Rattle.server.specs.Polls.{alone};
 ghost use Rattle.server.specs.Answering.{IsAnswered, Answers, Replies, RepliesWith, LosesReply, Drops, ipp_answer, Declines, Acknowledges, Responds, IsShown, IsTold, Shows};
-ghost use Rattle.server.specs.Refinement.{RefinesQuietly};
+ghost use Rattle.server.specs.Refinement.{Does};
 
 use crate::acting::Asker;
 use crate::engine::Engine;
@@ -25,7 +24,7 @@ impl<P: Planner + Drop> Engine<P> {
         event: Event,
         notes: &mut N,
     )
-        ensures { RefinesQuietly (alone N.told) (IsAnswered moment asker.key asker.id client event) notes.old self.old notes.new self.new }
+        ensures { Does N.told (IsAnswered moment asker.key asker.id client event) notes.old self.old notes.new self.new }
     {
         let query = event.is_query();
         let handled = self.handle(moment, event, notes);
@@ -41,7 +40,7 @@ impl<P: Planner + Drop> Engine<P> {
         reply: Option<Effects>,
         notes: &mut N,
     )
-        ensures { RefinesQuietly (alone N.told) (Answers asker.key asker.id client query reply) notes.old self.old notes.new self.new }
+        ensures { Does N.told (Answers asker.key asker.id client query reply) notes.old self.old notes.new self.new }
     {
         match client {
             Client::Ipp(request) => self.reply(asker, request, query, reply, notes),
@@ -54,6 +53,7 @@ impl<P: Planner + Drop> Engine<P> {
 /// IPP clients.
 impl<P: Planner + Drop> Engine<P> {
     /// A reply becomes due, or that the request was dropped.
+    #[tactic(auto, using(crate::proofs::Joins::replies_none))]
     fn reply<N: Listener>(
         &mut self,
         asker: Asker,
@@ -62,7 +62,7 @@ impl<P: Planner + Drop> Engine<P> {
         reply: Option<Effects>,
         notes: &mut N,
     )
-        ensures { RefinesQuietly (alone N.told) (Replies asker.key asker.id request query reply) notes.old self.old notes.new self.new }
+        ensures { Does N.told (Replies asker.key asker.id request query reply) notes.old self.old notes.new self.new }
     {
         match reply {
             Some(reply) => self.reply_with(asker, request, query, reply.answer, notes),
@@ -71,8 +71,9 @@ impl<P: Planner + Drop> Engine<P> {
     }
 
     /// A request was dropped, out of memory, which it is answered.
+    #[tactic(auto, using(crate::proofs::Joins::tells_then))]
     pub(crate) fn drop_request<N: Listener>(&mut self, asker: Asker, request: u32, notes: &mut N)
-        ensures { RefinesQuietly (alone N.told) (Drops asker.key asker.id request) notes.old self.old notes.new self.new }
+        ensures { Does N.told (Drops asker.key asker.id request) notes.old self.old notes.new self.new }
     {
         notes.refused(AllocationSite::Event, Some(asker.id));
         self.enqueue_status(asker.key, Status::TemporaryError, request, notes);
@@ -87,7 +88,7 @@ impl<P: Planner + Drop> Engine<P> {
         answer: Response,
         notes: &mut N,
     )
-        ensures { RefinesQuietly (alone N.told) (RepliesWith asker.key asker.id request query answer) notes.old self.old notes.new self.new }
+        ensures { Does N.told (RepliesWith asker.key asker.id request query answer) notes.old self.old notes.new self.new }
     {
         let Some(answer) = ipp_answer(answer) else {
             return;
@@ -101,7 +102,7 @@ impl<P: Planner + Drop> Engine<P> {
     /// Memory for the bytes of an answer was refused: a query is answered so, after any other event the
     /// connection breaks.
     fn lose_reply<N: Listener>(&mut self, asker: Asker, request: u32, query: bool, notes: &mut N)
-        ensures { RefinesQuietly (alone N.told) (LosesReply asker.key asker.id request query) notes.old self.old notes.new self.new }
+        ensures { Does N.told (LosesReply asker.key asker.id request query) notes.old self.old notes.new self.new }
     {
         notes.refused(AllocationSite::Reply, Some(asker.id));
         if query {
@@ -116,7 +117,7 @@ impl<P: Planner + Drop> Engine<P> {
 impl<P: Planner + Drop> Engine<P> {
     /// The answer to a job becomes due, or that memory for it was refused.
     fn answer_job<N: Listener>(&mut self, asker: Asker, reply: Option<Effects>, notes: &mut N)
-        ensures { RefinesQuietly (alone N.told) (Acknowledges asker.key asker.id reply) notes.old self.old notes.new self.new }
+        ensures { Does N.told (Acknowledges asker.key asker.id reply) notes.old self.old notes.new self.new }
     {
         match reply {
             Some(reply) => self.tell_answer(asker, &reply.answer, notes),
@@ -125,13 +126,14 @@ impl<P: Planner + Drop> Engine<P> {
     }
 
     /// Memory for a file or for its job was refused, and so is it.
+    #[tactic(auto, using(crate::proofs::Joins::tells_then))]
     pub(crate) fn decline<N: Listener>(
         &mut self,
         place: AllocationSite,
         asker: Asker,
         notes: &mut N,
     )
-        ensures { RefinesQuietly (alone N.told) (Declines place asker.key asker.id) notes.old self.old notes.new self.new }
+        ensures { Does N.told (Declines place asker.key asker.id) notes.old self.old notes.new self.new }
     {
         notes.refused(place, Some(asker.id));
         self.enqueue(asker.key, &[REFUSED], notes);
@@ -139,7 +141,7 @@ impl<P: Planner + Drop> Engine<P> {
 
     /// The answer to a command becomes due; where memory for it was refused the connection breaks.
     fn answer_command<N: Listener>(&mut self, asker: Asker, reply: Option<Effects>, notes: &mut N)
-        ensures { RefinesQuietly (alone N.told) (Responds asker.key asker.id reply) notes.old self.old notes.new self.new }
+        ensures { Does N.told (Responds asker.key asker.id reply) notes.old self.old notes.new self.new }
     {
         match reply {
             Some(reply) => self.tell_answer(asker, &reply.answer, notes),
@@ -152,7 +154,7 @@ impl<P: Planner + Drop> Engine<P> {
 
     /// The bytes of an answer to an LPD client become due, if it is one.
     fn tell_answer<N: Listener>(&mut self, asker: Asker, answer: &Response, notes: &mut N)
-        ensures { RefinesQuietly (alone N.told) (IsShown asker.key asker.id answer.now) notes.old self.old notes.new self.new }
+        ensures { Does N.told (IsShown asker.key asker.id answer.now) notes.old self.old notes.new self.new }
     {
         match answer {
             Response::Lpd(answer) => self.tell_client(asker, answer, notes),
@@ -163,7 +165,7 @@ impl<P: Planner + Drop> Engine<P> {
 
     /// The bytes of an answer to an LPD client become due.
     fn tell_client<N: Listener>(&mut self, asker: Asker, answer: &LpdResponse, notes: &mut N)
-        ensures { RefinesQuietly (alone N.told) (IsTold asker.key asker.id answer.now) notes.old self.old notes.new self.new }
+        ensures { Does N.told (IsTold asker.key asker.id answer.now) notes.old self.old notes.new self.new }
     {
         match answer {
             LpdResponse::Taken(_) => self.enqueue(asker.key, &[lpd_ack(answer)], notes),
@@ -174,7 +176,7 @@ impl<P: Planner + Drop> Engine<P> {
 
     /// The text of a queue becomes due; where memory for it is refused, the connection breaks.
     fn show<N: Listener>(&mut self, asker: Asker, answer: &LpdResponse, notes: &mut N)
-        ensures { RefinesQuietly (alone N.told) (Shows asker.key asker.id (text_of answer.now)) notes.old self.old notes.new self.new }
+        ensures { Does N.told (Shows asker.key asker.id (text_of answer.now)) notes.old self.old notes.new self.new }
     {
         match lpd_queue_text(self.alloc, answer) {
             Ok(text) => self.enqueue(asker.key, &text, notes),

@@ -1,9 +1,9 @@
 //! Calls between turns, which need no wire.
 ghost use Rattle.base_types.specs.Report.{report_of};
 ghost use Rattle.server.specs.Polls.{alone};
-ghost use Rattle.server.specs.Happening.{Unanswered};
-ghost use Rattle.server.specs.Turn.{Ticked, Reported, BodyAsks, BodyComes};
-ghost use Rattle.server.specs.Refinement.{RefinesReporting, RefinesCall, RefinesAnswering, RefinesBody, AnswerAs, BytesAs, RefusalAs, said_of};
+ghost use Rattle.server.specs.Happening.{ReportComes};
+ghost use Rattle.server.specs.Turn.{Ticked, Reported, BodyAsks, BodyBrings, BodyComes};
+ghost use Rattle.server.specs.Refinement.{Reports, AnswersBody, RefinesCall, RefinesBody, AnswerAs, BytesAs, RefusalAs, said_of};
 
 use crate::engine::Engine;
 use crate::served::{Served, answered};
@@ -18,6 +18,7 @@ use std::alloc::AllocError;
 impl<P: Planner + Drop> Engine<P> {
     /// One IPP body, between turns, without HTTP. The error is that a growth was refused, which the
     /// listener is told of.
+    #[tactic(auto, using(crate::proofs::Serving::one_body))]
     pub fn serve_body<N: Listener>(
         &mut self,
         body: &[u8],
@@ -30,13 +31,14 @@ impl<P: Planner + Drop> Engine<P> {
     }
 
     /// What a body comes to.
+    #[tactic(auto, using(crate::proofs::Joins::body_read, crate::proofs::Joins::body_unread))]
     fn serve_now<N: Listener>(
         &mut self,
         moment: Moment,
         body: &[u8],
         notes: &mut N,
     ) -> Result<Served, AllocError>
-        ensures { RefinesAnswering (alone N.told) (BodyComes moment body.now) notes.old self.old notes.new self.new (said_of result) }
+        ensures { AnswersBody N.told (BodyComes moment body.now) notes.old self.old notes.new self.new result }
     {
         match ipp_event(self.alloc, body) {
             Ok(asked) => self.serve_asked(moment, asked, notes),
@@ -54,7 +56,7 @@ impl<P: Planner + Drop> Engine<P> {
         asked: ParsedRequest,
         notes: &mut N,
     ) -> Result<Served, AllocError>
-        ensures { RefinesAnswering (alone N.told) (BodyAsks moment asked) notes.old self.old notes.new self.new (said_of result) }
+        ensures { AnswersBody N.told (BodyAsks moment asked) notes.old self.old notes.new self.new result }
     {
         match asked {
             ParsedRequest::TooShort => Ok(Served::BadRequest),
@@ -89,7 +91,7 @@ impl<P: Planner + Drop> Engine<P> {
         event: Event,
         notes: &mut N,
     ) -> Result<Served, AllocError>
-        ensures { RefinesAnswering (alone N.told) (BodyAsks moment (ParsedRequest.Event request event)) notes.old self.old notes.new self.new (said_of result) }
+        ensures { AnswersBody N.told (BodyBrings moment request event) notes.old self.old notes.new self.new result }
     {
         let handled = self.handle(moment, event, notes);
         let bytes = self.bytes_of(handled.outcome.into_reply(), request, notes);
@@ -163,7 +165,7 @@ impl<P: Planner + Drop> Engine<P> {
         report: Report,
         notes: &mut N,
     ) -> bool
-        ensures { RefinesReporting (alone N.told) (Unanswered moment (Event.Report device report)) notes.old self.old notes.new self.new result }
+        ensures { Reports N.told (ReportComes moment device report) notes.old self.old notes.new self.new result }
     {
         self.handle(moment, Event::Report(device, report), notes)
             .refused

@@ -8,6 +8,7 @@ ghost use Rattle.server.specs.Polls.{both};
 ghost use Rattle.server.specs.State.{EngineState};
 ghost use Rattle.server.specs.Refinement.{StandsAt, RefinesTurn};
 
+use crate::world::World;
 use base_types::{DeviceId, DeviceNow, JobId, Moment};
 use connections::Connection;
 use dispatcher::{Core, Listener};
@@ -65,7 +66,8 @@ impl<P: Planner + Drop> Engine<P> {
     pub fn turn<W: Wire, N: Listener>(&mut self, wire: &mut W, notes: &mut N, moment: Moment)
         ensures { RefinesTurn (both W.polled N.told) moment (wire.old, notes.old) self.old (wire.new, notes.new) self.new }
     {
-        self.turn_once(wire, notes, moment);
+        let mut world = World { wire, notes };
+        self.turn_once(moment, &mut world);
     }
 
     /// The job of this id, if it is kept. It takes no memory.

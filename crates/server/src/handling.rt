@@ -1,9 +1,8 @@
 //! What an event does: the core handles it, and what its devices are told becomes due.
 ghost use Rattle.std.specs.Prelude.{◌≡◌};
-ghost use Rattle.server.specs.Polls.{alone};
-ghost use Rattle.server.specs.Rel.{Then, EachOf};
-ghost use Rattle.server.specs.Happening.{Decides, Happens, Orders, Sends, StartsAll, is_undispatched, undispatched_after};
-ghost use Rattle.server.specs.Refinement.{RefinesReporting};
+ghost use Rattle.server.specs.Rel.{EachOf};
+ghost use Rattle.server.specs.Happening.{Decides, Happens, Orders, Sends, SendsAndStarts, is_undispatched, undispatched_after};
+ghost use Rattle.server.specs.Refinement.{Reports};
 
 use crate::due::tell;
 use crate::engine::Engine;
@@ -31,7 +30,7 @@ impl<P: Planner + Drop> Engine<P> {
         event: Event,
         notes: &mut N,
     ) -> Handled
-        ensures { RefinesReporting (alone N.told) (Happens moment event result.outcome) notes.old self.old notes.new self.new result.refused }
+        ensures { Reports N.told (Happens moment event result.outcome) notes.old self.old notes.new self.new result.refused }
     {
         let outcome = self.decide(moment, event, notes);
         let undispatched = is_undispatched(&outcome);
@@ -44,7 +43,7 @@ impl<P: Planner + Drop> Engine<P> {
 
     /// The core handles an event.
     fn decide<N: Listener>(&mut self, moment: Moment, event: Event, notes: &mut N) -> Outcome
-        ensures { RefinesReporting (alone N.told) (Decides moment event result) notes.old self.old notes.new self.new (is_undispatched result) }
+        ensures { Reports N.told (Decides moment event result) notes.old self.old notes.new self.new (is_undispatched result) }
     {
         let outcome = self.core.handle(Timed { event, moment }, notes);
         self.undispatched = undispatched_after(&outcome, self.undispatched);
@@ -54,7 +53,7 @@ impl<P: Planner + Drop> Engine<P> {
     /// What an event comes to becomes due on the connections of devices: the lines of its cancels, and the
     /// bytes of the jobs that begin. Whether a growth was refused.
     fn order<N: Listener>(&mut self, outcome: &Outcome, notes: &mut N) -> bool
-        ensures { RefinesReporting (alone N.told) (Orders outcome.now) notes.old self.old notes.new self.new result }
+        ensures { Reports N.told (Orders outcome.now) notes.old self.old notes.new self.new result }
     {
         match outcome {
             Outcome::Dropped => false,
@@ -68,7 +67,7 @@ impl<P: Planner + Drop> Engine<P> {
     /// The lines of these cancels, and the bytes of the jobs that began, become due. Whether a growth was
     /// refused.
     fn send_and_start<N: Listener>(&mut self, cancels: &[Cancel], notes: &mut N) -> bool
-        ensures { RefinesReporting (alone N.told) (Then (EachOf cancels.now Sends) StartsAll) notes.old self.old notes.new self.new result }
+        ensures { Reports N.told (SendsAndStarts cancels.now) notes.old self.old notes.new self.new result }
     {
         let unsent = self.send_all(cancels, notes);
         let unstarted = start_all(&self.core, &mut self.connections, notes);
@@ -77,7 +76,7 @@ impl<P: Planner + Drop> Engine<P> {
 
     /// The lines of these cancels become due. Whether a growth was refused.
     fn send_all<N: Listener>(&mut self, cancels: &[Cancel], notes: &mut N) -> bool
-        ensures { RefinesReporting (alone N.told) (EachOf cancels.now Sends) notes.old self.old notes.new self.new result }
+        ensures { Reports N.told (EachOf cancels.now Sends) notes.old self.old notes.new self.new result }
     {
         let mut refused = false;
         for cancel in cancels {
@@ -89,7 +88,7 @@ impl<P: Planner + Drop> Engine<P> {
     /// The line of a cancel becomes due on the device's connection, if it has one. Whether a growth was
     /// refused.
     fn send<N: Listener>(&mut self, cancel: Cancel, notes: &mut N) -> bool
-        ensures { RefinesReporting (alone N.told) (Sends cancel) notes.old self.old notes.new self.new result }
+        ensures { Reports N.told (Sends cancel) notes.old self.old notes.new self.new result }
     {
         let Cancel { job, device } = cancel;
         let Some(key) = key_of(&self.connections, device) else {

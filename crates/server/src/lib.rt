@@ -22,6 +22,7 @@ mod served;
 mod starting;
 mod ticks;
 mod turns;
+mod world;
 
 pub use engine::Engine;
 pub use law::{action_is_one_event, closed_were_given, last_words_are_kept, trace_is_one_run};

@@ -1,5 +1,5 @@
 //! The polls of one connection, and of a door.
-ghost use Rattle.server.specs.Polls.{both};
+ghost use Rattle.server.specs.World.{moved};
 ghost use Rattle.server.specs.Polling.{AcceptsAt, AcceptsOne, Opens, FeedsOne, ReadsOne, WritesOne};
 ghost use Rattle.server.specs.Refinement.{Refines};
 
@@ -18,101 +18,94 @@ pub(crate) const PIECE: usize = 4096;
 /// One accept, one read or one write, with all that it brings.
 impl<P: Planner + Drop> Engine<P> {
     /// At most one connection is accepted at a door.
-    pub(crate) fn accept_at<W: Wire, N: Listener>(
-        &mut self,
-        door: Door,
-        wire: &mut W,
-        notes: &mut N,
-    )
-        ensures { Refines (both W.polled N.told) (AcceptsAt door) (wire.old, notes.old) self.old (wire.new, notes.new) self.new }
+    pub(crate) fn accept_at<W: Wire + Listener>(&mut self, door: Door, world: &mut W)
+        ensures { Refines (moved W.polled W.told) (AcceptsAt door) world.old self.old world.new self.new }
     {
         if self.connections.len() < Limits::CONNECTIONS {
-            self.accept(door, wire, notes);
+            self.accept(door, world);
         }
     }
 
     /// One accept at a door.
-    fn accept<W: Wire, N: Listener>(&mut self, door: Door, wire: &mut W, notes: &mut N)
-        ensures { Refines (both W.polled N.told) (AcceptsOne door) (wire.old, notes.old) self.old (wire.new, notes.new) self.new }
+    #[tactic(auto, using(crate::proofs::Joins::comes))]
+    fn accept<W: Wire + Listener>(&mut self, door: Door, world: &mut W)
+        ensures { Refines (moved W.polled W.told) (AcceptsOne door) world.old self.old world.new self.new }
     {
-        if let Progress::Done(id) = wire.poll_accept(door) {
-            self.open(door, id, wire, notes);
+        if let Progress::Done(id) = world.poll_accept(door) {
+            self.open(door, id, world);
         }
     }
 
     /// A connection has come.
-    fn open<W: Wire, N: Listener>(&mut self, door: Door, id: WireId, wire: &mut W, notes: &mut N)
-        ensures { Refines (both W.polled N.told) (Opens door id) (wire.old, notes.old) self.old (wire.new, notes.new) self.new }
+    fn open<W: Wire + Listener>(&mut self, door: Door, id: WireId, world: &mut W)
+        ensures { Refines (moved W.polled W.told) (Opens door id) world.old self.old world.new self.new }
     {
         if insert(&mut self.connections, self.alloc, id, door) {
             return;
         }
-        notes.refused(AllocationSite::Accept, Some(id));
-        wire.close(id);
+        world.refused(AllocationSite::Accept, Some(id));
+        world.close(id);
     }
 
     /// One read of the connection under a key, if it is read, and what it brings. A piece that is read stands
     /// in the room that is lent for it.
-    pub(crate) fn read_one<W: Wire, N: Listener>(
+    pub(crate) fn read_one<W: Wire + Listener>(
         &mut self,
         moment: Moment,
         key: usize,
         piece: &mut [u8; PIECE],
-        wire: &mut W,
-        notes: &mut N,
+        world: &mut W,
     )
-        ensures { Refines (both W.polled N.told) (ReadsOne moment key) (wire.old, notes.old) self.old (wire.new, notes.new) self.new }
+        ensures { Refines (moved W.polled W.told) (ReadsOne moment key) world.old self.old world.new self.new }
     {
         let Some(id) = to_read(&self.connections, key) else {
             return;
         };
-        match wire.poll_read(id, piece) {
-            Progress::Done(count) => self.take(moment, key, &piece[..count], wire, notes),
+        match world.poll_read(id, piece) {
+            Progress::Done(count) => self.take(moment, key, &piece[..count], world),
             Progress::Waiting => {}
             Progress::End => end(&mut self.connections, key),
-            Progress::Fault => self.fail(moment, key, wire, notes),
+            Progress::Fault => self.fail(moment, key, world),
         }
     }
 
     /// Takes a piece that was read of the connection under a key.
-    fn take<W: Wire, N: Listener>(
+    fn take<W: Wire + Listener>(
         &mut self,
         moment: Moment,
         key: usize,
         piece: &[u8],
-        wire: &mut W,
-        notes: &mut N,
+        world: &mut W,
     )
-        ensures { Refines (both W.polled N.told) (FeedsOne moment key piece.now) (wire.old, notes.old) self.old (wire.new, notes.new) self.new }
+        ensures { Refines (moved W.polled W.told) (FeedsOne moment key piece.now) world.old self.old world.new self.new }
     {
         let Some(fed) = feed(&mut self.connections, key, piece) else {
             return;
         };
         match fed {
             Fed::Discarded => {}
-            Fed::Fed => self.serve(moment, key, wire, notes),
+            Fed::Fed => self.serve(moment, key, world),
             Fed::Refused(id) => {
-                notes.refused(AllocationSite::Feed, Some(id));
-                self.settle(moment, wire, notes);
+                world.refused(AllocationSite::Feed, Some(id));
+                self.settle(moment, world);
             }
         }
     }
 
     /// One write of what waits on the connection under a key, if something does.
-    pub(crate) fn write_one<W: Wire, N: Listener>(
+    pub(crate) fn write_one<W: Wire + Listener>(
         &mut self,
         moment: Moment,
         key: usize,
-        wire: &mut W,
-        notes: &mut N,
+        world: &mut W,
     )
-        ensures { Refines (both W.polled N.told) (WritesOne moment key) (wire.old, notes.old) self.old (wire.new, notes.new) self.new }
+        ensures { Refines (moved W.polled W.told) (WritesOne moment key) world.old self.old world.new self.new }
     {
-        match offer(&mut self.connections, key, wire) {
+        match offer(&mut self.connections, key, world) {
             Offered::Nothing => {}
             Offered::Done(_) => {}
             Offered::Waiting => {}
-            Offered::Ended => self.fail(moment, key, wire, notes),
+            Offered::Ended => self.fail(moment, key, world),
         }
     }
 }

@@ -1,12 +1,8 @@
 //! The bytes of the jobs that begin.
-ghost use Rattle.std.specs.Prelude.{◌≡◌};
-ghost use Rattle.server.specs.Polls.{alone};
 ghost use Rattle.server.specs.Ledger.{job_bytes};
-ghost use Rattle.server.specs.Rel.{EachOf};
-ghost use Rattle.server.specs.Happening.{Starts};
+ghost use Rattle.server.specs.Happening.{Starts, StartsAll};
 ghost use Rattle.connections.specs.Slots.{EnqueuesAt};
-ghost use Rattle.server.specs.State.{EngineState, with_slots};
-ghost use Rattle.server.specs.Refinement.{RefinesReporting};
+ghost use Rattle.server.specs.Refinement.{ReportsAmong};
 
 use crate::due::tell;
 use base_types::JobId;
@@ -23,7 +19,7 @@ pub(crate) fn start_all<P: Planner + Drop, N: Listener>(
     connections: &mut Slab<Connection>,
     notes: &mut N,
 ) -> bool
-    ensures { (a : EngineState) → a.core ≡ core.now → a.slots ≡ connections.old.slots → RefinesReporting (alone N.told) (EachOf core.now.begun Starts) notes.old a notes.new (with_slots connections.new.slots a) result }
+    ensures { ReportsAmong N.told StartsAll core.now notes.old connections.old notes.new connections.new result }
 {
     let mut refused = false;
     for started in core.begun() {
@@ -40,7 +36,7 @@ fn start<P: Planner + Drop, N: Listener>(
     started: Started,
     notes: &mut N,
 ) -> bool
-    ensures { (a : EngineState) → a.core ≡ core.now → a.slots ≡ connections.old.slots → RefinesReporting (alone N.told) (Starts started) notes.old a notes.new (with_slots connections.new.slots a) result }
+    ensures { ReportsAmong N.told (Starts started) core.now notes.old connections.old notes.new connections.new result }
 {
     let Some(key) = key_of(connections, started.device) else {
         return false;

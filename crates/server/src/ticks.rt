@@ -1,8 +1,8 @@
 //! When time goes on.
 ghost use Rattle.std.specs.Prelude.{◌≡◌, max};
-ghost use Rattle.server.specs.Polls.{both, alone};
+ghost use Rattle.server.specs.World.{moved};
 ghost use Rattle.server.specs.Turn.{Ticks, TicksIfDue, is_due};
-ghost use Rattle.server.specs.Refinement.{Refines, RefinesReporting};
+ghost use Rattle.server.specs.Refinement.{Refines, Reports};
 
 use crate::engine::Engine;
 use base_types::Moment;
@@ -17,17 +17,12 @@ pub const TICK_TIME: u64 = 1000;
 /// Ticks, by which jobs whose documents don't come are aborted and a dispatch is tried again.
 impl<P: Planner + Drop> Engine<P> {
     /// A tick, if one is due.
-    pub(crate) fn tick_if_due<W: Wire, N: Listener>(
-        &mut self,
-        moment: Moment,
-        wire: &mut W,
-        notes: &mut N,
-    )
-        ensures { Refines (both W.polled N.told) (TicksIfDue moment) (wire.old, notes.old) self.old (wire.new, notes.new) self.new }
+    pub(crate) fn tick_if_due<W: Wire + Listener>(&mut self, moment: Moment, world: &mut W)
+        ensures { Refines (moved W.polled W.told) (TicksIfDue moment) world.old self.old world.new self.new }
     {
         if self.is_tick_due(moment) {
-            self.tick_now(moment, notes);
-            self.settle(moment, wire, notes);
+            self.tick_now(moment, world);
+            self.settle(moment, world);
         }
     }
 
@@ -41,7 +36,7 @@ impl<P: Planner + Drop> Engine<P> {
 
     /// A tick. Whether a growth was refused.
     pub(crate) fn tick_now<N: Listener>(&mut self, moment: Moment, notes: &mut N) -> bool
-        ensures { RefinesReporting (alone N.told) (Ticks moment) notes.old self.old notes.new self.new result }
+        ensures { Reports N.told (Ticks moment) notes.old self.old notes.new self.new result }
     {
         self.ticked = Some(moment.later(self.core.last()));
         self.handle(moment, Event::Tick, notes).refused

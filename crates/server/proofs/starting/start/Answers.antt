@@ -1,10 +1,9 @@
-use Rattle.server.specs.Polls.{alone}
 use Rattle.server.proofs.Happening.{starts_nowhere, starts_there}
 use Rattle.server.proofs.starting.start.Goals as goal
 
 pub returns-in_default : goal.returns-in_default
-returns-in_default g c = λ a core same. starts_nowhere (alone g.N.Listener.told) _ a c.args.connections.now.slots c.args.started c.in_default.ensures.none same
+returns-in_default g c = λ a core same. starts_nowhere _ _ a c.args.connections.now.slots c.args.started c.in_default.ensures.none same
 
 pub returns : goal.returns
 returns g c = λ a core same.
-    starts_there g.N.Listener.told _ _ a c.args.core.now c.args.connections.now.slots c.enqueue_started-broke.new.connections.slots c.args.started c.in-Some.key c.enqueue_started-broke.result c.tell.result core same c.in-Some.ensures.some c.enqueue_started-broke.ensures c.tell.ensures.told c.tell.ensures.refused
+    starts_there _ _ _ a c.args.core.now c.args.connections.now.slots c.enqueue_started-broke.new.connections.slots c.args.started c.in-Some.key c.enqueue_started-broke.result c.tell.result core same c.in-Some.ensures.some c.enqueue_started-broke.ensures c.tell.ensures.told c.tell.ensures.refused

@@ -1,0 +1,107 @@
+-- What calls come to that follow one another, with their worlds and engines found.
+use Rattle.std.proofs.Common.{◌≡◌, ◌≤◌, ◌+◌, add-one, ℕ, max, Bool, true, List, [], ◌∷◌, refl, sym, ◌∙◌, ap, subst, inl, inr, Option, None}
+use Rattle.std.specs.Prelude.{◌||◌}
+use Rattle.wires.specs.Poll.{Poll, Accepts}
+use Rattle.wires.specs.declared.wire.Door.{Door}
+use Rattle.wires.specs.declared.wire.Progress.TheVariants.{Done}
+use Rattle.dispatcher.specs.Notes.{Note, Refused}
+use Rattle.dispatcher.specs.Run.{reply_of}
+use Rattle.dispatcher.specs.declared.listener.AllocationSite.TheVariants as At
+use Rattle.dispatcher.specs.declared.outcome.Outcome.{Outcome}
+use Rattle.events.specs.declared.effects.Effects.{Effects}
+use Rattle.events.specs.declared.event.Event.{Event}
+use Rattle.events.specs.declared.event.Event.TheVariants as Is
+use Rattle.events.specs.Event.{is_query}
+use Rattle.base_types.specs.declared.report.Report.{Report}
+use Rattle.ipp_operations.specs.declared.parsed_request.ParsedRequest.{ParsedRequest}
+use Rattle.ipp_operations.specs.declared.parsed_request.ParsedRequest.TheVariants as asks
+use Rattle.ipp_operations.specs.ParsedRequest.{Asks}
+use Rattle.connections.specs.declared.ask.Client.{Client}
+use Rattle.server.specs.Polls.{Happening, Told, alone}
+use Rattle.server.specs.World.{moved}
+use Rattle.server.specs.Rel.{Rel, Tells, Then, Each}
+use Rattle.server.specs.Happening.{Happens, ReportComes}
+use Rattle.server.specs.Answering.{Drops, Replies, Answers, IsAnswered}
+use Rattle.server.specs.Closing.{Settles}
+use Rattle.server.specs.Polling.{Opens, AcceptsOne, ReadsOne, WritesOne, EndsOne}
+use Rattle.server.specs.Turn.{Outcome as Answer, OutOfMemory, BadRequest, is_due, Ticks, TicksIfDue, Round, BodyAsks, BodyBrings, BodyComes}
+use Rattle.server.specs.State.{EngineState, slot_at}
+use Rattle.server.specs.Refinement.{Refines, RefinesQuietly, RefinesReporting, RefinesAnswering}
+use Rattle.server.proofs.Steps.{does_then, does_moved, aside_then, aside_as, aloud, openly_as, openly_flag, openly_then}
+use Rattle.server.proofs.Happening.{tells}
+use Rattle.server.proofs.Turning.{ticks_due, covers, one_round}
+use Rattle.server.proofs.Accepting.{accepts_open}
+use Rattle.server.proofs.Serving.{answered_found, answered_refused}
+use Rattle.server.proofs.Replying.{as_none}
+
+module _ {S : Type 0} {moves : S → Happening → S → Type 0} where
+  -- one after the other
+  pub joins : {Q R : Rel} {u v w : S} {a b c : EngineState} → Refines moves Q u a v b → Refines moves R v b w c → Refines moves (Then Q R) u a w c
+  joins {Q} {R} {u} {v} {w} {a} {b} {c} p q = does_then moves Q R u v w a b c p q
+
+  -- the first of them feeds no reader
+  pub joins_on : {Q R : Rel} {u v w : S} {a b c : EngineState} → RefinesQuietly moves Q u a v b → Refines moves R v b w c → Refines moves (Then Q R) u a w c
+  joins_on {Q} {R} {u} {v} {w} {a} {b} {c} p q = does_then moves Q R u v w a b c (aloud moves Q u v a b p) q
+
+  -- with whether a growth was refused, told otherwise
+  pub joins_openly : {Q R : Rel} {u v w : S} {a b c : EngineState} {s t unsent : Bool} → RefinesReporting moves Q u a v b s → t ≡ s → RefinesReporting moves R v b w c unsent → RefinesReporting moves (Then Q R) u a w c (t || unsent)
+  joins_openly {Q} {R} {u} {v} {w} {a} {b} {c} {s} {t} {unsent} p same q = openly_flag moves (Then Q R) u w a c (s || unsent) (t || unsent) (ap (λ (x : Bool). x || unsent) same) (openly_then moves Q R u v w a b c s unsent p q)
+
+  -- one key more
+  pub next_more : (R : ℕ → Rel) {u v w : S} {a b c : EngineState} (key : ℕ) → Refines moves (Each key R) u a v b → Refines moves (R key) v b w c → Refines moves (Each (key + 1) R) u a w c
+  next_more R key p q = rw add-one (joins p q)
+
+  -- all connections are read, then written, then closed where they are done
+  pub rounds : (moment n : ℕ) {u v w x : S} {a b c d : EngineState} → ((key : ℕ) → n ≤ key → slot_at a key ≡ None) → Refines moves (Each n (ReadsOne moment)) u a v b → Refines moves (Each n (WritesOne moment)) v b w c → Refines moves (Each n (EndsOne moment)) w c x d
+      → Refines moves (Round moment) u a x d
+  rounds moment n {u} {v} {w} {x} {a} {b} {c} {d} none p q r = one_round moves u x a d moment n (joins (covers moves u a n none) (joins p (joins q r)))
+
+  -- ---- events
+
+  -- the report of a device
+  pub reports : {moment device : ℕ} {report : Report} (outcome : Outcome) {u v : S} {a b : EngineState} {refused : Bool} → RefinesReporting moves (Happens moment (Is.Report device report) outcome) u a v b refused → RefinesReporting moves (ReportComes moment device report) u a v b refused
+  reports {moment} {device} {report} outcome {u} {v} {a} {b} {refused} p =
+      openly_as moves (Happens moment (Is.Report device report) outcome) (ReportComes moment device report) u v a b refused (λ l hs l' fits fits' it. (outcome, it)) p
+
+  -- the event of a client, and its answer
+  pub answers : (key id : ℕ) (who : Client) {moment : ℕ} {event : Event} {outcome : Outcome} {query refused : Bool} {reply : Option Effects} {u v w : S} {a b c : EngineState} → RefinesReporting moves (Happens moment event outcome) u a v b refused → query ≡ is_query event → reply ≡ reply_of outcome
+      → RefinesQuietly moves (Answers key id who query reply) v b w c → RefinesQuietly moves (IsAnswered moment key id who event) u a w c
+  answers key id who {moment} {event} {outcome} {query} {refused} {reply} {u} {v} {w} {a} {b} {c} p asked answered q =
+      let told : RefinesQuietly moves (Answers key id who (is_query event) (reply_of outcome)) v b w c =
+      subst (λ (t : Bool). RefinesQuietly moves (Answers key id who t (reply_of outcome)) v b w c) asked (subst (λ (o : Option Effects). RefinesQuietly moves (Answers key id who query o) v b w c) answered q) in
+      aside_as moves (Then (Happens moment event outcome) (Answers key id who (is_query event) (reply_of outcome))) (IsAnswered moment key id who event) u w a c (λ l hs l' fits fits' it. (outcome, it))
+      (aside_then moves (Happens moment event outcome) (Answers key id who (is_query event) (reply_of outcome)) u v w a b c p.does told)
+
+  -- a request was dropped
+  pub replies_none : (key id request : ℕ) (query : Bool) {reply : Option Effects} {u v : S} {a b : EngineState} → reply ≡ None → RefinesQuietly moves (Drops key id request) u a v b → RefinesQuietly moves (Replies key id request query reply) u a v b
+  replies_none key id request query {reply} {u} {v} {a} {b} none p = as_none moves (Replies key id request query) reply u v a b none p
+
+  -- ---- bodies
+
+  pub asks_event : {moment request : ℕ} {event : Event} {asked : ParsedRequest} {answer : Answer} {u v : S} {a b : EngineState} → asked ≡ asks.Event request event → RefinesAnswering moves (BodyBrings moment request event) u a v b answer → RefinesAnswering moves (BodyAsks moment asked) u a v b answer
+  asks_event {moment} {request} {event} {asked} {answer} {u} {v} {a} {b} is p = subst (λ (it : ParsedRequest). RefinesAnswering moves (BodyAsks moment it) u a v b answer) (sym is) p
+
+  -- it was read
+  pub body_read : (body : List ℕ) (asked : ParsedRequest) {moment : ℕ} {answer : Answer} {u v : S} {a b : EngineState} → Asks body asked → RefinesAnswering moves (BodyAsks moment asked) u a v b answer → RefinesAnswering moves (BodyComes moment body) u a v b answer
+  body_read body asked {moment} {answer} {u} {v} {a} {b} said p = answered_found moves (BodyAsks moment asked) (BodyComes moment body) u v a b answer (λ served l hs l' it. inl (asked, said, it)) p
+
+module _ {S : Type 0} {polled : S → Poll → S → Type 0} {told : S → Note → S → Type 0} where
+  -- a tick that is due
+  pub ticks_now : (test : Bool) {moment : ℕ} {u v w : S} {a b c : EngineState} {refused : Bool} → test ≡ is_due (max moment a.core.last) a.ticked a.undispatched → test ≡ true → RefinesReporting (alone told) (Ticks moment) u a v b refused → RefinesQuietly (moved polled told) (Settles moment) v b w c
+      → Refines (moved polled told) (TicksIfDue moment) u a w c
+  ticks_now test {moment} {u} {v} {w} {a} {b} {c} same due p q =
+      ticks_due (moved polled told) u w a c moment (sym same ∙ due)
+      (does_then (moved polled told) (Ticks moment) (Settles moment) u v w a b c (does_moved polled told (Ticks moment) u v a b (aloud (alone told) (Ticks moment) u v a b p.does)) (aloud (moved polled told) (Settles moment) v w b c q))
+
+  -- a connection comes at a door
+  pub comes : {door : Door} {id : ℕ} {u v w : S} {a b : EngineState} → polled u (Accepts door (Done id)) v → Refines (moved polled told) (Opens door id) v a w b → Refines (moved polled told) (AcceptsOne door) u a w b
+  comes {door} {id} {u} {v} {w} {a} {b} poll p = accepts_open (moved polled told) u v w a b door id poll p
+
+module _ {N : Type 0} {told : N → Note → N → Type 0} where
+  -- a note, and then the rest
+  pub tells_then : {R : Rel} {u v w : N} {a b : EngineState} {note : Note} → told u note v → RefinesQuietly (alone told) R v a w b → RefinesQuietly (alone told) (Then (Tells note) R) u a w b
+  tells_then {R} {u} {v} {w} {a} {b} {note} p q = aside_then (alone told) (Tells note) R u v w a a b (tells told u v a note p) q
+
+  -- no memory to read a body
+  pub body_unread : (body : List ℕ) {moment : ℕ} {u v : N} {a : EngineState} → told u (Refused At.Event None) v → RefinesAnswering (alone told) (BodyComes moment body) u a v a OutOfMemory
+  body_unread body {moment} {u} {v} {a} p = answered_refused told (BodyComes moment body) u v a a At.Event BadRequest p refl (λ l fits. (Told (Refused At.Event None) ∷ [], refl, inr (refl, refl)))

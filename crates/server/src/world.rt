@@ -1,0 +1,62 @@
+//! What is outside the engine: a wire and a listener, as one world.
+use dispatcher::{AllocationSite, DeviceRefusal, Dispatched, Listener};
+use events::Cancel;
+use std::io::IoSlice;
+use wires::{Door, Progress, Wire, WireId};
+
+/// A wire and a listener that are lent. It is both: what it is asked, the one or the other answers.
+#[derive(Drop)]
+pub(crate) struct World<'a, W: Wire, N: Listener> {
+    pub wire: &'a mut W,
+    pub notes: &'a mut N,
+}
+
+impl<'a, W: Wire, N: Listener> Wire for World<'a, W, N> {
+    ghost use Rattle.server.specs.World.{wire_polled};
+
+    ghost polled = { wire_polled W.polled };
+
+    ghost faults = { λ world. W.faults world.wire.now };
+
+    fn poll_accept(&mut self, door: Door) -> Progress<WireId> {
+        self.wire.poll_accept(door)
+    }
+
+    fn poll_read(&mut self, id: WireId, buffer: &mut [u8]) -> Progress<usize> {
+        self.wire.poll_read(id, buffer)
+    }
+
+    fn poll_write(&mut self, id: WireId, bytes: &[IoSlice<'_>]) -> Progress<usize> {
+        self.wire.poll_write(id, bytes)
+    }
+
+    fn close(&mut self, id: WireId) {
+        self.wire.close(id);
+    }
+
+    fn failures(&self) -> u64 {
+        self.wire.failures()
+    }
+}
+
+impl<'a, W: Wire, N: Listener> Listener for World<'a, W, N> {
+    ghost use Rattle.server.specs.World.{listener_told};
+
+    ghost told = { listener_told N.told };
+
+    fn dispatched(&mut self, made: &Dispatched<'_>) {
+        self.notes.dispatched(made);
+    }
+
+    fn canceled(&mut self, cancel: Cancel) {
+        self.notes.canceled(cancel);
+    }
+
+    fn device_refused(&mut self, id: WireId, why: DeviceRefusal) {
+        self.notes.device_refused(id, why);
+    }
+
+    fn refused(&mut self, place: AllocationSite, id: Option<WireId>) {
+        self.notes.refused(place, id);
+    }
+}
