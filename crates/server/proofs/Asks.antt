@@ -23,7 +23,7 @@ use Rattle.server.specs.Polling.{Acts, IsHeardAt}
 use Rattle.server.specs.State.{EngineState, with_slots}
 use Rattle.server.specs.Refinement.{Represents, RefinesQuietly, AsksBy}
 use Rattle.server.specs.Refinement as Refinement
-use Rattle.server.proofs.Steps.{does_then, does_moved, aloud, seen_as, seen_then}
+use Rattle.server.proofs.Steps.{refines_then, refines_moved, aloud, seen_as, seen_then}
 use Rattle.server.proofs.Slots.{set_there, quiet_at, work_there}
 use Rattle.server.proofs.Places.{found, absent, fits_set}
 use Rattle.server.proofs.Reading.{fits_still}
@@ -75,17 +75,17 @@ asks_by a slots key (Some asked) on = something_asked a slots key asked on
 -- it is asked, comes about, and what broke is closed
 pub acts : {S : Type 0} (polled : S → Poll → S → Type 0) (told : S → Note → S → Type 0) (u v w : S) (a b c d : EngineState) (moment key : ℕ) (asked : ConnectionAsk)
     → AsksBy key (Some asked) a b → RefinesQuietly (alone told) (ActsOn moment key asked.id asked.ask) u b v c → RefinesQuietly (moved polled told) (Settles moment) v c w d → Refinement.Refines (moved polled told) (Acts moment key) u a w d
-acts polled told u v w a b c d moment key asked asks does settled =
+acts polled told u v w a b c d moment key asked asks refines settled =
     let acted : Refinement.Refines (alone told) (ActsNext moment key) u a v c = record {
-      happenings = does.happenings;
-      leads = does.leads;
+      happenings = refines.happenings;
+      leads = refines.leads;
       stands = λ l fits.
           let s = asks.stands l fits in
-          let r = does.stands s.0 s.2 in
-          (r.0, seen_as (Then (Asks key asked.id asked.ask) (ActsOn moment key asked.id asked.ask)) (ActsNext moment key) l does.happenings r.0 (λ hs it. (asked.id, asked.ask, it)) (seen_then (Asks key asked.id asked.ask) (ActsOn moment key asked.id asked.ask) l [] s.0 does.happenings r.0 s.1 r.1), r.2);
+          let r = refines.stands s.0 s.2 in
+          (r.0, seen_as (Then (Asks key asked.id asked.ask) (ActsOn moment key asked.id asked.ask)) (ActsNext moment key) l refines.happenings r.0 (λ hs it. (asked.id, asked.ask, it)) (seen_then (Asks key asked.id asked.ask) (ActsOn moment key asked.id asked.ask) l [] s.0 refines.happenings r.0 s.1 r.1), r.2);
     } in
-    does_then (moved polled told) (ActsNext moment key) (Settles moment) u v w a c d (does_moved polled told (ActsNext moment key) u v a c acted) (aloud (moved polled told) (Settles moment) v w c d settled)
+    refines_then (moved polled told) (ActsNext moment key) (Settles moment) u v w a c d (refines_moved polled told (ActsNext moment key) u v a c acted) (aloud (moved polled told) (Settles moment) v w c d settled)
 
 -- what comes of what was asked, which is this
-pub does_as : {S : Type 0} (moves : S → Happening → S → Type 0) (moment key id : ℕ) (asked what : Ask) (u v : S) (a b : EngineState) → asked ≡ what → RefinesQuietly moves (ActsOn moment key id what) u a v b → RefinesQuietly moves (ActsOn moment key id asked) u a v b
-does_as moves moment key id asked what u v a b is does = subst (λ (it : Ask). RefinesQuietly moves (ActsOn moment key id it) u a v b) (sym is) does
+pub refines_as : {S : Type 0} (moves : S → Happening → S → Type 0) (moment key id : ℕ) (asked what : Ask) (u v : S) (a b : EngineState) → asked ≡ what → RefinesQuietly moves (ActsOn moment key id what) u a v b → RefinesQuietly moves (ActsOn moment key id asked) u a v b
+refines_as moves moment key id asked what u v a b is refines = subst (λ (it : Ask). RefinesQuietly moves (ActsOn moment key id it) u a v b) (sym is) refines

@@ -21,7 +21,7 @@ use Rattle.server.specs.State.{EngineState, slot_at, with_slots}
 use Rattle.server.specs.Refinement.{RepresentsOpen, RefinesQuietly, RefinesReporting, ToldOf}
 use Rattle.server.proofs.Steps.{aside_same, aside_as, openly_flag, if_true, if_false, chosen_first}
 use Rattle.server.proofs.Slots.{set_same}
-use Rattle.server.proofs.Places.{absent, found, does_at, aside_at}
+use Rattle.server.proofs.Places.{absent, found, refines_at, aside_at}
 
 -- bytes that are due follow what waits
 pub fits_kept : (e : Entry) (c : ConnectionState) (bytes : List ℕ) → RepresentsConnection e c → RepresentsConnection (owing bytes e) (is_kept bytes c)
@@ -35,21 +35,21 @@ fits_kept e c bytes f = record {
 }
 
 -- what a broken connection brought counts no more
-broken_peer : (read : List ℕ) (talk : PeerRecord) (off : Bool) (p : Peer) → FitsPeer read talk off p → FitsPeer read talk true p
-broken_peer read talk off (of.Ipp t) f = f
-broken_peer read talk off (of.Lpd t) f = f
-broken_peer read talk off (of.Device t) f = record { reports = f.reports; is = f.is; linked = λ no. let never : true ≡ false = no in cc }
+broken_peer : (read : List ℕ) (progress : PeerRecord) (off : Bool) (p : Peer) → FitsPeer read progress off p → FitsPeer read progress true p
+broken_peer read progress off (of.Ipp t) f = f
+broken_peer read progress off (of.Lpd t) f = f
+broken_peer read progress off (of.Device t) f = record { reports = f.reports; is = f.is; linked = λ no. let never : true ≡ false = no in cc }
 
 pub fits_broken : (e : Entry) (c : ConnectionState) → RepresentsConnection e c → RepresentsConnection (broken e) (is_broken c)
-fits_broken e c f = record { id = f.id; peer = broken_peer e.read e.talk e.broken c.peer f.peer; ended = f.ended; draining = f.draining; broken = refl; due = f.due }
+fits_broken e c f = record { id = f.id; peer = broken_peer e.read e.progress e.broken c.peer f.peer; ended = f.ended; draining = f.draining; broken = refl; due = f.due }
 
-given_peer : (read : List ℕ) (talk : PeerRecord) (off : Bool) (p : Peer) → FitsPeer read talk off p → FitsPeer read (unnamed talk) true (has_no_name p)
-given_peer read talk off (of.Ipp t) f = record { said = f.said; body = f.body; is = ap unnamed f.is; stands = f.stands; heard = f.heard }
-given_peer read talk off (of.Lpd t) f = record { items = f.items; is = ap unnamed f.is; stands = f.stands }
-given_peer read talk off (of.Device t) f = record { reports = f.reports; is = ap unnamed f.is; linked = λ no. let never : true ≡ false = no in cc }
+given_peer : (read : List ℕ) (progress : PeerRecord) (off : Bool) (p : Peer) → FitsPeer read progress off p → FitsPeer read (unnamed progress) true (has_no_name p)
+given_peer read progress off (of.Ipp t) f = record { said = f.said; body = f.body; is = ap unnamed f.is; stands = f.stands; heard = f.heard }
+given_peer read progress off (of.Lpd t) f = record { items = f.items; is = ap unnamed f.is; stands = f.stands }
+given_peer read progress off (of.Device t) f = record { reports = f.reports; is = ap unnamed f.is; linked = λ no. let never : true ≡ false = no in cc }
 
 pub fits_given : (e : Entry) (c : ConnectionState) → RepresentsConnection e c → RepresentsConnection (given_up e) (gives_way c)
-fits_given e c f = record { id = f.id; peer = given_peer e.read e.talk e.broken c.peer f.peer; ended = f.ended; draining = f.draining; broken = refl; due = f.due }
+fits_given e c f = record { id = f.id; peer = given_peer e.read e.progress e.broken c.peer f.peer; ended = f.ended; draining = f.draining; broken = refl; due = f.due }
 
 -- ---- how much it can bring
 
@@ -109,7 +109,7 @@ open_dropped false key bytes e l hs is told = cc
 -- bytes that are kept, or not on a connection that is broken
 unfoldable pub kept_where : {N : Type 0} (told : N → Note → N → Type 0) (n n' : N) (a : EngineState) (slots : List (Option ConnectionState)) (key : ℕ) (bytes : List ℕ) (grows : Entry → Bool) (c d : ConnectionState)
     → slice_index_or a.slots key None ≡ Some c → slots ≡ slice_set a.slots key (Some d) → EnqueuesAs bytes false c d → n' ≡ n → RefinesQuietly (alone told) (EnqueuesWhere grows key bytes) n a n' (with_slots slots a)
-unfolding aside_same aside_at does_at
+unfolding aside_same aside_at refines_at
 kept_where told n n' a slots key bytes grows c d was is (inl (off, still)) same =
     let as_before : slots ≡ a.slots = is ∙ (ap (λ (k : ConnectionState). slice_set a.slots key (Some k)) still ∙ set_same a.slots key c was) in
     aside_same (alone told) (EnqueuesWhere grows key bytes) [] n n' a (with_slots slots a) same (ap (λ (xs : List (Option ConnectionState)). with_slots xs a) as_before)
@@ -167,13 +167,13 @@ enqueues told n n' a slots key bytes broke enqueue full tells = enqueues_where t
 
 -- ---- a reply, by what its request said of closing
 
-closes_by : (read : List ℕ) (talk : PeerRecord) (off : Bool) (p : Peer) → FitsPeer read talk off p → closes_in p ≡ closes_of talk
-closes_by read talk off (of.Ipp t) f = sym (ap closes_of f.is)
-closes_by read talk off (of.Lpd t) f = sym (ap closes_of f.is)
-closes_by read talk off (of.Device t) f = sym (ap closes_of f.is)
+closes_by : (read : List ℕ) (progress : PeerRecord) (off : Bool) (p : Peer) → FitsPeer read progress off p → closes_in p ≡ closes_of progress
+closes_by read progress off (of.Ipp t) f = sym (ap closes_of f.is)
+closes_by read progress off (of.Lpd t) f = sym (ap closes_of f.is)
+closes_by read progress off (of.Device t) f = sym (ap closes_of f.is)
 
-closes_as : (e : Entry) (c : ConnectionState) → RepresentsConnection e c → closes_in c.peer ≡ closes_of e.talk
-closes_as e c f = closes_by e.read e.talk e.broken c.peer f.peer
+closes_as : (e : Entry) (c : ConnectionState) → RepresentsConnection e c → closes_in c.peer ≡ closes_of e.progress
+closes_as e c f = closes_by e.read e.progress e.broken c.peer f.peer
 
 enqueues_reply_from : (bytes : Bool → List ℕ) (key : ℕ) (l : Ledger) (a : EngineState) (hs : List Happening) (l' : Ledger) (x : Option Entry) (y : Option ConnectionState) → l.entries key ≡ x → RepresentsOpen x y → Enqueues key (bytes (option_map_or (λ c. closes_in c.peer) y false)) l hs l' → EnqueuesReplyAt bytes key x l hs l'
 enqueues_reply_from bytes key l a hs l' None y there fits it = subst (λ (o : Option Entry). EnqueuesAt (needs_memory (bytes (option_map_or (λ c. closes_in c.peer) y false))) key (bytes (option_map_or (λ c. closes_in c.peer) y false)) o l hs l') there it
@@ -189,15 +189,15 @@ enqueues_reply told n n' a slots key bytes broke enqueue full tells =
 
 kept_openly : {N : Type 0} (told : N → Note → N → Type 0) (n n' : N) (a : EngineState) (slots : List (Option ConnectionState)) (key : ℕ) (bytes : List ℕ) (grows : Entry → Bool) (c d : ConnectionState)
     → slice_index_or a.slots key None ≡ Some c → slots ≡ slice_set a.slots key (Some d) → EnqueuesAs bytes false c d → n' ≡ n → RefinesReporting (alone told) (EnqueuesWhere grows key bytes) n a n' (with_slots slots a) false
-unfolding aside_same aside_at does_at kept_where
-kept_openly told n n' a slots key bytes grows c d was is (inl still) same = record { does = kept_where told n n' a slots key bytes grows c d was is (inl still) same; is = refl }
-kept_openly told n n' a slots key bytes grows c d was is (inr now) same = record { does = kept_where told n n' a slots key bytes grows c d was is (inr now) same; is = refl }
+unfolding aside_same aside_at refines_at kept_where
+kept_openly told n n' a slots key bytes grows c d was is (inl still) same = record { refines = kept_where told n n' a slots key bytes grows c d was is (inl still) same; is = refl }
+kept_openly told n n' a slots key bytes grows c d was is (inr now) same = record { refines = kept_where told n n' a slots key bytes grows c d was is (inr now) same; is = refl }
 
 -- with whether memory was refused
 pub enqueues_openly : {N : Type 0} (told : N → Note → N → Type 0) (n n' : N) (a : EngineState) (slots : List (Option ConnectionState)) (key : ℕ) (bytes : List ℕ) (grows : Entry → Bool) (broke : Option ℕ)
     → EnqueuesSlot key bytes broke a.slots slots → IsGrowthWhere grows a.slots key broke → ToldOf told broke n n' → RefinesReporting (alone told) (EnqueuesWhere grows key bytes) n a n' (with_slots slots a) (is_some broke)
-unfolding aside_same aside_at does_at enqueues_where kept_where
-enqueues_openly told n n' a slots key bytes grows None (inl none) growth same = record { does = enqueues_where told n n' a slots key bytes grows None (inl none) growth same; is = refl }
+unfolding aside_same aside_at refines_at enqueues_where kept_where
+enqueues_openly told n n' a slots key bytes grows None (inl none) growth same = record { refines = enqueues_where told n n' a slots key bytes grows None (inl none) growth same; is = refl }
 enqueues_openly told n n' a slots key bytes grows None (inr on) growth same =
     openly_flag (alone told) (EnqueuesWhere grows key bytes) n n' a (with_slots slots a) false (is_some {T = ℕ} None) refl (kept_openly told n n' a slots key bytes grows on.before on.after on.there on.slots on.changes same)
-enqueues_openly told n n' a slots key bytes grows (Some id) on growth tells = record { does = enqueues_where told n n' a slots key bytes grows (Some id) on growth tells; is = refl }
+enqueues_openly told n n' a slots key bytes grows (Some id) on growth tells = record { refines = enqueues_where told n n' a slots key bytes grows (Some id) on growth tells; is = refl }

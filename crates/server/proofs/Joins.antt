@@ -27,7 +27,7 @@ use Rattle.server.specs.Polling.{Opens, AcceptsOne, ReadsOne, WritesOne, EndsOne
 use Rattle.server.specs.Turn.{Outcome as Answer, OutOfMemory, BadRequest, is_due, Ticks, TicksIfDue, Round, BodyAsks, BodyBrings, BodyComes}
 use Rattle.server.specs.State.{EngineState, slot_at}
 use Rattle.server.specs.Refinement.{Refines, RefinesQuietly, RefinesReporting, RefinesAnswering}
-use Rattle.server.proofs.Steps.{does_then, does_moved, aside_then, aside_as, aloud, openly_as, openly_flag, openly_then}
+use Rattle.server.proofs.Steps.{refines_then, refines_moved, aside_then, aside_as, aloud, openly_as, openly_flag, openly_then}
 use Rattle.server.proofs.Happening.{tells}
 use Rattle.server.proofs.Turning.{ticks_due, covers, one_round}
 use Rattle.server.proofs.Accepting.{accepts_open}
@@ -37,11 +37,11 @@ use Rattle.server.proofs.Replying.{as_none}
 module _ {S : Type 0} {moves : S → Happening → S → Type 0} where
   -- one after the other
   pub joins : {Q R : Rel} {u v w : S} {a b c : EngineState} → Refines moves Q u a v b → Refines moves R v b w c → Refines moves (Then Q R) u a w c
-  joins {Q} {R} {u} {v} {w} {a} {b} {c} p q = does_then moves Q R u v w a b c p q
+  joins {Q} {R} {u} {v} {w} {a} {b} {c} p q = refines_then moves Q R u v w a b c p q
 
   -- the first of them feeds no reader
   pub joins_on : {Q R : Rel} {u v w : S} {a b c : EngineState} → RefinesQuietly moves Q u a v b → Refines moves R v b w c → Refines moves (Then Q R) u a w c
-  joins_on {Q} {R} {u} {v} {w} {a} {b} {c} p q = does_then moves Q R u v w a b c (aloud moves Q u v a b p) q
+  joins_on {Q} {R} {u} {v} {w} {a} {b} {c} p q = refines_then moves Q R u v w a b c (aloud moves Q u v a b p) q
 
   -- with whether a growth was refused, told otherwise
   pub joins_openly : {Q R : Rel} {u v w : S} {a b c : EngineState} {s t unsent : Bool} → RefinesReporting moves Q u a v b s → t ≡ s → RefinesReporting moves R v b w c unsent → RefinesReporting moves (Then Q R) u a w c (t || unsent)
@@ -70,7 +70,7 @@ module _ {S : Type 0} {moves : S → Happening → S → Type 0} where
       let told : RefinesQuietly moves (Answers key id who (is_query event) (reply_of outcome)) v b w c =
       subst (λ (t : Bool). RefinesQuietly moves (Answers key id who t (reply_of outcome)) v b w c) asked (subst (λ (o : Option Effects). RefinesQuietly moves (Answers key id who query o) v b w c) answered q) in
       aside_as moves (Then (Happens moment event outcome) (Answers key id who (is_query event) (reply_of outcome))) (IsAnswered moment key id who event) u w a c (λ l hs l' fits fits' it. (outcome, it))
-      (aside_then moves (Happens moment event outcome) (Answers key id who (is_query event) (reply_of outcome)) u v w a b c p.does told)
+      (aside_then moves (Happens moment event outcome) (Answers key id who (is_query event) (reply_of outcome)) u v w a b c p.refines told)
 
   -- a request was dropped
   pub replies_none : (key id request : ℕ) (query : Bool) {reply : Option Effects} {u v : S} {a b : EngineState} → reply ≡ None → RefinesQuietly moves (Drops key id request) u a v b → RefinesQuietly moves (Replies key id request query reply) u a v b
@@ -91,7 +91,7 @@ module _ {S : Type 0} {polled : S → Poll → S → Type 0} {told : S → Note 
       → Refines (moved polled told) (TicksIfDue moment) u a w c
   ticks_now test {moment} {u} {v} {w} {a} {b} {c} same due p q =
       ticks_due (moved polled told) u w a c moment (sym same ∙ due)
-      (does_then (moved polled told) (Ticks moment) (Settles moment) u v w a b c (does_moved polled told (Ticks moment) u v a b (aloud (alone told) (Ticks moment) u v a b p.does)) (aloud (moved polled told) (Settles moment) v w b c q))
+      (refines_then (moved polled told) (Ticks moment) (Settles moment) u v w a b c (refines_moved polled told (Ticks moment) u v a b (aloud (alone told) (Ticks moment) u v a b p.refines)) (aloud (moved polled told) (Settles moment) v w b c q))
 
   -- a connection comes at a door
   pub comes : {door : Door} {id : ℕ} {u v w : S} {a b : EngineState} → polled u (Accepts door (Done id)) v → Refines (moved polled told) (Opens door id) v a w b → Refines (moved polled told) (AcceptsOne door) u a w b

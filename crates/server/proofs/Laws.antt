@@ -51,7 +51,7 @@ stays_taken moment = record {
 
 taken_on : (trace : Trace) (old new : Ledger) → Runs trace old new → AllTaken old.closed → AllTaken new.closed
 taken_on [] old new same all = same_closed old new (ap (λ (x : Ledger). x.closed) same) all
-taken_on (action ∷ actions) old new (mid, does, runs) all = taken_on actions mid new runs (action_in StaysTaken action (stays_taken (moment_of action)) old mid does all)
+taken_on (action ∷ actions) old new (mid, refines, runs) all = taken_on actions mid new runs (action_in StaysTaken action (stays_taken (moment_of action)) old mid refines all)
 
 pub all_taken : (opening : State) (trace : Trace) (ledger : Ledger) → Runs trace (opening_ledger opening) ledger → AllTaken ledger.closed
 all_taken opening trace ledger runs = taken_on trace (opening_ledger opening) ledger runs (All-nil (λ (it : Entry × Fate). IsTaken it.1 it.0))
@@ -129,8 +129,8 @@ is_run moment = record {
 
 pub one_run : (trace : Trace) (old new : Ledger) → Runs trace old new → IsOneRun trace old.core new.core
 one_run [] old new same = record { events = []; outcomes = []; timed = refl; run = (ap (λ (x : Ledger). x.core) same, refl); whole = λ none. All-nil IsWhole }
-one_run (action ∷ actions) old new (mid, does, runs) =
-    let first = action_in (IsRunAt (moment_of action)) action (is_run (moment_of action)) old mid does in
+one_run (action ∷ actions) old new (mid, refines, runs) =
+    let first = action_in (IsRunAt (moment_of action)) action (is_run (moment_of action)) old mid refines in
     let later = one_run actions mid new runs in
     record {
       events = first.events ++ later.events;
@@ -229,8 +229,8 @@ one_seen (Ticked moment hs) old new one = λ none. let it = one (sym (seen_refus
 -- the one action that is seen
 pub action_seen : (action : Action) (old new : Ledger) → Allows (action ∷ []) old new → IsAtMostOne action old.core new.core
 action_seen action old new ([], is, runs) = let never : [] ≡ action ∷ [] = is in cc
-action_seen action old new (whole ∷ [], is, (mid, does, same)) =
-    let one = one_seen whole old.core mid.core (at_most_one whole old mid does) in
+action_seen action old new (whole ∷ [], is, (mid, refines, same)) =
+    let one = one_seen whole old.core mid.core (at_most_one whole old mid refines) in
     let action_is : seen_of whole ≡ action = let both : seen_of whole ∷ [] ≡ action ∷ [] = is in cc in
     subst (λ (d : Action). IsAtMostOne d old.core new.core) action_is (subst (λ (l : Ledger). IsAtMostOne (seen_of whole) old.core l.core) (sym same) one)
 action_seen action old new (whole ∷ (next ∷ more), is, runs) = let never : seen_of whole ∷ (seen_of next ∷ seen_in more) ≡ action ∷ [] = is in cc
@@ -244,8 +244,8 @@ none_seen old new (whole ∷ more, is, runs) = let never : seen_of whole ∷ see
 pub seen_apart : (here there : Trace) (old new : Ledger) → Allows (here ++ there) old new → (mid : Ledger) × Allows here old mid × Allows there mid new
 seen_apart [] there old new allows = (old, ([], refl, refl), allows)
 seen_apart (action ∷ here) there old new ([], is, runs) = let never : [] ≡ action ∷ (here ++ there) = is in cc
-seen_apart (action ∷ here) there old new (whole ∷ more, is, (next, does, runs)) =
+seen_apart (action ∷ here) there old new (whole ∷ more, is, (next, refines, runs)) =
     let head : seen_of whole ≡ action = let both : seen_of whole ∷ seen_in more ≡ action ∷ (here ++ there) = is in cc in
     let tail : seen_in more ≡ here ++ there = let both : seen_of whole ∷ seen_in more ≡ action ∷ (here ++ there) = is in cc in
     let parts = seen_apart here there next new (more, tail, runs) in
-    (parts.0, (whole ∷ parts.1.0, ap (λ (d : Action). d ∷ seen_in parts.1.0) head ∙ ap (λ (t : Trace). action ∷ t) parts.1.1, (next, does, parts.1.2)), parts.2)
+    (parts.0, (whole ∷ parts.1.0, ap (λ (d : Action). d ∷ seen_in parts.1.0) head ∙ ap (λ (t : Trace). action ∷ t) parts.1.1, (next, refines, parts.1.2)), parts.2)

@@ -128,7 +128,7 @@ calm_answers request None bytes l hs l' it = calm_refusal At.Event None refl l h
 
 calm_reply_at : (bytes : Bool → List ℕ) (key : ℕ) (o : Option Entry) → Calmly (EnqueuesReplyAt bytes key o)
 calm_reply_at bytes key None = calm_nothing
-calm_reply_at bytes key (Some e) = calm_enqueues key (bytes (closes_of e.talk))
+calm_reply_at bytes key (Some e) = calm_enqueues key (bytes (closes_of e.progress))
 
 calm_reply : (key : ℕ) (bytes : List ℕ) → Calmly (EnqueuesResponse key bytes)
 calm_reply key bytes l hs l' it = calm_reply_at (λ closes. http_reply closes bytes) key (l.entries key) l hs l' it
@@ -273,7 +273,7 @@ module _ (moment : ℕ) (P : Rel) (k : Holds moment P) where
   gone_in (Some device) = reported_in device reported.Gone
 
   closes_in : (fate : Fate) (key : ℕ) (e : Entry) → Within P (ClosesAs moment fate key e)
-  closes_in fate key e = then_in (k.leaves fate key e) (gone_in (device_of e.talk))
+  closes_in fate key e = then_in (k.leaves fate key e) (gone_in (device_of e.progress))
 
   closes_first_in : Within P (ClosesFirst moment)
   closes_first_in l hs l' it = closes_in Broken it.key it.entry l hs l' it.closes
@@ -307,16 +307,16 @@ module _ (moment : ℕ) (P : Rel) (k : Holds moment P) where
   greets_in key id device name l hs l' (inr (inl (other, ended, it))) = then_in (chooses_in (On other)) (then_in (gives_way_in other) (then_in (gone_in (Some device)) (reported_in device (reported.Hello name)))) l hs l' it
   greets_in key id device name l hs l' (inr (inr (other, is, it))) = then_in (gives_way_in key) (turned_away_in id (why.Connected device)) l hs l' it
 
-  does_in : (key id : ℕ) (what : Ask) → Within P (Acting.ActsOn moment key id what)
-  does_in key id ask.Nothing = nothing_in
-  does_in key id (ask.Broke growth) = calmly_in (calm_refusal (Acting.place_of growth) (Some id) (other_growth growth id))
-  does_in key id (ask.Event who event) = answers_in key id who event
-  does_in key id (ask.Unread request) = calmly_in (calm_dropped key id request)
-  does_in key id (ask.Lost part) = calmly_in (calm_declines (Acting.place_of_part part) key id (other_part part id))
-  does_in key id (ask.Hello device name) = greets_in key id device name
-  does_in key id (ask.Report device report) = reported_in device report
-  does_in key id (ask.Stranger name) = turned_away_in id (why.UnknownName name)
-  does_in key id (ask.Fault device) = turned_away_in id (why.Fault device)
+  refines_in : (key id : ℕ) (what : Ask) → Within P (Acting.ActsOn moment key id what)
+  refines_in key id ask.Nothing = nothing_in
+  refines_in key id (ask.Broke growth) = calmly_in (calm_refusal (Acting.place_of growth) (Some id) (other_growth growth id))
+  refines_in key id (ask.Event who event) = answers_in key id who event
+  refines_in key id (ask.Unread request) = calmly_in (calm_dropped key id request)
+  refines_in key id (ask.Lost part) = calmly_in (calm_declines (Acting.place_of_part part) key id (other_part part id))
+  refines_in key id (ask.Hello device name) = greets_in key id device name
+  refines_in key id (ask.Report device report) = reported_in device report
+  refines_in key id (ask.Stranger name) = turned_away_in id (why.UnknownName name)
+  refines_in key id (ask.Fault device) = turned_away_in id (why.Fault device)
 
   asks_in : (key id : ℕ) (what : Ask) → Within P (Acting.Asks key id what)
   asks_in key id what l hs l' it = k.calm l hs l' (calm_as (Chosen (As.Asked (part_of it.asks) (lost_of what)) ∷ []) (with_entry key it.new l) l hs l' refl refl refl (it.chosen, it.after))
@@ -324,7 +324,7 @@ module _ (moment : ℕ) (P : Rel) (k : Holds moment P) where
   -- ---- reads
 
   acts_next_in : (key : ℕ) → Within P (Acting.ActsNext moment key)
-  acts_next_in key l hs l' (id, what, it) = then_in (asks_in key id what) (does_in key id what) l hs l' it
+  acts_next_in key l hs l' (id, what, it) = then_in (asks_in key id what) (refines_in key id what) l hs l' it
 
   serves_in : (key : ℕ) → Within P (Serves moment key)
   serves_in key l hs l' it = then_in (many_in (Acts moment key) (then_in (acts_next_in key) settles_in)) (chooses_in Rested) l hs l' it.0

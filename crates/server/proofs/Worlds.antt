@@ -30,10 +30,10 @@ leads_apart polled told u v (Chosen choice ∷ hs) p = absurd p.1
 -- a turn, after which this is in the place of what was lent
 pub turned : {W N : Type 0} (polled : W → Poll → W → Type 0) (told : N → Note → N → Type 0) (u v : World W N) (w : W) (n : N) (a b : EngineState) (moment : ℕ) → (SameLoans u v → w ≡ v.wire.now) → (SameLoans u v → n ≡ v.notes.now)
     → Refines (moved (wire_polled polled) (listener_told told)) (Turn moment) u a v b → RefinesTurn (both polled told) moment (u.wire.now, u.notes.now) a (w, n) b
-turned polled told u v w n a b moment wire notes does =
-    let same = same_loans polled told u v does.happenings does.leads in
-    let led : Leads (both polled told) (u.wire.now, u.notes.now) does.happenings (w, n) =
-    subst (λ x. Leads (both polled told) (u.wire.now, u.notes.now) does.happenings (x, n)) (sym (wire same))
-    (subst (λ y. Leads (both polled told) (u.wire.now, u.notes.now) does.happenings (v.wire.now, y)) (sym (notes same)) (leads_apart polled told u v does.happenings does.leads)) in
-    let apart : Refines (both polled told) (Turn moment) (u.wire.now, u.notes.now) a (w, n) b = record { happenings = does.happenings; leads = led; stands = does.stands } in
+turned polled told u v w n a b moment wire notes refines =
+    let same = same_loans polled told u v refines.happenings refines.leads in
+    let led : Leads (both polled told) (u.wire.now, u.notes.now) refines.happenings (w, n) =
+    subst (λ x. Leads (both polled told) (u.wire.now, u.notes.now) refines.happenings (x, n)) (sym (wire same))
+    (subst (λ y. Leads (both polled told) (u.wire.now, u.notes.now) refines.happenings (v.wire.now, y)) (sym (notes same)) (leads_apart polled told u v refines.happenings refines.leads)) in
+    let apart : Refines (both polled told) (Turn moment) (u.wire.now, u.notes.now) a (w, n) b = record { happenings = refines.happenings; leads = led; stands = refines.stands } in
     one_turn (both polled told) (u.wire.now, u.notes.now) (w, n) a b moment apart

@@ -3,7 +3,7 @@ use Rattle.std.specs.Prelude.{ℕ, ◌⊎◌, Bool, List, [], ◌∷◌, Option,
 use Rattle.events.specs.declared.event.Event.{Event}
 use Rattle.events.specs.declared.effects.Effects.{Effects}
 use Rattle.events.specs.declared.effects.Response.{Response}
-use Rattle.events.specs.declared.effects.Response.TheVariants as Says
+use Rattle.events.specs.declared.effects.Response.TheVariants as responds
 use Rattle.events.specs.declared.effects.IppResponse.{IppResponse}
 use Rattle.events.specs.declared.effects.LpdResponse.{LpdResponse}
 use Rattle.events.specs.declared.effects.LpdResponse.TheVariants as Shown
@@ -36,16 +36,16 @@ LosesReply key id request query = Then (Tells (Refused At.Reply (Some id))) (If 
 
 -- the answer to an IPP request, where it is one
 abbrev pub ipp_answer : Response → Option IppResponse
-ipp_answer (Says.Ipp answer) = Some answer
-ipp_answer (Says.Lpd answer) = None
-ipp_answer Says.Nothing = None
+ipp_answer (responds.Ipp answer) = Some answer
+ipp_answer (responds.Lpd answer) = None
+ipp_answer responds.Nothing = None
 
 -- the answer's bytes become due
 abbrev pub RepliesWith : ℕ → ℕ → ℕ → Bool → Response → Rel
-RepliesWith key id request query (Says.Ipp answer) l hs l' =
+RepliesWith key id request query (responds.Ipp answer) l hs l' =
     ((bytes : List ℕ) × IsReply answer request bytes × Then (Chooses Found) (EnqueuesResponse key bytes) l hs l') ⊎ LosesReply key id request query l hs l'
-RepliesWith key id request query (Says.Lpd answer) l hs l' = Nothing l hs l'
-RepliesWith key id request query Says.Nothing l hs l' = Nothing l hs l'
+RepliesWith key id request query (responds.Lpd answer) l hs l' = Nothing l hs l'
+RepliesWith key id request query responds.Nothing l hs l' = Nothing l hs l'
 
 -- a reply becomes due, or the request was dropped
 abbrev pub Replies : ℕ → ℕ → ℕ → Bool → Option Effects → Rel
@@ -69,9 +69,9 @@ IsTold key id Shown.NoQueue = Shows key id (text_of Shown.NoQueue)
 
 -- a job is acknowledged, which takes no memory of a reply; a queue is shown; a removal isn't answered
 abbrev pub IsShown : ℕ → ℕ → Response → Rel
-IsShown key id (Says.Lpd answer) = IsTold key id answer
-IsShown key id (Says.Ipp answer) = Nothing
-IsShown key id Says.Nothing = Nothing
+IsShown key id (responds.Lpd answer) = IsTold key id answer
+IsShown key id (responds.Ipp answer) = Nothing
+IsShown key id responds.Nothing = Nothing
 
 -- the answer to a job, where memory for it wasn't refused
 abbrev pub Acknowledges : ℕ → ℕ → Option Effects → Rel

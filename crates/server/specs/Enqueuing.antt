@@ -44,7 +44,7 @@ Enqueues key bytes = EnqueuesWhere (needs_memory bytes) key bytes
 -- a reply of IPP becomes due, by what its request said of closing
 abbrev pub EnqueuesReplyAt : (Bool → List ℕ) → ℕ → Option Entry → Rel
 EnqueuesReplyAt bytes key None = Nothing
-EnqueuesReplyAt bytes key (Some e) = Enqueues key (bytes (closes_of e.talk))
+EnqueuesReplyAt bytes key (Some e) = Enqueues key (bytes (closes_of e.progress))
 
 abbrev pub EnqueuesResponse : ℕ → List ℕ → Rel
 EnqueuesResponse key bytes l hs l' = EnqueuesReplyAt (λ closes. http_reply closes bytes) key (l.entries key) l hs l'
@@ -58,7 +58,7 @@ EnqueuesStatus key status request l hs l' = EnqueuesReplyAt (λ closes. http_sta
 -- a connection is open there, and this device said its name on it
 abbrev pub IsDevice : ℕ → Option Entry → Type 0
 IsDevice device None = ⊥
-IsDevice device (Some e) = device_of e.talk ≡ Some device
+IsDevice device (Some e) = device_of e.progress ≡ Some device
 
 abbrev pub IsAbsent : ℕ → Ledger → Type 0
 IsAbsent device l = (key : ℕ) → IsDevice device (l.entries key) → ⊥

@@ -9,7 +9,7 @@ use Rattle.dispatcher.specs.Notes.{DeviceRefused}
 use Rattle.connections.specs.Entry.{Entry, device_of, given_up}
 use Rattle.server.specs.Polls.{On}
 use Rattle.server.specs.Ledger.{Ledger}
-use Rattle.server.specs.Rel.{Rel, Nothing, Tells as Says, Chooses, Then}
+use Rattle.server.specs.Rel.{Rel, Nothing, Tells as Informs, Chooses, Then}
 use Rattle.server.specs.Enqueuing.{Sets, IsDevice}
 use Rattle.server.specs.Happening.{Unanswered}
 use Rattle.server.specs.Closing.{IsGone}
@@ -21,7 +21,7 @@ Tells moment device said l hs l' = (report : Report) × (report_of report ≡ sa
 -- a connection is open there on which this device said its name, and its input has ended or hasn't
 abbrev pub IsDeviceAs : Bool → ℕ → Option Entry → Type 0
 IsDeviceAs ended device None = ⊥
-IsDeviceAs ended device (Some e) = (device_of e.talk ≡ Some device) × (e.ended ≡ ended)
+IsDeviceAs ended device (Some e) = (device_of e.progress ≡ Some device) × (e.ended ≡ ended)
 
 -- the device has no connection beside the one under a key
 abbrev pub IsAlone : ℕ → ℕ → Ledger → Type 0
@@ -53,4 +53,4 @@ abbrev pub Greets : ℕ → ℕ → ℕ → ℕ → List ℕ → Rel
 Greets moment key id device name l hs l' =
     (IsAlone device key l × SaysName moment device name l hs l')
     ⊎ (((other : ℕ) × HasOther true device key other l × Then (Chooses (On other)) (TakesOver moment other device name) l hs l')
-    ⊎ ((other : ℕ) × HasOther false device key other l × Then (GivesWay key) (Says (DeviceRefused id (why.Connected device))) l hs l'))
+    ⊎ ((other : ℕ) × HasOther false device key other l × Then (GivesWay key) (Informs (DeviceRefused id (why.Connected device))) l hs l'))

@@ -26,5 +26,5 @@ words_of (DeviceRefused id why) = hear.DeviceRefused id why ∷ []
 words_of (Refused place id) = hear.Refused place id ∷ []
 
 -- all of it is kept after what was heard before, or memory for it was refused; after that nothing is kept
-abbrev pub Hears : Option (List LoggedNote) → Note → Option (List LoggedNote) → Type 0
-Hears old note new = (new ≡ option_map (λ kept. kept ++ words_of note) old) ⊎ (new ≡ None)
+abbrev pub LogsNote : Option (List LoggedNote) → Note → Option (List LoggedNote) → Type 0
+LogsNote old note new = (new ≡ option_map (λ kept. kept ++ words_of note) old) ⊎ (new ≡ None)

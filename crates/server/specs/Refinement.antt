@@ -60,20 +60,20 @@ pub record RefinesQuietly {S : Type 0} (moves : S → Happening → S → Type 0
 
 -- the same, with whether a growth was refused
 pub record RefinesReporting {S : Type 0} (moves : S → Happening → S → Type 0) (R : Rel) (world : S) (old : EngineState) (world' : S) (new : EngineState) (refused : Bool) : Type 0 where
-  pub does : RefinesQuietly moves R world old world' new
-  pub is : has_refusal does.happenings ≡ refused
+  pub refines : RefinesQuietly moves R world old world' new
+  pub is : has_refusal refines.happenings ≡ refused
 
 -- what came of a body, which is answered so
 pub record RefinesAnswering {S : Type 0} (moves : S → Happening → S → Type 0) (R : Outcome → Rel) (world : S) (old : EngineState) (world' : S) (new : EngineState) (answer : Outcome) : Type 0 where
   pub served : Outcome
-  pub does : RefinesQuietly moves (R served) world old world' new
-  pub is : answer ≡ served_as does.happenings served
+  pub refines : RefinesQuietly moves (R served) world old world' new
+  pub is : answer ≡ served_as refines.happenings served
 
 -- ---- where there is no wire: only a listener is told
 
 -- this is done, and feeds no reader
-abbrev pub Does : {N : Type 0} → (N → Note → N → Type 0) → Rel → N → EngineState → N → EngineState → Type 0
-Does told R listener old listener' new = RefinesQuietly (alone told) R listener old listener' new
+abbrev pub RefinesTold : {N : Type 0} → (N → Note → N → Type 0) → Rel → N → EngineState → N → EngineState → Type 0
+RefinesTold told R listener old listener' new = RefinesQuietly (alone told) R listener old listener' new
 
 -- the same, with whether a growth was refused
 abbrev pub Reports : {N : Type 0} → (N → Note → N → Type 0) → Rel → N → EngineState → N → EngineState → Bool → Type 0
@@ -107,7 +107,7 @@ pub record IsOther (device key other : ℕ) (e : EngineState) : Type 0 where
 
 -- the connection under a key was closed
 pub record RefinesClosing {S : Type 0} (moves : S → Happening → S → Type 0) (moment : ℕ) (fate : Fate) (key : ℕ) (world : S) (old : EngineState) (world' : S) (new : EngineState) : Type 0 where
-  pub does : RefinesQuietly moves (ClosesAt moment fate key) world old world' new
+  pub refines : RefinesQuietly moves (ClosesAt moment fate key) world old world' new
   pub fewer : count_by is_some new.slots < count_by is_some old.slots
 
 -- if one was open there it was closed so, by each fate that it may have: as drained only where nothing waited on it

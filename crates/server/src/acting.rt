@@ -3,7 +3,7 @@ ghost use Rattle.std.specs.Prelude.{◌≡◌};
 ghost use Rattle.server.specs.World.{moved};
 ghost use Rattle.server.specs.Acting.{ActsOn, place_of, place_of_part};
 ghost use Rattle.server.specs.Polling.{Serves};
-ghost use Rattle.server.specs.Refinement.{Refines, Does, AsksBy};
+ghost use Rattle.server.specs.Refinement.{Refines, RefinesTold, AsksBy};
 
 use crate::engine::Engine;
 use base_types::Moment;
@@ -42,7 +42,7 @@ impl<P: Planner + Drop> Engine<P> {
 
     /// Handles what is asked, for who asks.
     fn act<N: Listener>(&mut self, moment: Moment, asker: Asker, ask: Ask, notes: &mut N)
-        ensures { Does N.told (ActsOn moment asker.key asker.id ask) notes.old self.old notes.new self.new }
+        ensures { RefinesTold N.told (ActsOn moment asker.key asker.id ask) notes.old self.old notes.new self.new }
     {
         match ask {
             Ask::Nothing => {}

@@ -2,7 +2,7 @@
 ghost use Rattle.std.specs.Prelude.{◌≡◌};
 ghost use Rattle.ipp_operations.specs.QueueText.{text_of};
 ghost use Rattle.server.specs.Answering.{IsAnswered, Answers, Replies, RepliesWith, LosesReply, Drops, ipp_answer, Declines, Acknowledges, Responds, IsShown, IsTold, Shows};
-ghost use Rattle.server.specs.Refinement.{Does};
+ghost use Rattle.server.specs.Refinement.{RefinesTold};
 
 use crate::acting::Asker;
 use crate::engine::Engine;
@@ -24,7 +24,7 @@ impl<P: Planner + Drop> Engine<P> {
         event: Event,
         notes: &mut N,
     )
-        ensures { Does N.told (IsAnswered moment asker.key asker.id client event) notes.old self.old notes.new self.new }
+        ensures { RefinesTold N.told (IsAnswered moment asker.key asker.id client event) notes.old self.old notes.new self.new }
     {
         let query = event.is_query();
         let handled = self.handle(moment, event, notes);
@@ -40,7 +40,7 @@ impl<P: Planner + Drop> Engine<P> {
         reply: Option<Effects>,
         notes: &mut N,
     )
-        ensures { Does N.told (Answers asker.key asker.id client query reply) notes.old self.old notes.new self.new }
+        ensures { RefinesTold N.told (Answers asker.key asker.id client query reply) notes.old self.old notes.new self.new }
     {
         match client {
             Client::Ipp(request) => self.reply(asker, request, query, reply, notes),
@@ -62,7 +62,7 @@ impl<P: Planner + Drop> Engine<P> {
         reply: Option<Effects>,
         notes: &mut N,
     )
-        ensures { Does N.told (Replies asker.key asker.id request query reply) notes.old self.old notes.new self.new }
+        ensures { RefinesTold N.told (Replies asker.key asker.id request query reply) notes.old self.old notes.new self.new }
     {
         match reply {
             Some(reply) => self.reply_with(asker, request, query, reply.answer, notes),
@@ -73,7 +73,7 @@ impl<P: Planner + Drop> Engine<P> {
     /// A request was dropped, out of memory, which it is answered.
     #[tactic(auto, using(crate::proofs::Joins::tells_then))]
     pub(crate) fn drop_request<N: Listener>(&mut self, asker: Asker, request: u32, notes: &mut N)
-        ensures { Does N.told (Drops asker.key asker.id request) notes.old self.old notes.new self.new }
+        ensures { RefinesTold N.told (Drops asker.key asker.id request) notes.old self.old notes.new self.new }
     {
         notes.refused(AllocationSite::Event, Some(asker.id));
         self.enqueue_status(asker.key, Status::TemporaryError, request, notes);
@@ -88,7 +88,7 @@ impl<P: Planner + Drop> Engine<P> {
         answer: Response,
         notes: &mut N,
     )
-        ensures { Does N.told (RepliesWith asker.key asker.id request query answer) notes.old self.old notes.new self.new }
+        ensures { RefinesTold N.told (RepliesWith asker.key asker.id request query answer) notes.old self.old notes.new self.new }
     {
         let Some(answer) = ipp_answer(answer) else {
             return;
@@ -102,7 +102,7 @@ impl<P: Planner + Drop> Engine<P> {
     /// Memory for the bytes of an answer was refused: a query is answered so, after any other event the
     /// connection breaks.
     fn lose_reply<N: Listener>(&mut self, asker: Asker, request: u32, query: bool, notes: &mut N)
-        ensures { Does N.told (LosesReply asker.key asker.id request query) notes.old self.old notes.new self.new }
+        ensures { RefinesTold N.told (LosesReply asker.key asker.id request query) notes.old self.old notes.new self.new }
     {
         notes.refused(AllocationSite::Reply, Some(asker.id));
         if query {
@@ -117,7 +117,7 @@ impl<P: Planner + Drop> Engine<P> {
 impl<P: Planner + Drop> Engine<P> {
     /// The answer to a job becomes due, or that memory for it was refused.
     fn answer_job<N: Listener>(&mut self, asker: Asker, reply: Option<Effects>, notes: &mut N)
-        ensures { Does N.told (Acknowledges asker.key asker.id reply) notes.old self.old notes.new self.new }
+        ensures { RefinesTold N.told (Acknowledges asker.key asker.id reply) notes.old self.old notes.new self.new }
     {
         match reply {
             Some(reply) => self.tell_answer(asker, &reply.answer, notes),
@@ -133,7 +133,7 @@ impl<P: Planner + Drop> Engine<P> {
         asker: Asker,
         notes: &mut N,
     )
-        ensures { Does N.told (Declines place asker.key asker.id) notes.old self.old notes.new self.new }
+        ensures { RefinesTold N.told (Declines place asker.key asker.id) notes.old self.old notes.new self.new }
     {
         notes.refused(place, Some(asker.id));
         self.enqueue(asker.key, &[REFUSED], notes);
@@ -141,7 +141,7 @@ impl<P: Planner + Drop> Engine<P> {
 
     /// The answer to a command becomes due; where memory for it was refused the connection breaks.
     fn answer_command<N: Listener>(&mut self, asker: Asker, reply: Option<Effects>, notes: &mut N)
-        ensures { Does N.told (Responds asker.key asker.id reply) notes.old self.old notes.new self.new }
+        ensures { RefinesTold N.told (Responds asker.key asker.id reply) notes.old self.old notes.new self.new }
     {
         match reply {
             Some(reply) => self.tell_answer(asker, &reply.answer, notes),
@@ -154,7 +154,7 @@ impl<P: Planner + Drop> Engine<P> {
 
     /// The bytes of an answer to an LPD client become due, if it is one.
     fn tell_answer<N: Listener>(&mut self, asker: Asker, answer: &Response, notes: &mut N)
-        ensures { Does N.told (IsShown asker.key asker.id answer.now) notes.old self.old notes.new self.new }
+        ensures { RefinesTold N.told (IsShown asker.key asker.id answer.now) notes.old self.old notes.new self.new }
     {
         match answer {
             Response::Lpd(answer) => self.tell_client(asker, answer, notes),
@@ -165,7 +165,7 @@ impl<P: Planner + Drop> Engine<P> {
 
     /// The bytes of an answer to an LPD client become due.
     fn tell_client<N: Listener>(&mut self, asker: Asker, answer: &LpdResponse, notes: &mut N)
-        ensures { Does N.told (IsTold asker.key asker.id answer.now) notes.old self.old notes.new self.new }
+        ensures { RefinesTold N.told (IsTold asker.key asker.id answer.now) notes.old self.old notes.new self.new }
     {
         match answer {
             LpdResponse::Taken(_) => self.enqueue(asker.key, &[lpd_ack(answer)], notes),
@@ -176,7 +176,7 @@ impl<P: Planner + Drop> Engine<P> {
 
     /// The text of a queue becomes due; where memory for it is refused, the connection breaks.
     fn show<N: Listener>(&mut self, asker: Asker, answer: &LpdResponse, notes: &mut N)
-        ensures { Does N.told (Shows asker.key asker.id (text_of answer.now)) notes.old self.old notes.new self.new }
+        ensures { RefinesTold N.told (Shows asker.key asker.id (text_of answer.now)) notes.old self.old notes.new self.new }
     {
         match lpd_queue_text(self.alloc, answer) {
             Ok(text) => self.enqueue(asker.key, &text, notes),

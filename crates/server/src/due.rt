@@ -2,7 +2,7 @@
 ghost use Rattle.std.specs.Prelude.{◌≡◌};
 ghost use Rattle.std.specs.Option.{is_some};
 ghost use Rattle.server.specs.Enqueuing.{Enqueues, EnqueuesResponse, EnqueuesStatus};
-ghost use Rattle.server.specs.Refinement.{Does, ToldOf};
+ghost use Rattle.server.specs.Refinement.{RefinesTold, ToldOf};
 
 use crate::engine::Engine;
 use connections::table::{enqueue, enqueue_response, enqueue_status};
@@ -16,7 +16,7 @@ use wires::WireId;
 impl<P: Planner + Drop> Engine<P> {
     /// Bytes become due on the connection under a key.
     pub(crate) fn enqueue<N: Listener>(&mut self, key: usize, bytes: &[u8], notes: &mut N)
-        ensures { Does N.told (Enqueues key bytes.now) notes.old self.old notes.new self.new }
+        ensures { RefinesTold N.told (Enqueues key bytes.now) notes.old self.old notes.new self.new }
     {
         let broke = enqueue(&mut self.connections, key, bytes);
         tell(broke, notes);
@@ -24,7 +24,7 @@ impl<P: Planner + Drop> Engine<P> {
 
     /// A reply of IPP becomes due on the connection under a key.
     pub(crate) fn enqueue_response<N: Listener>(&mut self, key: usize, bytes: &[u8], notes: &mut N)
-        ensures { Does N.told (EnqueuesResponse key bytes.now) notes.old self.old notes.new self.new }
+        ensures { RefinesTold N.told (EnqueuesResponse key bytes.now) notes.old self.old notes.new self.new }
     {
         let broke = enqueue_response(&mut self.connections, key, bytes);
         tell(broke, notes);
@@ -38,7 +38,7 @@ impl<P: Planner + Drop> Engine<P> {
         request: u32,
         notes: &mut N,
     )
-        ensures { Does N.told (EnqueuesStatus key status request) notes.old self.old notes.new self.new }
+        ensures { RefinesTold N.told (EnqueuesStatus key status request) notes.old self.old notes.new self.new }
     {
         let broke = enqueue_status(&mut self.connections, key, status, request);
         tell(broke, notes);

@@ -1,6 +1,6 @@
 //! Devices that say their names.
 ghost use Rattle.server.specs.Greeting.{Greets, TakesOver};
-ghost use Rattle.server.specs.Refinement.{Does, IsOther};
+ghost use Rattle.server.specs.Refinement.{RefinesTold, IsOther};
 
 use crate::acting::Asker;
 use crate::engine::Engine;
@@ -20,7 +20,7 @@ impl<P: Planner + Drop> Engine<P> {
         name: Text,
         notes: &mut N,
     )
-        ensures { Does N.told (Greets moment asker.key asker.id device name) notes.old self.old notes.new self.new }
+        ensures { RefinesTold N.told (Greets moment asker.key asker.id device name) notes.old self.old notes.new self.new }
     {
         match other_key_of(&self.connections, device, asker.key) {
             Some(other) => self.meet(moment, asker, other, device, name, notes),
@@ -42,7 +42,7 @@ impl<P: Planner + Drop> Engine<P> {
         notes: &mut N,
     )
         requires { IsOther device asker.key other self.old }
-        ensures { Does N.told (Greets moment asker.key asker.id device name) notes.old self.old notes.new self.new }
+        ensures { RefinesTold N.told (Greets moment asker.key asker.id device name) notes.old self.old notes.new self.new }
     {
         if has_ended(&self.connections, other) {
             self.take_over(moment, other, device, name, notes);
@@ -62,7 +62,7 @@ impl<P: Planner + Drop> Engine<P> {
         name: Text,
         notes: &mut N,
     )
-        ensures { Does N.told (TakesOver moment old device name) notes.old self.old notes.new self.new }
+        ensures { RefinesTold N.told (TakesOver moment old device name) notes.old self.old notes.new self.new }
     {
         give_way(&mut self.connections, old);
         self.report_now(moment, device, Report::Gone, notes);

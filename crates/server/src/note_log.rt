@@ -50,9 +50,9 @@ impl Model for NoteLog {
 }
 
 impl Listener for NoteLog {
-    ghost use Rattle.server.specs.NoteLog.{Hears};
+    ghost use Rattle.server.specs.NoteLog.{LogsNote};
 
-    ghost told = { Hears };
+    ghost told = { LogsNote };
 
     fn dispatched(&mut self, made: &Dispatched<'_>) {
         match notes_of(self.alloc, made) {

@@ -9,4 +9,4 @@ pub returns-in-None : goal.returns-in-None
 returns-in-None g c =
     aside_as _ _ _ _ _ _ _
     (λ l hs l' fits fits' it. inl (device_alone l c.args.self.now c.args.device c.args.asker.key fits (λ key apart. ap (λ (e : EngineState). is_of e.slots c.args.device key) (sym c.self.view_is) ∙ c.in-None.ensures.none key apart), it))
-    c.report_now.ensures.does
+    c.report_now.ensures.refines
