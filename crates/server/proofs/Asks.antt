@@ -1,4 +1,4 @@
--- What connections ask, and what comes of it.
+-- The asks of connections, and the happenings that they bring.
 use Rattle.std.proofs.Common.{◌≡◌, ◌<◌, arith, ℕ, [], ◌∷◌, refl, sym, ◌∙◌, ap, subst, Option, Some, None, inl, inr}
 use Rattle.std.specs.Prelude.{slice_index_or}
 use Rattle.print_room.specs.State.{State}
@@ -28,7 +28,7 @@ use Rattle.server.proofs.Slots.{set_there, quiet_at, work_there}
 use Rattle.server.proofs.Places.{found, absent, fits_set}
 use Rattle.server.proofs.Reading.{fits_still}
 
--- ---- what the connection under a key asks
+-- ---- the ask of the connection under a key
 
 nothing_asked : (a : EngineState) (slots : Slots) (key : ℕ) → OnSlot key (Becomes (Asking a.core.settings None)) a.slots slots → AsksBy key None a (with_slots slots a)
 nothing_asked a slots key on = record {
@@ -70,9 +70,9 @@ asks_by a slots key None (inl none) = record {
 asks_by a slots key None (inr on) = nothing_asked a slots key on
 asks_by a slots key (Some asked) on = something_asked a slots key asked on
 
--- ---- what comes of it
+-- ---- the happenings of an ask
 
--- it is asked, comes about, and what broke is closed
+-- the connection asks, what it asks happens, and then the broken connections are closed
 pub acts : {S : Type 0} (polled : S → Poll → S → Type 0) (told : S → Note → S → Type 0) (u v w : S) (a b c d : EngineState) (moment key : ℕ) (asked : ConnectionAsk)
     → AsksBy key (Some asked) a b → RefinesQuietly (alone told) (ActsOn moment key asked.id asked.ask) u b v c → RefinesQuietly (moved polled told) (Settles moment) v c w d → Refinement.Refines (moved polled told) (Acts moment key) u a w d
 acts polled told u v w a b c d moment key asked asks refines settled =
@@ -86,6 +86,6 @@ acts polled told u v w a b c d moment key asked asks refines settled =
     } in
     refines_then (moved polled told) (ActsNext moment key) (Settles moment) u v w a c d (refines_moved polled told (ActsNext moment key) u v a c acted) (aloud (moved polled told) (Settles moment) v w c d settled)
 
--- what comes of what was asked, which is this
+-- the relation of an ask, for an equal ask
 pub refines_as : {S : Type 0} (moves : S → Happening → S → Type 0) (moment key id : ℕ) (asked what : Ask) (u v : S) (a b : EngineState) → asked ≡ what → RefinesQuietly moves (ActsOn moment key id what) u a v b → RefinesQuietly moves (ActsOn moment key id asked) u a v b
 refines_as moves moment key id asked what u v a b is refines = subst (λ (it : Ask). RefinesQuietly moves (ActsOn moment key id it) u a v b) (sym is) refines

@@ -1,4 +1,4 @@
--- Bytes become due on a connection.
+-- The engine makes bytes due on a connection.
 use Rattle.std.proofs.Common.{◌≡◌, ◌≤◌, ◌<◌, ◌+◌, arith, ℕ, Bool, true, false, List, [], ◌∷◌, ◌++◌, length, drop, refl, sym, ◌∙◌, ap, subst, append_assoc, Option, Some, None, inl, inr}
 use Rattle.std.specs.Prelude.{slice_index_or, slice_set, nat_lt, is_some, ◌||◌, if◌then◌else◌}
 use Rattle.std.specs.Option.{option_map_or}
@@ -23,7 +23,7 @@ use Rattle.server.proofs.Steps.{aside_same, aside_as, openly_flag, if_true, if_f
 use Rattle.server.proofs.Slots.{set_same}
 use Rattle.server.proofs.Places.{absent, found, refines_at, aside_at}
 
--- bytes that are due follow what waits
+-- new due bytes are behind the waiting bytes
 pub fits_kept : (e : Entry) (c : ConnectionState) (bytes : List ℕ) → RepresentsConnection e c → RepresentsConnection (owing bytes e) (is_kept bytes c)
 fits_kept e c bytes f = record {
   id = f.id;
@@ -34,7 +34,7 @@ fits_kept e c bytes f = record {
   due = sym (append_assoc e.taken c.output bytes) ∙ ap (λ (o : List ℕ). o ++ bytes) f.due;
 }
 
--- what a broken connection brought counts no more
+-- a peer fits the entry of a broken connection if it fitted the entry before
 broken_peer : (read : List ℕ) (progress : PeerRecord) (off : Bool) (p : Peer) → FitsPeer read progress off p → FitsPeer read progress true p
 broken_peer read progress off (of.Ipp t) f = f
 broken_peer read progress off (of.Lpd t) f = f
@@ -51,7 +51,7 @@ given_peer read progress off (of.Device t) f = record { reports = f.reports; is 
 pub fits_given : (e : Entry) (c : ConnectionState) → RepresentsConnection e c → RepresentsConnection (given_up e) (gives_way c)
 fits_given e c f = record { id = f.id; peer = given_peer e.read e.progress e.broken c.peer f.peer; ended = f.ended; draining = f.draining; broken = refl; due = f.due }
 
--- ---- how much it can bring
+-- ---- the load of a connection
 
 nothing_off : (x y : Bool) (n : ℕ) → (if x || true then 0 else n) ≤ (if x || y then 0 else n)
 nothing_off true y n = omega arith
@@ -70,26 +70,26 @@ load_given c = none_off c.draining (1 + work (has_no_name c.peer)) (load c)
 pub load_as : (c d e : ConnectionState) → d ≡ e → load e ≤ load c → load d ≤ load c
 load_as c d e is less = subst (λ (x : ConnectionState). load x ≤ load c) (sym is) less
 
--- ---- what waits
+-- ---- the waiting bytes
 
 drop_front-append : (xs ys : List ℕ) → drop (length xs) (xs ++ ys) ≡ ys
 drop_front-append [] ys = refl
 drop_front-append (x ∷ xs) ys = drop_front-append xs ys
 
--- what waits by the ledger is what the connection holds
+-- the waiting bytes by the entry are the bytes that the connection holds
 pub waits : (e : Entry) (c : ConnectionState) → RepresentsConnection e c → waiting e ≡ c.output
 waits e c f = ap (λ (due : List ℕ). drop (length e.taken) due) (sym f.due) ∙ drop_front-append e.taken c.output
 
--- ---- bytes that are due
+-- ---- due bytes
 
--- where a growth for these bytes is refused, they are one
+-- if memory was refused, `grows` says that memory may be refused for the connection
 abbrev pub IsGrowthWhere : (Entry → Bool) → List (Option ConnectionState) → ℕ → Option ℕ → Type 0
 IsGrowthWhere grows slots key broke = is_some broke ≡ true → (c : ConnectionState) (e : Entry) → slice_index_or slots key None ≡ Some c → RepresentsConnection e c → grows e ≡ true
 
 pub enqueues_from : (grows : Entry → Bool) (key : ℕ) (bytes : List ℕ) (l : Ledger) (hs : List Happening) (l' : Ledger) (o : Option Entry) → l.entries key ≡ o → EnqueuesAt grows key bytes o l hs l' → EnqueuesWhere grows key bytes l hs l'
 enqueues_from grows key bytes l hs l' o is it = subst (λ (x : Option Entry). EnqueuesAt grows key bytes x l hs l') (sym is) it
 
--- memory was found, where it may be refused
+-- the choice that memory was found, if memory may be refused
 abbrev pub found_where : Bool → List Happening
 found_where true = Chosen Found ∷ []
 found_where false = []
@@ -106,7 +106,7 @@ pub open_dropped : (grows : Bool) (key : ℕ) (bytes : List ℕ) (e : Entry) (l 
 open_dropped true key bytes e l hs is told = inr (told, refl)
 open_dropped false key bytes e l hs is told = cc
 
--- bytes that are kept, or not on a connection that is broken
+-- bytes become due on a connection, or the connection is broken and unchanged
 unfoldable pub kept_where : {N : Type 0} (told : N → Note → N → Type 0) (n n' : N) (a : EngineState) (slots : List (Option ConnectionState)) (key : ℕ) (bytes : List ℕ) (grows : Entry → Bool) (c d : ConnectionState)
     → slice_index_or a.slots key None ≡ Some c → slots ≡ slice_set a.slots key (Some d) → EnqueuesAs bytes false c d → n' ≡ n → RefinesQuietly (alone told) (EnqueuesWhere grows key bytes) n a n' (with_slots slots a)
 unfolding aside_same aside_at refines_at
@@ -130,7 +130,7 @@ kept_where told n n' a slots key bytes grows c d was is (inr (whole, now)) same 
       ),
     ))
 
--- what the table says of due bytes, and what the listener was told
+-- bytes are enqueued in the table, and the listener is told of a connection that broke
 unfoldable pub enqueues_where : {N : Type 0} (told : N → Note → N → Type 0) (n n' : N) (a : EngineState) (slots : List (Option ConnectionState)) (key : ℕ) (bytes : List ℕ) (grows : Entry → Bool) (broke : Option ℕ)
     → EnqueuesSlot key bytes broke a.slots slots → IsGrowthWhere grows a.slots key broke → ToldOf told broke n n' → RefinesQuietly (alone told) (EnqueuesWhere grows key bytes) n a n' (with_slots slots a)
 enqueues_where told n n' a slots key bytes grows None (inl none) growth same =
@@ -151,7 +151,7 @@ enqueues_where told n n' a slots key bytes grows (Some id) on growth tells =
 above : (most n : ℕ) → most < n → nat_lt most n ≡ true
 above most n more = grind (arith, nat_tests, more)
 
--- what is refused where it has no room in the reserve
+-- bytes without room in the reserve need memory
 growth_at : (bytes : List ℕ) (slots : List (Option ConnectionState)) (key id : ℕ) (c : ConnectionState) (e : Entry) → RESERVED_BYTES < length (output_at key slots ++ bytes) → slice_index_or slots key None ≡ Some c → RepresentsConnection e c → needs_memory bytes e ≡ true
 growth_at bytes slots key id c e more there f =
     let held : output_at key slots ≡ waiting e = ap (λ (o : Option ConnectionState). option_map_or (λ (d : ConnectionState). d.output) o []) there ∙ sym (waits e c f) in
@@ -165,7 +165,7 @@ pub enqueues : {N : Type 0} (told : N → Note → N → Type 0) (n n' : N) (a :
     → EnqueuesSlot key bytes broke a.slots slots → IsGrowth key bytes broke a.slots → ToldOf told broke n n' → RefinesQuietly (alone told) (Enqueues key bytes) n a n' (with_slots slots a)
 enqueues told n n' a slots key bytes broke enqueue full tells = enqueues_where told n n' a slots key bytes (needs_memory bytes) broke enqueue (growth_as bytes a.slots key broke full) tells
 
--- ---- a reply, by what its request said of closing
+-- ---- a reply, by whether the connection closes after it
 
 closes_by : (read : List ℕ) (progress : PeerRecord) (off : Bool) (p : Peer) → FitsPeer read progress off p → closes_in p ≡ closes_of progress
 closes_by read progress off (of.Ipp t) f = sym (ap closes_of f.is)
@@ -193,7 +193,7 @@ unfolding aside_same aside_at refines_at kept_where
 kept_openly told n n' a slots key bytes grows c d was is (inl still) same = record { refines = kept_where told n n' a slots key bytes grows c d was is (inl still) same; is = refl }
 kept_openly told n n' a slots key bytes grows c d was is (inr now) same = record { refines = kept_where told n n' a slots key bytes grows c d was is (inr now) same; is = refl }
 
--- with whether memory was refused
+-- as `enqueues_where`, and the flag says whether memory was refused
 pub enqueues_openly : {N : Type 0} (told : N → Note → N → Type 0) (n n' : N) (a : EngineState) (slots : List (Option ConnectionState)) (key : ℕ) (bytes : List ℕ) (grows : Entry → Bool) (broke : Option ℕ)
     → EnqueuesSlot key bytes broke a.slots slots → IsGrowthWhere grows a.slots key broke → ToldOf told broke n n' → RefinesReporting (alone told) (EnqueuesWhere grows key bytes) n a n' (with_slots slots a) (is_some broke)
 unfolding aside_same aside_at refines_at enqueues_where kept_where

@@ -1,4 +1,4 @@
--- What calls come to that follow one another, with their worlds and engines found.
+-- The relations of calls that follow one another. Their worlds and engines are implicit.
 use Rattle.std.proofs.Common.{◌≡◌, ◌≤◌, ◌+◌, add-one, ℕ, max, Bool, true, List, [], ◌∷◌, refl, sym, ◌∙◌, ap, subst, inl, inr, Option, None}
 use Rattle.std.specs.Prelude.{◌||◌}
 use Rattle.wires.specs.Poll.{Poll, Accepts}
@@ -35,35 +35,35 @@ use Rattle.server.proofs.Serving.{answered_found, answered_refused}
 use Rattle.server.proofs.Replying.{as_none}
 
 module _ {S : Type 0} {moves : S → Happening → S → Type 0} where
-  -- one after the other
+  -- Q, and then R
   pub joins : {Q R : Rel} {u v w : S} {a b c : EngineState} → Refines moves Q u a v b → Refines moves R v b w c → Refines moves (Then Q R) u a w c
   joins {Q} {R} {u} {v} {w} {a} {b} {c} p q = refines_then moves Q R u v w a b c p q
 
-  -- the first of them feeds no reader
+  -- Q, which feeds no reader, and then R
   pub joins_on : {Q R : Rel} {u v w : S} {a b c : EngineState} → RefinesQuietly moves Q u a v b → Refines moves R v b w c → Refines moves (Then Q R) u a w c
   joins_on {Q} {R} {u} {v} {w} {a} {b} {c} p q = refines_then moves Q R u v w a b c (aloud moves Q u v a b p) q
 
-  -- with whether a growth was refused, told otherwise
+  -- Q, and then R; the flag says whether memory was refused
   pub joins_openly : {Q R : Rel} {u v w : S} {a b c : EngineState} {s t unsent : Bool} → RefinesReporting moves Q u a v b s → t ≡ s → RefinesReporting moves R v b w c unsent → RefinesReporting moves (Then Q R) u a w c (t || unsent)
   joins_openly {Q} {R} {u} {v} {w} {a} {b} {c} {s} {t} {unsent} p same q = openly_flag moves (Then Q R) u w a c (s || unsent) (t || unsent) (ap (λ (x : Bool). x || unsent) same) (openly_then moves Q R u v w a b c s unsent p q)
 
-  -- one key more
+  -- each key below a bound, and then the key at the bound
   pub next_more : (R : ℕ → Rel) {u v w : S} {a b c : EngineState} (key : ℕ) → Refines moves (Each key R) u a v b → Refines moves (R key) v b w c → Refines moves (Each (key + 1) R) u a w c
   next_more R key p q = rw add-one (joins p q)
 
-  -- all connections are read, then written, then closed where they are done
+  -- all connections are read, then written, and then closed if they are done
   pub rounds : (moment n : ℕ) {u v w x : S} {a b c d : EngineState} → ((key : ℕ) → n ≤ key → slot_at a key ≡ None) → Refines moves (Each n (ReadsOne moment)) u a v b → Refines moves (Each n (WritesOne moment)) v b w c → Refines moves (Each n (EndsOne moment)) w c x d
       → Refines moves (Round moment) u a x d
   rounds moment n {u} {v} {w} {x} {a} {b} {c} {d} none p q r = one_round moves u x a d moment n (joins (covers moves u a n none) (joins p (joins q r)))
 
   -- ---- events
 
-  -- the report of a device
+  -- a report of a device comes
   pub reports : {moment device : ℕ} {report : Report} (outcome : Outcome) {u v : S} {a b : EngineState} {refused : Bool} → RefinesReporting moves (Happens moment (Is.Report device report) outcome) u a v b refused → RefinesReporting moves (ReportComes moment device report) u a v b refused
   reports {moment} {device} {report} outcome {u} {v} {a} {b} {refused} p =
       openly_as moves (Happens moment (Is.Report device report) outcome) (ReportComes moment device report) u v a b refused (λ l hs l' fits fits' it. (outcome, it)) p
 
-  -- the event of a client, and its answer
+  -- the event of a client comes, and then its reply becomes due
   pub answers : (key id : ℕ) (who : Client) {moment : ℕ} {event : Event} {outcome : Outcome} {query refused : Bool} {reply : Option Effects} {u v w : S} {a b c : EngineState} → RefinesReporting moves (Happens moment event outcome) u a v b refused → query ≡ is_query event → reply ≡ reply_of outcome
       → RefinesQuietly moves (Answers key id who query reply) v b w c → RefinesQuietly moves (IsAnswered moment key id who event) u a w c
   answers key id who {moment} {event} {outcome} {query} {refused} {reply} {u} {v} {w} {a} {b} {c} p asked answered q =
@@ -81,27 +81,27 @@ module _ {S : Type 0} {moves : S → Happening → S → Type 0} where
   pub asks_event : {moment request : ℕ} {event : Event} {asked : ParsedRequest} {answer : Answer} {u v : S} {a b : EngineState} → asked ≡ asks.Event request event → RefinesAnswering moves (BodyBrings moment request event) u a v b answer → RefinesAnswering moves (BodyAsks moment asked) u a v b answer
   asks_event {moment} {request} {event} {asked} {answer} {u} {v} {a} {b} is p = subst (λ (it : ParsedRequest). RefinesAnswering moves (BodyAsks moment it) u a v b answer) (sym is) p
 
-  -- it was read
+  -- a body was parsed, and is acted on
   pub body_read : (body : List ℕ) (asked : ParsedRequest) {moment : ℕ} {answer : Answer} {u v : S} {a b : EngineState} → Asks body asked → RefinesAnswering moves (BodyAsks moment asked) u a v b answer → RefinesAnswering moves (BodyComes moment body) u a v b answer
   body_read body asked {moment} {answer} {u} {v} {a} {b} said p = answered_found moves (BodyAsks moment asked) (BodyComes moment body) u v a b answer (λ served l hs l' it. inl (asked, said, it)) p
 
 module _ {S : Type 0} {polled : S → Poll → S → Type 0} {told : S → Note → S → Type 0} where
-  -- a tick that is due
+  -- a tick comes that is due
   pub ticks_now : (test : Bool) {moment : ℕ} {u v w : S} {a b c : EngineState} {refused : Bool} → test ≡ is_due (max moment a.core.last) a.ticked a.undispatched → test ≡ true → RefinesReporting (alone told) (Ticks moment) u a v b refused → RefinesQuietly (moved polled told) (Settles moment) v b w c
       → Refines (moved polled told) (TicksIfDue moment) u a w c
   ticks_now test {moment} {u} {v} {w} {a} {b} {c} same due p q =
       ticks_due (moved polled told) u w a c moment (sym same ∙ due)
       (refines_then (moved polled told) (Ticks moment) (Settles moment) u v w a b c (refines_moved polled told (Ticks moment) u v a b (aloud (alone told) (Ticks moment) u v a b p.refines)) (aloud (moved polled told) (Settles moment) v w b c q))
 
-  -- a connection comes at a door
+  -- a connection is accepted at a door
   pub comes : {door : Door} {id : ℕ} {u v w : S} {a b : EngineState} → polled u (Accepts door (Done id)) v → Refines (moved polled told) (Opens door id) v a w b → Refines (moved polled told) (AcceptsOne door) u a w b
   comes {door} {id} {u} {v} {w} {a} {b} poll p = accepts_open (moved polled told) u v w a b door id poll p
 
 module _ {N : Type 0} {told : N → Note → N → Type 0} where
-  -- a note, and then the rest
+  -- a note, and then R
   pub tells_then : {R : Rel} {u v w : N} {a b : EngineState} {note : Note} → told u note v → RefinesQuietly (alone told) R v a w b → RefinesQuietly (alone told) (Then (Tells note) R) u a w b
   tells_then {R} {u} {v} {w} {a} {b} {note} p q = aside_then (alone told) (Tells note) R u v w a a b (tells told u v a note p) q
 
-  -- no memory to read a body
+  -- memory to parse a body was refused
   pub body_unread : (body : List ℕ) {moment : ℕ} {u v : N} {a : EngineState} → told u (Refused At.Event None) v → RefinesAnswering (alone told) (BodyComes moment body) u a v a OutOfMemory
   body_unread body {moment} {u} {v} {a} p = answered_refused told (BodyComes moment body) u v a a At.Event BadRequest p refl (λ l fits. (Told (Refused At.Event None) ∷ [], refl, inr (refl, refl)))

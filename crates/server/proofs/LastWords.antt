@@ -1,4 +1,4 @@
--- What is short needs no memory where nothing waits.
+-- Short bytes need no memory if no bytes wait.
 use Rattle.std.proofs.Common.{◌≡◌, ◌≤◌, ◌<◌, arith, ℕ, Bool, true, false, List, [], ◌∷◌, ◌++◌, length, decimal, refl, sym, ◌∙◌, ap, subst, Option, Some, inl, inr}
 use Rattle.std.specs.Prelude.{nat_lt}
 use Rattle.std.proofs.lemmas.Bool.Decides.{nat_tests}
@@ -17,7 +17,7 @@ use Rattle.send_queues.specs.declared.queue.TheConstants.{RESERVED_BYTES}
 use Rattle.connections.specs.Entry.{Entry, needs_memory}
 use Rattle.connections.specs.Steps.{http_status}
 
--- ---- where it has room
+-- ---- bytes with room in the reserve
 
 not_above : (most n : ℕ) → n ≤ most → nat_lt most n ≡ false
 not_above most n short = grind (arith, nat_tests, short)
@@ -36,7 +36,7 @@ owed bytes short e what new none (inr (broke, needs, is)) =
     let never : true ≡ false = sym needs ∙ fits in
     absurd (cc)
 
--- ---- how long it is
+-- ---- the lengths of the bytes
 
 within : (bytes : List ℕ) (most : ℕ) → nat_lt most (length bytes) ≡ false → length bytes ≤ most
 within bytes most is = grind (arith, nat_tests, is)
@@ -45,11 +45,11 @@ ending_short : (closes : Bool) → length (ending closes) ≤ 23
 ending_short true = within (ending true) 23 refl
 ending_short false = within (ending false) 23 refl
 
--- what stands before a length of at most two digits, and what follows it
+-- the bytes before a length of at most two digits, the digits, and the bytes after them
 parts_short : (first number last : List ℕ) → length first ≤ 64 → length number ≤ 2 → length last ≤ 23 → length (first ++ (number ++ last)) ≤ 89
 parts_short first number last one two three = omega (arith, length-append first (number ++ last), length-append number last, one, two, three)
 
--- the head of a reply whose body has fewer than a hundred bytes
+-- the length of the head of a reply, if its body has fewer than 100 bytes
 head_short : (closes : Bool) (count : ℕ) → count < 100 → length (head 200 count closes) ≤ 89
 head_short closes count few = parts_short (opening 200) (decimal count) (ending closes) (within (opening 200) 64 refl) (length-decimal-le 2 count (omega arith) few (omega (arith, few))) (ending_short closes)
 
@@ -60,7 +60,7 @@ reply_short : (closes : Bool) (bytes : List ℕ) → length bytes ≤ 72 → len
 unfolding http_reply
 reply_short closes bytes short = both_short (head 200 (length bytes) closes) bytes (head_short closes (length bytes) (omega (arith, short))) short
 
--- a reply of a status alone
+-- the length of a reply of a status alone
 status_short : (closes : Bool) (status : Status) (request : ℕ) → length (http_status closes status request) ≤ 161
 unfolding http_status
 status_short closes status request = reply_short closes (refusal_bytes status request) (within (refusal_bytes status request) 72 refl)
@@ -71,7 +71,7 @@ no_length = length-decimal-le 2 0 (omega arith) (omega arith) (omega arith)
 refused_short : (first : List ℕ) → length first ≤ 64 → length (first ++ (decimal 0 ++ ending true)) ≤ 89
 refused_short first short = parts_short first (decimal 0) (ending true) short no_length (ending_short true)
 
--- the head of a refusal
+-- the length of the head of a refusal
 refusal_short : (refusal : HttpRejection) → length (refusal_head refusal) ≤ 89
 unfolding refusal_head
 refusal_short BadRequest = refused_short (opening 400) (within (opening 400) 64 refl)
@@ -82,7 +82,7 @@ refusal_short ExpectationFailed = refused_short (opening 417) (within (opening 4
 refusal_short HeadTooLarge = refused_short (opening 431) (within (opening 431) 64 refl)
 refusal_short NotImplemented = refused_short (opening 501) (within (opening 501) 64 refl)
 
--- ---- what is kept
+-- ---- the short bytes become due
 
 pub status_kept : (closes : Bool) (status : Status) (request : ℕ) → AreKept (http_status closes status request)
 status_kept closes status request = kept (http_status closes status request) (omega (arith, status_short closes status request))

@@ -29,9 +29,9 @@ use Rattle.server.proofs.Speaking.{notes_append, no_refusal_told, none_before, n
 use Rattle.server.proofs.Parts.{calm_answers, ticked, Holds, action_in}
 use Rattle.connections.specs.Entry.{Entry}
 
--- ---- what closed connections were given
+-- ---- the bytes that were taken of closed connections
 
--- if all were before, all are now
+-- if the bytes of all closed connections were taken before, they are taken after too
 abbrev StaysTaken : Rel
 StaysTaken l hs l' = AllTaken l.closed → AllTaken l'.closed
 
@@ -66,7 +66,7 @@ tells_after first before after (note ∷ notes) (mid, is, rest) =
 comes_after : (first before after : List Note) (old new : State) (timed : Timed) (outcome : Outcome) → Comes Collects old before timed outcome new after → Comes Collects old (first ++ before) timed outcome new (first ++ after)
 comes_after first before after old new timed outcome (notes, handled, told) = (notes, handled, tells_after first before after notes told)
 
--- what is told is kept
+-- the listener that collects notes has all notes that it is told
 collected : (before notes : List Note) → Tells Collects before notes (before ++ notes)
 collected before [] = append-nil before
 collected before (note ∷ notes) = (before ++ note ∷ [], refl, subst (λ (ns : List Note). Tells Collects (before ++ note ∷ []) notes ns) (append_assoc before (note ∷ []) notes) (collected (before ++ note ∷ []) notes))
@@ -88,7 +88,7 @@ run_then before heard more old mid new (timed ∷ events) later (outcome ∷ out
 run_then before heard more old mid new [] later (outcome ∷ outcomes) others none runs = absurd none
 run_then before heard more old mid new (timed ∷ events) later [] others none runs = absurd none
 
--- what happens is a run of events at one moment
+-- the happenings are a run of events at one moment
 record IsRunAt (moment : ℕ) (l : Ledger) (hs : List Happening) (l' : Ledger) : Type 0 where
   events : List Timed
   outcomes : List Outcome
@@ -96,7 +96,7 @@ record IsRunAt (moment : ℕ) (l : Ledger) (hs : List Happening) (l' : Ledger) :
   run : Run Collects l.core [] events outcomes l'.core (core_notes hs)
   whole : has_refusal hs ≡ false → All IsWhole outcomes
 
--- each was answered, and so was each that comes later
+-- if no memory was refused in two lists of happenings, none was refused to the events of both lists
 whole_then : (hs ks : List Happening) (outcomes others : List Outcome) → (has_refusal hs ≡ false → All IsWhole outcomes) → (has_refusal ks ≡ false → All IsWhole others) → has_refusal (hs ++ ks) ≡ false → All IsWhole (outcomes ++ others)
 whole_then hs ks outcomes others p q none = All-append IsWhole outcomes others (p (none_before (hs ++ ks) hs ks refl none)) (q (none_after (hs ++ ks) hs ks refl none))
 
@@ -141,13 +141,13 @@ one_run (action ∷ actions) old new (mid, refines, runs) =
       whole = λ none. whole_then (happenings_of action) (happenings_in actions) first.outcomes later.outcomes first.whole later.whole none;
     }
 
--- ---- one event an action
+-- ---- one event in an action
 
 one_event : (moment : ℕ) (event : Event) (outcome : Outcome) (reply : Effects) (l : Ledger) (hs : List Happening) (l' : Ledger) → has_refusal hs ≡ false → IsWhole outcome → reply_of outcome ≡ Some reply → Happened moment event outcome l hs l' → IsOneEvent moment event reply l.core hs l'.core
 one_event moment event outcome reply l hs l' none whole is it =
     record { outcome = outcome; notes = it.notes; answered = is; whole = whole; handled = it.handled; told = happened_whole moment event outcome l hs l' it none }
 
--- an event that was answered has a reply
+-- an event has a reply if neither the event nor its dispatch was refused memory
 reply_there : (outcome : Outcome) → IsWhole outcome → (reply : Effects) × (reply_of outcome ≡ Some reply)
 reply_there Dropped whole = absurd whole
 reply_there (Queried reply) whole = (reply, refl)
@@ -155,14 +155,14 @@ reply_there (Undispatched reply) whole = absurd whole
 reply_there (Idle reply) whole = (reply, refl)
 reply_there (Dispatched reply) whole = (reply, refl)
 
--- an event that takes no memory is one event
+-- the happenings of an event that takes no memory are one event
 light_event : (moment : ℕ) (event : Event) (outcome : Outcome) (l : Ledger) (hs : List Happening) (l' : Ledger) → TakesNoMemory event moment l.core → has_refusal hs ≡ false → Happened moment event outcome l hs l' → (reply : Effects) × IsOneEvent moment event reply l.core hs l'.core
 light_event moment event outcome l hs l' light none it =
     let whole = whole_light moment event outcome l hs l' it light none in
     let there = reply_there outcome whole in
     (there.0, one_event moment event outcome there.0 l hs l' none whole there.1 it)
 
--- the bytes of an answer, where memory for them wasn't refused
+-- the bytes of a reply, if no memory was refused
 are_bytes : (request : ℕ) (reply : Option Effects) (bytes : List ℕ) (l : Ledger) (hs : List Happening) (l' : Ledger) → has_refusal hs ≡ false → Answers request reply bytes l hs l' → (it : Effects) × (reply ≡ Some it) × IsBytes request it.answer bytes
 are_bytes request (Some reply) bytes l hs l' none (inl (are, it)) = (reply, refl, are)
 are_bytes request (Some reply) bytes l hs l' none (inr it) = no_refusal_told hs At.Reply None none it.0
@@ -181,12 +181,12 @@ is_served moment (asks.Refused status request) served answer l hs l' none same (
 is_served moment (asks.Refused status request) served answer l hs l' none same (is, inr it) = no_refusal_told hs At.Reply None none it.0
 is_served moment (asks.Event request event) served answer l hs l' none same (bytes, is, it) = event_served moment request event bytes answer l hs l' none (same ∙ is) it
 
--- an answer other than out of memory says that nothing was refused
+-- if the outcome isn't out of memory, no memory was refused
 not_refused : (refused : Bool) (served answer : Given) → answer ≡ (if refused then OutOfMemory else served) → answer ≢ OutOfMemory → (refused ≡ false) × (answer ≡ served)
 not_refused true served answer is some = absurd (some is)
 not_refused false served answer is some = (refl, is)
 
--- only what is seen counts
+-- `IsServed` depends only on the happenings that a wire and a listener see
 served_seen : (moment : ℕ) (asked : ParsedRequest) (answer : Given) (old : State) (hs ks : List Happening) (new : State) → seen ks ≡ seen hs → IsServed moment asked answer old hs new → IsServed moment asked answer old ks new
 served_seen moment asks.TooShort answer old hs ks new same (is, it) = (is, (same ∙ it.0, it.1))
 served_seen moment (asks.Refused status request) answer old hs ks new same (is, it) = (is, (same ∙ it.0, it.1))
@@ -209,7 +209,7 @@ at_most_one (Reported moment device said hs) old new (report, is, (outcome, it))
     λ none. let one = light_event moment (Is.Report device report) outcome old hs new tt none (happened moment (Is.Report device report) outcome old hs new it) in (report, is, one.0, one.1)
 at_most_one (Ticked moment hs) old new it = λ none. let tick = ticked moment old hs new it in light_event moment Is.Tick tick.0 old hs new tt none tick.1
 
--- ---- what is seen of a trace
+-- ---- traces as a wire and a listener see them
 
 seen_again : (hs : List Happening) → seen (seen hs) ≡ seen hs
 seen_again [] = refl
@@ -226,7 +226,7 @@ one_seen (Served_body moment body answer hs) old new one = λ some. let it = one
 one_seen (Reported moment device said hs) old new one = λ none. let it = one (sym (seen_refusal hs) ∙ none) in (it.0, it.1, it.2, event_seen moment (Is.Report device it.0) it.2 old hs new it.3)
 one_seen (Ticked moment hs) old new one = λ none. let it = one (sym (seen_refusal hs) ∙ none) in (it.0, event_seen moment Is.Tick it.0 old hs new it.1)
 
--- the one action that is seen
+-- the law of an action, for a trace of one action
 pub action_seen : (action : Action) (old new : Ledger) → Allows (action ∷ []) old new → IsAtMostOne action old.core new.core
 action_seen action old new ([], is, runs) = let never : [] ≡ action ∷ [] = is in cc
 action_seen action old new (whole ∷ [], is, (mid, refines, same)) =
@@ -235,12 +235,12 @@ action_seen action old new (whole ∷ [], is, (mid, refines, same)) =
     subst (λ (d : Action). IsAtMostOne d old.core new.core) action_is (subst (λ (l : Ledger). IsAtMostOne (seen_of whole) old.core l.core) (sym same) one)
 action_seen action old new (whole ∷ (next ∷ more), is, runs) = let never : seen_of whole ∷ (seen_of next ∷ seen_in more) ≡ action ∷ [] = is in cc
 
--- nothing is seen, and nothing happened
+-- the empty trace leaves the ledger unchanged
 pub none_seen : (old new : Ledger) → Allows [] old new → new ≡ old
 none_seen old new ([], is, same) = same
 none_seen old new (whole ∷ more, is, runs) = let never : seen_of whole ∷ seen_in more ≡ [] = is in cc
 
--- what is seen first, and what is seen then
+-- two traces, one after the other, are seen one after the other
 pub seen_apart : (here there : Trace) (old new : Ledger) → Allows (here ++ there) old new → (mid : Ledger) × Allows here old mid × Allows there mid new
 seen_apart [] there old new allows = (old, ([], refl, refl), allows)
 seen_apart (action ∷ here) there old new ([], is, runs) = let never : [] ≡ action ∷ (here ++ there) = is in cc

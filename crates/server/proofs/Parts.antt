@@ -1,4 +1,4 @@
--- What actions are made of: events, closings, and what concerns neither the core nor what was closed.
+-- The parts of actions: events, closings, and calm parts, which change neither the core nor the closed connections.
 use Rattle.std.proofs.Common.{◌≡◌, ℕ, zero, suc, Bool, true, false, List, [], ◌∷◌, ◌++◌, refl, sym, ◌∙◌, ap, subst, Option, Some, None, inl, inr}
 use Rattle.std.specs.Prelude.{nat_lt, length, take}
 use Rattle.base_types.specs.declared.limits.TheConstants.Limits.{CONNECTIONS}
@@ -60,7 +60,7 @@ use Rattle.server.specs.Turn.{Ticks, is_tick_due, TicksIfDue, Covers, Round, Tur
 use Rattle.server.specs.Law.{core_notes, IsWhole, moment_of, happenings_of}
 use Rattle.server.proofs.Speaking.{only_notes, Calmly, calm_nothing, calm_choice, calm_then, calm_if, calm_or, calm_refusal, calm_sets, calm_drops, calm_breaks, calm_enqueues, IsOther, Happened, happened_notes, happened, happened_then, whole_light, whole_told}
 
--- the core stays, and so does what was closed; the core tells nothing
+-- the core and the closed connections are unchanged, and there is no note of the core
 pub record IsCalm (l : Ledger) (hs : List Happening) (l' : Ledger) : Type 0 where
   pub core : l'.core ≡ l.core
   pub closed : l'.closed ≡ l.closed
@@ -74,7 +74,7 @@ pub record IsEvent (moment : ℕ) (l : Ledger) (hs : List Happening) (l' : Ledge
   pub closed : l'.closed ≡ l.closed
   pub whole : has_refusal hs ≡ false → IsWhole outcome
 
--- this holds of each part, and of parts one after the other
+-- P holds for each part of an action, and for parts one after the other
 pub record Holds (moment : ℕ) (P : Rel) : Type 0 where
   pub calm : (l : Ledger) (hs : List Happening) (l' : Ledger) → IsCalm l hs l' → P l hs l'
   pub event : (l : Ledger) (hs : List Happening) (l' : Ledger) → IsEvent moment l hs l' → P l hs l'
@@ -103,7 +103,7 @@ event_as moment event outcome l hs l' whole it = record {
   whole = whole;
 }
 
--- a tick: time goes on, and then it comes
+-- the moment of the last tick is set, and then the event of the tick comes
 pub ticked : (moment : ℕ) (l : Ledger) (hs : List Happening) (l' : Ledger) → Ticks moment l hs l' → (outcome : Outcome) × Happened moment Is.Tick outcome l hs l'
 ticked moment l hs l' it =
     let came = happened moment Is.Tick it.second.0 it.mid it.back l' it.second.1 in
@@ -119,7 +119,7 @@ ticked moment l hs l' it =
       },
     )
 
--- ---- answers
+-- ---- replies
 
 pub calm_answers : (request : ℕ) (reply : Option Effects) (bytes : List ℕ) → Calmly (Between.Answers request reply bytes)
 calm_answers request (Some reply) bytes l hs l' (inl (are, it)) = calm_choice Found l hs l' it
@@ -184,9 +184,9 @@ other_part : (part : Part) (id : ℕ) → IsOther (Acting.place_of_part part) (S
 other_part part.File id = refl
 other_part part.Job id = refl
 
--- ---- where an event was dropped, its caller tells
+-- ---- the listener is told of an event that was dropped
 
--- a refusal is told, and then something else
+-- the listener is told first that memory was refused
 refused_first : (place : AllocationSite) (id : Option ℕ) (Q : Rel) (l : Ledger) (hs : List Happening) (l' : Ledger) → Then (Tells (Refused place id)) Q l hs l' → has_refusal hs ≡ true
 refused_first place id Q l hs l' it = ap has_refusal (it.whole ∙ ap (λ (ks : List Happening). ks ++ it.back) it.first.0)
 
@@ -231,7 +231,7 @@ module _ (moment : ℕ) (P : Rel) (k : Holds moment P) where
   each_in zero R f = nothing_in
   each_in (suc n) R f = then_in (each_in n R f) (f n)
 
-  -- what happens and changes nothing that is known
+  -- P holds for happenings that leave the ledger unchanged and have no note of the core
   same_in : (ks : List Happening) → core_notes ks ≡ [] → (l : Ledger) (hs : List Happening) (l' : Ledger) → (hs ≡ ks) × (l' ≡ l) → P l hs l'
   same_in ks notes l hs l' it = k.calm l hs l' (calm_as ks l l hs l' notes refl refl it)
 
@@ -249,7 +249,7 @@ module _ (moment : ℕ) (P : Rel) (k : Holds moment P) where
 
   -- ---- events
 
-  -- an event, and its answer, which tells where the event was dropped
+  -- P holds for an event and its reply, if the listener is told of an event that was dropped
   answered_in : (event : Event) (Q : Option Effects → Rel) → ((reply : Option Effects) → Calmly (Q reply)) → ((l : Ledger) (hs : List Happening) (l' : Ledger) → Q None l hs l' → has_refusal hs ≡ true)
       → (outcome : Outcome) → Within P (Then (Happens moment event outcome) (Q (reply_of outcome)))
   answered_in event Q calm told outcome l hs l' it =
@@ -284,7 +284,7 @@ module _ (moment : ℕ) (P : Rel) (k : Holds moment P) where
   fails_in : (key : ℕ) → Within P (Fails moment key)
   fails_in key = then_in (calmly_in (calm_breaks key)) settles_in
 
-  -- ---- what connections ask
+  -- ---- the asks of connections
 
   answers_in : (key id : ℕ) (who : Client) (event : Event) → Within P (Answering.IsAnswered moment key id who event)
   answers_in key id who event l hs l' (outcome, it) = answered_in event (Answering.Answers key id who (is_query event)) (calm_client key id who (is_query event)) (dropped_told key id who (is_query event)) outcome l hs l' it
@@ -425,7 +425,7 @@ module _ (moment : ℕ) (P : Rel) (k : Holds moment P) where
   reports_in : (device : ℕ) (said : ReportRecord) → Within P (Between.Reports moment device said)
   reports_in device said = tells_in device said
 
--- of whatever holds of all its parts: it holds of an action
+-- what holds for all parts of an action holds for the action
 pub action_in : (P : Rel) (action : Action) → Holds (moment_of action) P → (l l' : Ledger) → DoesAction action l l' → P l (happenings_of action) l'
 action_in P (Turned moment hs) k l l' it = turn_in moment P k l hs l' it
 action_in P (Served_body moment body answer hs) k l l' it = serves_body_in moment P k body answer l hs l' it

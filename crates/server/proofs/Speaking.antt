@@ -1,4 +1,4 @@
--- What is told beside an event: growths that were refused, and nothing of the core.
+-- The notes behind those of an event: they tell of memory that was refused, and are no notes of the core.
 use Rattle.std.proofs.Common.{◌≡◌, ℕ, Bool, true, false, List, [], ◌∷◌, ◌++◌, refl, sym, ◌∙◌, ap, subst, Option, Some, None, inl, inr}
 use Rattle.std.specs.Prelude.{◌||◌, map}
 use Rattle.std.proofs.lemmas.List.{append-nil, append_assoc}
@@ -27,7 +27,7 @@ use Rattle.server.proofs.Steps.{refusals_append, right_false, seen_append}
 use Rattle.server.proofs.Happening.{found_unseen, notes_seen, refused_of}
 use Rattle.connections.specs.Entry.{Entry, broken, owing, needs_memory}
 
--- ---- what is told
+-- ---- the notes
 
 pub notes_append : (hs ks : List Happening) → core_notes (hs ++ ks) ≡ core_notes hs ++ core_notes ks
 notes_append hs ks = flat_map-append core_note hs ks
@@ -42,18 +42,18 @@ left_false : (x y : Bool) → x || y ≡ false → x ≡ false
 left_false true y is = is
 left_false false y is = refl
 
--- what wasn't refused in all wasn't in a part
+-- if no memory was refused in all happenings, none was refused in a part of them
 pub none_before : (hs front back : List Happening) → hs ≡ front ++ back → has_refusal hs ≡ false → has_refusal front ≡ false
 none_before hs front back whole none = left_false (has_refusal front) (has_refusal back) (sym (ap has_refusal whole ∙ refusals_append front back) ∙ none)
 
 pub none_after : (hs front back : List Happening) → hs ≡ front ++ back → has_refusal hs ≡ false → has_refusal back ≡ false
 none_after hs front back whole none = right_false (has_refusal front) (has_refusal back) (sym (ap has_refusal whole ∙ refusals_append front back) ∙ none)
 
--- a growth was refused to another than the core
+-- the memory that was refused wasn't for a dispatch of the core
 abbrev pub IsOther : AllocationSite → Option ℕ → Type 0
 IsOther place id = refusal_note place id ≡ []
 
--- nothing but such growths
+-- the happenings are notes of such memory, and choices
 abbrev pub OnlyRefusals : List Happening → Type 0
 OnlyRefusals [] = Unit {0}
 OnlyRefusals (Told (Planned plan started) ∷ hs) = ⊥
@@ -72,7 +72,7 @@ only_append (Told (Refused place id) ∷ hs) ks p q = (p.0, only_append hs ks p.
 only_append (Polled poll ∷ hs) ks p q = absurd p
 only_append (Chosen choice ∷ hs) ks p q = only_append hs ks p q
 
--- the core tells none of them
+-- these happenings have no note of the core
 pub only_notes : (hs : List Happening) → OnlyRefusals hs → core_notes hs ≡ []
 only_notes [] p = refl
 only_notes (Told (Planned plan started) ∷ hs) p = absurd p
@@ -82,7 +82,7 @@ only_notes (Told (Refused place id) ∷ hs) p = ap (λ (ns : List Note). ns ++ c
 only_notes (Polled poll ∷ hs) p = absurd p
 only_notes (Chosen choice ∷ hs) p = only_notes hs p
 
--- where none was refused nothing is seen
+-- if no memory was refused, a wire and a listener see none of these happenings
 only_none : (hs : List Happening) → OnlyRefusals hs → has_refusal hs ≡ false → seen hs ≡ []
 only_none [] p none = refl
 only_none (Told (Planned plan started) ∷ hs) p none = absurd p
@@ -92,9 +92,9 @@ only_none (Told (Refused place id) ∷ hs) p none = let both : true ≡ false = 
 only_none (Polled poll ∷ hs) p none = absurd p
 only_none (Chosen choice ∷ hs) p none = only_none hs p none
 
--- ---- what leaves the core as it is
+-- ---- relations that leave the core unchanged
 
--- the core and what was closed stay, and only refusals are told
+-- the core and the closed connections are unchanged, and the notes tell only of memory that was refused
 pub record Calm (l : Ledger) (hs : List Happening) (l' : Ledger) : Type 0 where
   pub core : l'.core ≡ l.core
   pub closed : l'.closed ≡ l.closed
@@ -188,7 +188,7 @@ calm_orders (Undispatched reply) = each_sent reply.cancels.items
 calm_orders (Idle reply) = each_sent reply.cancels.items
 calm_orders (Dispatched reply) = calm_then {R = SendsAll reply} {S = StartsAll} (each_sent reply.cancels.items) all_started
 
--- what the core tells is what it tells
+-- the notes of an event are notes of the core
 told_last : (cancels : List Cancel) (last : List Note) → core_notes (map Told last) ≡ last → core_notes (map Told (map Canceled cancels ++ last)) ≡ map Canceled cancels ++ last
 told_last [] last is = is
 told_last (cancel ∷ cancels) last is = ap (λ (ns : List Note). Canceled cancel ∷ ns) (told_last cancels last is)
@@ -203,7 +203,7 @@ told_back moment event old (Undispatched reply) notes new (query, step, ready, i
 told_back moment event old (Idle reply) notes new (query, mid, step, made, is) = told_by notes reply (Planned None [] ∷ []) is refl
 told_back moment event old (Dispatched reply) notes new (query, mid, step, plan, made, is) = told_by notes reply (Planned (Some plan) new.begun ∷ []) is refl
 
--- an event came, and what is told of it comes before all else
+-- an event came; its notes come first, and later notes tell only of memory that was refused
 pub record Happened (moment : ℕ) (event : Event) (outcome : Outcome) (l : Ledger) (hs : List Happening) (l' : Ledger) : Type 0 where
   pub notes : List Note
   pub later : List Happening
@@ -212,7 +212,7 @@ pub record Happened (moment : ℕ) (event : Event) (outcome : Outcome) (l : Ledg
   pub whole : hs ≡ found_by outcome ++ (map Told notes ++ later)
   pub only : OnlyRefusals later
 
--- the core tells nothing of memory that is found
+-- the choice that memory was found is no note of the core
 found_notes : (outcome : Outcome) (hs : List Happening) → core_notes (found_by outcome ++ hs) ≡ core_notes hs
 found_notes Dropped hs = refl
 found_notes (Queried reply) hs = refl
@@ -220,14 +220,14 @@ found_notes (Undispatched reply) hs = refl
 found_notes (Idle reply) hs = refl
 found_notes (Dispatched reply) hs = refl
 
--- just this is what the core tells
+-- the notes of the event are all notes of the core
 pub happened_notes : (moment : ℕ) (event : Event) (outcome : Outcome) (l : Ledger) (hs : List Happening) (l' : Ledger) (it : Happened moment event outcome l hs l') → core_notes hs ≡ it.notes
 happened_notes moment event outcome l hs l' it =
     ap core_notes it.whole ∙ (found_notes outcome (map Told it.notes ++ it.later) ∙ (notes_append (map Told it.notes) it.later
     ∙ (ap (λ (ns : List Note). core_notes (map Told it.notes) ++ ns) (only_notes it.later it.only)
     ∙ (append-nil (core_notes (map Told it.notes)) ∙ told_back moment event l.core outcome it.notes l'.core it.handled))))
 
--- and where nothing was refused, that is all
+-- if no memory was refused, a wire and a listener see the notes of the event, and nothing else
 pub happened_whole : (moment : ℕ) (event : Event) (outcome : Outcome) (l : Ledger) (hs : List Happening) (l' : Ledger) (it : Happened moment event outcome l hs l') → has_refusal hs ≡ false → seen hs ≡ map Told it.notes
 happened_whole moment event outcome l hs l' it none =
     let rest : has_refusal (map Told it.notes ++ it.later) ≡ false = none_after hs (found_by outcome) (map Told it.notes ++ it.later) it.whole none in
@@ -249,7 +249,7 @@ happened moment event outcome l hs l' it =
       only = rest.only;
     }
 
--- with what comes after it, as its answer
+-- an event came, and then its reply became due
 pub happened_then : (moment : ℕ) (event : Event) (outcome : Outcome) (Q : Rel) → Calmly Q → (l : Ledger) (hs : List Happening) (l' : Ledger) → Then (Happens moment event outcome) Q l hs l' → Happened moment event outcome l hs l'
 happened_then moment event outcome Q calm l hs l' it =
     let one = happened moment event outcome l it.front it.mid it.first in
@@ -264,13 +264,13 @@ happened_then moment event outcome Q calm l hs l' it =
       only = only_append one.later it.back one.only rest.only;
     }
 
--- ---- where no growth was refused
+-- ---- happenings without refused memory
 
 undispatched_never : {A : Type 0} → (moment : ℕ) (event : Event) (reply : Effects) (l : Ledger) (hs : List Happening) (l' : Ledger) → Happened moment event (Undispatched reply) l hs l' → has_refusal hs ≡ false → A
 undispatched_never moment event reply l hs l' it none =
     never (has_refusal (map Told it.notes)) (refused_of moment event l.core (Undispatched reply) it.notes l'.core it.handled) (none_before (map Told it.notes ++ it.later) (map Told it.notes) it.later refl (none_after hs (found_by (Undispatched reply)) (map Told it.notes ++ it.later) it.whole none))
 
--- an event that takes no memory is answered
+-- if no memory was refused, an event that takes no memory wasn't dropped
 pub whole_light : (moment : ℕ) (event : Event) (outcome : Outcome) (l : Ledger) (hs : List Happening) (l' : Ledger) → Happened moment event outcome l hs l' → TakesNoMemory event moment l.core → has_refusal hs ≡ false → IsWhole outcome
 whole_light moment event Dropped l hs l' it light none = it.handled.2 light
 whole_light moment event (Queried reply) l hs l' it light none = tt
@@ -278,7 +278,7 @@ whole_light moment event (Undispatched reply) l hs l' it light none = undispatch
 whole_light moment event (Idle reply) l hs l' it light none = tt
 whole_light moment event (Dispatched reply) l hs l' it light none = tt
 
--- so is one whose caller tells where it is dropped
+-- if no memory was refused, an event wasn't dropped whose caller tells of a drop
 pub whole_told : (moment : ℕ) (event : Event) (outcome : Outcome) (Q : Option Effects → Rel) → ((l : Ledger) (hs : List Happening) (l' : Ledger) → Q None l hs l' → has_refusal hs ≡ true)
     → (l : Ledger) (hs : List Happening) (l' : Ledger) → Then (Happens moment event outcome) (Q (reply_of outcome)) l hs l' → Happened moment event outcome l hs l' → has_refusal hs ≡ false → IsWhole outcome
 whole_told moment event Dropped Q told l hs l' it done none = never (has_refusal it.back) (told it.mid it.back l' it.second) (none_after hs it.front it.back it.whole none)

@@ -13,21 +13,21 @@ use Rattle.server.proofs.Turning.{one_turn}
 loans_then : {W N : Type 0} (u v w : World W N) → SameLoans u v → SameLoans v w → SameLoans u w
 loans_then u v w p q = (q.0 ∙ p.0, q.1 ∙ p.1)
 
--- whatever happens, the same two are lent
+-- after all happenings the same wire and the same listener are lent
 same_loans : {W N : Type 0} (polled : W → Poll → W → Type 0) (told : N → Note → N → Type 0) (u v : World W N) (hs : List Happening) → Leads (moved (wire_polled polled) (listener_told told)) u hs v → SameLoans u v
 same_loans {W} {N} polled told u v [] p = (ap (λ (x : World W N). x.wire.ghost_name) p, ap (λ (x : World W N). x.notes.ghost_name) p)
 same_loans polled told u v (Polled poll ∷ hs) p = loans_then u p.0 v p.1.2 (same_loans polled told p.0 v hs p.2)
 same_loans polled told u v (Told note ∷ hs) p = loans_then u p.0 v p.1.2 (same_loans polled told p.0 v hs p.2)
 same_loans polled told u v (Chosen choice ∷ hs) p = absurd p.1
 
--- what happens to the world happens to the two
+-- the happenings lead the wire and the listener as they lead the world
 leads_apart : {W N : Type 0} (polled : W → Poll → W → Type 0) (told : N → Note → N → Type 0) (u v : World W N) (hs : List Happening) → Leads (moved (wire_polled polled) (listener_told told)) u hs v → Leads (both polled told) (u.wire.now, u.notes.now) hs (v.wire.now, v.notes.now)
 leads_apart {W} {N} polled told u v [] p = ap (λ (x : World W N). (x.wire.now, x.notes.now)) p
 leads_apart polled told u v (Polled poll ∷ hs) p = ((p.0.wire.now, p.0.notes.now), (p.1.0, p.1.1), leads_apart polled told p.0 v hs p.2)
 leads_apart polled told u v (Told note ∷ hs) p = ((p.0.wire.now, p.0.notes.now), (p.1.0, p.1.1), leads_apart polled told p.0 v hs p.2)
 leads_apart polled told u v (Chosen choice ∷ hs) p = absurd p.1
 
--- a turn, after which this is in the place of what was lent
+-- a turn with a lent wire and a lent listener, which are `w` and `n` after the turn
 pub turned : {W N : Type 0} (polled : W → Poll → W → Type 0) (told : N → Note → N → Type 0) (u v : World W N) (w : W) (n : N) (a b : EngineState) (moment : ℕ) → (SameLoans u v → w ≡ v.wire.now) → (SameLoans u v → n ≡ v.notes.now)
     → Refines (moved (wire_polled polled) (listener_told told)) (Turn moment) u a v b → RefinesTurn (both polled told) moment (u.wire.now, u.notes.now) a (w, n) b
 turned polled told u v w n a b moment wire notes refines =

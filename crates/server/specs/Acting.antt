@@ -1,4 +1,4 @@
--- What a connection asks, and what comes of it.
+-- The asks of a connection, and the happenings that they bring.
 use Rattle.std.specs.Prelude.{ℕ, ◌≡◌, List, [], ◌∷◌, Some}
 use Rattle.events.specs.declared.event.Event.TheVariants as Is
 use Rattle.dispatcher.specs.declared.listener.DeviceRefusal.TheVariants as why
@@ -21,7 +21,7 @@ use Rattle.server.specs.Happening.{Unanswered}
 use Rattle.server.specs.Answering.{IsAnswered, Drops, Declines}
 use Rattle.server.specs.Greeting.{Greets}
 
--- where a growth was refused
+-- the allocation site at which the allocator refused memory for a growth of a connection
 abbrev pub place_of : Growth → AllocationSite
 place_of Input = At.Feed
 place_of Output = At.Enqueue
@@ -30,7 +30,7 @@ abbrev pub place_of_part : Part → AllocationSite
 place_of_part File = At.File
 place_of_part Job = At.Event
 
--- the connection under a key, which has this number, asks this
+-- the connection under a key has this number at the wire, and asks this
 pub record Asks (key id : ℕ) (what : Ask) (l : Ledger) (hs : List Happening) (l' : Ledger) : Type 0 where
   pub entry : Entry
   pub new : Entry
@@ -40,7 +40,7 @@ pub record Asks (key id : ℕ) (what : Ask) (l : Ledger) (hs : List Happening) (
   pub chosen : hs ≡ Chosen (Asked (part_of asks) (lost_of what)) ∷ []
   pub after : l' ≡ with_entry key new l
 
--- what comes of it
+-- what the connection under a key asks happens
 abbrev pub ActsOn : ℕ → ℕ → ℕ → Ask → Rel
 ActsOn moment key id ask.Nothing = Nothing
 ActsOn moment key id (ask.Broke growth) = Tells (Refused (place_of growth) (Some id))
@@ -52,6 +52,6 @@ ActsOn moment key id (ask.Report device report) = Unanswered moment (Is.Report d
 ActsOn moment key id (ask.Stranger name) = Tells (DeviceRefused id (why.UnknownName name))
 ActsOn moment key id (ask.Fault device) = Tells (DeviceRefused id (why.Fault device))
 
--- it asks something, which comes about
+-- the connection asks something, and what it asks happens
 abbrev pub ActsNext : ℕ → ℕ → Rel
 ActsNext moment key l hs l' = (id : ℕ) × (what : Ask) × Then (Asks key id what) (ActsOn moment key id what) l hs l'

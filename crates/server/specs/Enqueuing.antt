@@ -11,7 +11,7 @@ use Rattle.server.specs.Polls.{Told, Found, On}
 use Rattle.server.specs.Ledger.{Ledger, with_entry}
 use Rattle.server.specs.Rel.{Rel, Nothing, Chooses, Then, If, Or}
 
--- the connection under a key is this one from now on
+-- the connection under a key has this entry from now on
 abbrev pub Sets : ℕ → Entry → Rel
 Sets key e l hs l' = (hs ≡ []) × (l' ≡ with_entry key e l)
 
@@ -22,7 +22,7 @@ BreaksAt key (Some e) = Sets key (broken e)
 abbrev pub Breaks : ℕ → Rel
 Breaks key l hs l' = BreaksAt key (l.entries key) l hs l'
 
--- a growth for it was refused, and it breaks
+-- the allocator refused memory for a growth of the connection under a key, and the connection breaks
 abbrev pub Drops : AllocationSite → ℕ → Entry → Rel
 Drops place key e l hs l' = (hs ≡ Told (Refused place (Some e.id)) ∷ []) × (l' ≡ with_entry key (broken e) l)
 
@@ -33,15 +33,16 @@ abbrev pub EnqueuesAt : (Entry → Bool) → ℕ → List ℕ → Option Entry �
 EnqueuesAt refusable key bytes None = Nothing
 EnqueuesAt refusable key bytes (Some e) = If e.broken Nothing (EnqueuesOpen (refusable e) key bytes e)
 
--- bytes become due on the connection under a key, if one is open there that isn't broken; or memory for them is refused, where it may be
+-- bytes become due on the connection under a key, if a connection is open there and isn't broken; or memory for the
+-- bytes is refused, which may happen if `refusable` says so
 abbrev pub EnqueuesWhere : (Entry → Bool) → ℕ → List ℕ → Rel
 EnqueuesWhere refusable key bytes l hs l' = EnqueuesAt refusable key bytes (l.entries key) l hs l'
 
--- bytes become due; memory may be refused only where they need some
+-- bytes become due on the connection under a key; memory may be refused only if the bytes need memory
 abbrev pub Enqueues : ℕ → List ℕ → Rel
 Enqueues key bytes = EnqueuesWhere (needs_memory bytes) key bytes
 
--- a reply of IPP becomes due, by what its request said of closing
+-- an IPP reply becomes due, and `bytes` takes whether the connection closes after the reply
 abbrev pub EnqueuesReplyAt : (Bool → List ℕ) → ℕ → Option Entry → Rel
 EnqueuesReplyAt bytes key None = Nothing
 EnqueuesReplyAt bytes key (Some e) = Enqueues key (bytes (closes_of e.progress))
@@ -49,13 +50,13 @@ EnqueuesReplyAt bytes key (Some e) = Enqueues key (bytes (closes_of e.progress))
 abbrev pub EnqueuesResponse : ℕ → List ℕ → Rel
 EnqueuesResponse key bytes l hs l' = EnqueuesReplyAt (λ closes. http_reply closes bytes) key (l.entries key) l hs l'
 
--- the reply of a status alone does
+-- an IPP reply of a status alone becomes due
 abbrev pub EnqueuesStatus : ℕ → Status → ℕ → Rel
 EnqueuesStatus key status request l hs l' = EnqueuesReplyAt (λ closes. http_status closes status request) key (l.entries key) l hs l'
 
--- ---- by the device
+-- ---- the connection of a device
 
--- a connection is open there, and this device said its name on it
+-- a connection is open, and this device gave its name on it
 abbrev pub IsDevice : ℕ → Option Entry → Type 0
 IsDevice device None = ⊥
 IsDevice device (Some e) = device_of e.progress ≡ Some device
@@ -63,7 +64,7 @@ IsDevice device (Some e) = device_of e.progress ≡ Some device
 abbrev pub IsAbsent : ℕ → Ledger → Type 0
 IsAbsent device l = (key : ℕ) → IsDevice device (l.entries key) → ⊥
 
--- bytes become due on a device's connection, if it has one; memory for them may be refused where this says so of the connection
+-- bytes become due on a device's connection, if the device has one; memory may be refused if `refusable` says so
 abbrev pub EnqueuesOn : (Entry → Bool) → ℕ → List ℕ → Rel
 EnqueuesOn refusable device bytes l hs l' =
     ((key : ℕ) × IsDevice device (l.entries key) × Then (Chooses (On key)) (EnqueuesWhere refusable key bytes) l hs l') ⊎ (IsAbsent device l × Nothing l hs l')

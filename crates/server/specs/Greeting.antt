@@ -1,4 +1,4 @@
--- Devices that say their names.
+-- Devices that give their names.
 use Rattle.std.specs.Prelude.{ℕ, ◌≡◌, ◌≢◌, ◌⊎◌, Bool, true, false, List, Option, Some, None}
 use Rattle.base_types.specs.declared.report.Report.{Report}
 use Rattle.base_types.specs.declared.report.Report.TheVariants as report
@@ -14,24 +14,24 @@ use Rattle.server.specs.Enqueuing.{Sets, IsDevice}
 use Rattle.server.specs.Happening.{Unanswered}
 use Rattle.server.specs.Closing.{IsGone}
 
--- a device reports
+-- a report of a device comes
 abbrev pub Tells : ℕ → ℕ → ReportRecord → Rel
 Tells moment device said l hs l' = (report : Report) × (report_of report ≡ said) × Unanswered moment (Is.Report device report) l hs l'
 
--- a connection is open there on which this device said its name, and its input has ended or hasn't
+-- a connection is open, this device gave its name on it, and `ended` says whether the input of the connection has ended
 abbrev pub IsDeviceAs : Bool → ℕ → Option Entry → Type 0
 IsDeviceAs ended device None = ⊥
 IsDeviceAs ended device (Some e) = (device_of e.progress ≡ Some device) × (e.ended ≡ ended)
 
--- the device has no connection beside the one under a key
+-- the device has no connection under another key than this one
 abbrev pub IsAlone : ℕ → ℕ → Ledger → Type 0
 IsAlone device key l = (other : ℕ) → other ≢ key → IsDevice device (l.entries other) → ⊥
 
--- it has one, whose input has ended or hasn't
+-- the device has a connection under the key `other`, and `ended` says whether the input of that connection has ended
 abbrev pub HasOther : Bool → ℕ → ℕ → ℕ → Ledger → Type 0
 HasOther ended device key other l = (other ≢ key) × IsDeviceAs ended device (l.entries other)
 
--- the device that said its name on the connection under a key has another: this one is to be closed as by a fault
+-- the connection under a key is to be closed as by a fault, since its device has another connection
 abbrev pub GivesWayAt : ℕ → Option Entry → Rel
 GivesWayAt key None = Nothing
 GivesWayAt key (Some e) = Sets key (given_up e)
@@ -39,16 +39,17 @@ GivesWayAt key (Some e) = Sets key (given_up e)
 abbrev pub GivesWay : ℕ → Rel
 GivesWay key l hs l' = GivesWayAt key (l.entries key) l hs l'
 
--- it says its name
+-- the device gives its name
 abbrev pub SaysName : ℕ → ℕ → List ℕ → Rel
 SaysName moment device name = Unanswered moment (Is.Report device (report.Hello name))
 
--- a device comes again: its old connection gives way, the device is gone, and says its name
+-- a device comes again: its old connection gives way, the device is gone, and the device gives its name
 abbrev pub TakesOver : ℕ → ℕ → ℕ → List ℕ → Rel
 TakesOver moment old device name = Then (GivesWay old) (Then (IsGone moment (Some device)) (SaysName moment device name))
 
--- A device says its name on the connection under a key. Where it has no other, that is an event; where the
--- input of the other has ended, it takes its place; else the new one is refused, and that is no event.
+-- A device gives its name on the connection under a key. If the device has no other connection, the name is an event of
+-- the core. If the input of the other connection has ended, the other connection gives way, and the name is an event
+-- too. Else the new connection gives way and is refused, and no event comes.
 abbrev pub Greets : ℕ → ℕ → ℕ → ℕ → List ℕ → Rel
 Greets moment key id device name l hs l' =
     (IsAlone device key l × SaysName moment device name l hs l')

@@ -1,4 +1,5 @@
--- What a trace is to the core, and what was taken of its closed connections; in words that say nothing of turns and their polls. Of what is short, that it needs no memory.
+-- Laws of traces, without the order of a turn: a trace is one run of the core, and the due bytes of closed connections
+-- were taken. Short bytes need no memory.
 use Rattle.std.specs.Prelude.{ℕ, ◌≡◌, ◌≢◌, false, List, [], ◌∷◌, ◌++◌, All, map, Option, Some}
 use Rattle.std.specs.List.{flat_map}
 use Rattle.base_types.specs.declared.report.Report.{Report}
@@ -30,12 +31,12 @@ use Rattle.server.specs.Turn.{Outcome as Answer, Replied, BadRequest, OutOfMemor
 
 -- ---- a run of the core
 
--- what the core tells of a growth that was refused: it is its own where it is a dispatch's
+-- the note of the core for memory that was refused: there is one if the memory was for a dispatch, else none
 abbrev pub refusal_note : AllocationSite → Option ℕ → List Note
 refusal_note At.Dispatch id = Refused At.Dispatch id ∷ []
 refusal_note place id = []
 
--- what of a happening the core tells: a dispatch, one that was refused memory, or a cancel
+-- the note of the core in a happening, if there is one: a dispatch, a dispatch that was refused memory, or a cancel
 abbrev pub core_note : Happening → List Note
 core_note (Told (Planned plan started)) = Planned plan started ∷ []
 core_note (Told (Canceled cancel)) = Canceled cancel ∷ []
@@ -44,11 +45,11 @@ core_note (Told (Refused place id)) = refusal_note place id
 core_note (Polled poll) = []
 core_note (Chosen choice) = []
 
--- all that the core tells, in order
+-- the notes of the core in these happenings, in order
 abbrev pub core_notes : List Happening → List Note
 core_notes hs = flat_map core_note hs
 
--- a listener that keeps each note
+-- the listener that appends each note to a list
 abbrev pub Collects : List Note → Note → List Note → Type 0
 Collects before note after = after ≡ before ++ note ∷ []
 
@@ -64,20 +65,20 @@ happenings_of (Served_body moment body answer hs) = hs
 happenings_of (Reported moment device said hs) = hs
 happenings_of (Ticked moment hs) = hs
 
--- all that happened in a trace, in order
+-- the happenings of all actions of a trace, in order
 abbrev pub happenings_in : Trace → List Happening
 happenings_in trace = flat_map happenings_of trace
 
--- each event comes at this moment
+-- each event has this moment
 abbrev pub AreAt : ℕ → List Timed → Type 0
 AreAt moment events = All (λ (timed : Timed). timed.moment ≡ moment) events
 
--- those of the first action, each at its moment, then those of the next, and so on
+-- the events of the actions of a trace, in order; each event has the moment of its action
 abbrev pub AreEventsOf : Trace → List Timed → Type 0
 AreEventsOf [] events = events ≡ []
 AreEventsOf (action ∷ actions) events = (first : List Timed) × (later : List Timed) × (events ≡ first ++ later) × AreAt (moment_of action) first × AreEventsOf actions later
 
--- no memory was refused for the event or its dispatch
+-- neither the event nor its dispatch was refused memory
 abbrev pub IsWhole : Outcome → Type 0
 IsWhole Dropped = ⊥
 IsWhole (Queried reply) = Unit {0}
@@ -85,8 +86,9 @@ IsWhole (Undispatched reply) = ⊥
 IsWhole (Idle reply) = Unit {0}
 IsWhole (Dispatched reply) = Unit {0}
 
--- One run of the core, which tells just what the listener was told of it in the trace, in order: its
--- cancels, its dispatches with their plans, and those that were refused memory.
+-- A trace is one run of the core. The notes of the run are the notes of the core in the trace, in order: the cancels,
+-- the dispatches with their plans, and the dispatches that were refused memory. If no memory was refused in the
+-- trace, no event of the run was dropped, and no dispatch of the run was refused memory.
 pub record IsOneRun (trace : Trace) (old new : State) : Type 0 where
   pub events : List Timed
   pub outcomes : List Outcome
@@ -96,8 +98,8 @@ pub record IsOneRun (trace : Trace) (old new : State) : Type 0 where
 
 -- ---- an action between turns
 
--- One event came, was answered this, and nothing else happened: the listener is told its cancels, and then
--- the dispatch, unless it is a query. No memory was refused.
+-- One event came with these effects, and nothing else happened. The listener was told the cancels of the event, and
+-- then the dispatch, unless the event is a query. Neither the event nor its dispatch was refused memory.
 pub record IsOneEvent (moment : ℕ) (event : Event) (reply : Effects) (old : State) (hs : List Happening) (new : State) : Type 0 where
   pub outcome : Outcome
   pub notes : List Note
@@ -106,19 +108,19 @@ pub record IsOneEvent (moment : ℕ) (event : Event) (reply : Effects) (old : St
   pub handled : Handles moment event old outcome notes new
   pub told : seen hs ≡ map Told notes
 
--- no event came, and nothing happened
+-- no event came: there was no poll and no note, and the state is unchanged
 abbrev pub IsNoEvent : State → List Happening → State → Type 0
 IsNoEvent old hs new = (seen hs ≡ []) × (new ≡ old)
 
--- what a body that was read is to the core, and what it is answered
+-- the outcome of a parsed body, and the event that the body brings, if the body brings one
 abbrev pub IsServed : ℕ → ParsedRequest → Answer → State → List Happening → State → Type 0
 IsServed moment asks.TooShort answer old hs new = (answer ≡ BadRequest) × IsNoEvent old hs new
 IsServed moment (asks.Refused status request) answer old hs new = (answer ≡ Replied (refusal_bytes status request)) × IsNoEvent old hs new
 IsServed moment (asks.Event request event) answer old hs new =
     (reply : Effects) × (bytes : List ℕ) × (answer ≡ Replied bytes) × IsBytes request reply.answer bytes × IsOneEvent moment event reply old hs new
 
--- What an action between turns is to the core where no growth is refused: one event at its moment, or none
--- where a body is no request. A turn brings as many as it does (`IsOneRun`).
+-- If no memory was refused, an action between turns brings the core one event, at the moment of the action. A body that
+-- is too short or is refused brings no event. A turn brings any number of events (`IsOneRun`).
 abbrev pub IsAtMostOne : Action → State → State → Type 0
 IsAtMostOne (Turned moment hs) old new = Unit {0}
 IsAtMostOne (Served_body moment body answer hs) old new = answer ≢ OutOfMemory → (asked : ParsedRequest) × Asks body asked × IsServed moment asked answer old hs new
@@ -128,18 +130,18 @@ IsAtMostOne (Ticked moment hs) old new = has_refusal hs ≡ false → (reply : E
 
 -- ---- connections that were closed
 
--- of each all that was due was taken, or a front of it where it was closed by a fault
+-- all due bytes of each drained connection were taken, and a front of the due bytes of each broken connection
 abbrev pub AllTaken : List (Entry × Fate) → Type 0
 AllTaken closed = All (λ (it : Entry × Fate). IsTaken it.1 it.0) closed
 
--- ---- what needs no memory
+-- ---- bytes that need no memory
 
--- where nothing waits on an open connection the server's bytes become due on it, and are never refused
+-- if no bytes wait on an open connection, and it isn't broken, these bytes become due on it, and no memory is refused
 abbrev pub AreKept : List ℕ → Type 0
 AreKept bytes =
     (key : ℕ) (e : Entry) (l : Ledger) (hs : List Happening) (l' : Ledger)
     → l.entries key ≡ Some e → e.broken ≡ false → waiting e ≡ [] → Enqueues key bytes l hs l' → Sets key (owing bytes e) l hs l'
 
--- neither are those that a connection owes by itself
+-- if no bytes wait on a connection, these bytes of its own step become due, and no memory is refused
 abbrev pub AreOwed : List ℕ → Type 0
 AreOwed bytes = (e : Entry) (what : Ask) (new : Entry) → waiting e ≡ [] → Owes bytes e what new → (what ≡ ask.Nothing) × (new ≡ owing bytes e)

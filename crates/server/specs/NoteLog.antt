@@ -1,4 +1,4 @@
--- What a listener that keeps its notes has heard.
+-- The notes that a `NoteLog` has logged.
 use Rattle.std.specs.Prelude.{◌≡◌, ◌⊎◌, List, [], ◌∷◌, ◌++◌, Option, Some, None, option_map, map}
 use Rattle.plan_prices.specs.Plan.{PlanRecord}
 use Rattle.plan_prices.specs.declared.plan.PlannedClass.{PlannedClass}
@@ -10,7 +10,7 @@ use Rattle.server.specs.declared.note_log.LoggedNote.TheVariants as hear
 abbrev pub class_word : PlannedClass → LoggedNote
 class_word class = hear.Class class.priority class.priced.total
 
--- a plan with its classes and its stranded jobs, if one was made
+-- the logged notes of a plan, if a plan was made: the plan, its classes, and its stranded jobs
 abbrev pub plan_words : Option PlanRecord → List LoggedNote
 plan_words None = []
 plan_words (Some plan) = hear.Planned ∷ (map class_word plan.classes ++ map hear.Stranded plan.stranded)
@@ -18,13 +18,13 @@ plan_words (Some plan) = hear.Planned ∷ (map class_word plan.classes ++ map he
 abbrev pub dispatch_words : Option PlanRecord → List Started → List LoggedNote
 dispatch_words plan started = plan_words plan ++ map hear.Began started
 
--- what is heard of a note
+-- the logged notes of a note
 abbrev pub words_of : Note → List LoggedNote
 words_of (Planned plan started) = dispatch_words plan started
 words_of (Canceled cancel) = hear.Canceled cancel ∷ []
 words_of (DeviceRefused id why) = hear.DeviceRefused id why ∷ []
 words_of (Refused place id) = hear.Refused place id ∷ []
 
--- all of it is kept after what was heard before, or memory for it was refused; after that nothing is kept
+-- the logged notes of a note are appended, or memory for them is refused and the log is lost; a lost log stays lost
 abbrev pub LogsNote : Option (List LoggedNote) → Note → Option (List LoggedNote) → Type 0
 LogsNote old note new = (new ≡ option_map (λ kept. kept ++ words_of note) old) ⊎ (new ≡ None)

@@ -1,4 +1,4 @@
--- At which traces an engine stands.
+-- The ledgers that represent an engine, the relations that its functions refine, and the traces at which it stands.
 use Rattle.std.specs.Prelude.{ℕ, ◌≡◌, ◌≢◌, ◌<◌, ◌≤◌, Bool, true, false, List, [], ◌∷◌, ◌++◌, count_by, is_some, Option, Some, None, Vec, Result, Ok, Err, IsOk, IsErr}
 use Rattle.std.specs.declared.alloc.AllocError.{AllocError}
 use Rattle.std.specs.declared.alloc.Global.{Global}
@@ -32,7 +32,7 @@ RepresentsOpen (Some e) (Some c) = RepresentsConnection e c
 RepresentsOpen None (Some c) = ⊥
 RepresentsOpen (Some e) None = ⊥
 
--- the engine stands at the ledger
+-- the ledger represents the engine: it has the same core, and for each open connection an entry that represents it
 pub record Represents (l : Ledger) (engine : EngineState) : Type 0 where
   pub core : l.core ≡ engine.core
   pub each : (key : ℕ) → RepresentsOpen (l.entries key) (slot_at engine key)
@@ -40,58 +40,59 @@ pub record Represents (l : Ledger) (engine : EngineState) : Type 0 where
   pub ticked : l.ticked ≡ engine.ticked
   pub undispatched : l.undispatched ≡ engine.undispatched
 
--- some happenings lead the world on, and wherever the old engine stands, they lead by the relation to where the new one stands
+-- Some happenings lead the world on. With these happenings the relation leads each ledger that represents the old
+-- engine to a ledger that represents the new engine.
 pub record Refines {S : Type 0} (moves : S → Happening → S → Type 0) (R : Rel) (world : S) (old : EngineState) (world' : S) (new : EngineState) : Type 0 where
   pub happenings : List Happening
   pub leads : Leads moves world happenings world'
   pub stands : (l : Ledger) → Represents l old → (l' : Ledger) × Seen R l happenings l' × Represents l' new
 
--- no connection has more to bring than before, and none has come
+-- no connection can bring more steps than before, and no more connections are open than before
 pub record IsQuiet (old new : EngineState) : Type 0 where
   pub work : (key : ℕ) → work_at new.slots key ≤ work_at old.slots key
   pub open_now : count_by is_some new.slots ≤ count_by is_some old.slots
 
--- the same as `Refines`, of what feeds no reader
+-- as `Refines`, for a function that feeds no reader
 pub record RefinesQuietly {S : Type 0} (moves : S → Happening → S → Type 0) (R : Rel) (world : S) (old : EngineState) (world' : S) (new : EngineState) : Type 0 where
   pub happenings : List Happening
   pub leads : Leads moves world happenings world'
   pub stands : (l : Ledger) → Represents l old → (l' : Ledger) × Seen R l happenings l' × Represents l' new
   pub quiet : IsQuiet old new
 
--- the same, with whether a growth was refused
+-- as `RefinesQuietly`, and `refused` says whether the allocator refused memory for a growth
 pub record RefinesReporting {S : Type 0} (moves : S → Happening → S → Type 0) (R : Rel) (world : S) (old : EngineState) (world' : S) (new : EngineState) (refused : Bool) : Type 0 where
   pub refines : RefinesQuietly moves R world old world' new
   pub is : has_refusal refines.happenings ≡ refused
 
--- what came of a body, which is answered so
+-- as `RefinesQuietly`, for a body of some outcome; `answer` is that outcome, or out of memory if memory was refused
 pub record RefinesAnswering {S : Type 0} (moves : S → Happening → S → Type 0) (R : Outcome → Rel) (world : S) (old : EngineState) (world' : S) (new : EngineState) (answer : Outcome) : Type 0 where
   pub served : Outcome
   pub refines : RefinesQuietly moves (R served) world old world' new
   pub is : answer ≡ served_as refines.happenings served
 
--- ---- where there is no wire: only a listener is told
+-- ---- functions without a wire: only a listener is told
 
--- this is done, and feeds no reader
+-- as `RefinesQuietly`, for a listener without a wire
 abbrev pub RefinesTold : {N : Type 0} → (N → Note → N → Type 0) → Rel → N → EngineState → N → EngineState → Type 0
 RefinesTold told R listener old listener' new = RefinesQuietly (alone told) R listener old listener' new
 
--- the same, with whether a growth was refused
+-- as `RefinesReporting`, for a listener without a wire
 abbrev pub Reports : {N : Type 0} → (N → Note → N → Type 0) → Rel → N → EngineState → N → EngineState → Bool → Type 0
 Reports told R listener old listener' new refused = RefinesReporting (alone told) R listener old listener' new refused
 
--- the same, of the connections of any engine with this core
+-- as `Reports`, for the connections of any engine with this core
 abbrev pub ReportsAmong : {N : Type 0} → (N → Note → N → Type 0) → Rel → State → N → Slab ConnectionState → N → Slab ConnectionState → Bool → Type 0
 ReportsAmong told R core listener old listener' new refused =
     (engine : EngineState) → engine.core ≡ core → engine.slots ≡ old.slots → Reports told R listener engine listener' (with_slots new.slots engine) refused
 
--- ---- what is asked
+-- ---- the asks of connections
 
--- what the connection under a key asks, or that it has nothing to ask, as the ledger has it
+-- the ask of the connection under a key, or that the connection has no ask, as a relation on ledgers
 abbrev pub AsksAs : ℕ → Option ConnectionAsk → Ledger → Ledger → Type 0
 AsksAs key None l l' = IsHeardAt (l.entries key) × (l' ≡ l)
 AsksAs key (Some asked) l l' = Seen (Asks key asked.id asked.ask) l [] l'
 
--- where something is asked, the connection has less to bring now, and no other has more
+-- after an ask the connection under the key can bring fewer steps than before, and no other connection can bring more
 abbrev pub HasLess : ℕ → Option ConnectionAsk → EngineState → EngineState → Type 0
 HasLess key None old new = Unit {0}
 HasLess key (Some what) old new = IsQuiet old new × (work_at new.slots key < work_at old.slots key)
@@ -100,34 +101,34 @@ pub record AsksBy (key : ℕ) (what : Option ConnectionAsk) (old new : EngineSta
   pub stands : (l : Ledger) → Represents l old → (l' : Ledger) × AsksAs key what l l' × Represents l' new
   pub less : HasLess key what old new
 
--- a device said its name on the connection under a key, and on another
+-- the device gave its name on the connection under the key `other`, and `other` isn't `key`
 pub record IsOther (device key other : ℕ) (e : EngineState) : Type 0 where
   pub apart : other ≢ key
   pub is : is_of e.slots device other ≡ true
 
--- the connection under a key was closed
+-- as `RefinesQuietly`, for the closing of the connection under a key; fewer connections are open than before
 pub record RefinesClosing {S : Type 0} (moves : S → Happening → S → Type 0) (moment : ℕ) (fate : Fate) (key : ℕ) (world : S) (old : EngineState) (world' : S) (new : EngineState) : Type 0 where
   pub refines : RefinesQuietly moves (ClosesAt moment fate key) world old world' new
   pub fewer : count_by is_some new.slots < count_by is_some old.slots
 
--- if one was open there it was closed so, by each fate that it may have: as drained only where nothing waited on it
+-- the connection that was open under a key was closed, with each fate that it may have; drained only if no bytes waited
 abbrev pub RefinesAnyFate : {S : Type 0} → (S → Happening → S → Type 0) → ℕ → ℕ → S → EngineState → S → EngineState → Type 0
 RefinesAnyFate moves moment key world old world' new =
     (fate : Fate) (c : ConnectionState) → slot_at old key ≡ Some c → (fate ≡ Drained → c.output ≡ []) → RefinesClosing moves moment fate key world old world' new
 
 -- ---- traces
 
--- the engine stands at a trace, which began with this core
+-- the engine stands at a trace that began with this core: the trace leads to a ledger that represents the engine
 abbrev pub StandsAt : State → Trace → EngineState → Type 0
 StandsAt opening trace engine = (l : Ledger) × Allows trace (opening_ledger opening) l × Represents l engine
 
--- a turn leads the world on, and wherever the old engine stands, the new one stands after that turn
+-- a turn leads the world on; if the old engine stands at a trace, the new engine stands at the trace and then this turn
 pub record RefinesTurn {S : Type 0} (moves : S → Happening → S → Type 0) (moment : ℕ) (world : S) (old : EngineState) (world' : S) (new : EngineState) : Type 0 where
   pub happenings : List Happening
   pub leads : Leads moves world happenings world'
   pub stands : (opening : State) (trace : Trace) → StandsAt opening trace old → StandsAt opening (trace ++ Turned moment happenings ∷ []) new
 
--- a call between turns: the engine stands after it, and the call fails exactly where a growth was refused
+-- as `RefinesTurn`, for a call between turns; the call fails if and only if memory was refused
 pub record RefinesCall {S : Type 0} (moves : S → Happening → S → Type 0) (action : List Happening → Action) (world : S) (old : EngineState) (world' : S) (new : EngineState) (result : Result (Unit {0}) AllocError) : Type 0 where
   pub happenings : List Happening
   pub leads : Leads moves world happenings world'
@@ -135,34 +136,34 @@ pub record RefinesCall {S : Type 0} (moves : S → Happening → S → Type 0) (
   pub ok : IsOk result → has_refusal happenings ≡ false
   pub err : IsErr result → has_refusal happenings ≡ true
 
--- a body was served between turns, and answered so
+-- as `RefinesTurn`, for a body that was served between turns with this outcome
 pub record RefinesBody {S : Type 0} (moves : S → Happening → S → Type 0) (moment : ℕ) (body : List ℕ) (world : S) (old : EngineState) (world' : S) (new : EngineState) (answer : Outcome) : Type 0 where
   pub happenings : List Happening
   pub leads : Leads moves world happenings world'
   pub stands : (opening : State) (trace : Trace) → StandsAt opening trace old → StandsAt opening (trace ++ Served_body moment body answer happenings ∷ []) new
 
--- what a served body's answer says
+-- the outcome of a served body, by the result of the function
 abbrev pub said_of : Result Served AllocError → Outcome
 said_of (Ok (as_served.Reply bytes)) = Replied bytes.items
 said_of (Ok as_served.BadRequest) = BadRequest
 said_of (Err error) = OutOfMemory
 
--- what came of a body that is answered so, where there is no wire
+-- as `RefinesAnswering`, for a listener without a wire and for the result of a function
 abbrev pub AnswersBody : {N : Type 0} → (N → Note → N → Type 0) → (Outcome → Rel) → N → EngineState → N → EngineState → Result Served AllocError → Type 0
 AnswersBody told R listener old listener' new result = RefinesAnswering (alone told) R listener old listener' new (said_of result)
 
--- the bytes of an answer; where memory for them is refused the listener is told
+-- the bytes of a response; if memory for the bytes is refused, the listener is told
 abbrev pub AnswerAs : {N : Type 0} → (N → Note → N → Type 0) → ℕ → Response → N → Result (Vec ℕ Global) AllocError → N → Type 0
 AnswerAs told request answer listener (Ok bytes) listener' = IsBytes request answer bytes.items × (listener' ≡ listener)
 AnswerAs told request answer listener (Err error) listener' = told listener (Refused At.Reply None) listener'
 
--- the bytes of a reply; where the event was dropped there are none, and the listener is told
+-- the bytes of a reply; if the event was dropped, there are no bytes, and the listener is told
 abbrev pub BytesAs : {N : Type 0} → (N → Note → N → Type 0) → ℕ → Option Effects → N → Result (Vec ℕ Global) AllocError → N → Type 0
 BytesAs told request (Some reply) listener bytes listener' = AnswerAs told request reply.answer listener bytes listener'
 BytesAs told request None listener (Ok bytes) listener' = ⊥
 BytesAs told request None listener (Err error) listener' = told listener (Refused At.Event None) listener'
 
--- a status alone; where memory for it is refused the listener is told
+-- the reply of a status alone; if memory for the reply is refused, the listener is told
 abbrev pub RefusalAs : {N : Type 0} → (N → Note → N → Type 0) → Status → ℕ → N → Result Served AllocError → N → Type 0
 RefusalAs told status request listener (Ok served) listener' = (said_of (Ok served) ≡ Replied (refusal_bytes status request)) × (listener' ≡ listener)
 RefusalAs told status request listener (Err error) listener' = told listener (Refused At.Reply None) listener'
@@ -175,13 +176,13 @@ abbrev pub refusal_in : Result (Vec ℕ Global) AllocError → Bool
 refusal_in (Ok bytes) = false
 refusal_in (Err error) = true
 
--- what is answered, with these bytes and where something else was refused
+-- the outcome of a body: these bytes, or out of memory if memory for the bytes or other memory was refused
 abbrev pub answer_in : Result (Vec ℕ Global) AllocError → Bool → Outcome
 answer_in (Ok bytes) false = Replied bytes.items
 answer_in (Ok bytes) true = OutOfMemory
 answer_in (Err error) refused = OutOfMemory
 
--- a listener is told of a connection that broke, since memory for what was due was refused
+-- the listener is told of the connection that broke, if one did, since memory for due bytes was refused
 abbrev pub ToldOf : {N : Type 0} → (N → Note → N → Type 0) → Option ℕ → N → N → Type 0
 ToldOf told (Some id) old new = told old (Refused At.Enqueue (Some id)) new
 ToldOf told None old new = new ≡ old

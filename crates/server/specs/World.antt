@@ -1,26 +1,26 @@
--- What is outside the engine: a wire and a listener, as one world.
+-- The world outside the engine: a wire and a listener as one.
 use Rattle.std.specs.Prelude.{◌≡◌}
 use Rattle.wires.specs.Poll.{Poll}
 use Rattle.dispatcher.specs.Notes.{Note}
 use Rattle.server.specs.declared.world.World.{World}
 use Rattle.server.specs.Polls.{Happening, Polled, Told, Chosen}
 
--- a world that is a wire and a listener moves by a poll, and by a note
+-- a poll and a note move a world that is both a wire and a listener
 abbrev pub moved : {S : Type 0} → (S → Poll → S → Type 0) → (S → Note → S → Type 0) → S → Happening → S → Type 0
 moved polled told old (Polled poll) new = polled old poll new
 moved polled told old (Told note) new = told old note new
 moved polled told old (Chosen choice) new = ⊥
 
--- ---- of a wire and a listener that are lent
+-- ---- a wire and a listener that are lent
 
--- the same two are lent
+-- the same wire and the same listener are lent
 abbrev pub SameLoans : {W N : Type 0} → World W N → World W N → Type 0
 SameLoans old new = (new.wire.ghost_name ≡ old.wire.ghost_name) × (new.notes.ghost_name ≡ old.notes.ghost_name)
 
--- the wire moves, and the listener stays
+-- a poll moves the wire, and the listener is unchanged
 abbrev pub wire_polled : {W N : Type 0} → (W → Poll → W → Type 0) → World W N → Poll → World W N → Type 0
 wire_polled polled old poll new = polled old.wire.now poll new.wire.now × (new.notes.now ≡ old.notes.now) × SameLoans old new
 
--- the listener moves, and the wire stays
+-- a note moves the listener, and the wire is unchanged
 abbrev pub listener_told : {W N : Type 0} → (N → Note → N → Type 0) → World W N → Note → World W N → Type 0
 listener_told told old note new = told old.notes.now note new.notes.now × (new.wire.now ≡ old.wire.now) × SameLoans old new

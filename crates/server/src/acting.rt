@@ -1,4 +1,4 @@
-//! While a connection asks, it is handled.
+//! The asks of connections, handled one at a time.
 ghost use Rattle.std.specs.Prelude.{◌≡◌};
 ghost use Rattle.server.specs.World.{moved};
 ghost use Rattle.server.specs.Acting.{ActsOn, place_of, place_of_part};
@@ -13,16 +13,17 @@ use dispatcher::{AllocationSite, DeviceRefusal, Listener};
 use plan_prices::Planner;
 use wires::{Wire, WireId};
 
-/// Who asks: the connection under a key, and its number.
+/// The connection that asks: its key, and its number on the wire.
 #[derive(Clone, Copy, Debug)]
 pub(crate) struct Asker {
     pub key: usize,
     pub id: WireId,
 }
 
-/// What connections ask, handled one at a time.
+/// The asks of connections.
 impl<P: Planner + Drop> Engine<P> {
-    /// While the connection under a key asks, it is handled, and what broke is closed.
+    /// Handles what the connection under a key asks, until it has no ask. The broken connections are closed
+    /// after each ask.
     pub(crate) fn serve<W: Wire + Listener>(&mut self, moment: Moment, key: usize, world: &mut W)
         ensures { Refines (moved W.polled W.told) (Serves moment key) world.old self.old world.new self.new }
     {
@@ -33,14 +34,14 @@ impl<P: Planner + Drop> Engine<P> {
         }
     }
 
-    /// What the connection under a key asks next.
+    /// Returns what the connection under a key asks next.
     fn ask(&mut self, key: usize) -> Option<ConnectionAsk>
         ensures { AsksBy key result self.old self.new }
     {
         next(&mut self.connections, key, self.core.settings())
     }
 
-    /// Handles what is asked, for who asks.
+    /// Handles an ask of a connection.
     fn act<N: Listener>(&mut self, moment: Moment, asker: Asker, ask: Ask, notes: &mut N)
         ensures { RefinesTold N.told (ActsOn moment asker.key asker.id ask) notes.old self.old notes.new self.new }
     {
@@ -62,7 +63,7 @@ impl<P: Planner + Drop> Engine<P> {
     }
 }
 
-/// Where a growth of a connection was refused.
+/// The allocation site at which memory for a growth of a connection was refused.
 fn place_of(growth: Growth) -> AllocationSite
     ensures { result ≡ place_of growth }
 {
@@ -72,7 +73,7 @@ fn place_of(growth: Growth) -> AllocationSite
     }
 }
 
-/// Where a part of an LPD client's job was lost.
+/// The allocation site at which a part of an LPD client's job was lost.
 fn place_of_part(part: Part) -> AllocationSite
     ensures { result ≡ place_of_part part }
 {

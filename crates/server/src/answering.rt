@@ -1,4 +1,4 @@
-//! What clients' events are answered.
+//! The replies to the events of clients.
 ghost use Rattle.std.specs.Prelude.{◌≡◌};
 ghost use Rattle.ipp_operations.specs.QueueText.{text_of};
 ghost use Rattle.server.specs.Answering.{IsAnswered, Answers, Replies, RepliesWith, LosesReply, Drops, ipp_answer, Declines, Acknowledges, Responds, IsShown, IsTold, Shows};
@@ -15,7 +15,7 @@ use ipp_operations::{REFUSED, ipp_response, lpd_ack, lpd_queue_text};
 use plan_prices::Planner;
 
 impl<P: Planner + Drop> Engine<P> {
-    /// An event of a client, and its answer.
+    /// Handles an event of a client, and enqueues its reply.
     pub(crate) fn happen<N: Listener>(
         &mut self,
         moment: Moment,
@@ -31,7 +31,7 @@ impl<P: Planner + Drop> Engine<P> {
         self.answer(asker, client, query, handled.outcome.into_reply(), notes);
     }
 
-    /// The answer to a client's event becomes due, which may have been dropped, out of memory.
+    /// Enqueues the reply to an event of a client. `reply` is `None` if the event was dropped, out of memory.
     fn answer<N: Listener>(
         &mut self,
         asker: Asker,
@@ -50,9 +50,9 @@ impl<P: Planner + Drop> Engine<P> {
     }
 }
 
-/// IPP clients.
+/// The replies to IPP clients.
 impl<P: Planner + Drop> Engine<P> {
-    /// A reply becomes due, or that the request was dropped.
+    /// Enqueues the reply to an event, or the status of a temporary error if the request was dropped.
     #[tactic(auto, using(crate::proofs::Joins::replies_none))]
     fn reply<N: Listener>(
         &mut self,
@@ -70,7 +70,8 @@ impl<P: Planner + Drop> Engine<P> {
         }
     }
 
-    /// A request was dropped, out of memory, which it is answered.
+    /// Tells the listener that a request was dropped, out of memory, and enqueues the status of a temporary
+    /// error.
     #[tactic(auto, using(crate::proofs::Joins::tells_then))]
     pub(crate) fn drop_request<N: Listener>(&mut self, asker: Asker, request: u32, notes: &mut N)
         ensures { RefinesTold N.told (Drops asker.key asker.id request) notes.old self.old notes.new self.new }
@@ -79,7 +80,7 @@ impl<P: Planner + Drop> Engine<P> {
         self.enqueue_status(asker.key, Status::TemporaryError, request, notes);
     }
 
-    /// The bytes of an answer become due on the client's connection.
+    /// Enqueues the bytes of a response to an IPP request. Any other response has none.
     fn reply_with<N: Listener>(
         &mut self,
         asker: Asker,
@@ -99,8 +100,8 @@ impl<P: Planner + Drop> Engine<P> {
         }
     }
 
-    /// Memory for the bytes of an answer was refused: a query is answered so, after any other event the
-    /// connection breaks.
+    /// Tells the listener that memory for the bytes of a reply was refused. After a query the status of a
+    /// temporary error is enqueued; after any other event the connection breaks.
     fn lose_reply<N: Listener>(&mut self, asker: Asker, request: u32, query: bool, notes: &mut N)
         ensures { RefinesTold N.told (LosesReply asker.key asker.id request query) notes.old self.old notes.new self.new }
     {
@@ -113,9 +114,9 @@ impl<P: Planner + Drop> Engine<P> {
     }
 }
 
-/// LPD clients.
+/// The replies to LPD clients.
 impl<P: Planner + Drop> Engine<P> {
-    /// The answer to a job becomes due, or that memory for it was refused.
+    /// Enqueues the acknowledgement of a job, or the refusal if its event was dropped.
     fn answer_job<N: Listener>(&mut self, asker: Asker, reply: Option<Effects>, notes: &mut N)
         ensures { RefinesTold N.told (Acknowledges asker.key asker.id reply) notes.old self.old notes.new self.new }
     {
@@ -125,7 +126,7 @@ impl<P: Planner + Drop> Engine<P> {
         }
     }
 
-    /// Memory for a file or for its job was refused, and so is it.
+    /// Tells the listener that memory for a file or for a job was refused, and enqueues the refusal.
     #[tactic(auto, using(crate::proofs::Joins::tells_then))]
     pub(crate) fn decline<N: Listener>(
         &mut self,
@@ -139,7 +140,8 @@ impl<P: Planner + Drop> Engine<P> {
         self.enqueue(asker.key, &[REFUSED], notes);
     }
 
-    /// The answer to a command becomes due; where memory for it was refused the connection breaks.
+    /// Enqueues the response to a command. If its event was dropped, the listener is told and the connection
+    /// breaks.
     fn answer_command<N: Listener>(&mut self, asker: Asker, reply: Option<Effects>, notes: &mut N)
         ensures { RefinesTold N.told (Responds asker.key asker.id reply) notes.old self.old notes.new self.new }
     {
@@ -152,7 +154,7 @@ impl<P: Planner + Drop> Engine<P> {
         }
     }
 
-    /// The bytes of an answer to an LPD client become due, if it is one.
+    /// Enqueues the bytes of a response to an LPD client. Any other response has none.
     fn tell_answer<N: Listener>(&mut self, asker: Asker, answer: &Response, notes: &mut N)
         ensures { RefinesTold N.told (IsShown asker.key asker.id answer.now) notes.old self.old notes.new self.new }
     {
@@ -163,7 +165,7 @@ impl<P: Planner + Drop> Engine<P> {
         }
     }
 
-    /// The bytes of an answer to an LPD client become due.
+    /// Enqueues the bytes of a response to an LPD client.
     fn tell_client<N: Listener>(&mut self, asker: Asker, answer: &LpdResponse, notes: &mut N)
         ensures { RefinesTold N.told (IsTold asker.key asker.id answer.now) notes.old self.old notes.new self.new }
     {
@@ -174,7 +176,8 @@ impl<P: Planner + Drop> Engine<P> {
         }
     }
 
-    /// The text of a queue becomes due; where memory for it is refused, the connection breaks.
+    /// Enqueues the text of a queue. If memory for the text is refused, the listener is told and the connection
+    /// breaks.
     fn show<N: Listener>(&mut self, asker: Asker, answer: &LpdResponse, notes: &mut N)
         ensures { RefinesTold N.told (Shows asker.key asker.id (text_of answer.now)) notes.old self.old notes.new self.new }
     {
@@ -188,7 +191,7 @@ impl<P: Planner + Drop> Engine<P> {
     }
 }
 
-/// The answer to an IPP request, where it is one.
+/// The response to an IPP request, if the response is one.
 fn ipp_answer(answer: Response) -> Option<IppResponse>
     ensures { result ≡ ipp_answer answer }
 {

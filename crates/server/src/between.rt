@@ -1,4 +1,4 @@
-//! Calls between turns, which need no wire.
+//! The calls between turns, which need no wire.
 ghost use Rattle.base_types.specs.Report.{report_of};
 ghost use Rattle.server.specs.Polls.{alone};
 ghost use Rattle.server.specs.Happening.{ReportComes};
@@ -14,10 +14,10 @@ use ipp_operations::{ParsedRequest, ipp_event, ipp_refusal, ipp_response};
 use plan_prices::Planner;
 use std::alloc::AllocError;
 
-/// What a caller without connections gives the server.
+/// Bodies, reports and ticks of a caller without connections.
 impl<P: Planner + Drop> Engine<P> {
-    /// One IPP body, between turns, without HTTP. The error is that a growth was refused, which the
-    /// listener is told of.
+    /// Serves one IPP body between turns, without HTTP. The only error is out of memory, and the listener is
+    /// told of it. The event may have happened then.
     #[tactic(auto, using(crate::proofs::Serving::one_body))]
     pub fn serve_body<N: Listener>(
         &mut self,
@@ -30,7 +30,7 @@ impl<P: Planner + Drop> Engine<P> {
         self.serve_now(moment, body, notes)
     }
 
-    /// What a body comes to.
+    /// Parses a body and acts on it.
     #[tactic(auto, using(crate::proofs::Joins::body_read, crate::proofs::Joins::body_unread))]
     fn serve_now<N: Listener>(
         &mut self,
@@ -49,7 +49,7 @@ impl<P: Planner + Drop> Engine<P> {
         }
     }
 
-    /// What comes of what a body asks.
+    /// Acts on a parsed body.
     fn serve_asked<N: Listener>(
         &mut self,
         moment: Moment,
@@ -65,7 +65,7 @@ impl<P: Planner + Drop> Engine<P> {
         }
     }
 
-    /// A status alone.
+    /// Returns the reply of a status alone. The only error is out of memory, and the listener is told of it.
     fn serve_refusal<N: Listener>(
         &self,
         status: Status,
@@ -83,7 +83,7 @@ impl<P: Planner + Drop> Engine<P> {
         }
     }
 
-    /// An event of a body.
+    /// Handles the event of a body, and returns its reply.
     fn serve_event<N: Listener>(
         &mut self,
         moment: Moment,
@@ -98,8 +98,8 @@ impl<P: Planner + Drop> Engine<P> {
         answered(bytes, handled.refused)
     }
 
-    /// The bytes of a reply. The error is out of memory, for the event or for these, which the listener is
-    /// told of.
+    /// Returns the bytes of the reply to an event. The only error is out of memory, for the event or for the
+    /// bytes, and the listener is told of it.
     fn bytes_of<N: Listener>(
         &self,
         reply: Option<Effects>,
@@ -117,7 +117,8 @@ impl<P: Planner + Drop> Engine<P> {
         }
     }
 
-    /// The bytes of an answer. The error is out of memory, which the listener is told of.
+    /// Returns the bytes of a response; a response that isn't one of IPP has none. The only error is out of
+    /// memory, and the listener is told of it.
     fn answer_bytes<N: Listener>(
         &self,
         answer: Response,
@@ -139,8 +140,8 @@ impl<P: Planner + Drop> Engine<P> {
         }
     }
 
-    /// One report of a device, between turns, without a connection. The error is that a growth was
-    /// refused, which the listener is told of.
+    /// Handles one report of a device between turns, without a connection. The only error is out of memory, and
+    /// the listener is told of it.
     pub fn report<N: Listener>(
         &mut self,
         device: DeviceId,
@@ -157,7 +158,7 @@ impl<P: Planner + Drop> Engine<P> {
         }
     }
 
-    /// One report of a device. Whether a growth was refused.
+    /// Handles one report of a device. Returns whether memory was refused.
     pub(crate) fn report_now<N: Listener>(
         &mut self,
         moment: Moment,
@@ -171,7 +172,7 @@ impl<P: Planner + Drop> Engine<P> {
             .refused
     }
 
-    /// One tick, between turns. The error is that a growth was refused, which the listener is told of.
+    /// Makes one tick between turns. The only error is out of memory, and the listener is told of it.
     pub fn tick<N: Listener>(&mut self, notes: &mut N, moment: Moment) -> Result<(), AllocError>
         ensures { RefinesCall (alone N.told) (Ticked moment) notes.old self.old notes.new self.new result }
     {

@@ -1,4 +1,4 @@
-//! Connections are closed.
+//! The closings of connections.
 ghost use Rattle.std.specs.Prelude.{◌≡◌, false, ℕ, IfSome, IfNone};
 ghost use Rattle.server.specs.World.{moved};
 ghost use Rattle.server.specs.Closing.{Settles};
@@ -13,9 +13,9 @@ use dispatcher::Listener;
 use plan_prices::Planner;
 use wires::Wire;
 
-/// Closings: of connections that broke, and of those that are done.
+/// The closings of connections that are broken, and of connections that are done.
 impl<P: Planner + Drop> Engine<P> {
-    /// The least key of a broken connection.
+    /// The least key of a broken connection, if a connection is broken.
     fn first_broken(&self) -> Option<usize>
         ensures some { IfSome result (IsFirstBroken self.now.slots) }
         ensures none { IfNone result ((key : ℕ) → broken_at self.now.slots key ≡ false) }
@@ -28,7 +28,8 @@ impl<P: Planner + Drop> Engine<P> {
         None
     }
 
-    /// Closes the connection under a key. Where a device said its name on it, the device is gone.
+    /// Closes the connection under a key. If a device gave its name on the connection, the core gets the report
+    /// that the device is gone.
     fn close<W: Wire + Listener>(&mut self, moment: Moment, key: usize, world: &mut W)
         ensures { RefinesAnyFate (moved W.polled W.told) moment key world.old self.old world.new self.new }
     {
@@ -37,7 +38,7 @@ impl<P: Planner + Drop> Engine<P> {
         }
     }
 
-    /// Closes the broken connections, by rising key.
+    /// Closes the broken connection of the least key, again and again, until no connection is broken.
     pub(crate) fn settle<W: Wire + Listener>(&mut self, moment: Moment, world: &mut W)
         ensures { RefinesQuietly (moved W.polled W.told) (Settles moment) world.old self.old world.new self.new }
     {
@@ -46,7 +47,7 @@ impl<P: Planner + Drop> Engine<P> {
         }
     }
 
-    /// The connection under a key breaks, and is closed.
+    /// Marks the connection under a key as broken, and closes the broken connections.
     pub(crate) fn fail<W: Wire + Listener>(&mut self, moment: Moment, key: usize, world: &mut W)
         ensures { RefinesQuietly (moved W.polled W.told) (Fails moment key) world.old self.old world.new self.new }
     {
@@ -54,7 +55,7 @@ impl<P: Planner + Drop> Engine<P> {
         self.settle(moment, world);
     }
 
-    /// The connection under a key is closed, if it is done.
+    /// Closes the connection under a key if it is done, and then the broken connections.
     pub(crate) fn end_one<W: Wire + Listener>(&mut self, moment: Moment, key: usize, world: &mut W)
         ensures { Refines (moved W.polled W.told) (EndsOne moment key) world.old self.old world.new self.new }
     {

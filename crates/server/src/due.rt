@@ -1,4 +1,4 @@
-//! Bytes that become due on a connection.
+//! The bytes that become due on a connection.
 ghost use Rattle.std.specs.Prelude.{◌≡◌};
 ghost use Rattle.std.specs.Option.{is_some};
 ghost use Rattle.server.specs.Enqueuing.{Enqueues, EnqueuesResponse, EnqueuesStatus};
@@ -11,10 +11,10 @@ use events::Status;
 use plan_prices::Planner;
 use wires::WireId;
 
-/// Bytes become due, or memory for them is refused: then the listener is told, and the connection
+/// Functions that enqueue bytes. If memory for the bytes is refused, the listener is told and the connection
 /// breaks.
 impl<P: Planner + Drop> Engine<P> {
-    /// Bytes become due on the connection under a key.
+    /// Enqueues bytes on the connection under a key.
     pub(crate) fn enqueue<N: Listener>(&mut self, key: usize, bytes: &[u8], notes: &mut N)
         ensures { RefinesTold N.told (Enqueues key bytes.now) notes.old self.old notes.new self.new }
     {
@@ -22,7 +22,7 @@ impl<P: Planner + Drop> Engine<P> {
         tell(broke, notes);
     }
 
-    /// A reply of IPP becomes due on the connection under a key.
+    /// Enqueues an IPP reply on the connection under a key.
     pub(crate) fn enqueue_response<N: Listener>(&mut self, key: usize, bytes: &[u8], notes: &mut N)
         ensures { RefinesTold N.told (EnqueuesResponse key bytes.now) notes.old self.old notes.new self.new }
     {
@@ -30,7 +30,7 @@ impl<P: Planner + Drop> Engine<P> {
         tell(broke, notes);
     }
 
-    /// The reply of a status alone becomes due on the connection under a key.
+    /// Enqueues an IPP reply of a status alone on the connection under a key.
     pub(crate) fn enqueue_status<N: Listener>(
         &mut self,
         key: usize,
@@ -45,7 +45,8 @@ impl<P: Planner + Drop> Engine<P> {
     }
 }
 
-/// Tells of a connection that broke, since memory for what was due was refused. Whether one did.
+/// Tells the listener of the connection that broke, if one did, since memory for due bytes was refused.
+/// Returns whether one broke.
 pub(crate) fn tell<N: Listener>(broke: Option<WireId>, notes: &mut N) -> bool
     ensures told { ToldOf N.told broke notes.old notes.new }
     ensures refused { result ≡ is_some broke }

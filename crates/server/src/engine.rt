@@ -1,4 +1,4 @@
-//! The engine.
+//! The engine of a server.
 ghost use Rattle.std.specs.Prelude.{◌≡◌, [], IfOk, slice_get};
 ghost use Rattle.std.specs.Option.{option_copied};
 ghost use Rattle.settings_file.specs.Settings.{MeetsLimits};
@@ -20,14 +20,14 @@ use std::alloc::{AllocError, Global};
 use std::marker::Model;
 use wires::Wire;
 
-/// The connections of a server, and its core.
+/// The engine of a server: its core and its connections.
 #[derive(Drop)]
 pub struct Engine<P: Planner + Drop> {
     pub(crate) core: Core<P>,
     pub(crate) connections: Slab<Connection>,
     /// The moment of the last tick.
     pub(crate) ticked: Option<Moment>,
-    /// The last dispatch was refused memory.
+    /// Whether the last dispatch was refused memory.
     pub(crate) undispatched: bool,
     pub(crate) alloc: Global,
 }
@@ -41,13 +41,14 @@ impl<P: Planner + Drop> Model for Engine<P> {
 }
 
 impl<P: Planner + Drop> Engine<P> {
-    /// A server that starts, with settings within the limits. The only error is out of memory.
+    /// Creates the engine of a server that starts, with settings within the limits. The only error is out of
+    /// memory.
     pub fn new(alloc: Global, settings: Settings, planner: P) -> Result<Engine<P>, AllocError>
         requires { MeetsLimits settings }
         ensures { IfOk result (StandsAt (opening settings 1) []) }
     {
         let core = Core::new(alloc, settings, planner)?;
-        // As many keys as there were connections at a time: each turn goes over all of them.
+        // There are as many keys as connections were open at one time. Each turn goes over all keys.
         let connections = Slab::new(alloc);
         Ok(Engine {
             core,
@@ -58,11 +59,11 @@ impl<P: Planner + Drop> Engine<P> {
         })
     }
 
-    /// One turn: a tick where one is due, an accept at each door, a read of each connection with what
-    /// it brings, a write of what waits, and the closings.
+    /// Makes one turn: a tick if one is due, an accept at each door, a read of each connection with the asks
+    /// that the read brings, a write of the waiting bytes, and the closings.
     ///
-    /// Whatever the wire answers: at whatever trace the engine stood, it stands at that trace followed
-    /// by this turn.
+    /// If the engine stood at a trace, it stands at the trace followed by this turn, whatever the results of
+    /// the polls are.
     pub fn turn<W: Wire, N: Listener>(&mut self, wire: &mut W, notes: &mut N, moment: Moment)
         ensures { RefinesTurn (both W.polled N.told) moment (wire.old, notes.old) self.old (wire.new, notes.new) self.new }
     {
@@ -70,14 +71,14 @@ impl<P: Planner + Drop> Engine<P> {
         self.turn_once(moment, &mut world);
     }
 
-    /// The job of this id, if it is kept. It takes no memory.
+    /// The job of an id, if it is kept. No memory is taken.
     pub fn job(&self, id: JobId) -> Option<&Job>
         ensures { option_copied result ≡ job_at id self.now.core.spool.jobs }
     {
         self.core.job(id)
     }
 
-    /// What the device at a place of the settings is now. It takes no memory.
+    /// The device at a place of the settings, as it is now. No memory is taken.
     pub fn device(&self, id: DeviceId) -> Option<&DeviceNow>
         ensures { option_copied result ≡ slice_get self.now.core.devices id }
     {

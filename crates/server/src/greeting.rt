@@ -1,4 +1,4 @@
-//! Devices that say their names.
+//! Devices that give their names.
 ghost use Rattle.server.specs.Greeting.{Greets, TakesOver};
 ghost use Rattle.server.specs.Refinement.{RefinesTold, IsOther};
 
@@ -9,9 +9,9 @@ use connections::table::{give_way, has_ended, other_key_of};
 use dispatcher::{DeviceRefusal, Listener};
 use plan_prices::Planner;
 
-/// Devices that say their names, one at a time.
+/// The names that devices give on their connections.
 impl<P: Planner + Drop> Engine<P> {
-    /// A device says its name on the connection under a key.
+    /// Acts on the name that a device gives on the connection of `asker`.
     pub(crate) fn greet<N: Listener>(
         &mut self,
         moment: Moment,
@@ -30,8 +30,8 @@ impl<P: Planner + Drop> Engine<P> {
         }
     }
 
-    /// A device says its name on the connection under a key that has another: the one whose input has ended
-    /// gives way, else the new one does.
+    /// Acts on the name of a device that has another connection, under the key `other`. If the input of the
+    /// other connection has ended, the other connection gives way; else the connection of `asker` gives way.
     fn meet<N: Listener>(
         &mut self,
         moment: Moment,
@@ -52,8 +52,8 @@ impl<P: Planner + Drop> Engine<P> {
         }
     }
 
-    /// A device comes again, whose connection under a key has ended: that one gives way, the device is
-    /// gone, and says its name.
+    /// Takes over from the old connection of a device, whose input has ended: the old connection gives way, and
+    /// the core gets the reports that the device is gone and that the device gives its name.
     fn take_over<N: Listener>(
         &mut self,
         moment: Moment,

@@ -1,4 +1,4 @@
-//! What an event does: the core handles it, and what its devices are told becomes due.
+//! The events: the core handles an event, and bytes become due on the connections of devices.
 ghost use Rattle.std.specs.Prelude.{◌≡◌};
 ghost use Rattle.server.specs.Rel.{EachOf};
 ghost use Rattle.server.specs.Happening.{Decides, Happens, Orders, Sends, SendsAndStarts, is_undispatched, undispatched_after};
@@ -13,17 +13,17 @@ use dispatcher::{Listener, Outcome, Timed};
 use events::{Cancel, Event};
 use plan_prices::Planner;
 
-/// What came of an event.
+/// The result of an event.
 #[derive(Drop)]
 pub(crate) struct Handled {
     pub(crate) outcome: Outcome,
-    /// Whether a growth was refused after the event was taken.
+    /// Whether memory was refused for the dispatch of the event or for the bytes for devices.
     pub(crate) refused: bool,
 }
 
 impl<P: Planner + Drop> Engine<P> {
-    /// An event: the core handles it, the listener is told, and the lines of its cancels and the bytes of
-    /// the jobs that begin become due on the connections of their devices. Its reply is the caller's.
+    /// Handles an event by the core, and tells the listener. Enqueues the lines of the cancels and the bytes of
+    /// the jobs that begin on the connections of their devices. The caller enqueues the reply to the event.
     pub(crate) fn handle<N: Listener>(
         &mut self,
         moment: Moment,
@@ -41,7 +41,7 @@ impl<P: Planner + Drop> Engine<P> {
         }
     }
 
-    /// The core handles an event.
+    /// Handles an event by the core, and tells the listener.
     fn decide<N: Listener>(&mut self, moment: Moment, event: Event, notes: &mut N) -> Outcome
         ensures { Reports N.told (Decides moment event result) notes.old self.old notes.new self.new (is_undispatched result) }
     {
@@ -50,8 +50,8 @@ impl<P: Planner + Drop> Engine<P> {
         outcome
     }
 
-    /// What an event comes to becomes due on the connections of devices: the lines of its cancels, and the
-    /// bytes of the jobs that begin. Whether a growth was refused.
+    /// Enqueues the bytes of an event for devices: the lines of its cancels, and then the bytes of the jobs
+    /// that begin. Returns whether memory was refused.
     fn order<N: Listener>(&mut self, outcome: &Outcome, notes: &mut N) -> bool
         ensures { Reports N.told (Orders outcome.now) notes.old self.old notes.new self.new result }
     {
@@ -64,8 +64,8 @@ impl<P: Planner + Drop> Engine<P> {
         }
     }
 
-    /// The lines of these cancels, and the bytes of the jobs that began, become due. Whether a growth was
-    /// refused.
+    /// Enqueues the lines of these cancels, and then the bytes of the jobs that began with the last plan.
+    /// Returns whether memory was refused.
     fn send_and_start<N: Listener>(&mut self, cancels: &[Cancel], notes: &mut N) -> bool
         ensures { Reports N.told (SendsAndStarts cancels.now) notes.old self.old notes.new self.new result }
     {
@@ -74,7 +74,7 @@ impl<P: Planner + Drop> Engine<P> {
         unsent | unstarted
     }
 
-    /// The lines of these cancels become due. Whether a growth was refused.
+    /// Enqueues the lines of these cancels. Returns whether memory was refused.
     fn send_all<N: Listener>(&mut self, cancels: &[Cancel], notes: &mut N) -> bool
         ensures { Reports N.told (EachOf cancels.now Sends) notes.old self.old notes.new self.new result }
     {
@@ -85,8 +85,8 @@ impl<P: Planner + Drop> Engine<P> {
         refused
     }
 
-    /// The line of a cancel becomes due on the device's connection, if it has one. Whether a growth was
-    /// refused.
+    /// Enqueues the line of a cancel on the device's connection, if the device has one. Returns whether memory
+    /// was refused.
     fn send<N: Listener>(&mut self, cancel: Cancel, notes: &mut N) -> bool
         ensures { Reports N.told (Sends cancel) notes.old self.old notes.new self.new result }
     {
@@ -99,7 +99,7 @@ impl<P: Planner + Drop> Engine<P> {
     }
 }
 
-/// Whether the dispatch was refused memory.
+/// Returns whether the dispatch of an event was refused memory.
 fn is_undispatched(outcome: &Outcome) -> bool
     ensures { result ≡ is_undispatched outcome.now }
 {
@@ -109,7 +109,7 @@ fn is_undispatched(outcome: &Outcome) -> bool
     }
 }
 
-/// Whether the last dispatch was refused memory, after one more event.
+/// Returns whether the last dispatch was refused memory, after an event of this outcome.
 fn undispatched_after(outcome: &Outcome, before: bool) -> bool
     ensures { result ≡ undispatched_after outcome.now before }
 {

@@ -1,4 +1,4 @@
-//! Laws of traces. Their functions do nothing: their contracts are what they are for.
+//! Laws of traces, as the contracts of functions that do nothing.
 ghost use Rattle.std.specs.Prelude.{ℕ, Bool, ◌∷◌, []};
 ghost use Rattle.http_front.specs.Reply.{continue_head};
 ghost use Rattle.http_front.specs.declared.refusal.HttpRejection.{HttpRejection};
@@ -10,32 +10,33 @@ ghost use Rattle.connections.specs.Steps.{http_status};
 ghost use Rattle.server.specs.Law.{IsOneRun, IsAtMostOne, AllTaken, AreKept, AreOwed};
 ghost use Rattle.server.specs.Turn.{Action, DoesAction, Trace, Runs};
 
-/// What happens in a trace is one run of the core: the events of its actions, in order and each at its
-/// action's moment, lead the core from where the trace found it to where it leaves it. What that run tells
-/// is just what the listener is told of the core, in the same order: the cancels of its replies, its plans
-/// with what began, and the dispatches that were refused memory. Where no growth is refused, each event is
-/// answered, and each that is no query is followed by a dispatch.
+/// A trace is one run of the core. The events of the actions, in order and each at the moment of its action,
+/// lead the core from its state before the trace to its state after the trace. The notes of the run are the
+/// notes of the core that the listener is told in the trace, in the same order: the cancels, the plans with
+/// the jobs that began, and the dispatches that were refused memory. If no memory is refused in the trace, no
+/// event is dropped, and a dispatch follows each event that isn't a query.
 pub fn trace_is_one_run()
     ensures { (trace : Trace) (old new : Ledger) → Runs trace old new → IsOneRun trace old.core new.core }
 {}
 
-/// An action between turns is one event, where no growth was refused: a report or a tick, or what a body
-/// asks, answered with the bytes of its reply. A body that is too short, or is refused, is none, and
-/// changes nothing. The listener is told the cancels of the reply and then, unless it is a query, the
-/// dispatch that follows; and nothing else.
+/// An action between turns is one event if no memory was refused: a report, a tick, or the event of a body
+/// with the bytes of its reply. A body that is too short or is refused brings no event and changes nothing.
+/// The listener is told the cancels of the event, then the dispatch unless the event is a query, and nothing
+/// else.
 pub fn action_is_one_event()
     ensures { (action : Action) (old new : Ledger) → DoesAction action old new → IsAtMostOne action old.core new.core }
 {}
 
-/// Of each connection that was closed after its output went out, all that was due on it was taken; of
-/// one that was closed by a fault, a front of that.
+/// The wire took all due bytes of each connection that was drained when it was closed, and a front of the due
+/// bytes of each connection that was closed as by a fault.
 pub fn closed_were_given()
     ensures { (opening : State) (trace : Trace) (ledger : Ledger) → Runs trace (opening_ledger opening) ledger → AllTaken ledger.closed }
 {}
 
-/// Where nothing waits on a connection, what is short needs no memory there: a reply of a status alone,
-/// so that a client can be told that memory is refused; the head that refuses a request, and the one
-/// that tells a client to go on; and one byte, which is all that most of LPD's answers are.
+/// If no bytes wait on a connection, short bytes become due there without memory. These are a reply of a
+/// status alone, by which a client is told that memory is refused; the head that refuses a request; the
+/// interim head that tells a client to go on (RFC 9110, section 15.2.1); and one byte, which is an
+/// acknowledgement or a refusal of LPD (RFC 1179, section 6).
 pub fn last_words_are_kept()
     ensures status { (closes : Bool) (status : Status) (request : ℕ) → AreKept (http_status closes status request) }
     ensures own_status { (closes : Bool) (status : Status) (request : ℕ) → AreOwed (http_status closes status request) }

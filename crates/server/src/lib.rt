@@ -1,8 +1,10 @@
-//! Connections over a wire: what is due on each, and what each brings.
+//! The engine of a server: the core, and the connections over a wire.
 //!
-//! [`Engine::turn`] polls the wire once round: it accepts, reads, acts on what is whole, writes what
-//! waits, and closes. Its contract says of every turn, whatever the wire answers, which bytes are due
-//! on which connection.
+//! [`Engine::turn`] polls each door and each connection: it accepts, reads, acts on the items that are whole,
+//! writes the waiting bytes, and closes. Its contract says which bytes are due on which connection after a
+//! turn, whatever the results of the polls are.
+//!
+//! Calls between turns need no wire: [`Engine::serve_body`], [`Engine::report`] and [`Engine::tick`].
 //!
 //! Tests stand in `server_tests`.
 #![tactic(auto)]

@@ -1,4 +1,4 @@
-//! A listener that keeps what it is told.
+//! A listener that logs its notes.
 ghost use Rattle.std.specs.Prelude.{◌≡◌, ◌++◌, [], Some, None, IfOk, OnOk, OnErr, map};
 ghost use Rattle.std.specs.Option.{option_copied};
 ghost use Rattle.dispatcher.specs.Dispatched.{plan_of, started_of};
@@ -12,28 +12,28 @@ use std::alloc::{AllocError, Global};
 use std::marker::Model;
 use wires::WireId;
 
-/// What a listener hears, in order. A dispatch is several: its plan, if a job was ready, and then each
-/// job that begins.
+/// A logged note. A dispatch is several logged notes: its plan, if a job was ready, and then each job that
+/// begins.
 #[derive(Debug, Drop)]
 pub enum LoggedNote {
-    /// A plan was made. Its classes follow, from the highest priority down, and then by rising id the
-    /// jobs that no device can print.
+    /// A plan was made. The next logged notes are its classes, from the highest priority down, and then its
+    /// stranded jobs, by rising id.
     Planned,
-    /// A class of the plan, with the total of its completion times in ms.
+    /// A class of the plan, with its priority and the total of its completion times in ms.
     Class { priority: Priority, total: u64 },
     Stranded(Stranded),
-    /// A device begins a job.
+    /// A device began a job.
     Began(Started),
-    /// A cancel is sent.
+    /// A device is told to cancel a job.
     Canceled(Cancel),
-    /// The connection of this number, a device's, is refused.
+    /// The connection of this number, which is a device's, was refused.
     DeviceRefused(WireId, DeviceRefusal),
-    /// A growth was refused, for the connection of this number if for one.
+    /// Memory was refused at this site, for the connection of this number if it was for one.
     Refused(AllocationSite, Option<WireId>),
 }
 
-/// A listener that keeps all that it is told, unless memory for it is refused: then it keeps nothing
-/// more. In clauses it is the list of what it heard, or none from then on.
+/// A listener that logs its notes. Once memory for a note is refused, the log is lost and stays lost. In
+/// clauses it is the list of the logged notes, or none if the log is lost.
 #[derive(Drop)]
 pub struct NoteLog {
     alloc: Global,
@@ -75,7 +75,7 @@ impl Listener for NoteLog {
 }
 
 impl NoteLog {
-    /// Nothing was heard yet.
+    /// Creates an empty log. No memory is taken.
     pub fn new(alloc: Global) -> NoteLog
         ensures { result ≡ Some [] }
     {
@@ -85,8 +85,8 @@ impl NoteLog {
         }
     }
 
-    /// What was heard, which is then kept no more. The error is that memory was refused for some of
-    /// it.
+    /// Takes out the logged notes, and leaves an empty log. The error is that the log is lost, and it stays
+    /// lost.
     pub fn take(&mut self) -> Result<Vec<LoggedNote>, AllocError>
         ensures ok { IfOk result (λ heard. (self.old ≡ Some heard.items) × (self.new ≡ Some [])) }
         ensures err { OnErr result ((self.old ≡ None) × (self.new ≡ None)) }
@@ -95,7 +95,7 @@ impl NoteLog {
     }
 }
 
-/// What is heard of a dispatch.
+/// Returns the logged notes of a dispatch. The only error is out of memory.
 fn notes_of(alloc: Global, made: &Dispatched<'_>) -> Result<Vec<LoggedNote>, AllocError>
     ensures { IfOk result (λ notes. notes.items ≡ dispatch_words (plan_of made.now) (started_of made.now)) }
 {
@@ -105,7 +105,7 @@ fn notes_of(alloc: Global, made: &Dispatched<'_>) -> Result<Vec<LoggedNote>, All
     Ok(notes)
 }
 
-/// Appends what is heard of a plan.
+/// Appends the logged notes of a plan, if there is one. The only error is out of memory.
 fn put_plan(heard: &mut Vec<LoggedNote>, plan: Option<&Plan>) -> Result<(), AllocError>
     ensures { OnOk result (heard.new.items ≡ heard.old.items ++ plan_words (option_copied plan.entry)) }
 {

@@ -1,4 +1,4 @@
-//! The polls of one connection, and of a door.
+//! The polls of a door and of a connection.
 ghost use Rattle.server.specs.World.{moved};
 ghost use Rattle.server.specs.Polling.{AcceptsAt, AcceptsOne, Opens, FeedsOne, ReadsOne, WritesOne};
 ghost use Rattle.server.specs.Refinement.{Refines};
@@ -12,12 +12,12 @@ use plan_prices::Planner;
 use send_queues::Offered;
 use wires::{Door, Progress, Wire, WireId};
 
-/// The bytes of a read, at most.
+/// The largest number of bytes of one read.
 pub(crate) const PIECE: usize = 4096;
 
-/// One accept, one read or one write, with all that it brings.
+/// One accept, one read or one write, with all that the poll brings.
 impl<P: Planner + Drop> Engine<P> {
-    /// At most one connection is accepted at a door.
+    /// Accepts at most one connection at a door. Accepts none while [`Limits::CONNECTIONS`] are open.
     pub(crate) fn accept_at<W: Wire + Listener>(&mut self, door: Door, world: &mut W)
         ensures { Refines (moved W.polled W.told) (AcceptsAt door) world.old self.old world.new self.new }
     {
@@ -26,7 +26,7 @@ impl<P: Planner + Drop> Engine<P> {
         }
     }
 
-    /// One accept at a door.
+    /// Polls a door, and opens the connection that comes.
     #[tactic(auto, using(crate::proofs::Joins::comes))]
     fn accept<W: Wire + Listener>(&mut self, door: Door, world: &mut W)
         ensures { Refines (moved W.polled W.told) (AcceptsOne door) world.old self.old world.new self.new }
@@ -36,7 +36,8 @@ impl<P: Planner + Drop> Engine<P> {
         }
     }
 
-    /// A connection has come.
+    /// Inserts a connection that came. If memory for it is refused, the listener is told and the connection is
+    /// closed.
     fn open<W: Wire + Listener>(&mut self, door: Door, id: WireId, world: &mut W)
         ensures { Refines (moved W.polled W.told) (Opens door id) world.old self.old world.new self.new }
     {
@@ -47,8 +48,8 @@ impl<P: Planner + Drop> Engine<P> {
         world.close(id);
     }
 
-    /// One read of the connection under a key, if it is read, and what it brings. A piece that is read stands
-    /// in the room that is lent for it.
+    /// Reads the connection under a key once, if it is to be read, and acts on the items that the read
+    /// completes. The piece that is read is written to the buffer `piece`.
     pub(crate) fn read_one<W: Wire + Listener>(
         &mut self,
         moment: Moment,
@@ -69,7 +70,7 @@ impl<P: Planner + Drop> Engine<P> {
         }
     }
 
-    /// Takes a piece that was read of the connection under a key.
+    /// Feeds a piece that was read to the connection under a key, and acts on what the connection asks.
     fn take<W: Wire + Listener>(&mut self, moment: Moment, key: usize, piece: &[u8], world: &mut W)
         ensures { Refines (moved W.polled W.told) (FeedsOne moment key piece.now) world.old self.old world.new self.new }
     {
@@ -86,7 +87,7 @@ impl<P: Planner + Drop> Engine<P> {
         }
     }
 
-    /// One write of what waits on the connection under a key, if something does.
+    /// Writes once on the connection under a key, if bytes wait there.
     pub(crate) fn write_one<W: Wire + Listener>(
         &mut self,
         moment: Moment,

@@ -13,7 +13,8 @@ use plan_prices::Planner;
 use slab::Slab;
 use wires::WireId;
 
-/// The bytes of what began with the last plan become due, by device. Whether a growth was refused.
+/// Enqueues the bytes of the jobs that began with the last plan, by device. Returns whether memory was
+/// refused.
 pub(crate) fn start_all<P: Planner + Drop, N: Listener>(
     core: &Core<P>,
     connections: &mut Slab<Connection>,
@@ -28,8 +29,8 @@ pub(crate) fn start_all<P: Planner + Drop, N: Listener>(
     refused
 }
 
-/// The bytes of a job that begins become due on the device's connection, if it has one. Whether a growth
-/// was refused.
+/// Enqueues the bytes of a job that begins on the device's connection, if the device has one. Returns whether
+/// memory was refused.
 fn start<P: Planner + Drop, N: Listener>(
     core: &Core<P>,
     connections: &mut Slab<Connection>,
@@ -45,7 +46,8 @@ fn start<P: Planner + Drop, N: Listener>(
     tell(broke, notes)
 }
 
-/// The bytes of the job of an id become due on the connection under a key.
+/// Enqueues the bytes of the job of an id on the connection under a key. Returns the number of the connection
+/// if it broke, since memory was refused.
 fn enqueue_started<P: Planner + Drop>(
     core: &Core<P>,
     connections: &mut Slab<Connection>,

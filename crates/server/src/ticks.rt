@@ -1,4 +1,4 @@
-//! When time goes on.
+//! The ticks of an engine.
 ghost use Rattle.std.specs.Prelude.{◌≡◌, max};
 ghost use Rattle.server.specs.World.{moved};
 ghost use Rattle.server.specs.Turn.{Ticks, TicksIfDue, is_due};
@@ -11,12 +11,13 @@ use events::Event;
 use plan_prices::Planner;
 use wires::Wire;
 
-/// Ms between the ticks of an engine.
+/// The shortest time from a tick to the next that is due, in ms. A tick is due earlier if the last dispatch
+/// was refused memory.
 pub const TICK_TIME: u64 = 1000;
 
-/// Ticks, by which jobs whose documents don't come are aborted and a dispatch is tried again.
+/// The ticks. A tick aborts the jobs whose documents stopped coming, and tries a dispatch.
 impl<P: Planner + Drop> Engine<P> {
-    /// A tick, if one is due.
+    /// Makes a tick if one is due, and closes the connections that broke.
     pub(crate) fn tick_if_due<W: Wire + Listener>(&mut self, moment: Moment, world: &mut W)
         ensures { Refines (moved W.polled W.told) (TicksIfDue moment) world.old self.old world.new self.new }
     {
@@ -26,7 +27,7 @@ impl<P: Planner + Drop> Engine<P> {
         }
     }
 
-    /// Whether a tick is due.
+    /// Returns whether a tick is due.
     fn is_tick_due(&self, moment: Moment) -> bool
         ensures { result ≡ is_due (max moment self.now.core.last) self.now.ticked self.now.undispatched }
     {
@@ -34,7 +35,7 @@ impl<P: Planner + Drop> Engine<P> {
         is_due(now, self.ticked, self.undispatched)
     }
 
-    /// A tick. Whether a growth was refused.
+    /// Makes a tick. Returns whether memory was refused.
     pub(crate) fn tick_now<N: Listener>(&mut self, moment: Moment, notes: &mut N) -> bool
         ensures { Reports N.told (Ticks moment) notes.old self.old notes.new self.new result }
     {
@@ -43,7 +44,8 @@ impl<P: Planner + Drop> Engine<P> {
     }
 }
 
-/// Whether a tick is due: none was yet, the last is old, or the last dispatch was refused.
+/// Returns whether a tick is due: there was no tick yet, the last tick was [`TICK_TIME`] ago or longer, or the
+/// last dispatch was refused memory.
 fn is_due(now: Moment, ticked: Option<Moment>, undispatched: bool) -> bool
     ensures { result ≡ is_due now ticked undispatched }
 {

@@ -16,7 +16,7 @@ use wires::{Door, Wire};
 
 /// The parts of a turn.
 impl<P: Planner + Drop> Engine<P> {
-    /// A turn, step by step.
+    /// Makes one turn.
     pub(crate) fn turn_once<W: Wire + Listener>(&mut self, moment: Moment, world: &mut W)
         ensures { Refines (moved W.polled W.told) (Turn moment) world.old self.old world.new self.new }
     {
@@ -28,7 +28,7 @@ impl<P: Planner + Drop> Engine<P> {
         self.round(moment, world);
     }
 
-    /// The connections that are open now are read and written, and closed where they are done.
+    /// Reads all open connections, then writes on them, and then closes those that are done.
     #[tactic(auto, using(crate::proofs::Joins::rounds))]
     fn round<W: Wire + Listener>(&mut self, moment: Moment, world: &mut W)
         ensures { Refines (moved W.polled W.told) (Round moment) world.old self.old world.new self.new }
@@ -39,14 +39,14 @@ impl<P: Planner + Drop> Engine<P> {
         self.end_all(moment, keys, world);
     }
 
-    /// How many keys there are, at most.
+    /// The number of keys. No connection is open under this key or a greater one.
     fn keys(&self) -> usize
         ensures { (key : ℕ) → result ≤ key → slot_at self.now key ≡ None }
     {
         self.connections.capacity()
     }
 
-    /// Each connection is read, all into the same room.
+    /// Reads each connection once. All reads use one buffer.
     #[tactic(auto, using(crate::proofs::Joins::next_more))]
     fn read_all<W: Wire + Listener>(&mut self, moment: Moment, keys: usize, world: &mut W)
         ensures { Refines (moved W.polled W.told) (Each keys (ReadsOne moment)) world.old self.old world.new self.new }
@@ -57,7 +57,7 @@ impl<P: Planner + Drop> Engine<P> {
         }
     }
 
-    /// What waits is written.
+    /// Writes once on each connection with waiting bytes.
     #[tactic(auto, using(crate::proofs::Joins::next_more))]
     fn write_all<W: Wire + Listener>(&mut self, moment: Moment, keys: usize, world: &mut W)
         ensures { Refines (moved W.polled W.told) (Each keys (WritesOne moment)) world.old self.old world.new self.new }
@@ -67,7 +67,7 @@ impl<P: Planner + Drop> Engine<P> {
         }
     }
 
-    /// The connections that are done are closed.
+    /// Closes each connection that is done.
     #[tactic(auto, using(crate::proofs::Joins::next_more))]
     fn end_all<W: Wire + Listener>(&mut self, moment: Moment, keys: usize, world: &mut W)
         ensures { Refines (moved W.polled W.told) (Each keys (EndsOne moment)) world.old self.old world.new self.new }

@@ -1,10 +1,10 @@
-//! What is outside the engine: a wire and a listener, as one world.
+//! The world outside the engine: a wire and a listener as one.
 use dispatcher::{AllocationSite, DeviceRefusal, Dispatched, Listener};
 use events::Cancel;
 use std::io::IoSlice;
 use wires::{Door, Progress, Wire, WireId};
 
-/// A wire and a listener that are lent. It is both: what it is asked, the one or the other answers.
+/// A wire and a listener that are lent. The world is a wire by its wire, and a listener by its listener.
 #[derive(Drop)]
 pub(crate) struct World<'a, W: Wire, N: Listener> {
     pub wire: &'a mut W,
