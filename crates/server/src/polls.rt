@@ -70,13 +70,7 @@ impl<P: Planner + Drop> Engine<P> {
     }
 
     /// Takes a piece that was read of the connection under a key.
-    fn take<W: Wire + Listener>(
-        &mut self,
-        moment: Moment,
-        key: usize,
-        piece: &[u8],
-        world: &mut W,
-    )
+    fn take<W: Wire + Listener>(&mut self, moment: Moment, key: usize, piece: &[u8], world: &mut W)
         ensures { Refines (moved W.polled W.told) (FeedsOne moment key piece.now) world.old self.old world.new self.new }
     {
         let Some(fed) = feed(&mut self.connections, key, piece) else {
