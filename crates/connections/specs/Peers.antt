@@ -93,6 +93,10 @@ with_lpd reader t = record t { reader = reader }
 abbrev pub IsFedLpd : List ℕ → LpdClientState → LpdClientState → Type 0
 IsFedLpd piece t u = (u ≡ with_lpd u.reader t) × ((stream : List ℕ) (given : List ItemRecord) → Lpd.Stands stream given t.reader → Lpd.Stands (stream ++ piece) given u.reader)
 
+-- what is said comes to this, told which queues there are
+abbrev pub ComesTo : (List ℕ → Bool) → ItemRecord → Step → LpdClientState → LpdClientState → Type 0
+ComesTo queues said what t u = StepsLpd queues t.session said what u.session
+
 -- an item comes to this
 abbrev pub HearsLpd : (List ℕ → Bool) → LpdItem → Step → LpdClientState → LpdClientState → Type 0
 HearsLpd queues said what t u = (u.reader ≡ t.reader) × StepsLpd queues t.session (item_record said t.reader.file) what u.session

@@ -3,10 +3,10 @@ ghost use Rattle.std.specs.Prelude.{◌≡◌, OnOk, OnErr, Some, None, true, fa
 ghost use Rattle.lpd.specs.Items.{item_record, command_record, Says, Aborts, Announces, HasFile, ReceivesJob};
 ghost use Rattle.lpd.specs.Pending.{first_complete};
 ghost use Rattle.lpd.specs.Session.{sent_at};
-ghost use Rattle.connections.specs.Session.{heard, on_command, on_file, on_complete, on_job, is_queue};
+ghost use Rattle.connections.specs.Session.{on_command, on_file, on_complete, on_job, is_queue};
 ghost use Rattle.connections.specs.Commands.{SubmitsJob};
-ghost use Rattle.connections.specs.Steps.{AsksAs, AsksForFile, StepsLpd, byte_due, step_of};
-ghost use Rattle.connections.specs.Peers.{IsNewLpd, IsFedLpd, NextLpd, HearsWholeItem};
+ghost use Rattle.connections.specs.Steps.{AsksAs, AsksForFile, byte_due, step_of};
+ghost use Rattle.connections.specs.Peers.{IsNewLpd, IsFedLpd, ComesTo, NextLpd, HearsWholeItem};
 
 use crate::ask::{Ask, Client, Growth, Part};
 use crate::step::{Due, Step};
@@ -83,7 +83,7 @@ impl LpdClient {
     /// What an item comes to.
     fn hear(&mut self, item: LpdItem, settings: &Settings) -> Step
         ensures reader { self.new.reader ≡ self.old.reader }
-        ensures comes { StepsLpd (is_queue settings.now) self.old.session (item_record item self.old.reader.file) result self.new.session }
+        ensures comes { ComesTo (is_queue settings.now) (item_record item self.old.reader.file) result self.old self.new }
     {
         match item {
             LpdItem::Command(command) => self.hear_command(command, settings),
@@ -95,7 +95,7 @@ impl LpdClient {
 
     /// Acts on a command.
     fn hear_command(&mut self, command: LpdCommand, settings: &Settings) -> Step
-        ensures asks { AsksAs (heard (is_queue settings.now) self.old.session (Says (command_record command))) result self.new.session }
+        ensures asks { ComesTo (is_queue settings.now) (Says (command_record command)) result self.old self.new }
         ensures reader { self.new.reader ≡ self.old.reader }
     {
         if self.session.is_some() {
@@ -147,7 +147,7 @@ impl LpdClient {
 
     /// The client gives up what it has sent.
     fn abort(&mut self) -> Step
-        ensures asks { AsksAs (heard (λ name. false) self.old.session Aborts) result self.new.session }
+        ensures asks { ComesTo (λ name. false) Aborts result self.old self.new }
         ensures reader { self.new.reader ≡ self.old.reader }
     {
         if let Some(session) = &mut self.session {
@@ -158,7 +158,7 @@ impl LpdClient {
 
     /// A file is announced.
     fn announce(&mut self, head: FileHead) -> Step
-        ensures asks { AsksAs (heard (λ name. false) self.old.session (Announces head)) result self.new.session }
+        ensures asks { ComesTo (λ name. false) (Announces head) result self.old self.new }
         ensures reader { self.new.reader ≡ self.old.reader }
     {
         let Some(session) = &mut self.session else {
@@ -175,7 +175,7 @@ impl LpdClient {
 
     /// A file has come.
     fn take_file(&mut self) -> Step
-        ensures asks { AsksForFile (heard (λ name. false) self.old.session (HasFile self.old.reader.file)) self.old.session result self.new.session }
+        ensures asks { ComesTo (λ name. false) (HasFile self.old.reader.file) result self.old self.new }
         ensures reader { self.new.reader ≡ self.old.reader }
     {
         match &mut self.session {
