@@ -112,6 +112,10 @@ with_lpd reader t = record t { reader = reader }
 abbrev pub IsFedLpd : List ℕ → LpdClientState → LpdClientState → Type 0
 IsFedLpd piece t u = (u ≡ with_lpd u.reader t) × ((stream : List ℕ) (given : List ItemRecord) → Lpd.HasRead stream given t.reader → Lpd.HasRead (stream ++ piece) given u.reader)
 
+-- the step and the session after an item that was read
+abbrev pub ComesTo : (List ℕ → Bool) → ItemRecord → Step → LpdClientState → LpdClientState → Type 0
+ComesTo queues said what t u = StepsLpd queues t.session said what u.session
+
 -- the step and the state after an item
 abbrev pub HandlesLpd : (List ℕ → Bool) → LpdItem → Step → LpdClientState → LpdClientState → Type 0
 HandlesLpd queues said what t u = (u.reader ≡ t.reader) × StepsLpd queues t.session (item_record said t.reader.file) what u.session

@@ -1,7 +1,6 @@
 //! A connection with its peer and its waiting bytes.
 ghost use Rattle.std.specs.Prelude.{◌≡◌, ◌<◌, ◌++◌, IfOk, IfSome, IsTrue, OnOk, OnErr, length};
-ghost use Rattle.std.specs.List.{flat_map};
-ghost use Rattle.device_link.specs.Orders.{cancel_line, job_line};
+ghost use Rattle.device_link.specs.Orders.{cancel_line};
 ghost use Rattle.send_queues.specs.Reply.{http_reply};
 ghost use Rattle.send_queues.specs.declared.queue.TheConstants.{RESERVED_BYTES};
 ghost use Rattle.send_queues.specs.SendQueue.{OffersFront};
@@ -9,7 +8,7 @@ ghost use Rattle.connections.specs.Entry.{opening_entry, ending, broken, given_u
 ghost use Rattle.connections.specs.Steps.{due_bytes, http_status};
 ghost use Rattle.connections.specs.Asking.{Asking, Feeds};
 ghost use Rattle.connections.specs.Peers.{device_of, closes_of};
-ghost use Rattle.connections.specs.Connections.{load, is_read, is_done, is_ended, is_broken, gives_way, Takes, Enqueues, EnqueuesAs};
+ghost use Rattle.connections.specs.Connections.{load, is_read, is_done, is_ended, is_broken, gives_way, Takes, Enqueues, OutgrowsReserve, sent_job, EnqueuesAs};
 ghost use Rattle.connections.specs.Representation.{RepresentsConnection, Becomes};
 
 use crate::ask::{Ask, Growth};
@@ -220,7 +219,7 @@ impl Connection {
     /// connection broke.
     pub fn enqueue(&mut self, bytes: &[u8]) -> bool
         ensures enqueues { EnqueuesAs bytes.now result self.old self.new }
-        ensures full { IsTrue result → RESERVED_BYTES < length (self.old.output ++ bytes.now) }
+        ensures full { IsTrue result → OutgrowsReserve bytes.now self.old }
     {
         if self.broken {
             return false;
@@ -234,7 +233,7 @@ impl Connection {
     /// refused, and the connection broke.
     pub fn enqueue_response(&mut self, bytes: &[u8]) -> bool
         ensures enqueues { EnqueuesAs (http_reply (closes_of self.old.peer) bytes.now) result self.old self.new }
-        ensures full { IsTrue result → RESERVED_BYTES < length (self.old.output ++ http_reply (closes_of self.old.peer) bytes.now) }
+        ensures full { IsTrue result → OutgrowsReserve (http_reply (closes_of self.old.peer) bytes.now) self.old }
     {
         if self.broken {
             return false;
@@ -249,7 +248,7 @@ impl Connection {
     #[tactic(auto, unfolding(crate::specs::Steps::http_status))]
     pub fn enqueue_status(&mut self, status: Status, request: u32) -> bool
         ensures enqueues { EnqueuesAs (http_status (closes_of self.old.peer) status request) result self.old self.new }
-        ensures full { IsTrue result → RESERVED_BYTES < length (self.old.output ++ http_status (closes_of self.old.peer) status request) }
+        ensures full { IsTrue result → OutgrowsReserve (http_status (closes_of self.old.peer) status request) self.old }
     {
         self.enqueue_response(&ipp_refusal(status, request))
     }
@@ -258,7 +257,7 @@ impl Connection {
     /// refused, and the connection broke.
     pub fn enqueue_cancel(&mut self, job: JobId) -> bool
         ensures enqueues { EnqueuesAs (cancel_line job) result self.old self.new }
-        ensures full { IsTrue result → RESERVED_BYTES < length (self.old.output ++ cancel_line job) }
+        ensures full { IsTrue result → OutgrowsReserve (cancel_line job) self.old }
     {
         if self.broken {
             return false;
@@ -277,7 +276,7 @@ impl Connection {
         needs: &Needs,
         documents: &[Document],
     ) -> bool
-        ensures { EnqueuesAs (job_line job octets needs.now ++ flat_map (λ d. d.contents) documents.now) result self.old self.new }
+        ensures { EnqueuesAs (sent_job job octets needs.now documents.now) result self.old self.new }
     {
         if self.broken {
             return false;

@@ -3,10 +3,10 @@ ghost use Rattle.std.specs.Prelude.{◌≡◌, OnOk, OnErr, Some, None, true, fa
 ghost use Rattle.lpd.specs.Items.{item_record, command_record, HasCommand, Aborts, Announces, HasFile, ReceivesJob};
 ghost use Rattle.lpd.specs.Pending.{first_complete};
 ghost use Rattle.lpd.specs.Session.{sent_at};
-ghost use Rattle.connections.specs.Session.{heard, on_command, on_file, on_complete, on_job, is_queue};
+ghost use Rattle.connections.specs.Session.{on_command, on_file, on_complete, on_job, is_queue};
 ghost use Rattle.connections.specs.Commands.{SubmitsJob};
-ghost use Rattle.connections.specs.Steps.{AsksAs, AsksForFile, StepsLpd, byte_due, step_of};
-ghost use Rattle.connections.specs.Peers.{IsNewLpd, IsFedLpd, NextLpd, HandlesLpdIfAny};
+ghost use Rattle.connections.specs.Steps.{AsksAs, AsksForFile, byte_due, step_of};
+ghost use Rattle.connections.specs.Peers.{IsNewLpd, IsFedLpd, ComesTo, NextLpd, HandlesLpdIfAny};
 
 use crate::ask::{Ask, Client, Growth, Part};
 use crate::step::{Due, Step};
@@ -79,7 +79,7 @@ impl LpdClient {
     /// Returns the step for an item.
     fn hear(&mut self, item: LpdItem, settings: &Settings) -> Step
         ensures reader { self.new.reader ≡ self.old.reader }
-        ensures comes { StepsLpd (is_queue settings.now) self.old.session (item_record item self.old.reader.file) result self.new.session }
+        ensures comes { ComesTo (is_queue settings.now) (item_record item self.old.reader.file) result self.old self.new }
     {
         match item {
             LpdItem::Command(command) => self.hear_command(command, settings),
@@ -91,7 +91,7 @@ impl LpdClient {
 
     /// Acts on a command. In a session, a command is ignored.
     fn hear_command(&mut self, command: LpdCommand, settings: &Settings) -> Step
-        ensures asks { AsksAs (heard (is_queue settings.now) self.old.session (HasCommand (command_record command))) result self.new.session }
+        ensures asks { ComesTo (is_queue settings.now) (HasCommand (command_record command)) result self.old self.new }
         ensures reader { self.new.reader ≡ self.old.reader }
     {
         if self.session.is_some() {
@@ -143,7 +143,7 @@ impl LpdClient {
 
     /// Aborts the session's jobs, as the client asks.
     fn abort(&mut self) -> Step
-        ensures asks { AsksAs (heard (λ name. false) self.old.session Aborts) result self.new.session }
+        ensures asks { ComesTo (λ name. false) Aborts result self.old self.new }
         ensures reader { self.new.reader ≡ self.old.reader }
     {
         if let Some(session) = &mut self.session {
@@ -154,7 +154,7 @@ impl LpdClient {
 
     /// Acts on the announcement of a file. A file that exceeds a limit is refused.
     fn announce(&mut self, head: FileHead) -> Step
-        ensures asks { AsksAs (heard (λ name. false) self.old.session (Announces head)) result self.new.session }
+        ensures asks { ComesTo (λ name. false) (Announces head) result self.old self.new }
         ensures reader { self.new.reader ≡ self.old.reader }
     {
         let Some(session) = &mut self.session else {
@@ -171,7 +171,7 @@ impl LpdClient {
 
     /// Acts on a file that was received.
     fn take_file(&mut self) -> Step
-        ensures asks { AsksForFile (heard (λ name. false) self.old.session (HasFile self.old.reader.file)) self.old.session result self.new.session }
+        ensures asks { ComesTo (λ name. false) (HasFile self.old.reader.file) result self.old self.new }
         ensures reader { self.new.reader ≡ self.old.reader }
     {
         match &mut self.session {

@@ -1,13 +1,10 @@
 //! The connections of a server under their keys. Each function acts on the connection under one key.
-ghost use Rattle.std.specs.Prelude.{◌≡◌, ◌≢◌, ◌++◌, ℕ, true, false, Some, IsTrue, IsFalse, IfSome, IfNone};
-ghost use Rattle.std.specs.List.{flat_map};
+ghost use Rattle.std.specs.Prelude.{◌≡◌, ◌≢◌, ℕ, true, false, Some, IsTrue, IsFalse, IfSome, IfNone};
 ghost use Rattle.std.specs.Option.{option_map_or};
 ghost use Rattle.slab.specs.Slab.{get};
-ghost use Rattle.device_link.specs.Orders.{cancel_line, job_line};
-ghost use Rattle.send_queues.specs.Reply.{http_reply};
-ghost use Rattle.connections.specs.Steps.{http_status};
+ghost use Rattle.device_link.specs.Orders.{cancel_line};
 ghost use Rattle.connections.specs.Connections.{ConnectionState, is_broken, is_ended, gives_way, is_read, is_done};
-ghost use Rattle.connections.specs.Slots.{EnqueuesAt, IsGrowth, AsksAt, FeedsAt, changed_at, closes_at, device_at, is_of, broken_at, ended_at, IsIn, LeavesAs, OffersAt};
+ghost use Rattle.connections.specs.Slots.{EnqueuesAt, EnqueuesReply, EnqueuesStatus, EnqueuesJob, IsGrowth, reply_at, status_at, IsReadAt, AsksAt, FeedsAt, changed_at, device_at, is_of, broken_at, ended_at, IsIn, LeavesAs, OffersAt};
 
 use crate::ask::Ask;
 use crate::connection::{Connection, Fed};
@@ -64,8 +61,8 @@ pub fn enqueue_response(
     key: usize,
     bytes: &[u8],
 ) -> Option<WireId>
-    ensures enqueues { EnqueuesAt key (http_reply (closes_at key connections.old.slots) bytes.now) result connections.old.slots connections.new.slots }
-    ensures full { IsGrowth key (http_reply (closes_at key connections.old.slots) bytes.now) result connections.old.slots }
+    ensures enqueues { EnqueuesReply key bytes.now result connections.old.slots connections.new.slots }
+    ensures full { IsGrowth key (reply_at key bytes.now connections.old.slots) result connections.old.slots }
 {
     let connection = connections.get_mut(key)?;
     if connection.enqueue_response(bytes) {
@@ -82,8 +79,8 @@ pub fn enqueue_status(
     status: Status,
     request: u32,
 ) -> Option<WireId>
-    ensures enqueues { EnqueuesAt key (http_status (closes_at key connections.old.slots) status request) result connections.old.slots connections.new.slots }
-    ensures full { IsGrowth key (http_status (closes_at key connections.old.slots) status request) result connections.old.slots }
+    ensures enqueues { EnqueuesStatus key status request result connections.old.slots connections.new.slots }
+    ensures full { IsGrowth key (status_at key status request connections.old.slots) result connections.old.slots }
 {
     let connection = connections.get_mut(key)?;
     if connection.enqueue_status(status, request) {
@@ -114,7 +111,7 @@ pub fn enqueue_job(
     job: &Job,
     documents: &[Document],
 ) -> Option<WireId>
-    ensures { EnqueuesAt key (job_line id job.now.octets job.now.needs ++ flat_map (λ d. d.contents) documents.now) result connections.old.slots connections.new.slots }
+    ensures { EnqueuesJob key id job.now documents.now result connections.old.slots connections.new.slots }
 {
     let connection = connections.get_mut(key)?;
     if connection.enqueue_job(id, job.octets, &job.needs, documents) {
@@ -180,7 +177,7 @@ pub fn has_ended(connections: &Slab<Connection>, key: usize) -> bool
 
 /// The number of the connection under a key, if it is to be read.
 pub fn to_read(connections: &Slab<Connection>, key: usize) -> Option<WireId>
-    ensures some { IfSome result (λ id. (c : ConnectionState) × (get connections.now key ≡ Some c) × (is_read c ≡ true) × (c.id ≡ id)) }
+    ensures some { IfSome result (IsReadAt key connections.now.slots) }
     ensures none { IfNone result ((c : ConnectionState) → get connections.now key ≡ Some c → is_read c ≡ false) }
 {
     let connection = connections.get(key)?;
