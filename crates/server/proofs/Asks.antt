@@ -4,7 +4,6 @@ use Rattle.std.specs.Prelude.{slice_index_or}
 use Rattle.print_room.specs.State.{State}
 use Rattle.wires.specs.Poll.{Poll}
 use Rattle.dispatcher.specs.Notes.{Note}
-use Rattle.connections.specs.declared.ask.Ask.{Ask}
 use Rattle.connections.specs.declared.table.ConnectionAsk.{ConnectionAsk}
 use Rattle.connections.specs.Entry.{Entry}
 use Rattle.connections.specs.Asking.{AsksNext, Asking}
@@ -85,7 +84,3 @@ acts polled told u v w a b c d moment key asked asks refines settled =
           (r.0, seen_as (Then (Asks key asked.id asked.ask) (ActsOn moment key asked.id asked.ask)) (ActsNext moment key) l refines.happenings r.0 (λ hs it. (asked.id, asked.ask, it)) (seen_then (Asks key asked.id asked.ask) (ActsOn moment key asked.id asked.ask) l [] s.0 refines.happenings r.0 s.1 r.1), r.2);
     } in
     refines_then (moved polled told) (ActsNext moment key) (Settles moment) u v w a c d (refines_moved polled told (ActsNext moment key) u v a c acted) (aloud (moved polled told) (Settles moment) v w c d settled)
-
--- the relation of an ask, for an equal ask
-pub refines_as : {S : Type 0} (moves : S → Happening → S → Type 0) (moment key id : ℕ) (asked what : Ask) (u v : S) (a b : EngineState) → asked ≡ what → RefinesQuietly moves (ActsOn moment key id what) u a v b → RefinesQuietly moves (ActsOn moment key id asked) u a v b
-refines_as moves moment key id asked what u v a b is refines = subst (λ (it : Ask). RefinesQuietly moves (ActsOn moment key id it) u a v b) (sym is) refines

@@ -1,14 +1,19 @@
 -- The relations of calls that follow one another. Their worlds and engines are implicit.
-use Rattle.std.proofs.Common.{◌≡◌, ◌≤◌, ◌+◌, add-one, ℕ, max, Bool, true, List, [], ◌∷◌, refl, sym, ◌∙◌, ap, subst, inl, inr, Option, None}
+use Rattle.std.proofs.Common.{◌≡◌, ◌≤◌, ◌+◌, add-one, ℕ, max, Bool, true, List, [], ◌∷◌, refl, sym, ◌∙◌, ap, subst, inl, inr, Option, Some, None}
 use Rattle.std.specs.Prelude.{◌||◌}
 use Rattle.wires.specs.Poll.{Poll, Accepts}
 use Rattle.wires.specs.declared.wire.Door.{Door}
 use Rattle.wires.specs.declared.wire.Progress.TheVariants.{Done}
-use Rattle.dispatcher.specs.Notes.{Note, Refused}
+use Rattle.dispatcher.specs.Notes.{Note, Refused, DeviceRefused}
 use Rattle.dispatcher.specs.Run.{reply_of}
+use Rattle.dispatcher.specs.declared.listener.AllocationSite.{AllocationSite}
 use Rattle.dispatcher.specs.declared.listener.AllocationSite.TheVariants as At
+use Rattle.dispatcher.specs.declared.listener.DeviceRefusal.TheVariants as why
 use Rattle.dispatcher.specs.declared.outcome.Outcome.{Outcome}
 use Rattle.events.specs.declared.effects.Effects.{Effects}
+use Rattle.events.specs.declared.effects.Response.{Response}
+use Rattle.events.specs.declared.effects.Response.TheVariants as responds
+use Rattle.events.specs.declared.effects.IppResponse.{IppResponse}
 use Rattle.events.specs.declared.event.Event.{Event}
 use Rattle.events.specs.declared.event.Event.TheVariants as Is
 use Rattle.events.specs.Event.{is_query}
@@ -16,18 +21,22 @@ use Rattle.base_types.specs.declared.report.Report.{Report}
 use Rattle.ipp_operations.specs.declared.parsed_request.ParsedRequest.{ParsedRequest}
 use Rattle.ipp_operations.specs.declared.parsed_request.ParsedRequest.TheVariants as asks
 use Rattle.ipp_operations.specs.ParsedRequest.{Asks}
+use Rattle.connections.specs.declared.ask.Ask.{Ask}
+use Rattle.connections.specs.declared.ask.Ask.TheVariants as ask
+use Rattle.connections.specs.declared.ask.Growth.{Growth}
 use Rattle.connections.specs.declared.ask.Client.{Client}
 use Rattle.server.specs.Polls.{Happening, Told, alone}
 use Rattle.server.specs.World.{moved}
 use Rattle.server.specs.Rel.{Rel, Tells, Then, Each}
 use Rattle.server.specs.Happening.{Happens, ReportComes}
-use Rattle.server.specs.Answering.{Drops, Replies, Answers, IsAnswered}
+use Rattle.server.specs.Acting.{place_of, ActsOn}
+use Rattle.server.specs.Answering.{Drops, Replies, IsShown, Answers, IsAnswered}
 use Rattle.server.specs.Closing.{Settles}
 use Rattle.server.specs.Polling.{Opens, AcceptsOne, ReadsOne, WritesOne, EndsOne}
 use Rattle.server.specs.Turn.{Outcome as Answer, OutOfMemory, BadRequest, is_due, Ticks, TicksIfDue, Round, BodyAsks, BodyBrings, BodyComes}
 use Rattle.server.specs.State.{EngineState, slot_at}
 use Rattle.server.specs.Refinement.{Refines, RefinesQuietly, RefinesReporting, RefinesAnswering}
-use Rattle.server.proofs.Steps.{refines_then, refines_moved, aside_then, aside_as, aloud, openly_as, openly_flag, openly_then}
+use Rattle.server.proofs.Steps.{refines_then, refines_moved, aside_then, aside_as, aside_nothing, aloud, openly_as, openly_flag, openly_then}
 use Rattle.server.proofs.Happening.{tells}
 use Rattle.server.proofs.Turning.{ticks_due, covers, one_round}
 use Rattle.server.proofs.Accepting.{accepts_open}
@@ -76,6 +85,20 @@ module _ {S : Type 0} {moves : S → Happening → S → Type 0} where
   pub replies_none : (key id request : ℕ) (query : Bool) {reply : Option Effects} {u v : S} {a b : EngineState} → reply ≡ None → RefinesQuietly moves (Drops key id request) u a v b → RefinesQuietly moves (Replies key id request query reply) u a v b
   replies_none key id request query {reply} {u} {v} {a} {b} none p = as_none moves (Replies key id request query) reply u v a b none p
 
+  -- the relation of an ask, for an equal ask
+  pub acts_as : (moment key id : ℕ) {asked what : Ask} {u v : S} {a b : EngineState} → asked ≡ what → RefinesQuietly moves (ActsOn moment key id what) u a v b → RefinesQuietly moves (ActsOn moment key id asked) u a v b
+  acts_as moment key id {asked} {what} {u} {v} {a} {b} is p = subst (λ (it : Ask). RefinesQuietly moves (ActsOn moment key id it) u a v b) (sym is) p
+
+  pub acts_nothing : (moment key id : ℕ) {asked : Ask} {u : S} {a : EngineState} → asked ≡ ask.Nothing → RefinesQuietly moves (ActsOn moment key id asked) u a u a
+  acts_nothing moment key id {asked} {u} {a} is = acts_as moment key id {what = ask.Nothing} is (aside_nothing moves u a)
+
+  -- a response that is none of LPD has no bytes for an LPD client
+  pub shows_no_ipp : (key id : ℕ) {answer : Response} {other : IppResponse} {u : S} {a : EngineState} → answer ≡ responds.Ipp other → RefinesQuietly moves (IsShown key id answer) u a u a
+  shows_no_ipp key id {u = u} {a = a} is = subst (λ (it : Response). RefinesQuietly moves (IsShown key id it) u a u a) (sym is) (aside_nothing moves u a)
+
+  pub shows_nothing : (key id : ℕ) {answer : Response} {u : S} {a : EngineState} → answer ≡ responds.Nothing → RefinesQuietly moves (IsShown key id answer) u a u a
+  shows_nothing key id {u = u} {a = a} is = subst (λ (it : Response). RefinesQuietly moves (IsShown key id it) u a u a) (sym is) (aside_nothing moves u a)
+
   -- ---- bodies
 
   pub asks_event : {moment request : ℕ} {event : Event} {asked : ParsedRequest} {answer : Answer} {u v : S} {a b : EngineState} → asked ≡ asks.Event request event → RefinesAnswering moves (BodyBrings moment request event) u a v b answer → RefinesAnswering moves (BodyAsks moment asked) u a v b answer
@@ -101,6 +124,17 @@ module _ {N : Type 0} {told : N → Note → N → Type 0} where
   -- a note, and then R
   pub tells_then : {R : Rel} {u v w : N} {a b : EngineState} {note : Note} → told u note v → RefinesQuietly (alone told) R v a w b → RefinesQuietly (alone told) (Then (Tells note) R) u a w b
   tells_then {R} {u} {v} {w} {a} {b} {note} p q = aside_then (alone told) (Tells note) R u v w a a b (tells told u v a note p) q
+
+  -- an ask of which the listener alone is told
+  pub acts_broke : (moment key id : ℕ) {asked : Ask} {growth : Growth} {place : AllocationSite} {u v : N} {a : EngineState} → asked ≡ ask.Broke growth → place ≡ place_of growth → told u (Refused place (Some id)) v → RefinesQuietly (alone told) (ActsOn moment key id asked) u a v a
+  acts_broke moment key id {asked} {growth} {place} {u} {v} {a} is same p =
+      acts_as moment key id {what = ask.Broke growth} is (tells told u v a (Refused (place_of growth) (Some id)) (subst (λ (x : AllocationSite). told u (Refused x (Some id)) v) same p))
+
+  pub acts_stranger : (moment key id : ℕ) {asked : Ask} {name : List ℕ} {u v : N} {a : EngineState} → asked ≡ ask.Stranger name → told u (DeviceRefused id (why.UnknownName name)) v → RefinesQuietly (alone told) (ActsOn moment key id asked) u a v a
+  acts_stranger moment key id {asked} {name} {u} {v} {a} is p = acts_as moment key id {what = ask.Stranger name} is (tells told u v a (DeviceRefused id (why.UnknownName name)) p)
+
+  pub acts_fault : (moment key id : ℕ) {asked : Ask} {device : Option ℕ} {u v : N} {a : EngineState} → asked ≡ ask.Fault device → told u (DeviceRefused id (why.Fault device)) v → RefinesQuietly (alone told) (ActsOn moment key id asked) u a v a
+  acts_fault moment key id {asked} {device} {u} {v} {a} is p = acts_as moment key id {what = ask.Fault device} is (tells told u v a (DeviceRefused id (why.Fault device)) p)
 
   -- memory to parse a body was refused
   pub body_unread : (body : List ℕ) {moment : ℕ} {u v : N} {a : EngineState} → told u (Refused At.Event None) v → RefinesAnswering (alone told) (BodyComes moment body) u a v a OutOfMemory

@@ -42,6 +42,7 @@ impl<P: Planner + Drop> Engine<P> {
     }
 
     /// Handles an ask of a connection.
+    #[tactic(auto, using(crate::proofs::Joins::acts_as, crate::proofs::Joins::acts_nothing, crate::proofs::Joins::acts_stranger, crate::proofs::Joins::acts_fault))]
     fn act<N: Listener>(&mut self, moment: Moment, asker: Asker, ask: Ask, notes: &mut N)
         ensures { RefinesTold N.told (ActsOn moment asker.key asker.id ask) notes.old self.old notes.new self.new }
     {

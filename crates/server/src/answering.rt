@@ -155,6 +155,7 @@ impl<P: Planner + Drop> Engine<P> {
     }
 
     /// Enqueues the bytes of a response to an LPD client. Any other response has none.
+    #[tactic(auto, using(crate::proofs::Joins::shows_no_ipp, crate::proofs::Joins::shows_nothing))]
     fn tell_answer<N: Listener>(&mut self, asker: Asker, answer: &Response, notes: &mut N)
         ensures { RefinesTold N.told (IsShown asker.key asker.id answer.now) notes.old self.old notes.new self.new }
     {
