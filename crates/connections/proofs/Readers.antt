@@ -33,7 +33,7 @@ use Rattle.connections.specs.Session.{is_queue}
 use Rattle.connections.specs.Entry.{PeerRecord, Entry, with_progress}
 use Rattle.connections.specs.Entry as entry
 use Rattle.connections.specs.Steps.{StepsDevice, StepsHello, silent, step_of}
-use Rattle.connections.specs.Peers.{with_http, with_lpd, with_link, HandlesIpp, HandlesLpdIfAny, HandlesReportIfAny, IsNewIpp, IsFedIpp, NextIpp, NextLpd, NextDevice, NextPeer, IsFedPeer, link_step, Greets, ComesOf}
+use Rattle.connections.specs.Peers.{with_http, with_lpd, with_link, HandlesIpp, HandlesLpdIfAny, HandlesReportIfAny, IsNewIpp, IsFedIpp, TakesIfItem, NextIpp, NextLpd, NextDevice, NextPeer, IsFedPeer, link_step, Greets, ComesOf}
 use Rattle.connections.specs.Asking.{IppItemComes as NextItem, LpdItemComes, FindsFault, ReportComes, FindsLinkFault, ItemComes, IsHeardAs}
 use Rattle.connections.specs.Representation.{FitsIpp, FitsLpd, FitsDevice, FitsPeer}
 
@@ -84,6 +84,11 @@ pub record HasCome (settings : ServerSettings) (e : Entry) (what : Step) (p : Pe
   pub whole : Goes what → FitsPeer e.read progress false p
 
 -- ---- an IPP client
+
+-- where no bytes of a body are to be told of, the next item is the next step
+pub next_is_item : (what : Option Step) (t u : IppClientState) → t.untold ≡ false → TakesIfItem what t u → NextIpp what t u
+next_is_item None t u told takes = (told, takes)
+next_is_item (Some what) t u told takes = inr (told, takes)
 
 fits_ipp : (read : List ℕ) (said : List HttpElement) (closes : Bool) (body : List ℕ) (reader : HttpState) (u : IppClientState) → Http.HasRead read said reader → u.reader ≡ reader → u.closes ≡ closes → Body.HasRead body u.body → FitsIpp read (entry.Http said closes body) u
 fits_ipp read said closes body reader u stands same is heard = record {
@@ -307,7 +312,7 @@ heard settings e (of.Device t) (of.Lpd u) what f next = absurd next
 
 -- the bytes that are left have no whole item
 pub rested : (settings : ServerSettings) (read : List ℕ) (progress : PeerRecord) (x y : Peer) → FitsPeer read progress false x → NextPeer settings None x y → IsHeardAs read progress × FitsPeer read progress false y
-rested settings read progress (of.Ipp t) (of.Ipp u) f (off, answers, is) =
+rested settings read progress (of.Ipp t) (of.Ipp u) f (off, (answers, is)) =
     let all : Exchanges read f.said = answers.1 read f.said (stands_told read progress t f off) in
     let stands : Http.HasRead read f.said u.reader = subst (λ (xs : List HttpElement). Http.HasRead read xs u.reader) (append-nil f.said) (answers.0 read f.said (stands_told read progress t f off)) in
     let heard : Body.HasRead f.body u.body = subst (λ (v : IppClientState). Body.HasRead f.body v.body) (sym is) (heard_told read progress t f off) in

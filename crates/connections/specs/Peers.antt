@@ -96,10 +96,15 @@ TakesItem what t u =
     (said : HttpItem) × (reader : HttpState)
     × Http.Answers t.reader (Some said) reader × (Http.work reader < Http.work t.reader) × HandlesIpp said what (with_http reader t) u
 
--- the next item, if one is whole, was taken off the stream and acted on; before it a step tells of the bytes that the body was fed
+-- the next item, if one is whole, was taken off the stream and acted on
+abbrev pub TakesIfItem : Option Step → IppClientState → IppClientState → Type 0
+TakesIfItem None t u = Http.Answers t.reader None u.reader × (u ≡ with_http u.reader t)
+TakesIfItem (Some what) t u = TakesItem what t u
+
+-- the same, where no bytes that the body was fed are to be told of; else a step tells of those
 abbrev pub NextIpp : Option Step → IppClientState → IppClientState → Type 0
-NextIpp None t u = (t.untold ≡ false) × Http.Answers t.reader None u.reader × (u ≡ with_http u.reader t)
-NextIpp (Some what) t u = TellsBody what t u ⊎ ((t.untold ≡ false) × TakesItem what t u)
+NextIpp None t u = (t.untold ≡ false) × TakesIfItem None t u
+NextIpp (Some what) t u = TellsBody what t u ⊎ ((t.untold ≡ false) × TakesIfItem (Some what) t u)
 
 -- ---- an LPD client
 

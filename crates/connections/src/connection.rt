@@ -168,7 +168,7 @@ impl Connection {
 
     /// Acts on the next whole item that was read and returns what the connection asks. Returns `None` if no
     /// item is whole, or the connection is draining or broken.
-    #[tactic(auto, using(crate::proofs::Entries::asks, crate::proofs::Entries::rests, crate::proofs::Entries::counts_no_more, crate::proofs::Loads::falls))]
+    #[tactic(auto, using(crate::proofs::Entries::asks, crate::proofs::Entries::rests, crate::proofs::Entries::counts_no_more))]
     pub fn next(&mut self, settings: &Settings) -> Option<Ask>
         ensures asks { Becomes (Asking settings.now result) self.old self.new }
         ensures falls { IfSome result (λ ask. load self.new < load self.old) }

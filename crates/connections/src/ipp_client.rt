@@ -4,7 +4,7 @@ ghost use Rattle.http_front.specs.Stream.{AwaitsBody};
 ghost use Rattle.ipp_operations.specs.ParsedRequest.{Asks};
 ghost use Rattle.ipp_operations.specs.Reader.{HasRead};
 ghost use Rattle.connections.specs.Steps.{EndsBody, asked_step};
-ghost use Rattle.connections.specs.Peers.{IsNewIpp, IsFedIpp, FeedsReader, FeedsBody, NextIpp, TellsBody, HandlesIpp, BeginsIpp, TakesPart, EndsIpp, LosesBody};
+ghost use Rattle.connections.specs.Peers.{IsNewIpp, IsFedIpp, FeedsReader, FeedsBody, NextIpp, TakesIfItem, TellsBody, HandlesIpp, BeginsIpp, TakesPart, EndsIpp, LosesBody};
 
 use crate::ask::{Ask, Client, Growth};
 use crate::step::{Due, Step};
@@ -104,12 +104,20 @@ impl IppClient {
 
     /// Returns the step for the next item of the stream, if one is whole. Before it comes the step for the bytes
     /// that the body was fed.
+    #[tactic(auto, using(crate::proofs::Readers::next_is_item))]
     pub fn next(&mut self) -> Option<Step>
         ensures { NextIpp result self.old self.new }
     {
         if self.untold {
             return Some(self.tell_body());
         }
+        self.next_item()
+    }
+
+    /// Returns the step for the next item of the stream, if one is whole.
+    fn next_item(&mut self) -> Option<Step>
+        ensures { TakesIfItem result self.old self.new }
+    {
         match self.reader.next_item() {
             Some(item) => Some(self.hear(item)),
             None => None,
