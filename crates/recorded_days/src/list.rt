@@ -12,12 +12,7 @@ use std::alloc::{AllocError, Global};
 /// The printer of some settings with the name of a day's printer.
 fn printer_in(day: &RecordedDay, printer: PrinterId, settings: &Settings) -> Option<PrinterId> {
     let name = day.printers.get(printer.place())?;
-    for (place, known) in settings.printers.iter().enumerate() {
-        if known.name.as_bytes() == name.as_bytes() {
-            return Some(PrinterId::new(place));
-        }
-    }
-    None
+    settings.printer_named(name.as_bytes())
 }
 
 /// The fault that the settings lack the printer of a job.
