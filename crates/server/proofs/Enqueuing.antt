@@ -19,9 +19,9 @@ use Rattle.server.specs.Rel.{Nothing}
 use Rattle.server.specs.Enqueuing.{Sets, EnqueuesOpen, EnqueuesAt, EnqueuesWhere, Enqueues, EnqueuesReplyAt}
 use Rattle.server.specs.State.{EngineState, slot_at, with_slots}
 use Rattle.server.specs.Refinement.{RepresentsOpen, RefinesQuietly, RefinesReporting, ToldOf}
-use Rattle.server.proofs.Steps.{aside_same, aside_as, openly_flag, if_true, if_false, chosen_first}
+use Rattle.server.proofs.Steps.{quietly_same, quietly_as, reporting_flag, if_true, if_false, chosen_first}
 use Rattle.server.proofs.Slots.{set_same}
-use Rattle.server.proofs.Places.{absent, found, refines_at, aside_at}
+use Rattle.server.proofs.Places.{absent, found, refines_at, quietly_at}
 
 -- new due bytes are behind the waiting bytes
 pub fits_kept : (e : Entry) (c : ConnectionState) (bytes : List ℕ) → RepresentsConnection e c → RepresentsConnection (owing bytes e) (is_kept bytes c)
@@ -109,15 +109,15 @@ open_dropped false key bytes e l hs is told = cc
 -- bytes become due on a connection, or the connection is broken and unchanged
 unfoldable pub kept_where : {N : Type 0} (told : N → Note → N → Type 0) (n n' : N) (a : EngineState) (slots : List (Option ConnectionState)) (key : ℕ) (bytes : List ℕ) (grows : Entry → Bool) (c d : ConnectionState)
     → slice_index_or a.slots key None ≡ Some c → slots ≡ slice_set a.slots key (Some d) → EnqueuesAs bytes false c d → n' ≡ n → RefinesQuietly (alone told) (EnqueuesWhere grows key bytes) n a n' (with_slots slots a)
-unfolding aside_same aside_at refines_at
+unfolding quietly_same quietly_at refines_at
 kept_where told n n' a slots key bytes grows c d was is (inl (off, still)) same =
     let as_before : slots ≡ a.slots = is ∙ (ap (λ (k : ConnectionState). slice_set a.slots key (Some k)) still ∙ set_same a.slots key c was) in
-    aside_same (alone told) (EnqueuesWhere grows key bytes) [] n n' a (with_slots slots a) same (ap (λ (xs : List (Option ConnectionState)). with_slots xs a) as_before)
+    quietly_same (alone told) (EnqueuesWhere grows key bytes) [] n n' a (with_slots slots a) same (ap (λ (xs : List (Option ConnectionState)). with_slots xs a) as_before)
     (λ l fits.
     let f = found l a key c fits was in
     ([], refl, enqueues_from grows key bytes l [] l (Some f.entry) f.there (if_true f.entry.broken Nothing (EnqueuesOpen (grows f.entry) key bytes f.entry) l [] l (sym f.fits.broken ∙ off) (refl, refl))))
 kept_where told n n' a slots key bytes grows c d was is (inr (whole, now)) same =
-    aside_at (alone told) (EnqueuesWhere grows key bytes) [] n n' a slots key c d same was is (load_as c d (is_kept bytes c) now (omega arith))
+    quietly_at (alone told) (EnqueuesWhere grows key bytes) [] n n' a slots key c d same was is (load_as c d (is_kept bytes c) now (omega arith))
     (λ l e fits there f.
     let e' : Entry = owing bytes e in (
       e',
@@ -134,11 +134,11 @@ kept_where told n n' a slots key bytes grows c d was is (inr (whole, now)) same 
 unfoldable pub enqueues_where : {N : Type 0} (told : N → Note → N → Type 0) (n n' : N) (a : EngineState) (slots : List (Option ConnectionState)) (key : ℕ) (bytes : List ℕ) (grows : Entry → Bool) (broke : Option ℕ)
     → EnqueuesSlot key bytes broke a.slots slots → IsGrowthWhere grows a.slots key broke → ToldOf told broke n n' → RefinesQuietly (alone told) (EnqueuesWhere grows key bytes) n a n' (with_slots slots a)
 enqueues_where told n n' a slots key bytes grows None (inl none) growth same =
-    aside_same (alone told) (EnqueuesWhere grows key bytes) [] n n' a (with_slots slots a) same (ap (λ (xs : List (Option ConnectionState)). with_slots xs a) none.same)
+    quietly_same (alone told) (EnqueuesWhere grows key bytes) [] n n' a (with_slots slots a) same (ap (λ (xs : List (Option ConnectionState)). with_slots xs a) none.same)
     (λ l fits. ([], refl, enqueues_from grows key bytes l [] l None (absent l a key fits none.there) (refl, refl)))
 enqueues_where told n n' a slots key bytes grows None (inr on) growth same = kept_where told n n' a slots key bytes grows on.before on.after on.there on.slots on.changes same
 enqueues_where told n n' a slots key bytes grows (Some id) on growth tells =
-    aside_at (alone told) (EnqueuesWhere grows key bytes) (Told (Refused Enqueue (Some id)) ∷ []) n n' a slots key on.before on.after (n', tells, refl) on.there on.slots (load_as on.before on.after (is_broken on.before) on.changes.1.1 (load_broken on.before))
+    quietly_at (alone told) (EnqueuesWhere grows key bytes) (Told (Refused Enqueue (Some id)) ∷ []) n n' a slots key on.before on.after (n', tells, refl) on.there on.slots (load_as on.before on.after (is_broken on.before) on.changes.1.1 (load_broken on.before))
     (λ l e fits there f.
     let hs : List Happening = Told (Refused Enqueue (Some id)) ∷ [] in
     let same : id ≡ e.id = sym on.changes.0 ∙ f.id in
@@ -183,21 +183,21 @@ enqueues_reply_from bytes key l a hs l' (Some e) (Some c) there fits it = subst 
 pub enqueues_reply : {N : Type 0} (told : N → Note → N → Type 0) (n n' : N) (a : EngineState) (slots : List (Option ConnectionState)) (key : ℕ) (bytes : Bool → List ℕ) (broke : Option ℕ)
     → EnqueuesSlot key (bytes (closes_at key a.slots)) broke a.slots slots → IsGrowth key (bytes (closes_at key a.slots)) broke a.slots → ToldOf told broke n n' → RefinesQuietly (alone told) (λ l hs l'. EnqueuesReplyAt bytes key (l.entries key) l hs l') n a n' (with_slots slots a)
 enqueues_reply told n n' a slots key bytes broke enqueue full tells =
-    aside_as (alone told) (Enqueues key (bytes (closes_at key a.slots))) (λ l hs l'. EnqueuesReplyAt bytes key (l.entries key) l hs l') n n' a (with_slots slots a)
+    quietly_as (alone told) (Enqueues key (bytes (closes_at key a.slots))) (λ l hs l'. EnqueuesReplyAt bytes key (l.entries key) l hs l') n n' a (with_slots slots a)
     (λ l hs l' fits fits' it. enqueues_reply_from bytes key l a hs l' (l.entries key) (slot_at a key) refl (fits.each key) it)
     (enqueues told n n' a slots key (bytes (closes_at key a.slots)) broke enqueue full tells)
 
 kept_openly : {N : Type 0} (told : N → Note → N → Type 0) (n n' : N) (a : EngineState) (slots : List (Option ConnectionState)) (key : ℕ) (bytes : List ℕ) (grows : Entry → Bool) (c d : ConnectionState)
     → slice_index_or a.slots key None ≡ Some c → slots ≡ slice_set a.slots key (Some d) → EnqueuesAs bytes false c d → n' ≡ n → RefinesReporting (alone told) (EnqueuesWhere grows key bytes) n a n' (with_slots slots a) false
-unfolding aside_same aside_at refines_at kept_where
+unfolding quietly_same quietly_at refines_at kept_where
 kept_openly told n n' a slots key bytes grows c d was is (inl still) same = record { refines = kept_where told n n' a slots key bytes grows c d was is (inl still) same; is = refl }
 kept_openly told n n' a slots key bytes grows c d was is (inr now) same = record { refines = kept_where told n n' a slots key bytes grows c d was is (inr now) same; is = refl }
 
 -- as `enqueues_where`, and the flag says whether memory was refused
 pub enqueues_openly : {N : Type 0} (told : N → Note → N → Type 0) (n n' : N) (a : EngineState) (slots : List (Option ConnectionState)) (key : ℕ) (bytes : List ℕ) (grows : Entry → Bool) (broke : Option ℕ)
     → EnqueuesSlot key bytes broke a.slots slots → IsGrowthWhere grows a.slots key broke → ToldOf told broke n n' → RefinesReporting (alone told) (EnqueuesWhere grows key bytes) n a n' (with_slots slots a) (is_some broke)
-unfolding aside_same aside_at refines_at enqueues_where kept_where
+unfolding quietly_same quietly_at refines_at enqueues_where kept_where
 enqueues_openly told n n' a slots key bytes grows None (inl none) growth same = record { refines = enqueues_where told n n' a slots key bytes grows None (inl none) growth same; is = refl }
 enqueues_openly told n n' a slots key bytes grows None (inr on) growth same =
-    openly_flag (alone told) (EnqueuesWhere grows key bytes) n n' a (with_slots slots a) false (is_some {T = ℕ} None) refl (kept_openly told n n' a slots key bytes grows on.before on.after on.there on.slots on.changes same)
+    reporting_flag (alone told) (EnqueuesWhere grows key bytes) n n' a (with_slots slots a) false (is_some {T = ℕ} None) refl (kept_openly told n n' a slots key bytes grows on.before on.after on.there on.slots on.changes same)
 enqueues_openly told n n' a slots key bytes grows (Some id) on growth tells = record { refines = enqueues_where told n n' a slots key bytes grows (Some id) on growth tells; is = refl }

@@ -36,7 +36,7 @@ use Rattle.server.specs.Polling.{Opens, AcceptsOne, ReadsOne, WritesOne, EndsOne
 use Rattle.server.specs.Turn.{Outcome as Answer, OutOfMemory, BadRequest, is_due, Ticks, TicksIfDue, Round, BodyAsks, BodyBrings, BodyComes}
 use Rattle.server.specs.State.{EngineState, slot_at}
 use Rattle.server.specs.Refinement.{Refines, RefinesQuietly, RefinesReporting, RefinesAnswering}
-use Rattle.server.proofs.Steps.{refines_then, refines_moved, aside_then, aside_as, aside_nothing, aloud, openly_as, openly_flag, openly_then}
+use Rattle.server.proofs.Steps.{refines_then, refines_moved, quietly_then, quietly_as, quietly_nothing, aloud, reporting_as, reporting_flag, reporting_then}
 use Rattle.server.proofs.Happening.{tells}
 use Rattle.server.proofs.Turning.{ticks_due, covers, one_round}
 use Rattle.server.proofs.Accepting.{accepts_open}
@@ -54,7 +54,7 @@ module _ {S : Type 0} {moves : S → Happening → S → Type 0} where
 
   -- Q, and then R; the flag says whether memory was refused
   pub joins_openly : {Q R : Rel} {u v w : S} {a b c : EngineState} {s t unsent : Bool} → RefinesReporting moves Q u a v b s → t ≡ s → RefinesReporting moves R v b w c unsent → RefinesReporting moves (Then Q R) u a w c (t || unsent)
-  joins_openly {Q} {R} {u} {v} {w} {a} {b} {c} {s} {t} {unsent} p same q = openly_flag moves (Then Q R) u w a c (s || unsent) (t || unsent) (ap (λ (x : Bool). x || unsent) same) (openly_then moves Q R u v w a b c s unsent p q)
+  joins_openly {Q} {R} {u} {v} {w} {a} {b} {c} {s} {t} {unsent} p same q = reporting_flag moves (Then Q R) u w a c (s || unsent) (t || unsent) (ap (λ (x : Bool). x || unsent) same) (reporting_then moves Q R u v w a b c s unsent p q)
 
   -- each key below a bound, and then the key at the bound
   pub next_more : (R : ℕ → Rel) {u v w : S} {a b c : EngineState} (key : ℕ) → Refines moves (Each key R) u a v b → Refines moves (R key) v b w c → Refines moves (Each (key + 1) R) u a w c
@@ -70,7 +70,7 @@ module _ {S : Type 0} {moves : S → Happening → S → Type 0} where
   -- a report of a device comes
   pub reports : {moment device : ℕ} {report : Report} (outcome : Outcome) {u v : S} {a b : EngineState} {refused : Bool} → RefinesReporting moves (Happens moment (Is.Report device report) outcome) u a v b refused → RefinesReporting moves (ReportComes moment device report) u a v b refused
   reports {moment} {device} {report} outcome {u} {v} {a} {b} {refused} p =
-      openly_as moves (Happens moment (Is.Report device report) outcome) (ReportComes moment device report) u v a b refused (λ l hs l' fits fits' it. (outcome, it)) p
+      reporting_as moves (Happens moment (Is.Report device report) outcome) (ReportComes moment device report) u v a b refused (λ l hs l' fits fits' it. (outcome, it)) p
 
   -- the event of a client comes, and then its reply becomes due
   pub answers : (key id : ℕ) (who : Client) {moment : ℕ} {event : Event} {outcome : Outcome} {query refused : Bool} {reply : Option Effects} {u v w : S} {a b c : EngineState} → RefinesReporting moves (Happens moment event outcome) u a v b refused → query ≡ is_query event → reply ≡ reply_of outcome
@@ -78,8 +78,8 @@ module _ {S : Type 0} {moves : S → Happening → S → Type 0} where
   answers key id who {moment} {event} {outcome} {query} {refused} {reply} {u} {v} {w} {a} {b} {c} p asked answered q =
       let told : RefinesQuietly moves (Answers key id who (is_query event) (reply_of outcome)) v b w c =
       subst (λ (t : Bool). RefinesQuietly moves (Answers key id who t (reply_of outcome)) v b w c) asked (subst (λ (o : Option Effects). RefinesQuietly moves (Answers key id who query o) v b w c) answered q) in
-      aside_as moves (Then (Happens moment event outcome) (Answers key id who (is_query event) (reply_of outcome))) (IsAnswered moment key id who event) u w a c (λ l hs l' fits fits' it. (outcome, it))
-      (aside_then moves (Happens moment event outcome) (Answers key id who (is_query event) (reply_of outcome)) u v w a b c p.refines told)
+      quietly_as moves (Then (Happens moment event outcome) (Answers key id who (is_query event) (reply_of outcome))) (IsAnswered moment key id who event) u w a c (λ l hs l' fits fits' it. (outcome, it))
+      (quietly_then moves (Happens moment event outcome) (Answers key id who (is_query event) (reply_of outcome)) u v w a b c p.refines told)
 
   -- a request was dropped
   pub replies_none : (key id request : ℕ) (query : Bool) {reply : Option Effects} {u v : S} {a b : EngineState} → reply ≡ None → RefinesQuietly moves (Drops key id request) u a v b → RefinesQuietly moves (Replies key id request query reply) u a v b
@@ -90,14 +90,14 @@ module _ {S : Type 0} {moves : S → Happening → S → Type 0} where
   acts_as moment key id {asked} {what} {u} {v} {a} {b} is p = subst (λ (it : Ask). RefinesQuietly moves (ActsOn moment key id it) u a v b) (sym is) p
 
   pub acts_nothing : (moment key id : ℕ) {asked : Ask} {u : S} {a : EngineState} → asked ≡ ask.Nothing → RefinesQuietly moves (ActsOn moment key id asked) u a u a
-  acts_nothing moment key id {asked} {u} {a} is = acts_as moment key id {what = ask.Nothing} is (aside_nothing moves u a)
+  acts_nothing moment key id {asked} {u} {a} is = acts_as moment key id {what = ask.Nothing} is (quietly_nothing moves u a)
 
   -- a response that is none of LPD has no bytes for an LPD client
   pub shows_no_ipp : (key id : ℕ) {answer : Response} {other : IppResponse} {u : S} {a : EngineState} → answer ≡ responds.Ipp other → RefinesQuietly moves (IsShown key id answer) u a u a
-  shows_no_ipp key id {u = u} {a = a} is = subst (λ (it : Response). RefinesQuietly moves (IsShown key id it) u a u a) (sym is) (aside_nothing moves u a)
+  shows_no_ipp key id {u = u} {a = a} is = subst (λ (it : Response). RefinesQuietly moves (IsShown key id it) u a u a) (sym is) (quietly_nothing moves u a)
 
   pub shows_nothing : (key id : ℕ) {answer : Response} {u : S} {a : EngineState} → answer ≡ responds.Nothing → RefinesQuietly moves (IsShown key id answer) u a u a
-  shows_nothing key id {u = u} {a = a} is = subst (λ (it : Response). RefinesQuietly moves (IsShown key id it) u a u a) (sym is) (aside_nothing moves u a)
+  shows_nothing key id {u = u} {a = a} is = subst (λ (it : Response). RefinesQuietly moves (IsShown key id it) u a u a) (sym is) (quietly_nothing moves u a)
 
   -- ---- bodies
 
@@ -123,7 +123,7 @@ module _ {S : Type 0} {polled : S → Poll → S → Type 0} {told : S → Note 
 module _ {N : Type 0} {told : N → Note → N → Type 0} where
   -- a note, and then R
   pub tells_then : {R : Rel} {u v w : N} {a b : EngineState} {note : Note} → told u note v → RefinesQuietly (alone told) R v a w b → RefinesQuietly (alone told) (Then (Tells note) R) u a w b
-  tells_then {R} {u} {v} {w} {a} {b} {note} p q = aside_then (alone told) (Tells note) R u v w a a b (tells told u v a note p) q
+  tells_then {R} {u} {v} {w} {a} {b} {note} p q = quietly_then (alone told) (Tells note) R u v w a a b (tells told u v a note p) q
 
   -- an ask of which the listener alone is told
   pub acts_broke : (moment key id : ℕ) {asked : Ask} {growth : Growth} {place : AllocationSite} {u v : N} {a : EngineState} → asked ≡ ask.Broke growth → place ≡ place_of growth → told u (Refused place (Some id)) v → RefinesQuietly (alone told) (ActsOn moment key id asked) u a v a

@@ -1,6 +1,6 @@
 use Rattle.std.proofs.Common.{refl}
 use Rattle.server.specs.Answering.{Responds}
-use Rattle.server.proofs.Steps.{aside_from}
+use Rattle.server.proofs.Steps.{quietly_from}
 use Rattle.server.proofs.Happening.{breaks}
 use Rattle.server.proofs.Joins.{tells_then}
 use Rattle.server.proofs.Replying.{as_none}
@@ -10,4 +10,4 @@ pub returns-in-None : goal.returns-in-None
 returns-in-None g c =
     as_none _ (Responds c.args.asker.key c.args.asker.id) c.args.reply _ _ _ _ c.in-None.is
     (tells_then c.refused.ensures
-    (aside_from _ _ _ _ _ _ _ _ c.self.view_is refl (breaks _ _ _ _ _ c.break_off.ensures)))
+    (quietly_from _ _ _ _ _ _ _ _ c.self.view_is refl (breaks _ _ _ _ _ c.break_off.ensures)))

@@ -9,7 +9,7 @@ use Rattle.server.specs.Polls.{alone}
 use Rattle.server.specs.Refinement.{RefinesReporting}
 use Rattle.server.specs.State.{EngineState, with_slots}
 use Rattle.server.proofs.Happening.{gives_way_to}
-use Rattle.server.proofs.Steps.{aside_then}
+use Rattle.server.proofs.Steps.{quietly_then}
 use Rattle.server.proofs.engine.Engine.take_over.Goals as goal
 
 pub returns : goal.returns
@@ -17,6 +17,6 @@ returns g c =
     let slots = c.give_way.new.connections.slots in
     let gone : RefinesReporting (alone g.N.Listener.told) (Unanswered c.args.moment (Is.Report c.args.device reported.Gone)) c.args.notes.now (with_slots slots c.args.self.now) c.report_now.new.notes c.report_now.new.self c.report_now.result =
     subst (λ (e : EngineState). RefinesReporting (alone g.N.Listener.told) (Unanswered c.args.moment (Is.Report c.args.device reported.Gone)) c.args.notes.now (with_slots slots e) c.report_now.new.notes c.report_now.new.self c.report_now.result) c.self.view_is c.report_now.ensures in
-    aside_then _ (GivesWay c.args.old) _ _ _ _ _ _ _
+    quietly_then _ (GivesWay c.args.old) _ _ _ _ _ _ _
     (gives_way_to _ _ c.args.self.now slots c.args.old (c.give_way.ensures ∙ ap (λ (e : EngineState). changed_at c.args.old gives_way e.slots) c.self.view_is))
-    (aside_then _ (Unanswered c.args.moment (Is.Report c.args.device reported.Gone)) (Unanswered c.args.moment (Is.Report c.args.device (reported.Hello c.args.name))) _ _ _ _ _ _ gone.refines c.report_now-2.ensures.refines)
+    (quietly_then _ (Unanswered c.args.moment (Is.Report c.args.device reported.Gone)) (Unanswered c.args.moment (Is.Report c.args.device (reported.Hello c.args.name))) _ _ _ _ _ _ gone.refines c.report_now-2.ensures.refines)
