@@ -16,7 +16,7 @@ use Rattle.traces.specs.declared.line.Line.{Line}
 use Rattle.traces.specs.declared.line.Line.TheVariants as Form
 use Rattle.traces.specs.TraceLine.{IsLine, Finds}
 use Rattle.replay.specs.declared.wire.TraceWire.{TraceWire}
-use Rattle.replay.specs.Acting.{standing, Moves, IsReady, Becomes, Does, TakesTurn, TakesTurns, TakesTillQuiet}
+use Rattle.replay.specs.Acting.{standing, Moves, IsReady, Becomes, TakesActions, TakesTurn, TakesTurns, TakesTillQuiet}
 use Rattle.traces.specs.Connections.{numbered, with_connection, new_peer, changed_at, connections_text, seen, emptied}
 use Rattle.replay.specs.Log.{LogRecord, LogsNote, happening_text, happenings_text}
 use Rattle.replay.specs.Playing.{Standing, Calls, Serves, Turns, Plays, IsReplyLine, most_turns, opened, on_peer}
@@ -31,7 +31,7 @@ abbrev Printed : LogRecord → List ℕ → LogRecord → Type 0
 Printed log heard after = (log.heard ≡ Some heard) × (after ≡ record log { heard = Some [] })
 
 pub serves : (old new : Play) (body line heard text : List ℕ) (answer : Outcome) (log : LogRecord) → IsReady old → RefinesBody (alone LogsNote) old.moment body old.log old.engine log new.engine answer → IsReplyLine answer line → Printed log heard new.log → text ≡ line ++ heard → new.wire.failed ≡ old.wire.failed → standing new ≡ standing old
-    → Does old new (λ actions. Serves old.log.texts old.log.names old.moment body actions text × (standing new ≡ standing old))
+    → TakesActions old new (λ actions. Serves old.log.texts old.log.names old.moment body actions text × (standing new ≡ standing old))
 serves old new body line heard text answer log ready served replies printed is fine still =
     let all = all_heard old.log log new.log served.happenings heard (heard_alone old.log log served.happenings served.leads) ready.silent printed.0 printed.1 in
     record {
@@ -43,7 +43,7 @@ serves old new body line heard text answer log ready served replies printed is f
     }
 
 pub calls : (old new : Play) (action : List Happening → Action) (heard : List ℕ) (result : Result (Unit {0}) AllocError) (log : LogRecord) → IsReady old → Engine.RefinesCall (alone LogsNote) action old.log old.engine log new.engine result → IsOk result → Printed log heard new.log → new.wire.failed ≡ old.wire.failed → standing new ≡ standing old
-    → Does old new (λ actions. Calls old.log.texts old.log.names action actions heard × (standing new ≡ standing old))
+    → TakesActions old new (λ actions. Calls old.log.texts old.log.names action actions heard × (standing new ≡ standing old))
 calls old new action heard result log ready called good printed fine still =
     let all = all_heard old.log log new.log called.happenings heard (heard_alone old.log log called.happenings called.leads) ready.silent printed.0 printed.1 in
     record {
@@ -149,7 +149,7 @@ till_most old new count busy most = (busy.turns, record { busy = busy.turns; eac
 -- the text printed for turns
 pub ran : (old mid new : Play) (heard text : List ℕ) → IsReady old → TakesTillQuiet old mid → mid.wire.failed ≡ false → Printed mid.log heard new.log → text ≡ heard ++ connections_text mid.wire.memory.peers.items mid.connections.items
     → new.connections.items ≡ map (seen mid.wire.memory.peers.items) mid.connections.items → new.wire.memory.peers.items ≡ map emptied mid.wire.memory.peers.items → new.engine ≡ mid.engine → new.moment ≡ mid.moment → new.wire.failed ≡ mid.wire.failed
-    → Does old new (λ actions. Turns old.log.texts old.log.names (standing old) actions text (standing new))
+    → TakesActions old new (λ actions. Turns old.log.texts old.log.names (standing old) actions text (standing new))
 ran old mid new heard text ready (turns, till, takes) fine printed is marked cleared engine moment prompt =
     let peers : List PeerState = mid.wire.memory.peers.items in
     let same : mid.connections.items ≡ old.connections.items = ap (λ cs. cs.items) takes.connections in
@@ -178,7 +178,7 @@ ran old mid new heard text ready (turns, till, takes) fine printed is marked cle
     stands m n cs ds ps qs em ec ep = rw (em, ec, ep) refl
 
 -- a change of connections alone comes before
-pub from_here : (old mid new : Play) (s : Standing) (text : List ℕ) → Becomes old mid s → Does mid new (λ actions. Turns mid.log.texts mid.log.names (standing mid) actions text (standing new)) → Does old new (λ actions. Turns old.log.texts old.log.names s actions text (standing new))
+pub from_here : (old mid new : Play) (s : Standing) (text : List ℕ) → Becomes old mid s → TakesActions mid new (λ actions. Turns mid.log.texts mid.log.names (standing mid) actions text (standing new)) → TakesActions old new (λ actions. Turns old.log.texts old.log.names s actions text (standing new))
 from_here old mid new s text is does = record {
   actions = does.actions;
   is = subst (λ t. Turns old.log.texts old.log.names t does.actions text (standing new)) is.stands (subst (λ (l : LogRecord). Turns l.texts l.names (standing mid) does.actions text (standing new)) is.log does.is);
@@ -211,7 +211,7 @@ unchanged_so number change s found is none = rw (← is, none) refl
 
 -- the moment is told
 pub told_moment : (old new : Play) (line : Line) (moment : ℕ) (text : List ℕ) → IsReady old → line ≡ Form.At moment → text ≡ [] → new.engine ≡ old.engine → new.log ≡ old.log → new.wire.failed ≡ old.wire.failed → standing new ≡ record (standing old) { moment = moment }
-    → Does old new (λ actions. Plays old.log.texts old.log.names line (standing old) actions text (standing new))
+    → TakesActions old new (λ actions. Plays old.log.texts old.log.names line (standing old) actions text (standing new))
 told_moment old new line moment text ready is none engine log fine stands = record {
   actions = [];
   is = subst (λ l. Plays old.log.texts old.log.names l (standing old) [] text (standing new)) (sym is) (refl, none, stands);

@@ -61,11 +61,11 @@ run_after texts names first old new [] (outcome ∷ outcomes) before after none 
 run_after texts names first old new (timed ∷ events) [] before after none = absurd none
 
 -- the change of the core by a part
-abbrev Does : Bool → List (List ℕ) → Part → State → State → Type 0
-Does texts names part old new = Run (PrintsEach texts names) old [] part.events part.outcomes new part.heard
+abbrev TakesActions : Bool → List (List ℕ) → Part → State → State → Type 0
+TakesActions texts names part old new = Run (PrintsEach texts names) old [] part.events part.outcomes new part.heard
 
 -- one part after another
-then_runs : (texts : Bool) (names : List (List ℕ)) (events : List Timed) (outcomes : List Outcome) (before heard : List (List ℕ)) (later : Part) (old mid new : State) → Run (PrintsEach texts names) old before events outcomes mid heard → Does texts names later mid new → Run (PrintsEach texts names) old before (events ++ later.events) (outcomes ++ later.outcomes) new (heard ++ later.heard)
+then_runs : (texts : Bool) (names : List (List ℕ)) (events : List Timed) (outcomes : List Outcome) (before heard : List (List ℕ)) (later : Part) (old mid new : State) → Run (PrintsEach texts names) old before events outcomes mid heard → TakesActions texts names later mid new → Run (PrintsEach texts names) old before (events ++ later.events) (outcomes ++ later.outcomes) new (heard ++ later.heard)
 then_runs texts names [] [] before heard later old mid new (same, silent) runs =
     subst (λ s. Run (PrintsEach texts names) s before later.events later.outcomes new (heard ++ later.heard)) same
     (subst (λ h. Run (PrintsEach texts names) mid h later.events later.outcomes new (heard ++ later.heard)) (append-nil heard ∙ silent)
@@ -92,7 +92,7 @@ seen_text texts names (Chosen choice ∷ hs) = seen_text texts names hs
 record Happened (texts : Bool) (names : List (List ℕ)) (event : Event) (moment : ℕ) (reply : Effects) (old : State) (text : List ℕ) (new : State) : Type 0 where
   part : Part
   is_one : IsOne event moment reply part
-  does : Does texts names part old new
+  does : TakesActions texts names part old new
   printed : text ≡ concat part.heard
 
 one_event : (texts : Bool) (names : List (List ℕ)) (event : Event) (moment : ℕ) (reply : Effects) (old : State) (hs : List Happening) (new : State) → IsOneEvent moment event reply old hs new → Happened texts names event moment reply old (happenings_text texts names hs) new
@@ -111,7 +111,7 @@ record BodyMeant (texts : Bool) (names : List (List ℕ)) (asked : ParsedRequest
   part : Part
   answer : List ℕ
   means : BodyMeans asked moment part answer
-  does : Does texts names part old new
+  does : TakesActions texts names part old new
   printed : text ≡ answer ++ concat part.heard
 
 -- a body that is no event changes nothing
@@ -148,7 +148,7 @@ record IsMeant (texts : Bool) (names : List (List ℕ)) (bytes : List ℕ) (old 
   part : Part
   answer : List ℕ
   means : Means line old.moment part answer
-  does : Does texts names part before after
+  does : TakesActions texts names part before after
   moment : new.moment ≡ moment_after line old.moment
   printed : text ≡ answer ++ concat part.heard
 

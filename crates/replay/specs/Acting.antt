@@ -46,7 +46,7 @@ pub record Becomes (old new : Play) (s : Standing) : Type 0 where
   pub stands : standing new ≡ s
 
 -- the play took actions with this property, and printed all notes
-pub record Does (old new : Play) (Is : Trace → Type 0) : Type 0 where
+pub record TakesActions (old new : Play) (Is : Trace → Type 0) : Type 0 where
   pub actions : Trace
   pub is : Is actions
   pub moves : Moves old.engine actions new.engine
@@ -81,7 +81,7 @@ TakesTillQuiet old new = (turns : List (List Happening)) × AreTillQuiet turns �
 abbrev pub Acts : Play → List ℕ → List ℕ → Bool → Play → List ℕ → Type 0
 Acts old bytes output true new output' =
     (line : Line) × (text : List ℕ) × IsLine old.log.names bytes line × (may_come line (standing old) ≡ true)
-    × Does old new (λ actions. Plays old.log.texts old.log.names line (standing old) actions text (standing new)) × (output' ≡ output ++ text)
+    × TakesActions old new (λ actions. Plays old.log.texts old.log.names line (standing old) actions text (standing new)) × (output' ≡ output ++ text)
 Acts old bytes output false new output' = IsBad old.log.names bytes (standing old) × (output' ≡ output)
 
 -- the text and the status of lines, of which the first has this number, for each trace at which the server stood before, with the actions of the lines

@@ -6,7 +6,7 @@ ghost use Rattle.server.specs.Refinement.{said_of};
 ghost use Rattle.server.specs.Turn.{Reported, Ticked};
 ghost use Rattle.replay.specs.Playing.{Calls, Serves, Turns, Plays, IsReplyLine, opened, on_peer, is_open, may_come};
 ghost use Rattle.traces.specs.Connections.{sending, ending, may_send};
-ghost use Rattle.replay.specs.Acting.{standing, IsReady, IsStart, Becomes, Does, TakesTurn, TakesTillQuiet, Acts};
+ghost use Rattle.replay.specs.Acting.{standing, IsReady, IsStart, Becomes, TakesActions, TakesTurn, TakesTillQuiet, Acts};
 ghost use Rattle.traces.specs.Printed.{reply_line};
 
 use crate::log::Log;
@@ -141,7 +141,7 @@ impl Play {
     /// Acts on a line, and returns its text. The only error is out of memory.
     fn give(&mut self, line: Line) -> Result<Vec<u8>, AllocError>
         requires { IsReady self.old }
-        ensures { IfOk result (λ text. Does self.old self.new (λ actions. Plays self.old.log.texts self.old.log.names line (standing self.old) actions text.items (standing self.new))) }
+        ensures { IfOk result (λ text. TakesActions self.old self.new (λ actions. Plays self.old.log.texts self.old.log.names line (standing self.old) actions text.items (standing self.new))) }
     {
         match line {
             Line::At(moment) => {
@@ -160,7 +160,7 @@ impl Play {
     /// Serves a body, and returns its text. The only error is out of memory.
     fn serve(&mut self, body: &[u8]) -> Result<Vec<u8>, AllocError>
         requires { IsReady self.old }
-        ensures { IfOk result (λ text. Does self.old self.new (λ actions. Serves self.old.log.texts self.old.log.names self.old.moment body.now actions text.items × (standing self.new ≡ standing self.old))) }
+        ensures { IfOk result (λ text. TakesActions self.old self.new (λ actions. Serves self.old.log.texts self.old.log.names self.old.moment body.now actions text.items × (standing self.new ≡ standing self.old))) }
     {
         let served = self.engine.serve_body(body, &mut self.log, self.moment)?;
         let mut text = reply_line(self.alloc, &served)?;
@@ -172,7 +172,7 @@ impl Play {
     /// Acts on a device's report, and returns its text. The only error is out of memory.
     fn report(&mut self, device: DeviceId, report: Report) -> Result<Vec<u8>, AllocError>
         requires { IsReady self.old }
-        ensures { IfOk result (λ text. Does self.old self.new (λ actions. Calls self.old.log.texts self.old.log.names (Reported self.old.moment device (report_of report)) actions text.items × (standing self.new ≡ standing self.old))) }
+        ensures { IfOk result (λ text. TakesActions self.old self.new (λ actions. Calls self.old.log.texts self.old.log.names (Reported self.old.moment device (report_of report)) actions text.items × (standing self.new ≡ standing self.old))) }
     {
         self.engine
             .report(device, report, &mut self.log, self.moment)?;
@@ -183,7 +183,7 @@ impl Play {
     /// Acts on a tick, and returns its text. The only error is out of memory.
     fn tick(&mut self) -> Result<Vec<u8>, AllocError>
         requires { IsReady self.old }
-        ensures { IfOk result (λ text. Does self.old self.new (λ actions. Calls self.old.log.texts self.old.log.names (Ticked self.old.moment) actions text.items × (standing self.new ≡ standing self.old))) }
+        ensures { IfOk result (λ text. TakesActions self.old self.new (λ actions. Calls self.old.log.texts self.old.log.names (Ticked self.old.moment) actions text.items × (standing self.new ≡ standing self.old))) }
     {
         self.engine.tick(&mut self.log, self.moment)?;
         let heard = self.log.take()?;
@@ -193,7 +193,7 @@ impl Play {
     /// Opens a connection, takes turns, and returns their text. The only error is out of memory.
     fn open(&mut self, opening: Opening) -> Result<Vec<u8>, AllocError>
         requires { IsReady self.old }
-        ensures { IfOk result (λ text. Does self.old self.new (λ actions. Turns self.old.log.texts self.old.log.names (opened opening.number opening.door (standing self.old)) actions text.items (standing self.new))) }
+        ensures { IfOk result (λ text. TakesActions self.old self.new (λ actions. Turns self.old.log.texts self.old.log.names (opened opening.number opening.door (standing self.old)) actions text.items (standing self.new))) }
     {
         self.add(opening)?;
         self.run()
@@ -220,7 +220,7 @@ impl Play {
     /// Brings bytes to a connection, takes turns, and returns their text. The only error is out of memory.
     fn bring(&mut self, input: &Input) -> Result<Vec<u8>, AllocError>
         requires { IsReady self.old }
-        ensures { IfOk result (λ text. Does self.old self.new (λ actions. Turns self.old.log.texts self.old.log.names (on_peer input.now.number (sending input.now.bytes.items) (standing self.old)) actions text.items (standing self.new))) }
+        ensures { IfOk result (λ text. TakesActions self.old self.new (λ actions. Turns self.old.log.texts self.old.log.names (on_peer input.now.number (sending input.now.bytes.items) (standing self.old)) actions text.items (standing self.new))) }
     {
         self.send(input)?;
         self.run()
@@ -239,7 +239,7 @@ impl Play {
     /// Ends the input of a connection, takes turns, and returns their text. The only error is out of memory.
     fn end(&mut self, number: u64) -> Result<Vec<u8>, AllocError>
         requires { IsReady self.old }
-        ensures { IfOk result (λ text. Does self.old self.new (λ actions. Turns self.old.log.texts self.old.log.names (on_peer number ending (standing self.old)) actions text.items (standing self.new))) }
+        ensures { IfOk result (λ text. TakesActions self.old self.new (λ actions. Turns self.old.log.texts self.old.log.names (on_peer number ending (standing self.old)) actions text.items (standing self.new))) }
     {
         self.finish(number);
         self.run()
@@ -257,7 +257,7 @@ impl Play {
     /// Takes turns up to a quiet one, and returns their text. The only error is out of memory.
     fn run(&mut self) -> Result<Vec<u8>, AllocError>
         requires { IsReady self.old }
-        ensures { IfOk result (λ text. Does self.old self.new (λ actions. Turns self.old.log.texts self.old.log.names (standing self.old) actions text.items (standing self.new))) }
+        ensures { IfOk result (λ text. TakesActions self.old self.new (λ actions. Turns self.old.log.texts self.old.log.names (standing self.old) actions text.items (standing self.new))) }
     {
         self.take_turns();
         if self.wire.failed {
