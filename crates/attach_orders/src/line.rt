@@ -1,5 +1,5 @@
 //! The order in a line of the server.
-ghost use Rattle.std.specs.Prelude.{◌≡◌, ◌∷◌, [], List, ℕ, None, IfOk};
+ghost use Rattle.std.specs.Prelude.{◌≡◌, ◌∷◌, [], None, IfOk};
 ghost use Rattle.std.specs.Option.{option_map_or};
 ghost use Rattle.text.specs.Parts.{words_of};
 ghost use Rattle.attach_orders.specs.Line.{id_in, octets_in, copies_in, numbers_in, sides_in, begins_with, after_letter, finishings_in, job_said, cancel_said, described, said, order_in};

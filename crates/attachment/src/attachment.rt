@@ -1,5 +1,5 @@
 //! An attachment.
-ghost use Rattle.std.specs.Prelude.{ℕ, ◌≡◌, ◌<◌, ◌≤◌, ◌++◌, [], ◌∷◌, None, Some, IfSome, OnOk, OnErr, true, take, length, option_map};
+ghost use Rattle.std.specs.Prelude.{ℕ, ◌≡◌, ◌<◌, ◌≤◌, [], ◌∷◌, None, Some, IfSome, OnOk, OnErr, true, take, length, option_map};
 ghost use Rattle.base_types.specs.Report.{report_of};
 ghost use Rattle.attachment.specs.Life.{Links, Ordered, Came, Canceled, Sent, EndsCopy, Printed, Is};
 ghost use Rattle.attachment.specs.State.{IsAfter, Lives, HasRoom, copy_sent_in, is_sent_in, due_in, end_report, fail_report, pages_report, state_report, id_of, said_by, begun, with_came, with_sent, with_copy, with_cancel, changed};

@@ -1,5 +1,5 @@
 //! A job in hand.
-ghost use Rattle.std.specs.Prelude.{◌≡◌, ◌≤◌, ◌+◌, ◌++◌, ◌==◌, [], true, false, OnOk, OnErr, length};
+ghost use Rattle.std.specs.Prelude.{◌≡◌, ◌≤◌, ◌+◌, ◌==◌, [], true, false, OnOk, OnErr, length};
 ghost use Rattle.base_types.specs.Report.{report_of};
 ghost use Rattle.attachment.specs.State.{begun, with_came, with_sent, with_copy, with_cancel, due_of, copy_sent_of, end_report, fail_report, pages_report};
 

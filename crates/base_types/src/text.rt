@@ -1,5 +1,5 @@
 //! Owned texts of any bytes.
-ghost use Rattle.std.specs.Prelude.{◌≡◌, ℕ, List, IsTrue, ◌↔◌, IfOk, length};
+ghost use Rattle.std.specs.Prelude.{◌≡◌, ℕ, List, IsTrue, ◌↔◌, IfOk};
 
 use std::alloc::{AllocError, Global};
 use std::marker::Model;

@@ -1,5 +1,5 @@
 //! The writer of a log, which never makes the server wait.
-ghost use Rattle.std.specs.Prelude.{◌≡◌, ◌≤◌, length};
+ghost use Rattle.std.specs.Prelude.{◌≤◌, length};
 
 use std::alloc::Global;
 use std::cmp::min;

@@ -2,11 +2,10 @@
 ghost use Rattle.std.specs.Prelude.{◌≡◌, ◌==◌, ◌∷◌, [], IfOk, option_map, map};
 ghost use Rattle.std.specs.List.{list_all};
 ghost use Rattle.std.specs.Option.{option_map_or};
-ghost use Rattle.std.specs.Str.Lines.{strip_carriage_return};
 ghost use Rattle.base_types.specs.Forms.{is_media};
 ghost use Rattle.base_types.specs.Report.{report_of};
-ghost use Rattle.text.specs.Parts.{parts_at, words_of};
-ghost use Rattle.device_link.specs.Line.{media_in, name_in, said_alone, said_of_one, said_of_two, said, in_turn, report_in, reported_by};
+ghost use Rattle.text.specs.Parts.{words_of};
+ghost use Rattle.device_link.specs.Line.{media_in, name_in, said_alone, said_of_one, said_of_two, said, report_in, reported_by};
 
 use crate::number::{job_in, printed_in, time_in};
 use base_types::{Limits, Report, Text, is_media, is_name};

@@ -1,7 +1,7 @@
 //! The lines that the server sends to a device.
 ghost use Rattle.std.specs.Prelude.{◌≡◌, ◌+◌, ◌<◌, ◌≤◌, ◌++◌, IfOk, OnOk, OnErr, vec_len, length};
 ghost use Rattle.std.specs.Vec.{vec_capacity};
-ghost use Rattle.device_link.specs.Orders.{sides_word, letter_if, finishings_letters, finishings_word, job_line, cancel_line};
+ghost use Rattle.device_link.specs.Orders.{sides_word, letter_if, finishings_word, job_line, cancel_line};
 
 use base_types::{Finishings, JobId, Needs, Sides};
 use itoa::Buffer;

@@ -1,5 +1,5 @@
 //! The dispatch: a plan, and the jobs that it starts.
-ghost use Rattle.std.specs.Prelude.{◌≡◌, max, IfOk, IfSome, OnErr, false, IsOk, is_some};
+ghost use Rattle.std.specs.Prelude.{◌≡◌, max, IfOk, IfSome, OnErr, false, IsOk};
 ghost use Rattle.std.specs.Option.{option_copied};
 ghost use Rattle.print_room.specs.GoodPlan.{IsGoodPlan, is_some_job};
 ghost use Rattle.print_room.specs.Ready.{ready_of};

@@ -5,7 +5,7 @@ use Rattle.std.specs.declared.alloc.AllocError.{AllocError}
 use Rattle.http_front.specs.declared.awaited.Awaited.{Awaited}
 use Rattle.http_front.specs.declared.awaited.Following.{Following}
 use Rattle.http_front.specs.declared.awaited.Awaited.TheVariants.{Head, Invitation, Body, Size, Trailer, Nothing}
-use Rattle.http_front.specs.Stream.{HttpElement, HasByte, Goes, Waits, ParsesIn, Parses, Exchanges, LeadsIn, Leads, ParsesFirst, HttpState, IsOver, HasRead, HasLeft, AwaitsBody, past_body}
+use Rattle.http_front.specs.Stream.{HttpElement, HasByte, Goes, Waits, ParsesIn, Parses, Exchanges, ParsesFirst, HttpState, IsOver, HasRead, HasLeft, AwaitsBody, past_body}
 use Rattle.http_front.proofs.Steps.{says_then, lends}
 use Rattle.http_front.proofs.Laws.{stays_in, said_first, leads_more}
 

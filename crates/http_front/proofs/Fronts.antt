@@ -1,6 +1,6 @@
 -- The result of one step of a reader, by the front of its bytes.
 use Rattle.std.specs.Prelude.{ℕ, ◌≡◌, ◌+◌, ◌-◌, ◌<◌, ◌≤◌, ◌==◌, nat_le, Bool, true, false, List, [], ◌∷◌, ◌++◌, length, take, drop, Option, Some, None, Result, Ok, Err}
-use Rattle.std.proofs.Common.{rules, arith, refl, subst, sym, ap, ◌∙◌}
+use Rattle.std.proofs.Common.{rules, arith, refl, subst, sym, ap}
 use Rattle.std.proofs.lemmas.List.{length-drop}
 use Rattle.std.proofs.lemmas.List.Quantifiers.{position-Some}
 use Rattle.text.specs.FirstLine.{first_line_of}

@@ -22,7 +22,7 @@ use Rattle.http_front.specs.declared.chunk.ChunkEnd.TheVariants as end
 use Rattle.http_front.specs.Section.{section_in}
 use Rattle.http_front.specs.Chunk.{IsSizeOf, chunk_end}
 use Rattle.http_front.specs.Head.{judged, Asks}
-use Rattle.http_front.specs.Stream.{HttpElement, EndsBody, after_body, Front, Goes, Waits, FrontIs, HeadIn, SizeIn, begun, sized, chunk_front, following, byte_of, trailer_front, is_line_end, ParsesIn, LeadsIn, is_last}
+use Rattle.http_front.specs.Stream.{HttpElement, EndsBody, after_body, Front, Goes, Waits, FrontIs, HeadIn, SizeIn, begun, sized, chunk_front, following, byte_of, trailer_front, is_line_end, ParsesIn, LeadsIn}
 use Rattle.http_front.proofs.Sections.{section_whole, section_within, section_long}
 use Rattle.http_front.proofs.Fronts.{size_within, broken_grown, whole_grown}
 

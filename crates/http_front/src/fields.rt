@@ -1,5 +1,5 @@
 //! The fields of a head, found by their names.
-ghost use Rattle.std.specs.Prelude.{◌≡◌, ◌≤◌, map, length};
+ghost use Rattle.std.specs.Prelude.{◌≡◌, map};
 ghost use Rattle.std.specs.Option.{option_copied};
 ghost use Rattle.httparse.specs.Borrowed.{header_parts};
 ghost use Rattle.http_front.specs.Fields.{count_of, first_of, all_have, any_lists};

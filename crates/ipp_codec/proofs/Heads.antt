@@ -1,15 +1,13 @@
 -- From the elements of a body to the message of a head.
-use Rattle.std.proofs.Common.{◌≡◌, ℕ, suc, ◌+◌, ◌-◌, ◌*◌, ◌^◌, ◌<◌, ◌≤◌, List, [], ◌∷◌, ◌++◌, length, take, drop, Ok, Err, refl, sym, ap, subst, ◌∙◌, append_assoc, arith, inr, get_or}
+use Rattle.std.proofs.Common.{◌≡◌, ℕ, suc, ◌+◌, ◌-◌, ◌*◌, ◌^◌, ◌<◌, ◌≤◌, List, [], ◌∷◌, ◌++◌, length, take, drop, Ok, Err, refl, sym, ap, ◌∙◌, append_assoc, arith, inr, get_or}
 use Rattle.std.specs.List.{AllByRecursion}
 use Rattle.std.specs.Int.{w16, w32, to_be_bytes, from_be_bytes}
 use Rattle.std.proofs.lemmas.Nat.{be_bytes_2, be_bytes_4}
 use Rattle.std.proofs.lemmas.List.{length-append, length-take-le, take_rest}
 use Rattle.ipp_codec.specs.declared.fault.CodecFault.{CodecFault}
-use Rattle.ipp_codec.specs.declared.place.Place.TheVariants.{Outside}
 use Rattle.ipp_codec.specs.Message.{IppMessage, IppGroup}
-use Rattle.ipp_codec.specs.Spelling.{Element, bytes_of, elements, spelling}
+use Rattle.ipp_codec.specs.Spelling.{Element, bytes_of, spelling}
 use Rattle.ipp_codec.specs.Grammar.{IsGroup, IsMessage}
-use Rattle.ipp_codec.specs.Place.{Follows}
 use Rattle.ipp_codec.specs.FirstFault.{FirstFault}
 use Rattle.ipp_codec.specs.Reading.{Walks}
 use Rattle.ipp_codec.specs.Decoding.{Lengths}

@@ -1,10 +1,10 @@
 -- A fault stays where more bytes follow, unless bytes were missing.
-use Rattle.std.proofs.Common.{◌≡◌, ◌≢◌, ℕ, List, [], ◌∷◌, ◌++◌, refl, ap, ◌∙◌, append_assoc, inl, inr}
+use Rattle.std.proofs.Common.{◌≢◌, ℕ, List, [], ◌∷◌, ◌++◌, refl, ap, ◌∙◌, append_assoc, inl, inr}
 use Rattle.ipp_codec.specs.declared.fault.CodecFault.{CodecFault}
 use Rattle.ipp_codec.specs.declared.fault.CodecFault.TheVariants.{Short, BadTag, BadLength, BadValue, LooseValue, BadCollection, TooDeep, TooLarge}
 use Rattle.ipp_codec.specs.declared.place.Place.{Place}
 use Rattle.ipp_codec.specs.Spelling.{counted, value_bytes, bytes_of, header}
-use Rattle.ipp_codec.specs.FirstFault.{First, FirstFault, AtField, AtPart, AtTag, AtValue, IsTooLong, IsWhole}
+use Rattle.ipp_codec.specs.FirstFault.{First, FirstFault, AtField, AtTag, AtValue, IsTooLong, IsWhole}
 
 tag_stays : (part more : List ℕ) (P : ℕ → Type 0) → AtTag part P → AtTag (part ++ more) P
 tag_stays part more P at = (at.0, at.1 ++ more, ap (λ (l : List ℕ). l ++ more) at.2, at.3)

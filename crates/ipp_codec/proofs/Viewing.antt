@@ -5,8 +5,8 @@ use Rattle.std.proofs.lemmas.Nat.{from_be_bytes-to_be_bytes_2, from_be_bytes-to_
 use Rattle.std.proofs.lemmas.List.{length-append, take_at, take-append-drop}
 use Rattle.base_types.specs.declared.limits.TheConstants.Limits.{IPP_HEAD_BYTES}
 use Rattle.ipp_codec.specs.declared.place.Place.TheVariants.{Outside}
-use Rattle.ipp_codec.specs.Message.{IppMessage, IppGroup}
-use Rattle.ipp_codec.specs.Spelling.{Element, bytes_of, elements, header, spelling}
+use Rattle.ipp_codec.specs.Message.{IppMessage}
+use Rattle.ipp_codec.specs.Spelling.{Element, bytes_of, elements, spelling}
 use Rattle.ipp_codec.specs.Grammar.{IsMessage, Spells}
 use Rattle.ipp_codec.specs.Shown.{Level, levels_of, top}
 use Rattle.ipp_codec.specs.Views.{level}

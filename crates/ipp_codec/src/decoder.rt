@@ -2,7 +2,6 @@
 ghost use Rattle.std.specs.Prelude.{◌≡◌, ◌<◌, ◌≤◌, ◌+◌, ◌++◌, ◌↔◌, ℕ, [], List, IfOk, IfSome, IsSome, IsTrue, None, OnOk, OnErr, ◌-◌, ◌^◌, length, take, drop};
 ghost use Rattle.ipp_codec.specs.Message.{IppMessage};
 ghost use Rattle.ipp_codec.specs.Grammar.{Spells};
-ghost use Rattle.ipp_codec.specs.Reading.{WalksFrom};
 ghost use Rattle.ipp_codec.specs.Decoding.{Decodes};
 ghost use Rattle.ipp_codec.specs.Decoder.{DecoderState, HasDecoded, TakesIn, Feeds, CanReach, MayCome, reached_of, returned, answer_at, with_header, settled, stage_at, kept_of};
 ghost use Rattle.ipp_codec.specs.Views.{message_shown};

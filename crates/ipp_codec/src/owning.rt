@@ -1,5 +1,5 @@
 //! Owned copies of views.
-ghost use Rattle.std.specs.Prelude.{◌≡◌, ◌<◌, length, IfOk};
+ghost use Rattle.std.specs.Prelude.{◌≡◌, ◌<◌, IfOk};
 ghost use Rattle.ipp_codec.specs.Message.{members_in};
 ghost use Rattle.ipp_codec.specs.Owned.{value_owned, values_owned, members_owned};
 ghost use Rattle.ipp_codec.specs.Views.{level, value_shown, attribute_shown, group_shown, message_shown};

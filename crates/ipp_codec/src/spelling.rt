@@ -1,5 +1,5 @@
 //! Messages as bytes.
-ghost use Rattle.std.specs.Prelude.{◌≡◌, ◌^◌, ◌<◌, ◌++◌, length, OnOk, OnErr, IsErrOf, IsTrue, ◌↔◌, [], ◌∷◌};
+ghost use Rattle.std.specs.Prelude.{◌≡◌, ◌<◌, ◌++◌, length, OnOk, OnErr, IsErrOf, IsTrue, ◌↔◌, [], ◌∷◌};
 ghost use Rattle.std.specs.List.{AllByRecursion};
 ghost use Rattle.base_types.specs.declared.limits.TheConstants.Limits.{COLLECTION_DEPTH};
 ghost use Rattle.ipp_codec.specs.Message.{values_of, members_of};

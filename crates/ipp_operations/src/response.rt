@@ -1,7 +1,7 @@
 //! Responses as bytes.
-ghost use Rattle.std.specs.Prelude.{◌≡◌, ◌∷◌, IfOk};
+ghost use Rattle.std.specs.Prelude.{◌≡◌, IfOk};
 ghost use Rattle.ipp_codec.specs.Grammar.{IsMessage};
-ghost use Rattle.ipp_operations.specs.Reply.{opening_group, tells_unsupported, unsupported_of, message_of, IsReply};
+ghost use Rattle.ipp_operations.specs.Reply.{opening_group, tells_unsupported, message_of, IsReply};
 
 use events::{IppResponse, Status};
 use ipp_codec::{

@@ -1,5 +1,5 @@
 //! The values of fields.
-ghost use Rattle.std.specs.Prelude.{◌≤◌, ◌<◌, ◌^◌, ◌-◌, IfSome, length};
+ghost use Rattle.std.specs.Prelude.{◌≤◌, ◌<◌, ◌^◌, ◌-◌, IfSome};
 
 use base_types::Finishings;
 use printer_objects::Finishing;

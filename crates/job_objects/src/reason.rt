@@ -1,5 +1,5 @@
 //! The reasons of a job's state (RFC 8011, section 5.3.8).
-ghost use Rattle.std.specs.Prelude.{◌≡◌, if◌then◌else◌};
+ghost use Rattle.std.specs.Prelude.{◌≡◌};
 ghost use Rattle.job_objects.specs.Reasons.{keyword_of, reasons_of, held_reasons, pending_reason, waiting_reasons, canceled_reason};
 
 use crate::job::{Canceler, Job};

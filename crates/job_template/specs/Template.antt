@@ -1,5 +1,5 @@
 -- The attributes of a request's job group that a printer supports, and the template of the job (RFC 8011, section 5.2).
-use Rattle.std.specs.Prelude.{ℕ, ◌==◌, ◌||◌, nat_lt, Bool, true, false, if◌then◌else◌, List, [], ◌∷◌, find, Option, Some, None, is_some, option_map, unwrap_or}
+use Rattle.std.specs.Prelude.{ℕ, ◌==◌, ◌||◌, nat_lt, Bool, false, if◌then◌else◌, List, [], ◌∷◌, find, Option, Some, None, is_some, option_map, unwrap_or}
 use Rattle.std.specs.Option.{option_and_then, option_map_or}
 use Rattle.std.specs.Str.{bytes_eq}
 use Rattle.base_types.specs.declared.limits.TheConstants.Limits.{COPIES, HIGHEST_PRIORITY, DEFAULT_PRIORITY}

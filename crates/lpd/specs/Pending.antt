@@ -1,5 +1,5 @@
 -- The files that an LPD client has sent, and the jobs among them (RFC 1179, sections 6 and 7).
-use Rattle.std.specs.Prelude.{ℕ, ◌+◌, ◌==◌, ◌||◌, not, nat_lt, nat_le, Bool, if◌then◌else◌, List, [], ◌∷◌, ◌++◌, length, count_by, filter, find, map, remove, codes, Option, Some, None, slice_get, slice_set}
+use Rattle.std.specs.Prelude.{ℕ, ◌+◌, ◌||◌, not, nat_lt, nat_le, Bool, if◌then◌else◌, List, [], ◌∷◌, ◌++◌, length, count_by, filter, find, map, remove, codes, Option, slice_get, slice_set}
 use Rattle.std.specs.List.{list_any, list_all, position}
 use Rattle.std.specs.Option.{option_map_or}
 use Rattle.std.specs.Str.{bytes_eq}

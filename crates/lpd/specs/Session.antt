@@ -1,5 +1,5 @@
 -- An LPD session (RFC 1179, sections 5 and 6), and the change that each item makes of it.
-use Rattle.std.specs.Prelude.{ℕ, ◌≡◌, not, Bool, true, false, List, Option, Some, None, Result, Ok, Err, slice_get}
+use Rattle.std.specs.Prelude.{ℕ, not, Bool, true, false, List, Option, Some, None, Result, Ok, Err, slice_get}
 use Rattle.std.specs.Option.{option_and_then}
 use Rattle.lpd.specs.declared.item.FileHead.{FileHead}
 use Rattle.lpd.specs.declared.item.FileKind.{FileKind}
@@ -7,7 +7,7 @@ use Rattle.lpd.specs.declared.item.FileKind.TheVariants as Kind
 use Rattle.lpd.specs.declared.control.ControlFault.{ControlFault}
 use Rattle.lpd.specs.Control.{ControlRecord, control_in}
 use Rattle.octets.specs.Document.{DocumentRecord}
-use Rattle.lpd.specs.Pending.{PendingRecord, JobFileRecord, no_files, with_file, with_control, is_too_much, first_complete, documents_of, without}
+use Rattle.lpd.specs.Pending.{PendingRecord, JobFileRecord, no_files, with_file, with_control, is_too_much, documents_of, without}
 
 -- the files that are received for a queue, and the file that was announced, if it hasn't come
 pub record SessionState : Type 0 where

@@ -1,9 +1,8 @@
 //! Commands and subcommands of LPD (RFC 1179, sections 5 and 6).
 ghost use Rattle.std.specs.Prelude.{◌≡◌, IfOk, MatchOption, ◌-◌, ◌^◌, map, min, true, false};
 ghost use Rattle.std.specs.Str.Parse.{digits_value};
-ghost use Rattle.lpd.specs.Items.{command_record, item_record, told};
-ghost use Rattle.text.specs.Parts.{words_of};
-ghost use Rattle.lpd.specs.Command.{command_of, command_line, subcommand_of, subcommand_line, announced, is_count, removal, most_bytes};
+ghost use Rattle.lpd.specs.Items.{command_record, told};
+ghost use Rattle.lpd.specs.Command.{command_line, subcommand_line, announced, is_count, removal, most_bytes};
 
 use crate::fault::LpdFault;
 use crate::file_name::is_file_name;

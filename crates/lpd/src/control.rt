@@ -1,5 +1,5 @@
 //! The control files of jobs (RFC 1179, section 7).
-ghost use Rattle.std.specs.Prelude.{◌≡◌, ◌++◌, IfOk, OnOk, OnErr, Some, map};
+ghost use Rattle.std.specs.Prelude.{◌≡◌, OnOk, Some, map};
 ghost use Rattle.std.specs.Option.{option_or};
 ghost use Rattle.lpd.specs.Control.{before, alone, nothing, joined, whole, control_in};
 ghost use Rattle.lpd.specs.ControlLine.{line_record, Gives};

@@ -2,7 +2,6 @@
 ghost use Rattle.std.specs.Prelude.{◌≡◌, ◌++◌, All, Contains, OnOk, codes};
 ghost use Rattle.std.specs.Fmt.{decimal};
 ghost use Rattle.plan_prices.specs.Prices.{IsProved};
-ghost use Rattle.plan_text.specs.NamedPlan.{name_at};
 ghost use Rattle.plan_audit.specs.Check.{start_line, job_start, job_starts, plan_starts};
 
 use base_types::{DeviceId, JobId, Text};

@@ -1,6 +1,6 @@
 //! Days that are planned at each event.
 
-use crate::day::{Course, Day};
+use crate::day::Day;
 use anyhow::{Error, bail};
 use plan_checker::{Verdict, check_class};
 use plan_prices::{Planner, PricedWay, each_able};

@@ -1,5 +1,5 @@
 //! The checks of a class against the other classes of its plan.
-ghost use Rattle.std.specs.Prelude.{◌≡◌, ◌↔◌, All, IsTrue};
+ghost use Rattle.std.specs.Prelude.{◌≡◌, ◌↔◌, IsTrue};
 ghost use Rattle.plan_prices.specs.Way.{IsWay};
 ghost use Rattle.plan_prices.specs.Waits.{waits_after};
 ghost use Rattle.plan_checker.specs.Beside.{AboveHaveWays, NoneElsewhere, NotAbove, NotStranded, WaitsFollow};

@@ -1,5 +1,4 @@
 //! A law of verdicts, as the contract of a function that does nothing.
-ghost use Rattle.std.specs.Prelude.{◌≡◌};
 ghost use Rattle.plan_checker.specs.Plan.{IsPlanVerdict, IsProvedPlan};
 
 use crate::verdict::PlanVerdict;

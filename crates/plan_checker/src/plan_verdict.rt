@@ -1,5 +1,5 @@
 //! The verdict on a plan.
-ghost use Rattle.std.specs.Prelude.{◌≡◌, ◌↔◌, ◌≤◌, All, IsTrue, List, length};
+ghost use Rattle.std.specs.Prelude.{◌≡◌, ◌↔◌, ◌≤◌, All, IsTrue, List};
 ghost use Rattle.plan_prices.specs.Total.{IsBest, total_of};
 ghost use Rattle.plan_prices.specs.Timetable.{Slot, IsTimetable, slots_total};
 ghost use Rattle.plan_prices.specs.Plan.{HasOneListEach};

@@ -1,5 +1,5 @@
 //! The tests of the parts of a way's definition.
-ghost use Rattle.std.specs.Prelude.{◌≡◌, ◌↔◌, ◌==◌, ◌<◌, ◌≤◌, All, IsSome, IsTrue, count_by, length};
+ghost use Rattle.std.specs.Prelude.{◌≡◌, ◌↔◌, ◌==◌, ◌<◌, All, IsSome, IsTrue, length};
 ghost use Rattle.plan_problem.specs.Class.{place_of, time_in};
 ghost use Rattle.plan_prices.specs.Way.{IsWay, NamesKnown, NoneTwice, AllNamed, AllAble, times_named as times_in};
 

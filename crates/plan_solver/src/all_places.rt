@@ -1,9 +1,9 @@
 //! The planner that searches all places of each device. It is slow, and is for comparison.
-ghost use Rattle.std.specs.Prelude.{◌≡◌, ◌≢◌, ℕ, ◌+◌, ◌<◌, ◌≤◌, ◌⊎◌, ◌∷◌, [], ◌++◌, ◌^◌, All, Contains, IfOk, OnOk, length, vec_len, slice_index_or};
+ghost use Rattle.std.specs.Prelude.{◌≡◌, ◌≢◌, ℕ, ◌+◌, ◌<◌, ◌≤◌, ◌⊎◌, ◌∷◌, [], ◌++◌, ◌^◌, All, Contains, IfOk, OnOk, vec_len};
 ghost use Rattle.std.specs.List.{range_with_len};
 ghost use Rattle.std.specs.List.Sorted.{IsPermutation};
 ghost use Rattle.plan_solver.specs.declared.costs.Place.{Place};
-ghost use Rattle.plan_solver.specs.Costs.{cost_of, nowhere};
+ghost use Rattle.plan_solver.specs.Costs.{cost_of};
 ghost use Rattle.plan_solver.specs.Matching.{IsFairlyMatched};
 ghost use Rattle.plan_solver.specs.DeviceColumns.{AreByDevice};
 ghost use Rattle.plan_solver.specs.Layout.{IsFilled, IsLaid};

@@ -1,6 +1,6 @@
 //! The cost of a job at a place from the end of a device's list.
 ghost use Rattle.std.specs.Prelude.{◌≡◌, ◌+◌, ◌*◌, ◌≤◌, min, slice_index_or, suc};
-ghost use Rattle.plan_solver.specs.Costs.{cost_at, cost_of, row_of};
+ghost use Rattle.plan_solver.specs.Costs.{cost_at, row_of};
 
 use base_types::Limits;
 use std::marker::Model;

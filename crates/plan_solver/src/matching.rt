@@ -8,7 +8,7 @@ ghost use Rattle.std.specs.Prelude.{◌≡◌, ◌≢◌, ℕ, ◌+◌, ◌-◌,
 ghost use Rattle.std.specs.List.Sorted.{IsPermutation};
 ghost use Rattle.plan_solver.specs.Costs.{cost_of, nowhere};
 ghost use Rattle.plan_solver.specs.DeviceColumns.{AreByDevice};
-ghost use Rattle.plan_solver.specs.Matching.{AreMoved, HasRoom, IsFair, IsFairlyMatched};
+ghost use Rattle.plan_solver.specs.Matching.{AreMoved, HasRoom, IsFairlyMatched};
 ghost use Rattle.plan_solver.specs.Search.{IsSized};
 
 use crate::costs::{Costs, Place, UNABLE, cost};

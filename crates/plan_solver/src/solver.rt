@@ -1,11 +1,11 @@
 //! The planner that searches the places up to the next free place of each device.
-ghost use Rattle.std.specs.Prelude.{◌≡◌, ℕ, ◌<◌, [], ◌∷◌, ◌++◌, IfOk, OnOk, length, vec_len, slice_index_or, slice_set};
+ghost use Rattle.std.specs.Prelude.{◌≡◌, ◌<◌, [], ◌∷◌, ◌++◌, IfOk, OnOk, length, vec_len};
 ghost use Rattle.std.specs.List.{range_with_len};
 ghost use Rattle.std.specs.List.Sorted.{IsPermutation};
-ghost use Rattle.plan_solver.specs.Costs.{cost_of, nowhere};
+ghost use Rattle.plan_solver.specs.Costs.{cost_of};
 ghost use Rattle.plan_solver.specs.Matching.{HasRoom, IsFairlyMatched};
 ghost use Rattle.plan_solver.specs.DeviceColumns.{AreByDevice};
-ghost use Rattle.plan_solver.specs.Layout.{IsFilled, IsLaid, ShowsNext, place_before};
+ghost use Rattle.plan_solver.specs.Layout.{IsFilled, IsLaid, ShowsNext};
 
 use crate::begun::{Begun, begin_by};
 use crate::costs::{Costs, Place};

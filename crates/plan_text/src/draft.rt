@@ -1,10 +1,8 @@
 //! The state of a reader of a plan's text.
-ghost use Rattle.std.specs.Prelude.{◌≡◌, ◌==◌, ◌&&◌, ◌≤◌, length, nat_lt, slice_index_or};
-ghost use Rattle.std.specs.Str.{bytes_eq};
+ghost use Rattle.std.specs.Prelude.{◌≡◌, ◌==◌, ◌&&◌};
 ghost use Rattle.plan_problem.specs.Class.{IsClass};
 ghost use Rattle.plan_text.specs.Line.{said_by};
-ghost use Rattle.plan_text.specs.Steps.{Leaves, draft_record, opened_of, opened_at, problem_of, is_problem, is_named, may_have, next, plan_next, device_next, closed, opened_kept, class_opened, class_next, job_next, wait_next, way_next, total_next, job_prices_next, place_prices_next, classes_over, stranded_added, stranded_next, end_next};
-ghost use Rattle.plan_text.specs.Whole.{nothing_heard};
+ghost use Rattle.plan_text.specs.Steps.{Leaves, draft_record, opened_of, problem_of, is_named, may_have, next, plan_next, device_next, closed, opened_kept, class_opened, class_next, job_next, wait_next, way_next, total_next, job_prices_next, place_prices_next, classes_over, stranded_added, stranded_next, end_next};
 
 use crate::fault::{ReadError, TextFault};
 use crate::line::Line;

@@ -1,7 +1,5 @@
 //! Numbers and prices as words.
 ghost use Rattle.std.specs.Prelude.{◌≡◌, ◌==◌, ◌<◌, ◌≤◌, ◌^◌, ◌+◌, IfOk};
-ghost use Rattle.std.specs.Str.{bytes_eq};
-ghost use Rattle.base_types.specs.Ranges.{IsJobId};
 ghost use Rattle.text.specs.Digits.{is_number};
 ghost use Rattle.plan_text.specs.Word.{number_at, is_dash, is_entry, entry_at, has_minus, is_price, price_at, cause_at};
 

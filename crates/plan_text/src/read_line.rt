@@ -1,6 +1,5 @@
 //! The content of a line.
 ghost use Rattle.std.specs.Prelude.{◌≡◌, map};
-ghost use Rattle.std.specs.Str.{bytes_eq};
 ghost use Rattle.plan_text.specs.Reading.{Gives};
 ghost use Rattle.plan_text.specs.Line.{said_by, alone_at, device_at, class_at, job_at, wait_at, way_at, total_at, job_prices_at, place_prices_at, stranded_at, line_of, line_at};
 

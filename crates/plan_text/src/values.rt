@@ -1,5 +1,5 @@
 //! The numbers of a line.
-ghost use Rattle.std.specs.Prelude.{◌≡◌, ◌<◌, ◌≤◌, ◌^◌, map};
+ghost use Rattle.std.specs.Prelude.{◌≡◌, ◌<◌, map};
 ghost use Rattle.std.specs.List.{list_all};
 ghost use Rattle.plan_text.specs.Reading.{Gives};
 ghost use Rattle.text.specs.Digits.{is_number};

@@ -1,6 +1,6 @@
 //! The writer of a plan's text.
-ghost use Rattle.std.specs.Prelude.{◌≡◌, ◌++◌, IfOk, OnOk, OnErr, codes, length, map};
-ghost use Rattle.plan_text.specs.Line.{SaysPlan, SaysDevice, SaysClass, SaysJob, SaysWait, SaysWay, SaysTotal, SaysJobPrices, SaysPlacePrices, SaysStranded, SaysEnd};
+ghost use Rattle.std.specs.Prelude.{◌≡◌, ◌++◌, IfOk, OnOk, OnErr, length};
+ghost use Rattle.plan_text.specs.Line.{SaysDevice, SaysClass, SaysJob, SaysWait, SaysWay, SaysTotal, SaysJobPrices, SaysPlacePrices, SaysStranded};
 ghost use Rattle.plan_text.specs.Writing.{line_text, lines_text, job_lines, way_lines, place_price_lines, device_lines, stranded_lines, class_job_lines, class_way_lines, class_price_lines, class_lines, classes_lines, plan_text};
 
 use crate::named_plan::PlanText;

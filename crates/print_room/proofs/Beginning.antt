@@ -4,7 +4,6 @@ use Rattle.std.specs.Prelude.{slice_get, option_map, IfSome}
 use Rattle.std.specs.List.{concat, list_any}
 use Rattle.std.specs.Option.{option_map_or}
 use Rattle.std.proofs.lemmas.Bool.{cases_eq, eq-eqb, ne_eqb, and_parts}
-use Rattle.std.proofs.lemmas.List.{get_or_default}
 use Rattle.std.proofs.lemmas.List.Elements.{All-head, All-tail, All-weaker, All-contains, Contains-append_left, Contains-append_right}
 use Rattle.std.proofs.lemmas.List.Sums.{sum_by-cons, sum_by-append}
 use Rattle.base_types.specs.Device.{Device}
@@ -14,7 +13,6 @@ use Rattle.job_objects.specs.Job.{JobRecord}
 use Rattle.job_objects.specs.JobState.{is_pending}
 use Rattle.job_objects.specs.declared.job_state.JobState.{JobState}
 use Rattle.job_objects.specs.declared.job_state.JobState.TheVariants.{Pending, PendingHeld, Processing, Canceled, Aborted, Completed, Stopped as Interrupted}
-use Rattle.plan_problem.specs.Class.{Class}
 use Rattle.plan_prices.specs.declared.plan.PlannedClass.{PlannedClass}
 use Rattle.plan_prices.specs.Way.{IsWay, queue_of, times_named}
 use Rattle.print_room.specs.declared.started.Started.{Started}
@@ -33,7 +31,7 @@ use Rattle.spool.specs.OnDevice.{is_on_device}
 use Rattle.spool.proofs.OnDevice.{found_map, found_other, found_with, changed_on, stay_with, marked_on, stay_map}
 use Rattle.print_room.specs.Activity.{job_on, wait_of}
 use Rattle.print_room.specs.State.{State, with_device, doing}
-use Rattle.print_room.specs.Ready.{ready_of, class_of, belongs}
+use Rattle.print_room.specs.Ready.{ready_of, belongs}
 use Rattle.print_room.specs.GoodPlan.{IsGoodPlan, waits_of}
 use Rattle.print_room.specs.DeviceJobs.{job_of, Agree, AllKeep}
 use Rattle.print_room.specs.Beginning.{is_waiting, waits_at, CanBegin, AllCanBegin}

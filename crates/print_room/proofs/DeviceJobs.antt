@@ -1,5 +1,5 @@
 -- The jobs that devices have, as devices and the spool change.
-use Rattle.std.proofs.Common.{◌≡◌, ◌⊎◌, ◌∙◌, ℕ, zero, suc, ◌<◌, length, get_or, Bool, true, false, cond, List, [], ◌∷◌, map, Option, Some, None, refl, sym, ap, subst, arith, inl, inr, true≢false}
+use Rattle.std.proofs.Common.{◌≡◌, ◌⊎◌, ◌∙◌, ℕ, zero, suc, ◌<◌, length, get_or, Bool, true, false, cond, List, [], ◌∷◌, map, Option, Some, None, refl, sym, ap, subst, arith, inl, inr}
 use Rattle.std.specs.Prelude.{slice_get}
 use Rattle.std.specs.Option.{option_map_or, option_and_then}
 use Rattle.std.proofs.lemmas.Bool.{cases_eq}
@@ -11,18 +11,16 @@ use Rattle.base_types.specs.declared.report.Report.{Report}
 use Rattle.base_types.specs.declared.report.Report.TheVariants as Says
 use Rattle.job_objects.specs.declared.device_says.DeviceSays.{DeviceSays}
 use Rattle.job_objects.specs.declared.device_says.DeviceSays.TheVariants.{Stop, Continue, Done, Fail}
-use Rattle.octets.specs.Document.{DocumentRecord}
-use Rattle.spool.specs.Spooled.{SpooledRecord, handed_out}
-use Rattle.spool.specs.Jobs.{spooled_at, documents_told}
+use Rattle.spool.specs.Spooled.{SpooledRecord}
 use Rattle.spool.specs.Kept.{jobs_told}
-use Rattle.spool.specs.OnDevice.{is_on_device, documents_at, AllStay, OthersStay}
-use Rattle.spool.proofs.OnDevice.{there, others_told, stay_told}
+use Rattle.spool.specs.OnDevice.{is_on_device, AllStay}
+use Rattle.spool.proofs.OnDevice.{others_told, stay_told}
 use Rattle.settings_file.specs.Settings.{DeviceEntry}
 use Rattle.print_room.specs.Opening.{opening_device}
 use Rattle.print_room.specs.Activity.{job_on, running_from, stopped_at, taking, idle}
-use Rattle.print_room.specs.State.{State, with_device, doing, holding}
-use Rattle.print_room.specs.Report.{has_job, said_of_job, left_of, activity_after, refitted, jobs_after, documents_out, state_after, Reports}
-use Rattle.print_room.specs.DeviceJobs.{job_of, Agree, KeepsAt, AllKeep, HandsOut, KeepsOrEnds}
+use Rattle.print_room.specs.State.{with_device}
+use Rattle.print_room.specs.Report.{has_job, said_of_job, left_of, activity_after, refitted, jobs_after}
+use Rattle.print_room.specs.DeviceJobs.{job_of, Agree}
 
 -- ---- one device changes
 

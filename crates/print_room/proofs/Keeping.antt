@@ -28,8 +28,8 @@ use Rattle.spool.proofs.OnDevice.{there, others_told, stay_told, stay_same, stay
 use Rattle.print_room.specs.Activity.{job_on}
 use Rattle.print_room.specs.State.{State, with_device}
 use Rattle.print_room.specs.Report.{said_of_job, activity_after, refitted, jobs_after, documents_out, state_after, Reports}
-use Rattle.print_room.specs.DeviceJobs.{job_of, Agree, KeepsAt, AllKeep, HandsOut, KeepsOrEnds}
-use Rattle.print_room.proofs.DeviceJobs.{Leaves, report_leaves, job_elsewhere, job_here, job_found, not_some, agree_stay}
+use Rattle.print_room.specs.DeviceJobs.{job_of, Agree, KeepsAt, AllKeep, KeepsOrEnds}
+use Rattle.print_room.proofs.DeviceJobs.{Leaves, report_leaves, job_elsewhere, job_here, job_found, agree_stay}
 
 -- the devices' jobs are the same, and those in the spool stay
 pub keep_from : (old new : State) → ((place id : ℕ) → job_of old.devices place ≡ Some id → job_of new.devices place ≡ Some id) → AllStay old.spool.jobs new.spool.jobs → Agree old.devices old.spool.jobs → AllKeep old new

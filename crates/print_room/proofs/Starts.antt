@@ -1,5 +1,5 @@
 -- The starts of jobs, device by device.
-use Rattle.std.proofs.Common.{◌≡◌, ℕ, zero, suc, ◌+◌, ◌<◌, Bool, true, false, if◌then◌else◌, List, [], ◌∷◌, ◌++◌, length, drop, get_or, Option, Some, None, is_some, option_to_list, refl, sym, ◌∙◌, ap, add-one, arith, append_assoc, All, IfSome}
+use Rattle.std.proofs.Common.{◌≡◌, ℕ, suc, ◌+◌, ◌<◌, Bool, true, false, if◌then◌else◌, List, [], ◌∷◌, ◌++◌, length, drop, get_or, Option, Some, None, is_some, option_to_list, refl, sym, ◌∙◌, ap, add-one, arith, append_assoc, All, IfSome}
 use Rattle.std.proofs.Math.Seq.{drop-cons}
 use Rattle.std.proofs.lemmas.List.Elements.{All-nil, All-cons, All-append, All-weaker}
 use Rattle.base_types.specs.Device.{Device}
@@ -8,7 +8,7 @@ use Rattle.plan_prices.specs.Way.{queue_of}
 use Rattle.print_room.specs.declared.started.Started.{Started}
 use Rattle.job_objects.specs.Job.{JobRecord}
 use Rattle.print_room.specs.GoodPlan.{is_some_job}
-use Rattle.print_room.specs.State.{State, with_device}
+use Rattle.print_room.specs.State.{State}
 use Rattle.print_room.proofs.Devices.{length_with}
 use Rattle.print_room.specs.Dispatch.{is_free, first_of, first_of_queue, or_next, starts_from, beginning, beginning_all}
 

@@ -1,5 +1,5 @@
 -- A good plan stays good while nothing that it reads changes.
-use Rattle.std.proofs.Common.{◌≡◌, ◌∙◌, ◌==◌, ◌&&◌, ℕ, zero, suc, ◌<◌, length, get_or, Bool, true, false, cond, List, [], ◌∷◌, map, filter, filter_map, Option, Some, None, not, if◌then◌else◌, refl, sym, ap, subst, true≢false, arith}
+use Rattle.std.proofs.Common.{◌≡◌, ◌∙◌, ◌==◌, ℕ, zero, suc, ◌<◌, length, get_or, Bool, true, false, cond, List, [], ◌∷◌, map, filter, filter_map, Option, Some, None, not, if◌then◌else◌, refl, sym, ap, subst, true≢false, arith}
 use Rattle.std.specs.Str.{bytes_eq}
 use Rattle.std.specs.List.{list_all, list_any, cons_option}
 use Rattle.std.proofs.lemmas.Bool.{and_parts}
@@ -19,8 +19,8 @@ use Rattle.plan_prices.specs.Waits.{waits_after}
 use Rattle.print_room.specs.declared.started.Started.{Started}
 use Rattle.print_room.specs.Activity.{wait_of}
 use Rattle.print_room.specs.State.{State, sets_of, loaded_if, with_device}
-use Rattle.print_room.specs.Ready.{belongs, class_of, ready_of, stranding, stranded_of}
-use Rattle.print_room.specs.GoodPlan.{AllPlannedBest, IsGoodPlan, IsPlannedBest, falling, is_some_job, job_of_class, priorities_of, waits_of}
+use Rattle.print_room.specs.Ready.{belongs, class_of, stranding, stranded_of}
+use Rattle.print_room.specs.GoodPlan.{AllPlannedBest, IsGoodPlan, IsPlannedBest, falling, is_some_job, job_of_class, waits_of}
 use Rattle.print_room.specs.Dispatch.{marked_state}
 use Rattle.print_room.specs.StillGood.{IsStillGood, HoldsFor, loads, waits_stay}
 

@@ -1,5 +1,5 @@
 -- The changes of jobs and printers that requests and time make.
-use Rattle.std.specs.Prelude.{ℕ, ◌≡◌, ◌+◌, Bool, false, true, List, [], ◌∷◌, ◌++◌, map, set, length, Option, None}
+use Rattle.std.specs.Prelude.{ℕ, ◌≡◌, ◌+◌, Bool, List, [], ◌∷◌, ◌++◌, map, set, length, Option, None}
 use Rattle.std.specs.List.{list_any}
 use Rattle.std.specs.Str.{bytes_eq}
 use Rattle.job_objects.specs.declared.job_change.JobChange.{JobChange}

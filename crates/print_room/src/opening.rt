@@ -1,13 +1,10 @@
 //! The room of a server that starts.
-ghost use Rattle.std.specs.Prelude.{◌≡◌, ◌≤◌, IfOk, length, map, option_map, replicate, false, slice_get};
-ghost use Rattle.std.specs.Option.{option_copied};
+ghost use Rattle.std.specs.Prelude.{◌≡◌, IfOk, map, replicate, false};
 ghost use Rattle.settings_file.specs.Settings.{MeetsLimits};
-ghost use Rattle.spool.specs.Jobs.{job_at, spooled_at};
-ghost use Rattle.print_room.specs.State.{sets_of};
 ghost use Rattle.print_room.specs.Opening.{opening, opening_device, loaded_medium};
 
 use crate::room::PrintRoom;
-use base_types::{Activity, DeviceId, DeviceNow, JobId, Medium, Moment, PrinterSet, Text};
+use base_types::{Activity, DeviceNow, JobId, Medium, Moment, PrinterSet, Text};
 use job_objects::Printer;
 use settings_file::{DeviceSettings, PrinterSettings, Settings};
 use spool::Spool;

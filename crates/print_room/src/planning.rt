@@ -1,10 +1,10 @@
 //! The plan of the ready jobs, class by class.
-ghost use Rattle.std.specs.Prelude.{◌≡◌, ◌+◌, ◌*◌, ◌≤◌, length, true, map, All, IfOk, OnOk};
+ghost use Rattle.std.specs.Prelude.{◌≡◌, ◌+◌, ◌*◌, ◌≤◌, length, map, All, IfOk, OnOk};
 ghost use Rattle.base_types.specs.declared.limits.TheConstants.Limits.{JOB_TIME, NOT_BEFORE, UNFINISHED_JOBS};
 ghost use Rattle.plan_prices.specs.Waits.{GrowsByTimes, waits_after as waits_left};
 ghost use Rattle.spool.specs.Spool.{IsSpool};
 ghost use Rattle.print_room.specs.Ready.{class_of};
-ghost use Rattle.print_room.specs.GoodPlan.{AllPlannedBest, IsGoodPlan, IsPlannedBest, is_some_job, job_of_class, priorities_of, waits_of};
+ghost use Rattle.print_room.specs.GoodPlan.{AllPlannedBest, IsGoodPlan, IsPlannedBest, job_of_class, priorities_of, waits_of};
 ghost use Rattle.print_room.specs.Gathered.{gathered_of};
 
 use crate::activity::wait_of;

@@ -1,6 +1,6 @@
 //! Single finishings and their numbers (RFC 8011, section 5.2.6).
 ghost use Rattle.std.specs.Prelude.{◌≡◌, IfOk};
-ghost use Rattle.printer_objects.specs.Attribute.{alone, enumerated};
+ghost use Rattle.printer_objects.specs.Attribute.{enumerated};
 ghost use Rattle.printer_objects.specs.Finishing.{finishing_table, finishing_code, has_finishing, with_finishing, each_finishing, finishings_attribute, finishings_supported};
 
 use crate::attribute::{enumerated, enumeration};

@@ -1,5 +1,5 @@
 //! The attributes of a job, with their values.
-ghost use Rattle.std.specs.Prelude.{◌≡◌, ◌++◌, IfOk, None, Some};
+ghost use Rattle.std.specs.Prelude.{◌≡◌, IfOk, None, Some};
 ghost use Rattle.printer_objects.specs.JobShown.{job_uri, printer_uri, k_octets, impressions_shown, job_shown, job_attributes};
 
 use crate::attribute::{enumerated, keyword, number, reasons, text, time};

@@ -32,7 +32,7 @@ use Rattle.server.specs.Enqueuing.{BreaksAt, Breaks, EnqueuesOpen, EnqueuesAt, E
 use Rattle.server.specs.Happening.{found_by, Sends, SendsAll, Starts, StartsAll, Orders, Happens}
 use Rattle.server.specs.Answering as Ans
 use Rattle.server.specs.Turn as Between
-use Rattle.server.specs.Turn.{Ticks, Notes, is_tick_due, TicksIfDue, Covers, Round, Turn, BodyAsks, BodyComes, Action, Turned, Served_body, Reported, Ticked, Trace, DoesAction, Runs}
+use Rattle.server.specs.Turn.{Turn}
 use Rattle.server.specs.Law.{core_notes}
 use Rattle.promises.proofs.Sending.{notes_append}
 use Rattle.promises.proofs.Handling.{told_notes, found_silent}

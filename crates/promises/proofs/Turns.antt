@@ -22,7 +22,7 @@ use Rattle.server.specs.Happening.{now_at, Unanswered}
 use Rattle.server.specs.Closing.{Settles}
 use Rattle.server.specs.Polling.{Opens, AcceptsAs, AcceptsOne, AcceptsAt, Acts, Serves, FedWhole, FeedsAt, FeedsOne, Fails, ReadsAs, is_read, ReadsOpen, ReadsAt, ReadsOne, WritesAs, WritesOpen, WritesAt, WritesOne, is_done, EndsAt, EndsOne}
 use Rattle.server.specs.Turn as Between
-use Rattle.server.specs.Turn.{Notes, Ticks, is_tick_due, TicksIfDue, Covers, Rounds, Round, Turn, BodyAsks, BodyComes, Action, Turned, Served_body, Reported, Ticked, Trace, DoesAction, Runs}
+use Rattle.server.specs.Turn.{Notes, Ticks, is_tick_due, TicksIfDue, Covers, Rounds, Round, Turn, BodyAsks, BodyComes, Action, Turned, Served_body, Reported, Ticked, DoesAction, Runs}
 use Rattle.promises.specs.OneLedger.{StepsOnce, SameQueries, AsksOnce, LeadsToOne}
 use Rattle.promises.proofs.Alike.{Alike, Fixed, fixed_just, fixed_nothing, fixed_polls, fixed_tells, fixed_chooses, alike_then, first_one, same_choice, apart, BeginsAs, begins_append, begins_just, Begins, begins_then, begins_chooses, begins_tells, is_choice, fixed_or, alike_if, fixed_each, times_cons, fixed_many_then}
 use Rattle.promises.proofs.Due.{fixed_sets, fixed_drops, drops_tells, fixed_breaks}

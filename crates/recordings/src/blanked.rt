@@ -1,5 +1,5 @@
 //! The bytes of a read, without the octets of documents.
-ghost use Rattle.std.specs.Prelude.{◌≡◌, ◌+◌, OnOk, OnErr, length};
+ghost use Rattle.std.specs.Prelude.{◌≡◌, ◌+◌, OnOk, length};
 
 use std::alloc::{AllocError, Global};
 use std::marker::Model;

@@ -1,5 +1,5 @@
 //! A wire that notes its calls.
-ghost use Rattle.std.specs.Prelude.{◌≡◌, ◌⊎◌, ℕ, List, Some, None, [], length, option_map, false};
+ghost use Rattle.std.specs.Prelude.{◌≡◌, ◌⊎◌, Some, None, [], length, option_map, false};
 ghost use Rattle.std.specs.Io.Slices.{io_slices_bytes};
 ghost use Rattle.wires.specs.Poll.{Accepts, Reads, Writes, Closes, bytes_read, IsCount};
 ghost use Rattle.recordings.specs.Noting.{NoteState, Notes, EndsTurn, with_note};

@@ -1,5 +1,5 @@
 //! The writers of a recording's lines.
-ghost use Rattle.std.specs.Prelude.{◌≡◌, ◌++◌, ℕ, OnOk, codes};
+ghost use Rattle.std.specs.Prelude.{◌≡◌, ◌++◌, OnOk, codes};
 ghost use Rattle.std.specs.Fmt.{decimal};
 ghost use Rattle.recordings.specs.Lines.{about, line_about, accept_line, read_line, octets_line, zeros_line, came_line, sent_line, sum_words, turn_line, entry_line};
 

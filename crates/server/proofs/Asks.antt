@@ -10,7 +10,7 @@ use Rattle.connections.specs.Asking.{AsksNext, Asking}
 use Rattle.connections.specs.Connections.{load}
 use Rattle.connections.specs.Representation.{RepresentsConnection, Becomes}
 use Rattle.connections.specs.Slots.{Slots, OnSlot, AsksAt, work_at}
-use Rattle.server.specs.Polls.{Happening, Chosen, alone}
+use Rattle.server.specs.Polls.{Chosen, alone}
 use Rattle.server.specs.Polls as As
 use Rattle.server.specs.World.{moved}
 use Rattle.server.specs.Rel.{Then}

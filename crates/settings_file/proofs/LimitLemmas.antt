@@ -14,9 +14,9 @@ use Rattle.base_types.specs.Forms.{has_length, is_name_byte, is_media_byte, is_f
 use Rattle.toml.specs.Data.{Data, Members, as_integer, as_str, as_array}
 use Rattle.toml.specs.Parse.{parse_document}
 use Rattle.base_types.specs.Ranges.{IsSetup}
-use Rattle.base_types.specs.declared.limits.TheConstants.Limits.{NAME_BYTES, MEDIA_BYTES, FORMAT_BYTES, URI_BASE_BYTES, RATE, SETUP, DEVICES, PRINTERS, LIST_ENTRIES}
+use Rattle.base_types.specs.declared.limits.TheConstants.Limits.{NAME_BYTES, MEDIA_BYTES, FORMAT_BYTES, URI_BASE_BYTES, RATE, SETUP, DEVICES, PRINTERS}
 use Rattle.settings_file.specs.declared.key.Key.{Key}
-use Rattle.settings_file.specs.declared.key.Key.TheVariants.{Version, UriBase, Operators, Device, Printer, Name, RateOne, RateTwo, Setup, Media, Formats, Finishings, Devices, MediaDefault, FormatDefault}
+use Rattle.settings_file.specs.declared.key.Key.TheVariants.{Version, UriBase, Operators, Device, Printer, Name, RateOne, RateTwo, Setup, Media, Formats, Devices, MediaDefault, FormatDefault}
 use Rattle.settings_file.specs.declared.fault.SettingsFault.{SettingsFault}
 use Rattle.settings_file.specs.Fault.{Fault, Gives}
 use Rattle.settings_file.specs.Settings.{DeviceEntry, PrinterEntry, ServerSettings, IsShort, IsDeviceEntry, IsPrinterEntry, MeetsLimits}

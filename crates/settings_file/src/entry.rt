@@ -3,7 +3,7 @@ ghost use Rattle.std.specs.Prelude.{◌≡◌, ◌≤◌, ◌<◌, [], vec_len, 
 ghost use Rattle.std.specs.List.{list_all};
 ghost use Rattle.toml.specs.View.{view, array_view, table_view};
 ghost use Rattle.settings_file.specs.Fault.{Gives, fault_of, unknown};
-ghost use Rattle.settings_file.specs.Entry.{value_at, number_in, optional_number, number, takes, is_finishing, text, item_texts, item_tables, is_among, new_texts, most_entries, list_in, optional_list, list, tables_in, tables, is_one_of, other_key};
+ghost use Rattle.settings_file.specs.Entry.{value_at, number_in, optional_number, number, takes, is_finishing, text, item_texts, item_tables, is_among, new_texts, most_entries, list_in, optional_list, list, tables, is_one_of, other_key};
 
 use crate::fault::SettingsFault;
 use crate::key::Key;

@@ -1,5 +1,5 @@
 //! The cause that no device of a core can print a job.
-ghost use Rattle.std.specs.Prelude.{◌<◌, length};
+ghost use Rattle.std.specs.Prelude.{◌<◌};
 
 use base_types::{Cause, DeviceId, DeviceNow, Needs, PrinterSet};
 use dispatcher::Core;

@@ -7,7 +7,6 @@ use crate::keepalive::probe;
 use crate::lingering::Lingerings;
 use crate::link::Link;
 use base_types::Moment;
-use mio::net::TcpStream;
 use mio::{Events, Interest, Poll, Token};
 use slab::Slab;
 use std::alloc::Global;

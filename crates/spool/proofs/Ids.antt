@@ -1,5 +1,5 @@
 -- The change of a job by each call leaves its id.
-use Rattle.std.proofs.Common.{◌≡◌, ◌==◌, ◌||◌, ◌∙◌, ℕ, Bool, true, false, cond, List, [], Option, Some, None, refl, ap, IfSome}
+use Rattle.std.proofs.Common.{◌≡◌, ◌==◌, ◌||◌, ℕ, Bool, true, false, cond, List, [], Option, Some, None, refl, IfSome}
 use Rattle.std.specs.Prelude.{unwrap_or}
 use Rattle.std.specs.List.{list_any}
 use Rattle.std.specs.Option.{option_map_or}

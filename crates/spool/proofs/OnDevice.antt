@@ -1,5 +1,5 @@
 -- A job that a device has stays there, until its device ends it.
-use Rattle.std.proofs.Common.{◌≡◌, ◌==◌, ◌&&◌, ◌∙◌, ℕ, Bool, true, false, cond, eqb, not, List, [], ◌∷◌, ◌++◌, Option, Some, None, refl, sym, ap, subst, arith, map, filter, true≢false, inl, inr, ◌⊎◌, ◌||◌}
+use Rattle.std.proofs.Common.{◌≡◌, ◌==◌, ◌&&◌, ◌∙◌, ℕ, Bool, true, false, cond, eqb, not, List, [], ◌∷◌, ◌++◌, Option, Some, None, refl, sym, ap, subst, map, filter, true≢false, inl, inr, ◌||◌}
 use Rattle.std.specs.Prelude.{option_map, nat_lt}
 use Rattle.base_types.specs.declared.limits.TheConstants.Limits.{FINISHED_JOBS_KEPT}
 use Rattle.std.specs.List.{list_any}
@@ -14,12 +14,12 @@ use Rattle.job_objects.specs.DeviceSays.{change_of, is_end}
 use Rattle.job_objects.specs.Job.{JobRecord}
 use Rattle.job_objects.specs.JobStep.{job_after}
 use Rattle.octets.specs.Document.{DocumentRecord}
-use Rattle.spool.specs.Spooled.{SpooledRecord, is_settled, settled, on_device_after, changed, let_go, told, is_overdue, expired, marked}
+use Rattle.spool.specs.Spooled.{SpooledRecord, settled, on_device_after, changed, let_go, told, is_overdue, expired, marked}
 use Rattle.spool.specs.Jobs.{spooled_at, with_job}
 use Rattle.spool.specs.Kept.{is_kept, later_jobs, retained, jobs_told}
 use Rattle.spool.specs.Calls.{is_ready, marked_by}
 use Rattle.spool.proofs.Ids.{KeepsId, either, changed_id, told_id, expired_id, marked_id}
-use Rattle.spool.specs.OnDevice.{is_on_device, documents_at, Stays, AllStay, OthersStay}
+use Rattle.spool.specs.OnDevice.{is_on_device, Stays, AllStay, OthersStay}
 
 -- ---- the job of an id in a changed list
 

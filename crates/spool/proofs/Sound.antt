@@ -1,10 +1,10 @@
 -- The change of a job by each call leaves it sound.
-use Rattle.std.proofs.Common.{◌≡◌, ◌==◌, ◌||◌, ◌∙◌, ℕ, zero, suc, Bool, true, false, cond, eqb, List, [], ◌∷◌, ◌++◌, Option, Some, None, refl, sym, ap, subst, arith, remove, slice_get, length, All, IfSome, true≢false}
+use Rattle.std.proofs.Common.{◌≡◌, ◌==◌, ◌||◌, ◌∙◌, ℕ, zero, suc, Bool, true, false, cond, eqb, List, [], ◌∷◌, ◌++◌, Option, Some, None, refl, sym, ap, subst, remove, slice_get, All, IfSome, true≢false}
 use Rattle.std.specs.Prelude.{nat_eq, unwrap_or}
 use Rattle.std.specs.List.{list_any}
 use Rattle.std.specs.Map.{lookup, set_value}
 use Rattle.std.specs.Option.{option_map_or}
-use Rattle.std.proofs.lemmas.List.Elements.{All-nil, All-cons, All-head, All-tail, All-push}
+use Rattle.std.proofs.lemmas.List.Elements.{All-cons, All-head, All-tail, All-push}
 use Rattle.indexmap.specs.IndexMap.{insert_entry, set_value_at}
 use Rattle.base_types.specs.declared.needs.Stranded.{Stranded}
 use Rattle.job_objects.specs.declared.job_state.JobState.{JobState}
@@ -18,7 +18,7 @@ use Rattle.job_objects.specs.JobStep.{waiting, moved, ended, changed_from, job_a
 use Rattle.octets.specs.Document.{DocumentRecord}
 use Rattle.spool.specs.Submission.{Submission, spooled_of}
 use Rattle.spool.specs.Spooled.{SpooledRecord, is_settled, settled, on_device_after, changed, let_go, told, attached, is_overdue, expired, marked}
-use Rattle.spool.specs.Jobs.{SpoolRecord, Keyed, jobs_of, spooled_at, with_job, map_at}
+use Rattle.spool.specs.Jobs.{Keyed, jobs_of, spooled_at, with_job, map_at}
 use Rattle.spool.specs.Calls.{is_ready, marked_by}
 use Rattle.spool.specs.Sound.{FitsState, IsSound}
 use Rattle.spool.proofs.Ids.{either}

@@ -1,5 +1,5 @@
 //! The calls that show, hold, release and cancel jobs.
-ghost use Rattle.std.specs.Prelude.{◌≡◌, OnOk, OnErr, IfErr, IfOk, None, Some, false, option_map};
+ghost use Rattle.std.specs.Prelude.{◌≡◌, OnOk, OnErr, IfErr, None, Some, false, option_map};
 ghost use Rattle.std.specs.Option.{option_copied, option_map_or};
 ghost use Rattle.job_objects.specs.JobState.{is_finished};
 ghost use Rattle.job_objects.specs.declared.job_change.JobChange.{JobChange};

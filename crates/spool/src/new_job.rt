@@ -1,5 +1,5 @@
 //! A submitted job, before it has an id.
-ghost use Rattle.std.specs.Prelude.{◌≡◌, ◌≤◌, ◌<◌, IfOk, IfSome, IfNone, length, map, if◌then◌else◌};
+ghost use Rattle.std.specs.Prelude.{◌≡◌, ◌≤◌, ◌<◌, IfOk, IfSome, IfNone, length, map};
 ghost use Rattle.octets.specs.Document.{octets_of};
 ghost use Rattle.spool.specs.Submission.{spooled_of};
 

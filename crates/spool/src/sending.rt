@@ -1,8 +1,7 @@
 //! The documents that are added after their job was made.
-ghost use Rattle.std.specs.Prelude.{◌≡◌, ◌<◌, OnOk, OnErr, IfOk, IfErr, IfSome, None, Some, false, length};
+ghost use Rattle.std.specs.Prelude.{◌≡◌, ◌<◌, OnOk, OnErr, IfErr, None, Some, false, length};
 ghost use Rattle.job_objects.specs.declared.job_change.JobChange.TheVariants as Change;
-ghost use Rattle.spool.specs.Spooled.{attached, changed};
-ghost use Rattle.spool.specs.Jobs.{spooled_at, with_job};
+ghost use Rattle.spool.specs.Jobs.{spooled_at};
 ghost use Rattle.spool.specs.Calls.{IsRefusal, adds, is_too_large, taking_refusal, document_refusal, with_document, closed_if};
 ghost use Rattle.spool.specs.OnDevice.{is_on_device, AllStay};
 

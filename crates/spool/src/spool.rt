@@ -1,5 +1,5 @@
 //! The spool and the changes of one job.
-ghost use Rattle.std.specs.Prelude.{◌≡◌, ◌≤◌, ◌<◌, ◌+◌, ◌∷◌, ◌++◌, [], Bool, List, suc, false, OnOk, OnErr, IfErr, IfSome, IfNone, length, map, remove, slice_get, is_ok};
+ghost use Rattle.std.specs.Prelude.{◌≡◌, ◌≤◌, ◌<◌, ◌+◌, ◌∷◌, ◌++◌, [], Bool, List, suc, false, OnOk, OnErr, IfErr, IfSome, IfNone, length, map, remove, is_ok};
 ghost use Rattle.std.specs.Option.{option_copied};
 ghost use Rattle.spool.specs.Spooled.{changed, told, attached, expired};
 ghost use Rattle.base_types.specs.declared.limits.TheConstants.Limits.{LAST_JOB_ID, UNFINISHED_JOBS, JOB_DOCUMENTS, JOB_OCTETS};

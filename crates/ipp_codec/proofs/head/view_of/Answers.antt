@@ -1,4 +1,4 @@
-use Rattle.std.proofs.Common.{◌≡◌, ◌-◌, List, ℕ, length, take, drop, refl, ap, arith}
+use Rattle.std.proofs.Common.{◌≡◌, ◌-◌, ℕ, length, take, drop, ap, arith}
 use Rattle.ipp_codec.proofs.Viewing.{view_shown}
 use Rattle.ipp_codec.proofs.head.view_of.Goals as goal
 

@@ -1,4 +1,4 @@
-use Rattle.std.proofs.Common.{refl, rules}
+use Rattle.std.proofs.Common.{refl}
 use Rattle.traces.proofs.Forms.{uncut_opening, unnumbered_opening, unnamed_opening}
 use Rattle.traces.proofs.line.read_opening.Goals as goal
 

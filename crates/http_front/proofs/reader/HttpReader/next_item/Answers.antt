@@ -1,4 +1,4 @@
-use Rattle.std.proofs.Common.{subst, sym, refl, arith, ◌≡◌, ◌∙◌, ◌<◌, ◌≤◌, []}
+use Rattle.std.proofs.Common.{subst, sym, refl, arith, ◌≡◌, ◌∙◌, []}
 use Rattle.std.proofs.lemmas.List.{append-nil}
 use Rattle.http_front.specs.declared.reader.Step.TheVariants as step
 use Rattle.http_front.specs.declared.awaited.Awaited.TheVariants as await

@@ -1,4 +1,4 @@
-use Rattle.std.proofs.Common.{rules, ◌≡◌, ◌≢◌, ◌<◌, ◌≤◌, ◌+◌, sym, ◌∙◌, subst, length, take, drop, slice_index_or, Some, None, Ok}
+use Rattle.std.proofs.Common.{rules, ◌≡◌, ◌≢◌, ◌<◌, ◌≤◌, ◌+◌, sym, subst, length, take, drop, slice_index_or, Some, None, Ok}
 use Rattle.lpd.specs.declared.item.LpdItem.TheVariants as item
 use Rattle.lpd.specs.declared.reader.Awaited.TheVariants.{Subcommand}
 use Rattle.lpd.specs.Stream.{LpdState, Answers}

@@ -1,4 +1,4 @@
-use Rattle.std.proofs.Common.{◌≡◌, ◌+◌, ◌<◌, ◌∙◌, ℕ, List, Some, true, length, sym, ap, subst}
+use Rattle.std.proofs.Common.{◌≡◌, ◌+◌, ◌<◌, ℕ, List, Some, true, length, sym, ap, subst}
 use Rattle.base_types.specs.Device.{Device}
 use Rattle.base_types.specs.declared.device.Activity.TheVariants.{Running}
 use Rattle.job_objects.specs.declared.job_change.JobChange.TheVariants.{Begin}

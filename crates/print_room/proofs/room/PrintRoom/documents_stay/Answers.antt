@@ -1,4 +1,4 @@
-use Rattle.std.proofs.Common.{ap, refl, subst, sym}
+use Rattle.std.proofs.Common.{refl, subst}
 use Rattle.spool.specs.Jobs.{SpoolRecord}
 use Rattle.spool.specs.Spool.{IsSpool}
 use Rattle.print_room.specs.State.{State}

@@ -1,4 +1,4 @@
-use Rattle.std.proofs.Common.{◌≡◌, ◌∙◌, ℕ, true, Option, Some, sym, subst}
+use Rattle.std.proofs.Common.{◌∙◌, ℕ, Option, Some, sym, subst}
 use Rattle.print_room.specs.State.{State}
 use Rattle.print_room.specs.StillGood.{HoldsFor, IsStillGood, waits_stay}
 use Rattle.print_room.proofs.StillGood.{good_at}

@@ -1,8 +1,7 @@
 use Rattle.std.proofs.Common.{◌≡◌, ◌∙◌, List, length, refl, ap}
 use Rattle.base_types.specs.Device.{Device}
 use Rattle.print_room.specs.State.{State, with_device, doing, free_from}
-use Rattle.print_room.specs.Report.{refitted}
-use Rattle.print_room.proofs.Devices.{length_with, other_report, twice_changed}
+use Rattle.print_room.proofs.Devices.{length_with, twice_changed}
 use Rattle.print_room.proofs.room.PrintRoom.refit.Goals as goal
 
 pub update_free_from-requires-in-Gone-clause-inside : goal.update_free_from-requires-in-Gone-clause-inside

@@ -1,4 +1,4 @@
-use Rattle.std.proofs.Common.{◌≡◌, ◌∙◌, ℕ, List, [], Option, Some, refl, sym, ap, subst}
+use Rattle.std.proofs.Common.{◌≡◌, ◌∙◌, List, [], Option, Some, refl, sym, ap, subst}
 use Rattle.std.specs.Prelude.{slice_get, MatchOption}
 use Rattle.base_types.specs.Device.{Device}
 use Rattle.print_room.specs.Activity.{job_on}

@@ -1,6 +1,5 @@
 use Rattle.std.proofs.Common.{◌≡◌, ◌∙◌, List, [], Some, sym, ap, subst, arith, rules}
 use Rattle.plan_prices.specs.Plan.{PlanRecord}
-use Rattle.spool.specs.Jobs.{SpoolRecord}
 use Rattle.spool.specs.Spool.{IsSpool}
 use Rattle.print_room.specs.declared.started.Started.{Started}
 use Rattle.print_room.specs.State.{State}

@@ -1,4 +1,4 @@
-use Rattle.std.proofs.Common.{◌≡◌, ◌∙◌, ◌<◌, List, length, get_or, refl, sym, ap, subst}
+use Rattle.std.proofs.Common.{◌≡◌, ◌<◌, List, length, get_or, refl, sym, ap, subst}
 use Rattle.base_types.specs.Device.{Device}
 use Rattle.print_room.specs.State.{State, doing}
 use Rattle.print_room.proofs.StillGood.{with_same}

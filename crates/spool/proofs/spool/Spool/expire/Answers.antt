@@ -1,4 +1,4 @@
-use Rattle.std.proofs.Common.{sym, subst, map}
+use Rattle.std.proofs.Common.{sym, subst}
 use Rattle.spool.specs.Spooled.{expired}
 use Rattle.spool.specs.Jobs.{SpoolRecord}
 use Rattle.spool.specs.OnDevice.{AllStay}
