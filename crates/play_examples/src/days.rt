@@ -3,9 +3,8 @@
 
 use gantt_chart::Form;
 use job_lists::{ListedJob, read_list};
-use recorded_days::{draw_day, listed_jobs, read_day};
+use played_days::{Noise, Question, Watch, draw_day, listed_jobs, read_day, run_simulation};
 use settings_file::{Settings, read_settings_bytes};
-use simulation::{Noise, Question, Watch, run_simulation};
 use std::alloc::Global;
 
 /// A day that is simulated: a file with settings, one with a list of jobs or a trace, and one with the

@@ -7,8 +7,8 @@ use crate::settings::read_file;
 use gantt_chart::Form;
 use plan_drawing::run_draw;
 use playback::{Written, as_written};
+use played_days::{DayFault, draw_day};
 use program::ExitStatus;
-use recorded_days::{DayFault, draw_day};
 use std::io;
 
 /// The form of a picture: for a terminal if `text` is set, else SVG.

@@ -6,10 +6,11 @@ use crate::failure::{cannot, out_of_memory, say, write_text};
 use crate::settings::{read_file, settings_of};
 use command_line::Simulating;
 use job_lists::{ListError, ListedJob, read_list};
+use played_days::{
+    Added, DayFault, Drawn, Noise, Policy, Question, Watch, listed_jobs, read_day, run_simulation,
+};
 use program::ExitStatus;
-use recorded_days::{DayFault, listed_jobs, read_day};
 use settings_file::Settings;
-use simulation::{Added, Drawn, FleetFault, Noise, Policy, Question, Watch, run_simulation};
 use std::alloc::AllocError;
 use std::fs;
 use std::os::unix::fs::FileTypeExt;
@@ -100,17 +101,6 @@ fn refuse_list(rt: &HostRuntime, file: &str, error: &ListError) -> ExitStatus {
     }
 }
 
-/// Reports why no job is played, and returns the exit status.
-fn refuse(rt: &HostRuntime, fault: &FleetFault) -> ExitStatus {
-    match fault {
-        FleetFault::OutOfMemory => cannot(rt, PLAY, out_of_memory()),
-        _ => {
-            say(rt, fault);
-            ExitStatus::Refused
-        }
-    }
-}
-
 /// The jobs of a trace, for some settings.
 fn jobs_of_trace(
     rt: &HostRuntime,
@@ -161,7 +151,7 @@ fn played(
     let mut progress = Progress::new(rt);
     let played = run_simulation(rt.alloc(), settings, jobs, question, &mut progress);
     progress.end();
-    played.map_err(|fault| refuse(rt, &fault))
+    played.map_err(|fault| refuse_day(rt, PLAY, &fault))
 }
 
 /// Runs `printd simulate`: plays the jobs of a list. An error is reported, and its exit status returned.

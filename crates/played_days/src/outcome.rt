@@ -1,11 +1,12 @@
 //! The outcomes of a day.
 
 use crate::day::Day;
-use crate::floor::{Print, Watch, play};
+use crate::floor::{Watch, play};
 use crate::planned::Planned;
 use crate::policy::Policy;
 use crate::queue::Queue;
 use dispatcher::Core;
+use gantt_chart::Print;
 use job_lists::ListedJob;
 use plan_solver::AugmentingPaths;
 use std::alloc::{AllocError, Global};

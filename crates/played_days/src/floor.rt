@@ -3,16 +3,8 @@
 use crate::day::Day;
 use crate::queue::Start;
 use crate::room::Room;
+use gantt_chart::{Ending, Print};
 use std::alloc::{AllocError, Global};
-
-/// A job that was printed: its device, and its start and end, in ms from the beginning of the day.
-#[derive(Clone, Copy)]
-pub(crate) struct Print {
-    pub(crate) job: usize,
-    pub(crate) device: usize,
-    pub(crate) start: u64,
-    pub(crate) end: u64,
-}
 
 /// The next event, with its moment.
 #[derive(Clone, Copy)]
@@ -97,6 +89,7 @@ impl<'a> Floor<'a> {
             device,
             start: now,
             end: now.saturating_add(self.day.real_time(job, device)),
+            ending: Ending::Printed,
         };
         self.prints.push(print)?;
         self.set(device, Some(print));
@@ -124,13 +117,14 @@ impl<'a> Floor<'a> {
                 }
                 self.begin_all(room, moment)
             }
-            Happening::Ends(print) => {
-                let Print {
+            Happening::Ends(
+                Print {
                     job,
                     device,
                     end,
                     ..
-                } = print;
+                },
+            ) => {
                 self.set(device, None);
                 room.end(Start { job, device }, end)?;
                 self.begin_all(room, end)

@@ -3,14 +3,15 @@
 ghost use Rattle.std.specs.Prelude.{IfOk};
 ghost use Rattle.settings_file.specs.Settings.{MeetsLimits};
 
+use crate::fault::{DayFault, refused};
 use crate::planned::report_to;
 use crate::settings_text::text_with;
 use base_types::{Moment, Report};
 use dispatcher::Core;
+use gantt_chart::Page;
 use plan_solver::AugmentingPaths;
 use settings_file::{Settings, SettingsFault, read_settings_bytes};
-use std::alloc::{AllocError, AllocFailed, Global};
-use thiserror::Error;
+use std::alloc::{AllocError, Global};
 
 /// A further device.
 #[derive(Clone, Copy)]
@@ -20,94 +21,43 @@ pub struct Added<'a> {
     pub like: &'a str,
 }
 
-/// The fault of a device's name.
-#[derive(Clone, Copy, Debug)]
-pub enum NameFault {
-    /// The settings have no device of this name.
-    Unknown,
-    /// The settings have a device of this name already.
-    Taken,
-    /// The settings with this device aren't valid.
-    Refused,
-}
+/// The words about a further device with which the settings aren't valid.
+const NO_MORE: &str =
+    " more: a name has 1 to 32 letters, digits, _ and -, and there are 32 devices at most";
 
-/// Why the devices of a day can't be made.
-#[derive(Debug, Drop, Error)]
-pub enum FleetFault {
-    #[error("the settings {} \"{name}\"{}", .fault.before(), .fault.behind())]
-    Device { name: String, fault: NameFault },
-    #[error("out of memory")]
-    OutOfMemory,
-}
-
-impl NameFault {
-    /// The words before the name.
-    fn before(self) -> &'static str {
-        match self {
-            NameFault::Unknown => "have no device",
-            NameFault::Taken => "have a device",
-            NameFault::Refused => "take no device",
-        }
-    }
-
-    /// The words behind the name.
-    fn behind(self) -> &'static str {
-        match self {
-            NameFault::Unknown => "",
-            NameFault::Taken => " already",
-            NameFault::Refused =>
-                " more: a name has 1 to 32 letters, digits, _ and -, and there are 32 devices at most",
-        }
-    }
-}
-
-impl From<AllocError> for FleetFault {
-    fn from(_error: AllocError) -> FleetFault {
-        FleetFault::OutOfMemory
-    }
-}
-
-impl<T: Drop> From<AllocFailed<T>> for FleetFault {
-    fn from(_error: AllocFailed<T>) -> FleetFault {
-        FleetFault::OutOfMemory
-    }
-}
-
-/// The fault of a name, unless memory is refused.
-fn fault_of(alloc: Global, name: &str, fault: NameFault) -> FleetFault {
-    match String::from_str(alloc, name) {
-        Ok(name) => FleetFault::Device { name, fault },
-        Err(_) => FleetFault::OutOfMemory,
-    }
+/// The fault of the device with a name, by the words before and behind the name.
+fn device_fault(alloc: Global, before: &str, name: &str, behind: &str) -> DayFault {
+    let sentence = Page::new(alloc).put("the settings ").put(before);
+    refused(sentence.put(" \"").put(name).put("\"").put(behind))
 }
 
 /// The place of the device with a name, or the fault that there is none.
-fn known(alloc: Global, settings: &Settings, name: &str) -> Result<usize, FleetFault> {
+fn known(alloc: Global, settings: &Settings, name: &str) -> Result<usize, DayFault> {
     match settings.device_named(name.as_bytes()) {
         Some(device) => Ok(device.place()),
-        None => Err(fault_of(alloc, name, NameFault::Unknown)),
+        None => Err(device_fault(alloc, "have no device", name, "")),
     }
 }
 
 /// Reads the settings of a text that has a further device of a name.
-fn settings_in(alloc: Global, text: &[u8], name: &str) -> Result<Settings, FleetFault>
+fn settings_in(alloc: Global, text: &[u8], name: &str) -> Result<Settings, DayFault>
     ensures { IfOk result MeetsLimits }
 {
     match read_settings_bytes(alloc, text) {
         Ok(settings) => Ok(settings),
-        Err(SettingsFault::OutOfMemory) => Err(FleetFault::OutOfMemory),
-        Err(_) => Err(fault_of(alloc, name, NameFault::Refused)),
+        Err(SettingsFault::OutOfMemory) => Err(DayFault::OutOfMemory),
+        Err(_) => Err(device_fault(alloc, "take no device", name, NO_MORE)),
     }
 }
 
 /// Settings with a further device. It is behind all others, and belongs to each printer that has the device
 /// whose settings it has.
-fn with_device(alloc: Global, settings: &Settings, added: Added<'_>) -> Result<Settings, FleetFault>
+fn with_device(alloc: Global, settings: &Settings, added: Added<'_>) -> Result<Settings, DayFault>
     ensures { IfOk result MeetsLimits }
 {
     let like = known(alloc, settings, added.like)?;
     if settings.device_named(added.name.as_bytes()).is_some() {
-        return Err(fault_of(alloc, added.name, NameFault::Taken));
+        return Err(device_fault(alloc, "have a device", added.name, " already"));
     }
     let text = text_with(alloc, settings, like, added.name)?;
     settings_in(alloc, &text, added.name)
@@ -118,7 +68,7 @@ pub(crate) fn with_devices(
     alloc: Global,
     settings: Settings,
     added: &[Added<'_>],
-) -> Result<Settings, FleetFault>
+) -> Result<Settings, DayFault>
     requires { MeetsLimits settings }
     ensures { IfOk result MeetsLimits }
 {
@@ -140,7 +90,7 @@ fn make_all_ready(core: &mut Core<AugmentingPaths>, away: &[usize]) -> Result<()
 }
 
 /// The places of the devices with these names.
-fn places_of(alloc: Global, settings: &Settings, names: &[&str]) -> Result<Vec<usize>, FleetFault> {
+fn places_of(alloc: Global, settings: &Settings, names: &[&str]) -> Result<Vec<usize>, DayFault> {
     let mut places = Vec::new(alloc);
     for name in names {
         places.push(known(alloc, settings, name)?)?;
@@ -153,7 +103,7 @@ pub(crate) fn make_ready(
     alloc: Global,
     core: &mut Core<AugmentingPaths>,
     away: &[&str],
-) -> Result<(), FleetFault> {
+) -> Result<(), DayFault> {
     let places = places_of(alloc, core.settings(), away)?;
     Ok(make_all_ready(core, &places)?)
 }

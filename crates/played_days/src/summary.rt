@@ -1,7 +1,7 @@
 //! The figures of a day.
 
 use crate::day::Day;
-use crate::floor::Print;
+use gantt_chart::Print;
 use std::alloc::{AllocError, Global};
 
 /// The times from the jobs' moments until they were printed, in ms.

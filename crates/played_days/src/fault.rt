@@ -4,7 +4,8 @@ use gantt_chart::Page;
 use std::alloc::{AllocError, AllocFailed};
 use thiserror::Error;
 
-/// Why a text has no day, or why its jobs aren't a list for some settings.
+/// Why a text has no day, why its jobs aren't a list for some settings, or why the devices of a day can't be
+/// made.
 #[derive(Debug, Drop, Error)]
 pub enum DayFault {
     /// The reason is in the sentence.

@@ -1,11 +1,10 @@
 //! Pictures of days.
 
 use crate::day::Day;
-use crate::floor::Print;
 use crate::outcome::{Outcome, PLANNED};
 use crate::policy::Policy;
 use base_types::Text;
-use gantt_chart::{Arrival, Chart, Ending, Form, Page, chart_of_day, draw_charts};
+use gantt_chart::{Arrival, Chart, Form, Page, Print, chart_of_day, draw_charts};
 use std::alloc::{AllocError, Global};
 
 /// The picture of a simulation: the planned day, and below it the day of a policy.
@@ -30,21 +29,6 @@ fn arrivals_of(alloc: Global, day: &Day) -> Result<Vec<Arrival>, AllocError> {
         })?;
     }
     Ok(arrivals)
-}
-
-/// The prints of devices, as they are drawn. The only error is out of memory.
-fn prints_of(alloc: Global, prints: &[Print]) -> Result<Vec<gantt_chart::Print>, AllocError> {
-    let mut drawn = Vec::with_capacity(alloc, prints.len())?;
-    for print in prints {
-        drawn.push(gantt_chart::Print {
-            job: print.job,
-            device: print.device,
-            start: print.start,
-            end: print.end,
-            ending: Ending::Printed,
-        })?;
-    }
-    Ok(drawn)
 }
 
 /// The line with the number of the jobs without a device that aren't listed. The only error is out of memory.
@@ -74,7 +58,7 @@ fn chart_with(
     day: &Day,
     title: &str,
     arrivals: &[Arrival],
-    prints: &[gantt_chart::Print],
+    prints: &[Print],
 ) -> Result<Chart, AllocError> {
     let shown = day.stranded.len().min(STRANDED);
     chart_of_day(
@@ -98,8 +82,7 @@ fn chart_of(
     outcome: &Outcome,
 ) -> Result<Chart, AllocError> {
     let arrivals = arrivals_of(alloc, day)?;
-    let prints = prints_of(alloc, &outcome.prints)?;
-    chart_with(alloc, names, day, outcome.name, &arrivals, &prints)
+    chart_with(alloc, names, day, outcome.name, &arrivals, &outcome.prints)
 }
 
 /// A picture of a day as it was played in two ways: planned, and below it by a policy. The only error is out

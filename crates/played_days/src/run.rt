@@ -2,7 +2,8 @@
 ghost use Rattle.settings_file.specs.Settings.{MeetsLimits};
 
 use crate::day::{Day, Noise};
-use crate::fleet::{Added, FleetFault, make_ready, with_devices};
+use crate::fault::DayFault;
+use crate::fleet::{Added, make_ready, with_devices};
 use crate::floor::Watch;
 use crate::outcome::play_all;
 use crate::picture::{Drawn, picture_of};
@@ -53,7 +54,7 @@ fn play_with<W: Watch>(
     listed: &[ListedJob],
     question: Question<'_>,
     watch: &mut W,
-) -> Result<String, FleetFault> {
+) -> Result<String, DayFault> {
     make_ready(alloc, core, question.away)?;
     let stage = stage_of(alloc, core, listed, question.noise)?;
     Ok(play_on(alloc, core, listed, &stage, question.drawn, watch)?)
@@ -83,7 +84,7 @@ fn play_settings<W: Watch>(
     listed: &[ListedJob],
     question: Question<'_>,
     watch: &mut W,
-) -> Result<String, FleetFault>
+) -> Result<String, DayFault>
     requires { MeetsLimits settings }
 {
     let mut core = Core::new(alloc, settings, AugmentingPaths::new(alloc))?;
@@ -102,7 +103,7 @@ pub fn run_simulation<W: Watch>(
     listed: &[ListedJob],
     question: Question<'_>,
     watch: &mut W,
-) -> Result<String, FleetFault>
+) -> Result<String, DayFault>
     requires { MeetsLimits settings }
 {
     let settings = with_devices(alloc, settings, question.added)?;
