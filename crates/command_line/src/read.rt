@@ -12,7 +12,7 @@ use clap::{ArgMatches, Error};
 use std::alloc::Global;
 
 /// The version of the program, as in the file VERSION.
-pub const VERSION: &str = "0.9.0";
+pub const VERSION: &str = "1.0.0";
 
 /// The port of LPD (RFC 1179, section 3.1).
 const LPD_PORT: u16 = 515;
