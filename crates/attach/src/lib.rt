@@ -5,7 +5,7 @@
 //! the `attach_printers`. The contracts of the reports and of the bytes that are sent are in `attachment` and
 //! `attach_orders`. This crate has the connection to the server, the clock and the log.
 //!
-//! The program tests the crate.
+//! `tools/clients/try_printers.py` and `tools/clients/try_cups.sh` test the crate by the program.
 #![tactic(auto)]
 
 mod clock;

@@ -215,8 +215,8 @@ impl Connection {
         }
     }
 
-    /// Enqueues bytes, unless the connection is broken. Returns whether memory was refused, and the
-    /// connection broke.
+    /// Enqueues bytes, unless the connection is broken. Returns whether the connection broke, since memory
+    /// was refused.
     pub fn enqueue(&mut self, bytes: &[u8]) -> bool
         ensures enqueues { EnqueuesAs bytes.now result self.old self.new }
         ensures full { IsTrue result → OutgrowsReserve bytes.now self.old }
@@ -229,8 +229,8 @@ impl Connection {
         self.broken
     }
 
-    /// Enqueues the reply to an IPP request, unless the connection is broken. Returns whether memory was
-    /// refused, and the connection broke.
+    /// Enqueues the reply to an IPP request, unless the connection is broken. Returns whether the
+    /// connection broke, since memory was refused.
     pub fn enqueue_response(&mut self, bytes: &[u8]) -> bool
         ensures enqueues { EnqueuesAs (http_reply (closes_of self.old.peer) bytes.now) result self.old self.new }
         ensures full { IsTrue result → OutgrowsReserve (http_reply (closes_of self.old.peer) bytes.now) self.old }
@@ -244,7 +244,7 @@ impl Connection {
     }
 
     /// Enqueues a reply of a status without attributes, unless the connection is broken. Returns whether
-    /// memory was refused, and the connection broke.
+    /// the connection broke, since memory was refused.
     #[tactic(auto, unfolding(crate::specs::Steps::http_status))]
     pub fn enqueue_status(&mut self, status: Status, request: u32) -> bool
         ensures enqueues { EnqueuesAs (http_status (closes_of self.old.peer) status request) result self.old self.new }
@@ -253,8 +253,8 @@ impl Connection {
         self.enqueue_response(&ipp_refusal(status, request))
     }
 
-    /// Enqueues the line that cancels a job, unless the connection is broken. Returns whether memory was
-    /// refused, and the connection broke.
+    /// Enqueues the line that cancels a job, unless the connection is broken. Returns whether the
+    /// connection broke, since memory was refused.
     pub fn enqueue_cancel(&mut self, job: JobId) -> bool
         ensures enqueues { EnqueuesAs (cancel_line job) result self.old self.new }
         ensures full { IsTrue result → OutgrowsReserve (cancel_line job) self.old }
@@ -268,7 +268,7 @@ impl Connection {
     }
 
     /// Enqueues the line of a job of this many octets and then its documents, unless the connection is
-    /// broken. Returns whether memory was refused, and the connection broke.
+    /// broken. Returns whether the connection broke, since memory was refused.
     pub fn enqueue_job(
         &mut self,
         job: JobId,

@@ -34,7 +34,7 @@ impl Model for Begun {
     ghost view = { λ b. b.started.items };
 }
 
-/// Returns whether a device with this activity has a job.
+/// Returns whether a device with this activity has the job of an id.
 fn is_at(activity: Activity, id: JobId) -> bool
     ensures { result ≡ is_at activity id }
 {
@@ -45,7 +45,7 @@ fn is_at(activity: Activity, id: JobId) -> bool
     }
 }
 
-/// Returns whether there is a device, and it has a job.
+/// Returns whether there is a device, and it has the job of an id.
 fn has(device: Option<&DeviceNow>, id: JobId) -> bool
     ensures { result ≡ has_job (option_copied device.entry) id }
 {

@@ -1,4 +1,4 @@
-//! The writer of a log, which never makes the server wait.
+//! The writer of a log, which doesn't make the server wait for a pipe that is full.
 ghost use Rattle.std.specs.Prelude.{◌≤◌, length};
 
 use std::alloc::Global;

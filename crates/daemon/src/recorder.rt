@@ -5,7 +5,7 @@ use recordings::NoteText;
 /// The number of bytes of kept lines at which they are written.
 const MOST: usize = 65_536;
 
-/// The time for which fewer bytes are kept at most, in ms.
+/// The longest time for which fewer than [`MOST`] bytes are kept, in ms.
 const LONGEST: u64 = 100;
 
 /// The output of a recording.

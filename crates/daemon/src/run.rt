@@ -17,7 +17,7 @@ use std::time::{Clock, Instant};
 /// most that late.
 const PAUSE: u64 = 100;
 
-/// A recording of the day: its tape, and whether it has only the heads of documents.
+/// A recording of the day: its tape, and whether it leaves out the octets of documents.
 #[derive(Drop)]
 pub struct Recording<'a, T: Tape> {
     pub tape: &'a mut T,

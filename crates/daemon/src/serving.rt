@@ -18,8 +18,8 @@ use std::io;
 use std::time::Duration;
 use wires::WireId;
 
-/// A server: its engine, its sockets, the chronicle of its log, and the moment of the last turn that was
-/// recorded for its tick.
+/// A server: its engine, its sockets, the chronicle of its log, and the moment of the last turn in which a
+/// tick was due by the clock.
 #[derive(Drop)]
 pub struct Server {
     alloc: Global,
@@ -121,7 +121,7 @@ impl Server {
         self.wire.notes.keeps()
     }
 
-    /// Returns whether the engine ticks in a turn at a moment. A turn with a tick is recorded in any case.
+    /// Returns whether a tick is due by the clock in a turn at a moment. Such a turn is recorded in any case.
     fn ticks_at(&self, moment: Moment) -> bool {
         match self.ticked {
             Some(last) => moment.millis().saturating_sub(last.millis()) >= TICK_TIME,

@@ -9,8 +9,8 @@ pub fn one_front()
 {}
 
 /// The reports that a reader has given are a front of the reports of the whole stream, for all bytes that may
-/// follow. The other reports are those that the reader's state says of its unread bytes and of the bytes that
-/// follow.
+/// follow. The other reports are those that its unread bytes and the bytes that follow give from the reader's
+/// state on.
 pub fn given_first()
     ensures first { FirstStays }
     ensures rest { ParsesTheRest }

@@ -28,8 +28,8 @@ pub fn read_report(alloc: Global, line: &[u8]) -> Result<Option<Report>, AllocEr
     read_line(alloc, true, line)
 }
 
-/// Reads the report of a line, if a device may send it now: the first report is the device's name, and no
-/// later report is.
+/// Reads the report of a line, if a device may send it now: its name if it hasn't given its name, and any other
+/// report if it has.
 pub(crate) fn read_line(
     alloc: Global,
     greeted: bool,

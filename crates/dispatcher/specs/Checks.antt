@@ -1,5 +1,4 @@
 -- The checks of a request, in order (RFC 8011, sections 4.1.5 to 4.1.7, 4.2.1.1 and 4.2.1.2): its printer or its job, its document's form, its template, whether its user is allowed to, whether the job's state allows it, and whether there is room for it. The first that fails decides. Each operation's file has the checks of that operation.
--- pass stands with its operation.
 use Rattle.std.specs.Prelude.{ℕ, ◌==◌, ◌&&◌, not, nat_lt, Bool, false, if◌then◌else◌, List, [], length, Option, Some, None, Result, Ok, Err, codes, slice_get}
 use Rattle.std.specs.Option.{option_map_or}
 use Rattle.std.specs.Str.{bytes_eq}

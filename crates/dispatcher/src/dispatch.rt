@@ -39,12 +39,12 @@ impl<P: Planner + Drop> Core<P> {
     /// Plans the ready jobs and starts the jobs that can start, at a moment; if that is before the last
     /// moment, at the last moment. Returns whether a plan was made; [`Core::dispatched`] shows it.
     ///
-    /// If no job is ready, no plan is made, nothing changes and no memory is taken. Otherwise each priority
-    /// class, from the highest down and given when the classes above leave each device free, has the least
-    /// total of estimated completion times among all ways to assign its ready jobs to capable devices and
-    /// order them. The plan's prices prove that, by the checker alone. Each ready job without a capable
-    /// device is named with its cause. The plan is kept, and each running device that is idle and may begin a
-    /// job starts the first of its list.
+    /// If no job is ready, no plan is made, nothing changes and no memory is taken. Otherwise the priority
+    /// classes are planned from the highest down. Given when the classes above leave each device free, each
+    /// class has the least total of estimated completion times among all ways to assign its ready jobs to
+    /// capable devices and order them. The plan's prices prove that to the checker, which reads the plan
+    /// alone. Each ready job without a capable device is named with its cause. The plan is kept, and each
+    /// running device that is idle and may begin a job starts the first of its list.
     ///
     /// The only error is out of memory, and nothing is changed then.
     pub fn dispatch(&mut self, moment: Moment) -> Result<bool, AllocError>

@@ -1,10 +1,11 @@
 //! The core of the server: jobs, devices, and the dispatch of jobs to devices.
 //!
-//! [`Core::apply`] takes one event and returns its effects. [`Core::dispatch`] then plans the ready jobs and
-//! starts the jobs that can start. Whenever it makes a plan, each priority class, from the highest down and
-//! given when the classes above leave each device free, has the least total of estimated completion times
-//! among all ways to assign its ready jobs to capable devices and order them. The plan's prices prove that,
-//! by the checker alone. Each job without a capable device is named.
+//! [`Core::handle`] takes one event: its step ([`Core::apply`]), the cancels of its effects, and a dispatch
+//! ([`Core::dispatch`]), which plans the ready jobs and starts the jobs that can start. Whenever it makes a
+//! plan, its priority classes are planned from the highest down. Given when the classes above leave each
+//! device free, each class has the least total of estimated completion times among all ways to assign its
+//! ready jobs to capable devices and order them. The plan's prices prove that to the checker, which reads the
+//! plan alone. Each ready job without a capable device is named.
 //!
 //! The requests of IPP clients and of LPD clients are both events.
 //!

@@ -35,10 +35,10 @@ impl<P: Planner + Drop> Core<P> {
     /// Takes the step of an event, and dispatches unless the event is a query. The listener is told of the
     /// cancels and of the dispatch.
     ///
-    /// Whenever a plan is made, each priority class, from the highest down and given when the classes above
-    /// leave each device free, has the least total of estimated completion times among all ways to assign its
-    /// ready jobs to capable devices and order them. The plan's prices prove that, by the checker alone. Each
-    /// job without a capable device is named.
+    /// Whenever a plan is made, its priority classes are planned from the highest down. Given when the classes
+    /// above leave each device free, each class has the least total of estimated completion times among all
+    /// ways to assign its ready jobs to capable devices and order them. The plan's prices prove that to the
+    /// checker, which reads the plan alone. Each ready job without a capable device is named.
     pub fn handle<L: Listener>(&mut self, timed: Timed, listener: &mut L) -> Outcome
         ensures { Comes L.told self.old listener.old timed result self.new listener.new }
     {
@@ -82,10 +82,11 @@ impl<P: Planner + Drop> Core<P> {
     /// Returns the outcome of each event. The listener is told of the cancels and of each plan with the jobs
     /// that began.
     ///
-    /// For each list of requests, moments and device reports, whenever a plan is made, each priority class,
-    /// from the highest down and given when the classes above leave each device free, has the least total of
-    /// estimated completion times among all ways to assign its ready jobs to capable devices and order them.
-    /// The plan's prices prove that, by the checker alone. Each job without a capable device is named.
+    /// For each list of requests, moments and device reports, whenever a plan is made, its priority classes are
+    /// planned from the highest down. Given when the classes above leave each device free, each class has the
+    /// least total of estimated completion times among all ways to assign its ready jobs to capable devices
+    /// and order them. The plan's prices prove that to the checker, which reads the plan alone. Each ready job
+    /// without a capable device is named.
     ///
     /// The only error is out of memory for the outcomes, before any event.
     pub fn run<L: Listener>(

@@ -1,4 +1,6 @@
--- The exchanges in an HTTP client's stream of bytes (RFC 9112), in order, up to the first request that is refused. The bytes of a body are told one by one, so the parts in which they come make no difference.
+-- The exchanges in an HTTP client's stream of bytes (RFC 9112), in order, up to the last: one
+-- that is refused, closes the connection or has too short a body. Each byte of a body is an element, so the parts in
+-- which they come make no difference.
 use Rattle.std.specs.Prelude.{ℕ, ◌≡◌, ◌==◌, ◌<◌, ◌≤◌, ◌+◌, ◌-◌, ◌*◌, ◌||◌, ◌⊎◌, nat_le, nat_lt, Bool, false, suc, zero, if◌then◌else◌, List, [], ◌∷◌, ◌++◌, map, take, drop, MatchBool, length, not, Option, Some, None, Result, Ok, Err, ⊤}
 use Rattle.text.specs.FirstLine.{first_line_of}
 use Rattle.text.specs.declared.line.FirstLine.{FirstLine}

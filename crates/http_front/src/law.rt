@@ -22,14 +22,14 @@ pub fn one_front()
     ensures { FirstIsOne }
 {}
 
-/// A stream says its exchanges in order, and nothing follows the last.
+/// The elements of a stream are its exchanges, in order, and nothing follows the last.
 pub fn exchanges_in_order()
     ensures { ElementsInOrder }
 {}
 
 /// The elements that a reader has given are a front of the elements of the whole stream, for all bytes that
-/// may follow. The other elements are those that the reader's state says of its unread bytes and of the bytes
-/// that follow.
+/// may follow. The other elements are those that its unread bytes and the bytes that follow give from the
+/// reader's state on.
 pub fn given_first()
     ensures first { FirstStays }
     ensures rest { ParsesTheRest }

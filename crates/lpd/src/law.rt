@@ -22,8 +22,8 @@ pub fn said_stays()
 {}
 
 /// The items that a reader has given are a front of the items of the whole stream, for all bytes that may
-/// follow. The other items are those that the reader's state says of its unread bytes and of the bytes that
-/// follow.
+/// follow. The other items are those that its unread bytes and the bytes that follow give from the reader's
+/// state on.
 pub fn given_first()
     ensures first { FirstStays }
     ensures rest { ParsesTheRest }

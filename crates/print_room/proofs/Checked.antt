@@ -1,4 +1,4 @@
--- A plan whose classes are planned best, one below the other, is proved to the checker alone.
+-- The checker accepts a plan whose classes are planned best, one below the other.
 use Rattle.std.proofs.Common.{◌≡◌, ℕ, zero, suc, ◌<◌, ◌≤◌, ◌==◌, ◌&&◌, Bool, true, false, cond, List, [], ◌∷◌, length, map, filter, is_none, is_some, take, Option, Some, None, Contains, option_map, refl, sym, ap, subst, ◌∙◌, arith, get_or}
 use Rattle.std.specs.Prelude.{slice_get}
 use Rattle.std.specs.List.{filter_map, cons_option}

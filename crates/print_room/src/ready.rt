@@ -41,7 +41,7 @@ impl<'a> ReadyJob<'a> {
         self.cause.map(|cause| Stranded { job, cause })
     }
 
-    /// Returns whether the job has a priority and some device can print it.
+    /// Returns whether the job has this priority and some device can print it.
     fn is_of_class(&self, priority: Priority) -> bool
         ensures { result ≡ is_of_class priority self.now }
     {

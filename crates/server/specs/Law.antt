@@ -1,5 +1,5 @@
 -- Laws of traces, without the order of a turn: a trace is one run of the core, and the due bytes of closed connections
--- were taken. Short bytes need no memory.
+-- were taken. Some short replies need no memory.
 use Rattle.std.specs.Prelude.{ℕ, ◌≡◌, ◌≢◌, false, List, [], ◌∷◌, ◌++◌, All, map, Option, Some}
 use Rattle.std.specs.List.{flat_map}
 use Rattle.base_types.specs.declared.report.Report.{Report}

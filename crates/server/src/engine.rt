@@ -59,8 +59,8 @@ impl<P: Planner + Drop> Engine<P> {
         })
     }
 
-    /// Makes one turn: a tick if one is due, an accept at each door, a read of each connection with the asks
-    /// that the read brings, a write of the waiting bytes, and the closings.
+    /// Makes one turn: the closings left over, a tick if one is due, an accept at each door, a read of each
+    /// connection with the asks that the read brings, a write of the waiting bytes, and the closings.
     ///
     /// If the engine stood at a trace, it stands at the trace followed by this turn, whatever the results of
     /// the polls are.

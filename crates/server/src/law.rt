@@ -33,10 +33,10 @@ pub fn closed_were_given()
     ensures { (opening : State) (trace : Trace) (ledger : Ledger) → Runs trace (opening_ledger opening) ledger → AllTaken ledger.closed }
 {}
 
-/// If no bytes wait on a connection, short bytes become due there without memory. These are a reply of a
-/// status alone, by which a client is told that memory is refused; the head that refuses a request; the
-/// interim head that tells a client to go on (RFC 9110, section 15.2.1); and one byte, which is an
-/// acknowledgement or a refusal of LPD (RFC 1179, section 6).
+/// If no bytes wait on a connection, these bytes become due there without memory: a reply of a status alone,
+/// which tells a client that memory is refused; the head that refuses a request; the interim head that tells a
+/// client to go on (RFC 9110, section 15.2.1); and one byte, which is an acknowledgement or a refusal of LPD
+/// (RFC 1179, section 6).
 pub fn last_words_are_kept()
     ensures status { (closes : Bool) (status : Status) (request : ℕ) → AreKept (http_status closes status request) }
     ensures own_status { (closes : Bool) (status : Status) (request : ℕ) → AreOwed (http_status closes status request) }
