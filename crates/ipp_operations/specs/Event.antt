@@ -32,28 +32,28 @@ abbrev pub are_tagged : Operation → IppGroup → Bool
 are_tagged asked group = list_all (is_tagged group) (attributes_read asked)
 
 -- the event of a request that has passed all checks, by the operation
-abbrev pub event_in : Operation → IppGroup → List IppAttribute → List ℕ → Event
-event_in operation.PrintJob group template document = event.PrintJob (print_job_of group template document)
-event_in operation.ValidateJob group template document = event.ValidateJob (validate_job_of group template)
-event_in operation.CreateJob group template document = event.CreateJob (asked_job_of group template)
-event_in operation.SendDocument group template document = event.SendDocument (send_document_of group document)
-event_in operation.CancelJob group template document = event.CancelJob (job_request_of group)
-event_in operation.GetJobAttributes group template document = event.GetJobAttributes (get_job_attributes_of group)
-event_in operation.GetJobs group template document = event.GetJobs (get_jobs_of group)
-event_in operation.GetPrinterAttributes group template document = event.GetPrinterAttributes (get_printer_attributes_of group)
-event_in operation.HoldJob group template document = event.HoldJob (hold_job_of group)
-event_in operation.ReleaseJob group template document = event.ReleaseJob (job_request_of group)
-event_in operation.PausePrinter group template document = event.PausePrinter (printer_request_of group)
-event_in operation.ResumePrinter group template document = event.ResumePrinter (printer_request_of group)
+abbrev pub event_of_group : Operation → IppGroup → List IppAttribute → List ℕ → Event
+event_of_group operation.PrintJob group template document = event.PrintJob (print_job_of group template document)
+event_of_group operation.ValidateJob group template document = event.ValidateJob (validate_job_of group template)
+event_of_group operation.CreateJob group template document = event.CreateJob (asked_job_of group template)
+event_of_group operation.SendDocument group template document = event.SendDocument (send_document_of group document)
+event_of_group operation.CancelJob group template document = event.CancelJob (job_request_of group)
+event_of_group operation.GetJobAttributes group template document = event.GetJobAttributes (get_job_attributes_of group)
+event_of_group operation.GetJobs group template document = event.GetJobs (get_jobs_of group)
+event_of_group operation.GetPrinterAttributes group template document = event.GetPrinterAttributes (get_printer_attributes_of group)
+event_of_group operation.HoldJob group template document = event.HoldJob (hold_job_of group)
+event_of_group operation.ReleaseJob group template document = event.ReleaseJob (job_request_of group)
+event_of_group operation.PausePrinter group template document = event.PausePrinter (printer_request_of group)
+event_of_group operation.ResumePrinter group template document = event.ResumePrinter (printer_request_of group)
 
 -- the checks of the operation group, in order
-abbrev pub asked_in : Operation → IppGroup → List IppAttribute → List ℕ → Result Event Status
-asked_in asked group template document =
+abbrev pub checked_event : Operation → IppGroup → List IppAttribute → List ℕ → Result Event Status
+checked_event asked group template document =
     if not (is_utf8 group) then Err CharsetNotSupported
     else if not (are_tagged asked group) then Err BadRequest
     else if not (is_complete asked group) then Err BadRequest
-    else Ok (event_in asked group template document)
+    else Ok (event_of_group asked group template document)
 
 -- the event of a message; BadRequest if the message isn't a request
 abbrev pub event_of : Operation → IppMessage → List ℕ → Result Event Status
-event_of asked message document = option_map_or (λ group. asked_in asked group (job_attributes message) document) (operation_group message) (Err BadRequest)
+event_of asked message document = option_map_or (λ group. checked_event asked group (job_attributes message) document) (operation_group message) (Err BadRequest)

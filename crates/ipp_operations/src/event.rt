@@ -3,7 +3,7 @@ ghost use Rattle.std.specs.Prelude.{◌≡◌, IfOk, OnErr};
 ghost use Rattle.ipp_codec.specs.Grammar.{IsGroup, IsMessage};
 ghost use Rattle.ipp_codec.specs.Views.{group_shown, message_shown};
 ghost use Rattle.ipp_operations.specs.Request.{job_attributes};
-ghost use Rattle.ipp_operations.specs.Event.{is_complete, asked_in, event_in, event_of};
+ghost use Rattle.ipp_operations.specs.Event.{is_complete, checked_event, event_of_group, event_of};
 
 use crate::attributes::{are_tagged, has};
 use crate::job_creation::{asked_job_of, print_job_of, validate_job_of};
@@ -30,13 +30,13 @@ pub(crate) fn event_of(
     ensures err { OnErr result (document.new ≡ document.old) }
 {
     match operation_group(message) {
-        Some(group) => asked_in(alloc, operation, message, &group, document),
+        Some(group) => checked_event(alloc, operation, message, &group, document),
         None => Ok(Err(Status::BadRequest)),
     }
 }
 
 /// The event of a message with this operation group.
-fn asked_in(
+fn checked_event(
     alloc: Global,
     operation: Operation,
     message: &MessageView<'_>,
@@ -45,7 +45,7 @@ fn asked_in(
 ) -> Result<Result<Event, Status>, AllocError>
     requires message { IsMessage (message_shown message.now) }
     requires group { IsGroup (group_shown group.now) }
-    ensures event { IfOk result (λ event. event ≡ asked_in operation (group_shown group.now) (job_attributes (message_shown message.now)) document.old) }
+    ensures event { IfOk result (λ event. event ≡ checked_event operation (group_shown group.now) (job_attributes (message_shown message.now)) document.old) }
     ensures err { OnErr result (document.new ≡ document.old) }
 {
     if !is_utf8(group) {
@@ -57,7 +57,7 @@ fn asked_in(
     if !is_complete(operation, group) {
         return Ok(Err(Status::BadRequest));
     }
-    Ok(Ok(event_in(alloc, operation, message, group, document)?))
+    Ok(Ok(event_of_group(alloc, operation, message, group, document)?))
 }
 
 /// Returns whether a request has the attributes that it must have: those of its job or its printer, and in a
@@ -74,7 +74,7 @@ fn is_complete(operation: Operation, group: &GroupView<'_>) -> bool
 }
 
 /// The event of a request that has passed all checks.
-fn event_in(
+fn event_of_group(
     alloc: Global,
     operation: Operation,
     message: &MessageView<'_>,
@@ -83,7 +83,7 @@ fn event_in(
 ) -> Result<Event, AllocError>
     requires message { IsMessage (message_shown message.now) }
     requires group { IsGroup (group_shown group.now) }
-    ensures event { IfOk result (λ event. event ≡ event_in operation (group_shown group.now) (job_attributes (message_shown message.now)) document.old) }
+    ensures event { IfOk result (λ event. event ≡ event_of_group operation (group_shown group.now) (job_attributes (message_shown message.now)) document.old) }
     ensures err { OnErr result (document.new ≡ document.old) }
 {
     Ok(match operation {

@@ -35,7 +35,7 @@ pub fn ipp_event(alloc: Global, body: &[u8]) -> Result<ParsedRequest, AllocError
 
 /// The parsed request of a body whose head was fed to a decoder. Its event takes the document, unless memory
 /// is refused.
-pub(crate) fn parsed(
+pub(crate) fn parse_header(
     alloc: Global,
     decoder: &Decoder,
     document: &mut Pages,
@@ -45,13 +45,13 @@ pub(crate) fn parsed(
     ensures err { OnErr result (document.new ≡ document.old) }
 {
     match header_of(decoder.head()) {
-        Some(header) => asked_under(alloc, header, decoder, document),
+        Some(header) => parse_operation(alloc, header, decoder, document),
         None => Ok(ParsedRequest::TooShort),
     }
 }
 
 /// The parsed request of a body with this header.
-fn asked_under(
+fn parse_operation(
     alloc: Global,
     header: Header,
     decoder: &Decoder,
@@ -62,13 +62,13 @@ fn asked_under(
     ensures err { OnErr result (document.new ≡ document.old) }
 {
     match operation_of(header) {
-        Ok(operation) => asked_by(alloc, header.request_id, operation, decoder, document),
+        Ok(operation) => parse_event(alloc, header.request_id, operation, decoder, document),
         Err(status) => Ok(ParsedRequest::Refused(status, header.request_id)),
     }
 }
 
 /// The parsed request of a body with an operation, under this request-id.
-fn asked_by(
+fn parse_event(
     alloc: Global,
     request_id: u32,
     operation: Operation,
@@ -79,14 +79,14 @@ fn asked_by(
     ensures asked { IfOk result (λ asked. AsksByOf operation request_id decoder.now document.old asked) }
     ensures err { OnErr result (document.new ≡ document.old) }
 {
-    match event_by(alloc, operation, decoder, document)? {
+    match decode_event(alloc, operation, decoder, document)? {
         Ok(event) => Ok(ParsedRequest::Event(request_id, event)),
         Err(status) => Ok(ParsedRequest::Refused(status, request_id)),
     }
 }
 
 /// The event of a body, or the status of the first check behind the header that fails.
-fn event_by(
+fn decode_event(
     alloc: Global,
     operation: Operation,
     decoder: &Decoder,

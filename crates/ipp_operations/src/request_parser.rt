@@ -4,7 +4,7 @@ ghost use Rattle.ipp_operations.specs.ParsedRequest.{Asks, request_id_of};
 ghost use Rattle.ipp_operations.specs.Reader.{HasRead, has_document, sends_document, reads_document};
 
 use crate::header::{header_of, operation_of, request_id};
-use crate::parsed_request::{ParsedRequest, parsed};
+use crate::parsed_request::{ParsedRequest, parse_header};
 use events::Status;
 use ipp_codec::{DecodeError, Decoder, Fed};
 use octets::Pages;
@@ -83,7 +83,7 @@ impl RequestParser {
         ensures asked { IfOk result (λ asked. (bytes : List ℕ) → HasRead bytes self.old → Asks bytes asked) }
         ensures err { OnErr result (self.new ≡ self.old) }
     {
-        parsed(self.alloc, &self.decoder, &mut self.document)
+        parse_header(self.alloc, &self.decoder, &mut self.document)
     }
 }
 

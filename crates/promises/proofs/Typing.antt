@@ -41,7 +41,7 @@ use Rattle.ipp_operations.specs.declared.parsed_request.ParsedRequest.TheVariant
 use Rattle.ipp_operations.specs.ParsedRequest.{header_of, operation_of, Requests, AsksBy, AsksUnder, Asks}
 use Rattle.events.specs.declared.status.Status.TheVariants as status
 use Rattle.ipp_operations.specs.Request.{operation_group, job_attributes, is_utf8}
-use Rattle.ipp_operations.specs.Event.{is_complete, are_tagged, event_in, asked_in}
+use Rattle.ipp_operations.specs.Event.{is_complete, are_tagged, event_of_group, checked_event}
 use Rattle.connections.specs.declared.ask.Client.{Client}
 use Rattle.connections.specs.declared.ask.Client.TheVariants as client
 use Rattle.connections.specs.Commands.{SubmitsJob, IsCommand}
@@ -112,7 +112,7 @@ EventOf client.LpdCommand event = IsQueueEvent event
 
 -- ---- a whole body asks an event of IPP
 
-ipp_event_in : (asked : Operation) (group : IppGroup) (template : List IppAttribute) (document : List ℕ) → IsIppEvent (event_in asked group template document)
+ipp_event_in : (asked : Operation) (group : IppGroup) (template : List IppAttribute) (document : List ℕ) → IsIppEvent (event_of_group asked group template document)
 ipp_event_in operation.PrintJob group template document = tt
 ipp_event_in operation.ValidateJob group template document = tt
 ipp_event_in operation.CreateJob group template document = tt
@@ -133,11 +133,11 @@ if_ok false status r event is = is
 one_event : (event other : Event) → ◌≡◌ {A = Result Event Status} (Ok event) (Ok other) → event ≡ other
 one_event event other same = cc
 
-asked_event : (o : Operation) (group : IppGroup) (template : List IppAttribute) (document : List ℕ) (event : Event) → asked_in o group template document ≡ Ok event → IsIppEvent event
+asked_event : (o : Operation) (group : IppGroup) (template : List IppAttribute) (document : List ℕ) (event : Event) → checked_event o group template document ≡ Ok event → IsIppEvent event
 asked_event o group template document event is = subst IsIppEvent (one_event found event complete) (ipp_event_in o group template document)
   where
     found : Event
-    found = event_in o group template document
+    found = event_of_group o group template document
 
     last : Result Event Status
     last = Ok found
@@ -151,7 +151,7 @@ asked_event o group template document event is = subst IsIppEvent (one_event fou
     complete : ◌≡◌ {A = Result Event Status} (Ok found) (Ok event)
     complete = if_ok (not (is_complete o group)) status.BadRequest last event (if_ok (not (are_tagged o group)) status.BadRequest tagged event (if_ok (not (is_utf8 group)) status.CharsetNotSupported worded event is))
 
-group_event : (o : Operation) (document : List ℕ) (template : List IppAttribute) (found : Option IppGroup) (event : Event) → option_map_or (λ group. asked_in o group template document) found (Err status.BadRequest) ≡ Ok event → IsIppEvent event
+group_event : (o : Operation) (document : List ℕ) (template : List IppAttribute) (found : Option IppGroup) (event : Event) → option_map_or (λ group. checked_event o group template document) found (Err status.BadRequest) ≡ Ok event → IsIppEvent event
 group_event o document template None event is = cc
 group_event o document template (Some group) event is = asked_event o group template document event is
 

@@ -33,7 +33,7 @@ use Rattle.print_room.specs.State.{State}
 use Rattle.dispatcher.specs.Step.{StepAt}
 use Rattle.ipp_operations.specs.declared.parsed_request.ParsedRequest.TheVariants as Body
 use Rattle.ipp_operations.specs.ParsedRequest.{Asks, AsksUnder, Requests, answered, header_of, operation_of}
-use Rattle.ipp_operations.specs.Event.{event_of, asked_in, event_in, are_tagged, is_complete}
+use Rattle.ipp_operations.specs.Event.{event_of, checked_event, event_of_group, are_tagged, is_complete}
 use Rattle.ipp_operations.specs.Request.{operation_group, job_attributes, is_utf8}
 use Rattle.dispatcher.specs.declared.outcome.Outcome.{Outcome}
 use Rattle.dispatcher.specs.declared.outcome.Outcome.TheVariants.{Dropped, Queried, Undispatched, Idle, Dispatched}
@@ -142,7 +142,7 @@ request_is_answered moment event (Dispatched given) reply old notes new is answe
 abbrev GivesRequest : Result Event Status → Type 0
 GivesRequest result = MatchResult result IsRequest (λ status. Unit {0})
 
-gives_in : (asked : Operation) (group : IppGroup) (template : List IppAttribute) (document : List ℕ) → IsRequest (event_in asked group template document)
+gives_in : (asked : Operation) (group : IppGroup) (template : List IppAttribute) (document : List ℕ) → IsRequest (event_of_group asked group template document)
 gives_in operation.PrintJob group template document = tt
 gives_in operation.ValidateJob group template document = tt
 gives_in operation.CreateJob group template document = tt
@@ -164,9 +164,9 @@ gives_if : (b : Bool) (status : Status) (result : Result Event Status) → Gives
 gives_if true status result is = tt
 gives_if false status result is = is
 
-gives_asked : (asked : Operation) (group : IppGroup) (template : List IppAttribute) (document : List ℕ) → GivesRequest (asked_in asked group template document)
+gives_asked : (asked : Operation) (group : IppGroup) (template : List IppAttribute) (document : List ℕ) → GivesRequest (checked_event asked group template document)
 gives_asked asked group template document =
-    let event : Result Event Status = Ok (event_in asked group template document) in
+    let event : Result Event Status = Ok (event_of_group asked group template document) in
     let complete : Result Event Status = cond (not (is_complete asked group)) (Err Went.BadRequest) event in
     let tagged : Result Event Status = cond (not (are_tagged asked group)) (Err Went.BadRequest) complete in
     gives_if (not (is_utf8 group)) Went.CharsetNotSupported tagged
@@ -175,7 +175,7 @@ gives_asked asked group template document =
 
 gives_event : (asked : Operation) (message : IppMessage) (document : List ℕ) → GivesRequest (event_of asked message document)
 gives_event asked message document =
-    gives_or (λ group. asked_in asked group (job_attributes message) document) (operation_group message) Went.BadRequest (λ group. gives_asked asked group (job_attributes message) document)
+    gives_or (λ group. checked_event asked group (job_attributes message) document) (operation_group message) Went.BadRequest (λ group. gives_asked asked group (job_attributes message) document)
 
 given : (asked : Operation) (body : List ℕ) (result : Result Event Status) → Requests asked body result → GivesRequest result
 given asked body result (inl fault) = subst GivesRequest (sym fault.2) tt

@@ -7,6 +7,6 @@ use Rattle.ipp_operations.proofs.request_parser.RequestParser.finish.Goals as go
 pub returns-clause-asked : goal.returns-clause-asked
 returns-clause-asked c =
     let reader : ReaderState = record { decoder = c.self.inside.decoder; document = c.self.inside.document } in
-    IfOk-weaker c.parsed.result _ _
+    IfOk-weaker c.parse_header.result _ _
     (λ said asks bytes heard. let same : HasRead bytes reader = subst (λ (r : ReaderState). HasRead bytes r) (sym c.self.view_is) heard in asks bytes same.stands (holds bytes reader same))
-    c.parsed.ensures.asked
+    c.parse_header.ensures.asked
