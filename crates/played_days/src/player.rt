@@ -3,24 +3,19 @@
 use crate::recorder::Recorder;
 use base_types::{DeviceId, Moment, Report, Text};
 use plan_solver::AugmentingPaths;
-use replay::{LineFault, TraceWire, form_fault};
 use server::{Engine, NoteLog};
 use std::alloc::{AllocError, Global};
-use traces::{
-    Connection, Input, Line, Opening, end_at, numbered, put_connection, read_line, send_at,
-};
-use wires::{Door, MemoryPeer, MemoryWire};
+use traces::{Input, Line, LineFault, Opening, Peers, form_fault, read_line};
 
 /// The most turns that are taken for one line.
 const MOST_TURNS: usize = 16_777_216;
 
-/// A server, the wire of its connections, and the record of its jobs.
+/// A server, its connections with their peers, and the record of its jobs.
 #[derive(Drop)]
 pub(crate) struct Player<'a> {
     alloc: Global,
     engine: &'a mut Engine<AugmentingPaths>,
-    wire: TraceWire,
-    connections: Vec<Connection>,
+    peers: Peers,
     heard: NoteLog,
     /// The current moment of the trace.
     told: Moment,
@@ -35,12 +30,7 @@ impl<'a> Player<'a> {
         Player {
             alloc,
             engine,
-            wire: TraceWire {
-                memory: MemoryWire::new(Vec::new(alloc)),
-                stirred: false,
-                failed: false,
-            },
-            connections: Vec::new(alloc),
+            peers: Peers::new(alloc),
             heard: NoteLog::new(alloc),
             told: Moment::start(),
             now: Moment::start(),
@@ -67,36 +57,11 @@ impl<'a> Player<'a> {
         let Some(line) = read_line(self.alloc, bytes, names)? else {
             return Ok(Err(form_fault(bytes)));
         };
-        if let Some(fault) = self.objection(&line) {
+        if let Some(fault) = self.peers.objection(&line) {
             return Ok(Err(fault));
         }
         self.give(line)?;
         Ok(Ok(()))
-    }
-
-    /// The reason why a line may not come now.
-    fn objection(&self, line: &Line) -> Option<LineFault> {
-        match line {
-            Line::At(_) | Line::Ipp(_) | Line::Device(_, _) | Line::Tick => None,
-            Line::Open(opening) => match numbered(&self.connections, opening.number) {
-                Some(_) => Some(LineFault::Given),
-                None => None,
-            },
-            Line::In(input) => self.unless_open(input.number),
-            Line::End(number) => self.unless_open(*number),
-        }
-    }
-
-    /// The fault that no connection of a number is open, if none is.
-    fn unless_open(&self, number: u64) -> Option<LineFault> {
-        let peer = match numbered(&self.connections, number) {
-            Some(connection) => self.wire.memory.peers.get(connection.place),
-            None => None,
-        };
-        match peer {
-            Some(peer) if !peer.ended => None,
-            _ => Some(LineFault::NotOpen),
-        }
     }
 
     /// Takes the actions of a line.
@@ -143,51 +108,33 @@ impl<'a> Player<'a> {
 
     /// Opens a connection.
     fn open(&mut self, opening: Opening) -> Result<(), AllocError> {
-        let place = self.wire.memory.peers.len();
-        self.add_peer(opening.door)?;
-        let connection = Connection {
-            number: opening.number,
-            place,
-            gone: false,
-        };
-        put_connection(&mut self.connections, connection)?;
+        self.peers.open(opening)?;
         self.take_turns()
-    }
-
-    /// Adds the peer of a connection, which has sent nothing yet.
-    fn add_peer(&mut self, door: Door) -> Result<(), AllocError> {
-        let input = Vec::new(self.alloc);
-        let peer = MemoryPeer::new(self.alloc, door, input, usize::MAX, usize::MAX);
-        self.wire.memory.peers.push(peer)?;
-        Ok(())
     }
 
     /// Brings bytes to a connection.
     fn bring(&mut self, input: &Input) -> Result<(), AllocError> {
-        if let Some(connection) = numbered(&self.connections, input.number) {
-            send_at(&mut self.wire.memory.peers, connection.place, &input.bytes)?;
-        }
+        self.peers.send(input)?;
         self.take_turns()
     }
 
     /// Ends the input of a connection.
     fn end_input(&mut self, number: u64) -> Result<(), AllocError> {
-        if let Some(connection) = numbered(&self.connections, number) {
-            end_at(&mut self.wire.memory.peers, connection.place);
-        }
+        self.peers.end(number);
         self.take_turns()
     }
 
     /// Takes turns up to one in which each poll waits, and records the result of each.
     fn take_turns(&mut self) -> Result<(), AllocError> {
         for _turn in 0..MOST_TURNS {
-            self.wire.stirred = false;
-            self.engine.turn(&mut self.wire, &mut self.heard, self.told);
+            self.peers.wire.stirred = false;
+            self.engine
+                .turn(&mut self.peers.wire, &mut self.heard, self.told);
             self.look()?;
-            if self.wire.failed {
+            if self.peers.wire.failed {
                 return Err(AllocError);
             }
-            if !self.wire.stirred {
+            if !self.peers.wire.stirred {
                 return Ok(());
             }
         }

@@ -8,11 +8,10 @@ use crate::player::Player;
 use base_types::{Stranded, Text};
 use gantt_chart::Page;
 use plan_solver::AugmentingPaths;
-use replay::LineFault;
 use server::Engine;
 use settings_file::{Settings, SettingsFault, explain, read_settings_bytes};
 use std::alloc::{AllocError, Global};
-use traces::{CutTrace, next_line, split_settings};
+use traces::{CutTrace, LineFault, next_line, split_settings};
 
 /// The jobs of a trace and their prints.
 #[derive(Drop)]

@@ -1,5 +1,5 @@
 -- The results of the calls of a server that plays a trace.
-use Rattle.std.proofs.Common.{◌≡◌, ◌<◌, ◌+◌, ℕ, Bool, true, false, All, List, [], ◌∷◌, ◌++◌, length, map, Option, Some, None, Result, IsOk, refl, sym, ap, ◌∙◌, inl, inr, subst, append_assoc, append-nil}
+use Rattle.std.proofs.Common.{◌≡◌, ◌<◌, ◌+◌, ℕ, Bool, true, false, All, List, [], ◌∷◌, ◌++◌, length, map, Option, Some, Result, IsOk, refl, sym, ap, ◌∙◌, inl, inr, subst, append_assoc, append-nil}
 use Rattle.std.specs.Prelude.{◌||◌}
 use Rattle.std.specs.declared.alloc.AllocError.{AllocError}
 use Rattle.std.proofs.lemmas.List.{length-append, map-append}
@@ -11,16 +11,17 @@ use Rattle.server.specs.Refinement as Engine
 use Rattle.server.specs.Turn.{Action, Turned, Served_body, Outcome}
 use Rattle.traces.specs.declared.peers.Connection.{Connection}
 use Rattle.replay.specs.declared.play.Play.{Play}
-use Rattle.wires.specs.declared.wire.Door.{Door}
 use Rattle.traces.specs.declared.line.Line.{Line}
 use Rattle.traces.specs.declared.line.Line.TheVariants as Form
 use Rattle.traces.specs.TraceLine.{IsLine, Finds}
-use Rattle.replay.specs.declared.wire.TraceWire.{TraceWire}
+use Rattle.traces.specs.declared.wire.TraceWire.{TraceWire}
 use Rattle.replay.specs.Acting.{standing, Moves, IsReady, Becomes, TakesActions, TakesTurn, TakesTurns, TakesTillQuiet}
-use Rattle.traces.specs.Connections.{numbered, with_connection, new_peer, changed_at, connections_text, seen, emptied}
+use Rattle.traces.specs.Connections.{connections_text, seen, emptied}
+use Rattle.traces.specs.Peers.{Holds}
 use Rattle.replay.specs.Log.{LogRecord, LogsNote, happening_text, happenings_text}
-use Rattle.replay.specs.Playing.{Standing, Calls, Serves, Turns, Plays, IsReplyLine, most_turns, opened, on_peer}
-use Rattle.replay.specs.Wire.{WirePolls, PeersSee, any_stirs, all_turns}
+use Rattle.replay.specs.Playing.{Standing, Calls, Serves, Turns, Plays, IsReplyLine, most_turns}
+use Rattle.traces.specs.Wire.{WirePolls}
+use Rattle.replay.specs.Peers.{PeersSee, any_stirs, all_turns}
 use Rattle.replay.proofs.Reach.{moves_nothing, moves_then}
 use Rattle.replay.proofs.Telling.{heard_alone, heard_beside, moved_beside, all_heard, leads_append}
 
@@ -30,7 +31,7 @@ use Rattle.replay.proofs.Telling.{heard_alone, heard_beside, moved_beside, all_h
 abbrev Printed : LogRecord → List ℕ → LogRecord → Type 0
 Printed log heard after = (log.heard ≡ Some heard) × (after ≡ record log { heard = Some [] })
 
-pub serves : (old new : Play) (body line heard text : List ℕ) (answer : Outcome) (log : LogRecord) → IsReady old → RefinesBody (alone LogsNote) old.moment body old.log old.engine log new.engine answer → IsReplyLine answer line → Printed log heard new.log → text ≡ line ++ heard → new.wire.failed ≡ old.wire.failed → standing new ≡ standing old
+pub serves : (old new : Play) (body line heard text : List ℕ) (answer : Outcome) (log : LogRecord) → IsReady old → RefinesBody (alone LogsNote) old.moment body old.log old.engine log new.engine answer → IsReplyLine answer line → Printed log heard new.log → text ≡ line ++ heard → new.peers.wire.failed ≡ old.peers.wire.failed → standing new ≡ standing old
     → TakesActions old new (λ actions. Serves old.log.texts old.log.names old.moment body actions text × (standing new ≡ standing old))
 serves old new body line heard text answer log ready served replies printed is fine still =
     let all = all_heard old.log log new.log served.happenings heard (heard_alone old.log log served.happenings served.leads) ready.silent printed.0 printed.1 in
@@ -42,7 +43,7 @@ serves old new body line heard text answer log ready served replies printed is f
       prompt = fine ∙ ready.prompt;
     }
 
-pub calls : (old new : Play) (action : List Happening → Action) (heard : List ℕ) (result : Result (Unit {0}) AllocError) (log : LogRecord) → IsReady old → Engine.RefinesCall (alone LogsNote) action old.log old.engine log new.engine result → IsOk result → Printed log heard new.log → new.wire.failed ≡ old.wire.failed → standing new ≡ standing old
+pub calls : (old new : Play) (action : List Happening → Action) (heard : List ℕ) (result : Result (Unit {0}) AllocError) (log : LogRecord) → IsReady old → Engine.RefinesCall (alone LogsNote) action old.log old.engine log new.engine result → IsOk result → Printed log heard new.log → new.peers.wire.failed ≡ old.peers.wire.failed → standing new ≡ standing old
     → TakesActions old new (λ actions. Calls old.log.texts old.log.names action actions heard × (standing new ≡ standing old))
 calls old new action heard result log ready called good printed fine still =
     let all = all_heard old.log log new.log called.happenings heard (heard_alone old.log log called.happenings called.leads) ready.silent printed.0 printed.1 in
@@ -56,16 +57,16 @@ calls old new action heard result log ready called good printed fine still =
 
 -- ---- turns
 
-pub took_turn : (old new : Play) (stirred : Bool) (wire : TraceWire) → wire ≡ record old.wire { stirred = false } → Engine.RefinesTurn (both WirePolls LogsNote) old.moment (wire, old.log) old.engine (new.wire, new.log) new.engine → stirred ≡ new.wire.stirred → new.moment ≡ old.moment → new.connections ≡ old.connections → TakesTurn old new stirred
+pub took_turn : (old new : Play) (stirred : Bool) (wire : TraceWire) → wire ≡ record old.peers.wire { stirred = false } → Engine.RefinesTurn (both WirePolls LogsNote) old.moment (wire, old.log) old.engine (new.peers.wire, new.log) new.engine → stirred ≡ new.peers.wire.stirred → new.moment ≡ old.moment → new.peers.connections ≡ old.peers.connections → TakesTurn old new stirred
 took_turn old new stirred wire begins turned is still same =
-    let heard = heard_beside (wire, old.log) (new.wire, new.log) turned.happenings turned.leads in
-    let moved = moved_beside (wire, old.log) (new.wire, new.log) turned.happenings turned.leads in
+    let heard = heard_beside (wire, old.log) (new.peers.wire, new.log) turned.happenings turned.leads in
+    let moved = moved_beside (wire, old.log) (new.peers.wire, new.log) turned.happenings turned.leads in
     record {
       turn = turned.happenings;
       is = is ∙ moved.stirred ∙ ap (λ (w : TraceWire). w.stirred || any_stirs turned.happenings) begins;
       sees = λ fine.
           let all = moved.sees fine in
-          (ap (λ (w : TraceWire). w.failed) (sym begins) ∙ all.0, subst (λ (w : TraceWire). Leads PeersSee w.memory.peers.items turned.happenings new.wire.memory.peers.items) begins all.1);
+          (ap (λ (w : TraceWire). w.failed) (sym begins) ∙ all.0, subst (λ (w : TraceWire). Leads PeersSee w.memory.peers.items turned.happenings new.peers.wire.memory.peers.items) begins all.1);
       hears = heard.hears;
       log = heard.log;
       moves = turned.stands;
@@ -98,7 +99,7 @@ one_more old mid new turns stirred all t = record {
   sees = λ fine.
       let one = t.sees fine in
       let before = all.sees one.0 in
-      (before.0, subst (λ hs. Leads PeersSee old.wire.memory.peers.items hs new.wire.memory.peers.items) (sym (all_more turns t.turn)) (leads_append PeersSee _ _ _ (all_turns turns) t.turn before.1 one.1));
+      (before.0, subst (λ hs. Leads PeersSee old.peers.wire.memory.peers.items hs new.peers.wire.memory.peers.items) (sym (all_more turns t.turn)) (leads_append PeersSee _ _ _ (all_turns turns) t.turn before.1 one.1));
   hears = λ text is.
       let one = t.hears text is in
       let before = all.hears one.0 one.1 in
@@ -147,12 +148,12 @@ pub till_most : (old new : Play) (count : ℕ) → AreBusy old new count → cou
 till_most old new count busy most = (busy.turns, record { busy = busy.turns; each = busy.each; ends = inr (busy.number ∙ most, refl) }, busy.takes)
 
 -- the text printed for turns
-pub ran : (old mid new : Play) (heard text : List ℕ) → IsReady old → TakesTillQuiet old mid → mid.wire.failed ≡ false → Printed mid.log heard new.log → text ≡ heard ++ connections_text mid.wire.memory.peers.items mid.connections.items
-    → new.connections.items ≡ map (seen mid.wire.memory.peers.items) mid.connections.items → new.wire.memory.peers.items ≡ map emptied mid.wire.memory.peers.items → new.engine ≡ mid.engine → new.moment ≡ mid.moment → new.wire.failed ≡ mid.wire.failed
+pub ran : (old mid new : Play) (heard text : List ℕ) → IsReady old → TakesTillQuiet old mid → mid.peers.wire.failed ≡ false → Printed mid.log heard new.log → text ≡ heard ++ connections_text mid.peers.wire.memory.peers.items mid.peers.connections.items
+    → new.peers.connections.items ≡ map (seen mid.peers.wire.memory.peers.items) mid.peers.connections.items → new.peers.wire.memory.peers.items ≡ map emptied mid.peers.wire.memory.peers.items → new.engine ≡ mid.engine → new.moment ≡ mid.moment → new.peers.wire.failed ≡ mid.peers.wire.failed
     → TakesActions old new (λ actions. Turns old.log.texts old.log.names (standing old) actions text (standing new))
 ran old mid new heard text ready (turns, till, takes) fine printed is marked cleared engine moment prompt =
-    let peers : List PeerState = mid.wire.memory.peers.items in
-    let same : mid.connections.items ≡ old.connections.items = ap (λ cs. cs.items) takes.connections in
+    let peers : List PeerState = mid.peers.wire.memory.peers.items in
+    let same : mid.peers.connections.items ≡ old.peers.connections.items = ap (λ cs. cs.items) takes.connections in
     let told = takes.hears heard printed.0 in
     let empty : told.0 ≡ [] = some_is told.0 (sym told.1 ∙ ready.silent) in
     record {
@@ -163,8 +164,8 @@ ran old mid new heard text ready (turns, till, takes) fine printed is marked cle
         peers = peers;
         sees = (takes.sees fine).1;
         does = refl;
-        printed = is ∙ ap (λ h. h ++ connections_text peers mid.connections.items) (told.2 ∙ ap (λ b. b ++ happenings_text old.log.texts old.log.names (all_turns turns)) empty) ∙ ap (λ cs. happenings_text old.log.texts old.log.names (all_turns turns) ++ connections_text peers cs) same;
-        after = stands new.moment old.moment new.connections.items (map (seen peers) old.connections.items) new.wire.memory.peers.items (map emptied peers) (moment ∙ takes.moment) (marked ∙ ap (map (seen peers)) same) cleared;
+        printed = is ∙ ap (λ h. h ++ connections_text peers mid.peers.connections.items) (told.2 ∙ ap (λ b. b ++ happenings_text old.log.texts old.log.names (all_turns turns)) empty) ∙ ap (λ cs. happenings_text old.log.texts old.log.names (all_turns turns) ++ connections_text peers cs) same;
+        after = stands new.moment old.moment new.peers.connections.items (map (seen peers) old.peers.connections.items) new.peers.wire.memory.peers.items (map emptied peers) (moment ∙ takes.moment) (marked ∙ ap (map (seen peers)) same) cleared;
       };
       moves = subst (λ e. Moves old.engine (map (Turned old.moment) turns) e) (sym engine) takes.moves;
       log = printed.1 ∙ ap (λ (l : LogRecord). record l { heard = Some [] }) takes.log ∙ ap (λ (o : Option (List ℕ)). record old.log { heard = o }) (sym ready.silent);
@@ -190,27 +191,12 @@ from_here old mid new s text is does = record {
 pub still_ready : (old mid : Play) (s : Standing) → Becomes old mid s → IsReady old → IsReady mid
 still_ready old mid s is ready = record { silent = ap (λ (l : LogRecord). l.heard) is.log ∙ ready.silent; prompt = is.prompt ∙ ready.prompt }
 
--- ---- the contracts of the calls of one step, together
-
-pub marked_so : (xs cs ds : List Connection) (ps qs : List PeerState) → xs ≡ map (seen ps) ds → ps ≡ qs → ds ≡ cs → xs ≡ map (seen qs) cs
-marked_so xs cs ds ps qs is ep ed = is ∙ ap (λ p. map (seen p) ds) ep ∙ ap (map (seen qs)) ed
-
-pub written_so : (text heard : List ℕ) (cs ds : List Connection) (ps qs : List PeerState) → text ≡ heard ++ connections_text ps ds → ps ≡ qs → ds ≡ cs → text ≡ heard ++ connections_text qs cs
-written_so text heard cs ds ps qs is ep ed = is ∙ ap (λ p. heard ++ connections_text p ds) ep ∙ ap (λ c. heard ++ connections_text qs c) ed
-
-pub opened_so : (number : ℕ) (door : Door) (s : Standing) (place : ℕ) (peer : PeerState) (input : List ℕ) (cs : List Connection) (ps : List PeerState) → cs ≡ with_connection (record { number = number; place = place; gone = false }) s.connections → place ≡ length s.peers → ps ≡ s.peers ++ peer ∷ []
-    → peer ≡ record (new_peer door) { input = input } → input ≡ [] → ◌≡◌ {A = Standing} (record { moment = s.moment; connections = cs; peers = ps }) (opened number door s)
-opened_so number door s place peer input cs ps ec el ep en ei = rw (ec, el, ep, en, ei) refl
-
--- the peer of a numbered connection is changed, or there is none
-pub changed_so : (number : ℕ) (change : PeerState → PeerState) (s : Standing) (found : Option Connection) (c : Connection) (ps : List PeerState) → found ≡ numbered number s.connections → found ≡ Some c → ps ≡ changed_at c.place change s.peers → ◌≡◌ {A = Standing} (record { moment = s.moment; connections = s.connections; peers = ps }) (on_peer number change s)
-changed_so number change s found c ps is some changed = rw (← is, some, changed) refl
-
-pub unchanged_so : (number : ℕ) (change : PeerState → PeerState) (s : Standing) (found : Option Connection) → found ≡ numbered number s.connections → found ≡ None → s ≡ on_peer number change s
-unchanged_so number change s found is none = rw (← is, none) refl
+-- the connections and their peers changed
+pub becomes : (old mid : Play) (s : Standing) → Holds s.connections s.peers old.peers.wire.failed mid.peers → mid.engine ≡ old.engine → mid.log ≡ old.log → mid.moment ≡ s.moment → Becomes old mid s
+becomes old mid s holds engine log moment = record { engine = engine; log = log; prompt = holds.failed; stands = rw (moment, holds.connections, holds.peers) refl }
 
 -- the moment is told
-pub told_moment : (old new : Play) (line : Line) (moment : ℕ) (text : List ℕ) → IsReady old → line ≡ Form.At moment → text ≡ [] → new.engine ≡ old.engine → new.log ≡ old.log → new.wire.failed ≡ old.wire.failed → standing new ≡ record (standing old) { moment = moment }
+pub told_moment : (old new : Play) (line : Line) (moment : ℕ) (text : List ℕ) → IsReady old → line ≡ Form.At moment → text ≡ [] → new.engine ≡ old.engine → new.log ≡ old.log → new.peers.wire.failed ≡ old.peers.wire.failed → standing new ≡ record (standing old) { moment = moment }
     → TakesActions old new (λ actions. Plays old.log.texts old.log.names line (standing old) actions text (standing new))
 told_moment old new line moment text ready is none engine log fine stands = record {
   actions = [];

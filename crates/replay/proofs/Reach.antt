@@ -1,5 +1,5 @@
 -- A server that is told the lines of a trace, line by line.
-use Rattle.std.proofs.Common.{◌≡◌, ℕ, suc, Bool, true, false, List, [], ◌∷◌, ◌++◌, refl, sym, ap, ◌∙◌, subst, inl, inr, codes, append_assoc, append-nil, Result, Ok, Err, OnErr}
+use Rattle.std.proofs.Common.{◌≡◌, ℕ, suc, Bool, true, List, [], ◌∷◌, ◌++◌, refl, sym, ap, ◌∙◌, subst, inl, inr, codes, append_assoc, append-nil, Option, Some, None, Result, Ok, Err, OnErr}
 use Rattle.std.specs.Fmt.{decimal}
 use Rattle.server.specs.State.{EngineState}
 use Rattle.server.specs.Refinement.{StandsAt}
@@ -9,6 +9,7 @@ use Rattle.program.specs.declared.exit_status.ExitStatus.TheVariants as Ends
 use Rattle.program.specs.Said.{ProgramOutput, refused_as, said_after}
 use Rattle.replay.specs.declared.play.Play.{Play}
 use Rattle.traces.specs.declared.line.Line.{Line}
+use Rattle.traces.specs.declared.line_fault.LineFault.{LineFault}
 use Rattle.replay.specs.Acting.{standing, Moves, IsReady, Acts, PlaysAll, PlaysFirst}
 use Rattle.replay.specs.Log.{LogRecord}
 use Rattle.replay.specs.Playing.{Standing, IsBad, may_come, Plays, LinesPlay}
@@ -106,12 +107,12 @@ at_bad play now number next printed lines rest before done left bytes more statu
     }
 
 -- one line more was acted on
-pub went_on : (play old new : Play) (number next after : ℕ) (lines rest : List (List ℕ)) (before done out1 out2 bytes : List ℕ) (more : List (List ℕ)) (is_line : Bool)
-    → Acts old bytes out1 is_line new out2 → is_line ≡ true → old.log ≡ play.log → IsReady old
+pub went_on : (play old new : Play) (number next after : ℕ) (lines rest : List (List ℕ)) (before done out1 out2 bytes : List ℕ) (more : List (List ℕ)) (fault : Option LineFault)
+    → Acts old bytes out1 fault new out2 → fault ≡ None → old.log ≡ play.log → IsReady old
     → Reached play.log.texts play.log.names number lines (standing play) play.engine done next rest (standing old) old.engine → rest ≡ bytes ∷ more → out1 ≡ before ++ done → after ≡ suc next
     → (more_done : List ℕ) × (out2 ≡ before ++ more_done) × Reached play.log.texts play.log.names number lines (standing play) play.engine more_done after more (standing new) new.engine × (new.log ≡ play.log) × IsReady new
-went_on play old new number next after lines rest before done out1 out2 bytes more is_line acts is same ready r cut out one =
-    let did : Acts old bytes out1 true new out2 = subst (λ b. Acts old bytes out1 b new out2) is acts in
+went_on play old new number next after lines rest before done out1 out2 bytes more fault acts is same ready r cut out one =
+    let did : Acts old bytes out1 None new out2 = subst (λ f. Acts old bytes out1 f new out2) is acts in
     let line : Line = did.0 in
     let text : List ℕ = did.1 in
     let does = did.4 in
@@ -126,9 +127,9 @@ went_on play old new number next after lines rest before done out1 out2 bytes mo
     )
 
 -- the result for bad bytes
-pub stood_still : (play old new : Play) (bytes out1 out2 : List ℕ) (is_line : Bool) → Acts old bytes out1 is_line new out2 → is_line ≡ false → old.log ≡ play.log → IsBad play.log.names bytes (standing old) × (out2 ≡ out1)
-stood_still play old new bytes out1 out2 is_line acts is same =
-    let did : Acts old bytes out1 false new out2 = subst (λ b. Acts old bytes out1 b new out2) is acts in
+pub stood_still : (play old new : Play) (bytes out1 out2 : List ℕ) (answer : Option LineFault) (fault : LineFault) → Acts old bytes out1 answer new out2 → answer ≡ Some fault → old.log ≡ play.log → IsBad play.log.names bytes (standing old) × (out2 ≡ out1)
+stood_still play old new bytes out1 out2 answer fault acts is same =
+    let did : Acts old bytes out1 (Some fault) new out2 = subst (λ a. Acts old bytes out1 a new out2) is acts in
     (subst (λ (l : LogRecord). IsBad l.names bytes (standing old)) same did.0, did.1)
 
 -- one text after another

@@ -4,9 +4,10 @@ use Rattle.std.specs.Prelude.{◌||◌}
 use Rattle.std.specs.Option.{ForSome}
 use Rattle.std.proofs.lemmas.Option.{none-some}
 use Rattle.server.specs.Polls.{Happening, Polled, Told, Chosen, Leads, both, alone}
-use Rattle.replay.specs.declared.wire.TraceWire.{TraceWire}
+use Rattle.traces.specs.declared.wire.TraceWire.{TraceWire}
 use Rattle.replay.specs.Log.{LogRecord, LogsNote, note_text, happening_text, happenings_text}
-use Rattle.replay.specs.Wire.{WirePolls, PeersSee, any_stirs, happening_stirs}
+use Rattle.traces.specs.Wire.{WirePolls}
+use Rattle.replay.specs.Peers.{PeersSee, any_stirs, happening_stirs}
 
 -- a relation that is kept by a view of the states
 leads_as : {S T : Type 0} (moves : S → Happening → S → Type 0) (seen : T → Happening → T → Type 0) (view : S → T) → ((old : S) (h : Happening) (new : S) → moves old h new → seen (view old) h (view new)) → (a b : S) (hs : List Happening) → Leads moves a hs b → Leads seen (view a) hs (view b)

@@ -1,5 +1,5 @@
 pub mod Log
-pub mod Wire
+pub mod Peers
 pub mod Playing
 pub mod Replay
 pub mod Acting

@@ -1,6 +1,5 @@
 -- The actions of a server for the lines of a trace, and the printed text of each line.
-use Rattle.std.specs.Prelude.{ℕ, suc, ◌≡◌, ◌⊎◌, ◌<◌, not, Bool, true, false, All, List, [], ◌∷◌, ◌++◌, length, map, codes}
-use Rattle.std.specs.Option.{option_map_or}
+use Rattle.std.specs.Prelude.{ℕ, suc, ◌≡◌, ◌⊎◌, ◌<◌, Bool, true, false, All, List, [], ◌∷◌, ◌++◌, length, map, codes}
 use Rattle.std.specs.Fmt.{decimal}
 use Rattle.base_types.specs.Report.{report_of}
 use Rattle.wires.specs.MemoryPeer.{PeerState}
@@ -12,11 +11,12 @@ use Rattle.program.specs.Said.{ProgramOutput, refused_as, said_after}
 use Rattle.traces.specs.declared.peers.Connection.{Connection}
 use Rattle.traces.specs.declared.line.Line.{Line}
 use Rattle.traces.specs.declared.line.Line.TheVariants as Form
-use Rattle.traces.specs.Connections.{numbered, with_connection, new_peer, changed_at, sending, ending, may_send, connections_text, seen, emptied}
+use Rattle.traces.specs.Connections.{new_peer, sending, ending, connections_text, seen, emptied}
+use Rattle.traces.specs.Peers as Peers
 use Rattle.replay.specs.Log.{happenings_text}
 use Rattle.traces.specs.Printed.{reply_line}
 use Rattle.traces.specs.TraceLine.{IsLine}
-use Rattle.replay.specs.Wire.{PeersSee, any_stirs, all_turns}
+use Rattle.replay.specs.Peers.{PeersSee, any_stirs, all_turns}
 
 -- the progress of a trace: its current moment, its connections by their numbers, and their peers
 pub record Standing : Type 0 where
@@ -73,12 +73,11 @@ pub record Turns (texts : Bool) (names : List (List ℕ)) (old : Standing) (acti
 
 -- a connection is opened at a door
 abbrev pub opened : ℕ → Door → Standing → Standing
-opened number door s =
-    record s { connections = with_connection (record { number = number; place = length s.peers; gone = false }) s.connections; peers = s.peers ++ new_peer door ∷ [] }
+opened number door s = record s { connections = Peers.opened number s.connections s.peers; peers = s.peers ++ new_peer door ∷ [] }
 
 -- the peer of the connection of a number changes
 abbrev pub on_peer : ℕ → (PeerState → PeerState) → Standing → Standing
-on_peer number change s = record s { peers = option_map_or (λ c. changed_at c.place change s.peers) (numbered number s.connections) s.peers }
+on_peer number change s = record s { peers = Peers.on_peer number change s.connections s.peers }
 
 -- ---- a line
 
@@ -92,21 +91,8 @@ Plays texts names (Form.Open opening) old actions text new = Turns texts names (
 Plays texts names (Form.In input) old actions text new = Turns texts names (on_peer input.number (sending input.bytes.items) old) actions text new
 Plays texts names (Form.End number) old actions text new = Turns texts names (on_peer number ending old) actions text new
 
--- whether a connection of the number was opened
-abbrev pub is_opened : ℕ → Standing → Bool
-is_opened number s = option_map_or (λ c. true) (numbered number s.connections) false
-
-abbrev pub is_open : ℕ → Standing → Bool
-is_open number s = option_map_or (λ c. may_send c.place s.peers) (numbered number s.connections) false
-
 abbrev pub may_come : Line → Standing → Bool
-may_come (Form.At moment) s = true
-may_come (Form.Ipp body) s = true
-may_come (Form.Device device report) s = true
-may_come Form.Tick s = true
-may_come (Form.Open opening) s = not (is_opened opening.number s)
-may_come (Form.In input) s = is_open input.number s
-may_come (Form.End number) s = is_open number s
+may_come line s = Peers.may_come line s.connections s.peers
 
 -- ---- all lines
 

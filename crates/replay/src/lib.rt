@@ -13,9 +13,7 @@ mod log;
 mod objection;
 mod play;
 mod run;
-mod wire;
 
 pub use law::lines_are_one_run;
-pub use objection::{LineFault, Objection, form_fault};
+pub use objection::Objection;
 pub use run::{Replayed, run_replay};
-pub use wire::TraceWire;

@@ -4,35 +4,28 @@ ghost use Rattle.base_types.specs.Report.{report_of};
 ghost use Rattle.settings_file.specs.Settings.{MeetsLimits};
 ghost use Rattle.server.specs.Refinement.{said_of};
 ghost use Rattle.server.specs.Turn.{Reported, Ticked};
-ghost use Rattle.replay.specs.Playing.{Calls, Serves, Turns, Plays, IsReplyLine, opened, on_peer, is_open, may_come};
-ghost use Rattle.traces.specs.Connections.{sending, ending, may_send};
-ghost use Rattle.replay.specs.Acting.{standing, IsReady, IsStart, Becomes, TakesActions, TakesTurn, TakesTillQuiet, Acts};
+ghost use Rattle.replay.specs.Playing.{Calls, Serves, Turns, Plays, IsReplyLine, opened, on_peer};
+ghost use Rattle.traces.specs.Connections.{sending, ending};
+ghost use Rattle.replay.specs.Acting.{standing, IsReady, IsStart, TakesActions, TakesTurn, TakesTillQuiet, Acts};
 ghost use Rattle.traces.specs.Printed.{reply_line};
 
 use crate::log::Log;
-use crate::objection::{LineFault, form_fault};
-use crate::wire::TraceWire;
 use base_types::{DeviceId, Moment, Report};
 use plan_solver::AugmentingPaths;
 use server::{Engine, Served};
 use settings_file::Settings;
 use std::alloc::{AllocError, Global};
-use traces::{
-    Connection, Input, Line, Opening, empty_all, end_at, mark_closed, numbered, put_connection,
-    put_connections, put_reply, read_line, send_at,
-};
-use wires::{MemoryPeer, MemoryWire};
+use traces::{Input, Line, LineFault, Opening, Peers, form_fault, put_reply, read_line};
 
 /// The most turns that are taken for one line.
 const MOST_TURNS: usize = 16_777_216;
 
-/// A server, the wire of its connections, and the printed text of its notes.
+/// A server, its connections with their peers, and the printed text of its notes.
 #[derive(Drop)]
 pub(crate) struct Play {
     alloc: Global,
     engine: Engine<AugmentingPaths>,
-    wire: TraceWire,
-    connections: Vec<Connection>,
+    peers: Peers,
     log: Log,
     moment: Moment,
 }
@@ -67,75 +60,32 @@ impl Play {
         Ok(Play {
             alloc,
             engine,
-            wire: TraceWire {
-                memory: MemoryWire::new(Vec::new(alloc)),
-                stirred: false,
-                failed: false,
-            },
-            connections: Vec::new(alloc),
+            peers: Peers::new(alloc),
             log: Log::new(alloc, texts, names),
             moment: Moment::start(),
         })
     }
 
-    /// Acts on a line, if it is a line of a trace that may come now, and appends its text. Returns whether it
-    /// is. The only error is out of memory.
-    pub(crate) fn act(&mut self, bytes: &[u8], output: &mut Vec<u8>) -> Result<bool, AllocError>
+    /// Acts on a line, and appends its text. Bytes that aren't a line of a trace that may come now change
+    /// nothing, and their fault is returned. The only error is out of memory.
+    pub(crate) fn act(
+        &mut self,
+        bytes: &[u8],
+        output: &mut Vec<u8>,
+    ) -> Result<Option<LineFault>, AllocError>
         requires { IsReady self.old }
-        ensures ok { IfOk result (λ is_line. Acts self.old bytes.now output.old.items is_line self.new output.new.items) }
+        ensures ok { IfOk result (λ fault. Acts self.old bytes.now output.old.items fault self.new output.new.items) }
         ensures err { OnErr result (output.new.items ≡ output.old.items) }
     {
         let Some(line) = read_line(self.alloc, bytes, self.log.names())? else {
-            return Ok(false);
+            return Ok(Some(form_fault(bytes)));
         };
-        if !self.may_come(&line) {
-            return Ok(false);
+        if let Some(fault) = self.peers.objection(&line) {
+            return Ok(Some(fault));
         }
         let text = self.give(line)?;
         output.extend_from_slice(&text)?;
-        Ok(true)
-    }
-
-    /// The fault of bytes that aren't a line of a trace, or that are one that may not come now.
-    pub(crate) fn line_fault(&self, bytes: &[u8]) -> LineFault {
-        match read_line(self.alloc, bytes, self.log.names()) {
-            Ok(None) => form_fault(bytes),
-            Ok(Some(Line::Open(_))) => LineFault::Given,
-            Ok(Some(_)) => LineFault::NotOpen,
-            Err(_) => LineFault::Unknown,
-        }
-    }
-
-    /// Returns whether a line may come now.
-    fn may_come(&self, line: &Line) -> bool
-        ensures { result ≡ may_come line.now (standing self.now) }
-    {
-        match line {
-            Line::At(_) | Line::Ipp(_) | Line::Device(_, _) | Line::Tick => true,
-            Line::Open(opening) => numbered(&self.connections, opening.number).is_none(),
-            Line::In(input) => self.is_open(input.number),
-            Line::End(number) => self.is_open(*number),
-        }
-    }
-
-    /// Returns whether the connection of a number may get more bytes.
-    fn is_open(&self, number: u64) -> bool
-        ensures { result ≡ is_open number (standing self.now) }
-    {
-        match numbered(&self.connections, number) {
-            Some(connection) => self.may_send(connection.place),
-            None => false,
-        }
-    }
-
-    /// Returns whether the peer at a place may send more.
-    fn may_send(&self, place: usize) -> bool
-        ensures { result ≡ may_send place self.now.wire.memory.peers.items }
-    {
-        match self.wire.memory.peers.get(place) {
-            Some(peer) => !peer.ended,
-            None => false,
-        }
+        Ok(None)
     }
 
     /// Acts on a line, and returns its text. The only error is out of memory.
@@ -195,26 +145,8 @@ impl Play {
         requires { IsReady self.old }
         ensures { IfOk result (λ text. TakesActions self.old self.new (λ actions. Turns self.old.log.texts self.old.log.names (opened opening.number opening.door (standing self.old)) actions text.items (standing self.new))) }
     {
-        self.add(opening)?;
+        self.peers.open(opening)?;
         self.run()
-    }
-
-    /// Opens a connection. The only error is out of memory.
-    fn add(&mut self, opening: Opening) -> Result<(), AllocError>
-        ensures { OnOk result (Becomes self.old self.new (opened opening.number opening.door (standing self.old))) }
-    {
-        let place = self.wire.memory.peers.len();
-        let input = Vec::new(self.alloc);
-        let peer = MemoryPeer::new(self.alloc, opening.door, input, usize::MAX, usize::MAX);
-        self.wire.memory.peers.push(peer)?;
-        put_connection(
-            &mut self.connections,
-            Connection {
-                number: opening.number,
-                place,
-                gone: false,
-            },
-        )
     }
 
     /// Brings bytes to a connection, takes turns, and returns their text. The only error is out of memory.
@@ -222,18 +154,8 @@ impl Play {
         requires { IsReady self.old }
         ensures { IfOk result (λ text. TakesActions self.old self.new (λ actions. Turns self.old.log.texts self.old.log.names (on_peer input.now.number (sending input.now.bytes.items) (standing self.old)) actions text.items (standing self.new))) }
     {
-        self.send(input)?;
+        self.peers.send(input)?;
         self.run()
-    }
-
-    /// Appends bytes to those that the peer of a connection sends. The only error is out of memory.
-    fn send(&mut self, input: &Input) -> Result<(), AllocError>
-        ensures { OnOk result (Becomes self.old self.new (on_peer input.now.number (sending input.now.bytes.items) (standing self.old))) }
-    {
-        let Some(connection) = numbered(&self.connections, input.number) else {
-            return Ok(());
-        };
-        send_at(&mut self.wire.memory.peers, connection.place, &input.bytes)
     }
 
     /// Ends the input of a connection, takes turns, and returns their text. The only error is out of memory.
@@ -241,17 +163,8 @@ impl Play {
         requires { IsReady self.old }
         ensures { IfOk result (λ text. TakesActions self.old self.new (λ actions. Turns self.old.log.texts self.old.log.names (on_peer number ending (standing self.old)) actions text.items (standing self.new))) }
     {
-        self.finish(number);
+        self.peers.end(number);
         self.run()
-    }
-
-    /// Ends the stream of a connection's peer.
-    fn finish(&mut self, number: u64)
-        ensures { Becomes self.old self.new (on_peer number ending (standing self.old)) }
-    {
-        if let Some(connection) = numbered(&self.connections, number) {
-            end_at(&mut self.wire.memory.peers, connection.place);
-        }
     }
 
     /// Takes turns up to a quiet one, and returns their text. The only error is out of memory.
@@ -260,18 +173,11 @@ impl Play {
         ensures { IfOk result (λ text. TakesActions self.old self.new (λ actions. Turns self.old.log.texts self.old.log.names (standing self.old) actions text.items (standing self.new))) }
     {
         self.take_turns();
-        if self.wire.failed {
+        if self.peers.wire.failed {
             return Err(AllocError);
         }
         let mut text = self.log.take()?;
-        put_connections(
-            self.alloc,
-            &mut text,
-            &self.connections,
-            &self.wire.memory.peers,
-        )?;
-        mark_closed(&mut self.connections, &self.wire.memory.peers);
-        empty_all(&mut self.wire.memory.peers);
+        self.peers.print(&mut text)?;
         Ok(text)
     }
 
@@ -290,8 +196,9 @@ impl Play {
     fn take_turn(&mut self) -> bool
         ensures { TakesTurn self.old self.new result }
     {
-        self.wire.stirred = false;
-        self.engine.turn(&mut self.wire, &mut self.log, self.moment);
-        self.wire.stirred
+        self.peers.wire.stirred = false;
+        self.engine
+            .turn(&mut self.peers.wire, &mut self.log, self.moment);
+        self.peers.wire.stirred
     }
 }

@@ -14,14 +14,14 @@ ghost use Rattle.traces.specs.Lines.{lines_of};
 ghost use Rattle.replay.specs.Acting.{IsReady, IsStart, PlaysAll, PlaysFirst};
 ghost use Rattle.replay.specs.Replay.{SettingsGive, SettingsLeave, TraceGives, TraceLeaves, InputGives, InputLeaves, Replays};
 
-use crate::objection::{LineFault, Objection, about_settings};
+use crate::objection::{Objection, about_settings};
 use crate::play::Play;
 use base_types::Limits;
 use program::{ExitStatus, InputFault, read_whole, refusal_line, write_front};
 use settings_file::{SettingsFault, read_settings_bytes};
 use std::alloc::{AllocError, Global};
 use std::io::{Read, Write};
-use traces::{next_line, split_settings};
+use traces::{LineFault, next_line, split_settings};
 
 /// The end of a replay.
 #[derive(Debug, Drop)]
@@ -174,8 +174,7 @@ fn play_lines(
     let mut number = before;
     while let Some(cut) = next_line(rest) {
         number += 1;
-        if !play.act(cut.line, output)? {
-            let fault = play.line_fault(cut.line);
+        if let Some(fault) = play.act(cut.line, output)? {
             return refuse_line(alloc, number, fault, output, objection);
         }
         rest = cut.later;

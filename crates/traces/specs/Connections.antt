@@ -40,6 +40,10 @@ ending p = record p { ended = true }
 abbrev pub may_send : ℕ → List PeerState → Bool
 may_send place peers = option_map_or (λ p. not p.ended) (slice_get peers place) false
 
+-- whether the peer of the connection of a number may send more
+abbrev pub is_open : ℕ → List Connection → List PeerState → Bool
+is_open number connections peers = option_map_or (λ c. may_send c.place peers) (numbered number connections) false
+
 -- ---- the printed lines
 
 -- the line of the bytes that a peer got; empty if it got none

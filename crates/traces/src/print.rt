@@ -141,7 +141,7 @@ fn put_start(
 }
 
 /// Appends the lines of connections, in order: the bytes that each peer got, if any, and its close.
-pub fn put_connections(
+pub(crate) fn put_connections(
     alloc: Global,
     output: &mut Vec<u8>,
     connections: &[Connection],

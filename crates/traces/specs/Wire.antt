@@ -1,13 +1,12 @@
 -- The wire of a trace: a wire in memory that moves all bytes that can be moved.
-use Rattle.std.specs.Prelude.{ℕ, ◌≡◌, ◌||◌, not, Bool, true, false, List, [], ◌∷◌, ◌++◌, slice_get}
+use Rattle.std.specs.Prelude.{ℕ, ◌≡◌, ◌||◌, not, Bool, true, false, List, [], ◌∷◌, slice_get}
 use Rattle.std.specs.Option.{option_map_or}
 use Rattle.wires.specs.declared.wire.Progress.{Progress}
 use Rattle.wires.specs.declared.wire.Progress.TheVariants.{Done, Waiting, End, Fault}
 use Rattle.wires.specs.MemoryPeer.{PeerState}
 use Rattle.wires.specs.Poll.{Poll, Accepts, Reads, Writes, Closes}
-use Rattle.server.specs.Polls.{Happening, Polled, Told, Chosen}
 use Rattle.wires.specs.MemoryWire.{PeersMove}
-use Rattle.replay.specs.declared.wire.TraceWire.{TraceWire}
+use Rattle.traces.specs.declared.wire.TraceWire.{TraceWire}
 
 -- whether the answer isn't Waiting
 abbrev pub is_something : {T : Type 0} → Progress T → Bool
@@ -44,24 +43,3 @@ pub record WirePolls (old : TraceWire) (poll : Poll) (new : TraceWire) : Type 0 
   pub moves : PeersMove old.memory.peers.items poll new.memory.peers.items
   pub stirred : new.stirred ≡ (old.stirred || stirs poll)
   pub prompt : new.failed ≡ false → (old.failed ≡ false) × IsPrompt old.memory.peers.items poll
-
--- the peers after a happening: a poll moves their bytes, promptly; a note leaves them unchanged
-abbrev pub PeersSee : List PeerState → Happening → List PeerState → Type 0
-PeersSee old (Polled poll) new = PeersMove old poll new × IsPrompt old poll
-PeersSee old (Told note) new = new ≡ old
-PeersSee old (Chosen choice) new = ⊥
-
-abbrev pub happening_stirs : Happening → Bool
-happening_stirs (Polled poll) = stirs poll
-happening_stirs (Told note) = false
-happening_stirs (Chosen choice) = false
-
--- whether some poll has an answer other than Waiting
-abbrev pub any_stirs : List Happening → Bool
-any_stirs [] = false
-any_stirs (h ∷ hs) = happening_stirs h || any_stirs hs
-
--- the happenings of turns, in order
-abbrev pub all_turns : List (List Happening) → List Happening
-all_turns [] = []
-all_turns (turn ∷ turns) = turn ++ all_turns turns

@@ -1,7 +1,8 @@
 //! The wire of a trace.
-ghost use Rattle.std.specs.Prelude.{◌≡◌, false, true};
-ghost use Rattle.replay.specs.Wire.{has_input};
+ghost use Rattle.std.specs.Prelude.{◌≡◌, [], false, true};
+ghost use Rattle.traces.specs.Wire.{has_input};
 
+use std::alloc::Global;
 use std::io::IoSlice;
 use wires::{Door, MemoryWire, Progress, Wire, WireId};
 
@@ -16,6 +17,18 @@ pub struct TraceWire {
 }
 
 impl TraceWire {
+    /// Creates a wire without peers.
+    pub fn new(alloc: Global) -> TraceWire
+        ensures empty { result.memory.peers.items ≡ [] }
+        ensures prompt { result.failed ≡ false }
+    {
+        TraceWire {
+            memory: MemoryWire::new(Vec::new(alloc)),
+            stirred: false,
+            failed: false,
+        }
+    }
+
     /// Records that a poll had an answer other than `Waiting`.
     fn stir(&mut self)
         ensures { self.new ≡ record self.old { stirred = true } }
@@ -52,7 +65,7 @@ impl TraceWire {
 }
 
 impl Wire for TraceWire {
-    ghost use Rattle.replay.specs.Wire.{WirePolls};
+    ghost use Rattle.traces.specs.Wire.{WirePolls};
 
     ghost polled = { WirePolls };
 
