@@ -79,7 +79,7 @@ impl Server {
         if self.is_recorded() {
             self.wire.wire.keep_visits(self.alloc);
         }
-        let seen = self.take(moment, NoListener);
+        let seen = self.run_turn(moment, NoListener);
         let visits = self.visits();
         self.note_turn(moment, &visits, seen.told, seen.refused);
     }
@@ -90,7 +90,7 @@ impl Server {
         ensures { ServesTurn moment self.old.engine self.old.wire.notes self.new.engine self.new.wire.notes }
     {
         self.wire.wire.keep_visits(self.alloc);
-        let mut seen = self.take(moment, NoteLog::new(self.alloc));
+        let mut seen = self.run_turn(moment, NoteLog::new(self.alloc));
         let visits = self.visits();
         self.note_turn(moment, &visits, seen.told, seen.refused);
         let heard = seen.listener.take()?;
@@ -99,7 +99,7 @@ impl Server {
     }
 
     /// Takes one turn of the engine, which tells the listener its notes.
-    fn take<N: Listener>(&mut self, moment: Moment, listener: N) -> Witness<N>
+    fn run_turn<N: Listener>(&mut self, moment: Moment, listener: N) -> Witness<N>
         ensures { TakesTurn moment self.old.engine self.old.wire.notes self.new.engine self.new.wire.notes }
     {
         let mut witness = Witness::new(listener);

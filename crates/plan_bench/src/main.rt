@@ -48,7 +48,7 @@ enum Mode {
 
 /// The arguments of a run.
 #[derive(Drop)]
-struct Asked {
+struct Arguments {
     mode: Mode,
     kind: Kind,
     by: By,
@@ -83,7 +83,7 @@ fn read_last(word: Option<&str>) -> Result<(Kind, By), Error> {
 }
 
 /// Reads the arguments.
-fn read_asked(rt: &HostRuntime) -> Result<Asked, Error> {
+fn read_arguments(rt: &HostRuntime) -> Result<Arguments, Error> {
     let mut words = env::args(rt)?.skip(1);
     let mut next = || {
         words
@@ -96,7 +96,7 @@ fn read_asked(rt: &HostRuntime) -> Result<Asked, Error> {
     let seed = next()?.parse()?;
     let count = next()?.parse()?;
     let (kind, by) = read_last(words.next().as_deref())?;
-    Ok(Asked {
+    Ok(Arguments {
         mode,
         kind,
         by,
@@ -107,17 +107,21 @@ fn read_asked(rt: &HostRuntime) -> Result<Asked, Error> {
     })
 }
 
-/// Makes the next class: of the numbers of jobs and devices asked for, or in a comparison of at most these
-/// numbers.
-fn next_class(alloc: Global, random: &mut Random, asked: &Asked) -> Result<ClassProblem, Error> {
-    let (jobs, devices) = match asked.mode {
-        Mode::Paths | Mode::Dense | Mode::Day(_) => (asked.jobs, asked.devices),
+/// Makes the next class: of the numbers of jobs and devices of the arguments, or in a comparison of at most
+/// these numbers.
+fn next_class(
+    alloc: Global,
+    random: &mut Random,
+    arguments: &Arguments,
+) -> Result<ClassProblem, Error> {
+    let (jobs, devices) = match arguments.mode {
+        Mode::Paths | Mode::Dense | Mode::Day(_) => (arguments.jobs, arguments.devices),
         Mode::Compare => (
-            u32::try_from(random.below(u64::from(asked.jobs)))?.saturating_add(1),
-            usize::try_from(random.below(asked.devices as u64))?.saturating_add(1),
+            u32::try_from(random.below(u64::from(arguments.jobs)))?.saturating_add(1),
+            usize::try_from(random.below(arguments.devices as u64))?.saturating_add(1),
         ),
     };
-    made_class(alloc, random, asked.kind, jobs, devices)
+    made_class(alloc, random, arguments.kind, jobs, devices)
 }
 
 /// The total of a planner's way, in ms.
@@ -151,29 +155,29 @@ fn total_of(alloc: Global, class: &ClassProblem, mode: Mode) -> Result<u64, Erro
 }
 
 /// Makes the classes one after the other, and writes the total of each class.
-fn plan_all(rt: &HostRuntime, asked: &Asked) -> Result<(), Error> {
-    let mut random = Random::new(asked.seed);
-    for _ in 0..asked.count {
-        let class = next_class(rt.alloc(), &mut random, asked)?;
-        let total = total_of(rt.alloc(), &class, asked.mode)?;
+fn plan_all(rt: &HostRuntime, arguments: &Arguments) -> Result<(), Error> {
+    let mut random = Random::new(arguments.seed);
+    for _ in 0..arguments.count {
+        let class = next_class(rt.alloc(), &mut random, arguments)?;
+        let total = total_of(rt.alloc(), &class, arguments.mode)?;
         println!(rt; "{total}")?;
     }
     Ok(())
 }
 
 /// Plays a day, and writes the sum of the totals of its plans.
-fn play_day(rt: &HostRuntime, asked: &Asked, course: Course) -> Result<(), Error> {
-    let jobs = asked.jobs as usize;
-    let day = Day::new(rt.alloc(), course, jobs, asked.devices, asked.seed)?;
-    let sum = play(rt.alloc(), day, asked.by, asked.count)?;
+fn play_day(rt: &HostRuntime, arguments: &Arguments, course: Course) -> Result<(), Error> {
+    let jobs = arguments.jobs as usize;
+    let day = Day::new(rt.alloc(), course, jobs, arguments.devices, arguments.seed)?;
+    let sum = play(rt.alloc(), day, arguments.by, arguments.count)?;
     println!(rt; "{sum}")?;
     Ok(())
 }
 
 fn main(rt: HostRuntime) -> Result<(), Error> {
-    let asked = read_asked(&rt)?;
-    match asked.mode {
-        Mode::Day(course) => play_day(&rt, &asked, course),
-        Mode::Paths | Mode::Dense | Mode::Compare => plan_all(&rt, &asked),
+    let arguments = read_arguments(&rt)?;
+    match arguments.mode {
+        Mode::Day(course) => play_day(&rt, &arguments, course),
+        Mode::Paths | Mode::Dense | Mode::Compare => plan_all(&rt, &arguments),
     }
 }
