@@ -166,7 +166,7 @@ module _ (old : State) (room : RoomKeeps old) where
   step_keeps (Is.CancelJob request) now reply new step = canceled now request.user reply new (canceled_of request old) step
   step_keeps (Is.GetJobAttributes request) now reply new step = shown now reply new (λ job. job_group now request.requested old job ∷ []) (named_job request.target old) step
   step_keeps (Is.GetJobs request) now reply new step = shown now reply new (λ wanted. job_groups wanted now request.requested old) (wanted_of request old) step
-  step_keeps (Is.GetPrinterAttributes request) now reply new step = shown now reply new (λ printer. printer_group printer.place printer.offer now request.requested old ∷ []) (named_printer request.target old) step
+  step_keeps (Is.GetPrinterAttributes request) now reply new step = shown now reply new (λ printer. printer_group printer.id printer.offer now request.requested old ∷ []) (named_printer request.target old) step
   step_keeps (Is.HoldJob request) now reply new step = held now request.job request.until reply new step
   step_keeps (Is.ReleaseJob request) now reply new step = changed now Change.Release [] reply new (changed_of request Change.Release now old) step
   step_keeps (Is.PausePrinter request) now reply new step = paused now true reply new (paused_of request old) step

@@ -33,7 +33,7 @@ offer_of state printer = record { devices = state.devices; printer = printer }
 -- the printer is known
 abbrev pub named_printer : Target → State → Result NamedPrinter Rejection
 named_printer target state =
-    option_map_or (λ found. Ok (record { place = found.0; offer = offer_of state found.1 })) (printer_of target state.settings.printers) (Err (refused Went.NotFound))
+    option_map_or (λ found. Ok (record { id = found.0; offer = offer_of state found.1 })) (printer_of target state.settings.printers) (Err (refused Went.NotFound))
 
 -- the job is known
 abbrev pub named_job : JobTarget → State → Result JobRecord Rejection
@@ -42,7 +42,7 @@ named_job target state = option_map_or Ok (job_of target state) (Err (refused We
 -- the printer of a job
 abbrev pub printer_of_job : JobRecord → State → Result NamedPrinter Rejection
 printer_of_job job state =
-    option_map_or (λ printer. Ok (record { place = job.needs.printer; offer = offer_of state printer })) (slice_get state.settings.printers job.needs.printer) (Err (refused Went.NotFound))
+    option_map_or (λ printer. Ok (record { id = job.needs.printer; offer = offer_of state printer })) (slice_get state.settings.printers job.needs.printer) (Err (refused Went.NotFound))
 
 -- compression is present and isn't `none` (section 4.2.1.1)
 abbrev pub is_compressed : Option (List ℕ) → Bool

@@ -28,7 +28,7 @@ abbrev pub wanted_of : GetJobs → State → Result WantedJobs Rejection
 wanted_of request old =
     named_printer request.printer.target old >>= (λ printer.
     finished_asked request.which >>= (λ finished.
-    Ok (record { printer = printer.place; finished = finished; owner = owner_asked request.mine request.printer.user; limit = request.limit })))
+    Ok (record { printer = printer.id; finished = finished; owner = owner_asked request.mine request.printer.user; limit = request.limit })))
 
 -- the relation has at most one reply and one state after it
 abbrev pub ListsJobs : ℕ → GetJobs → State → Effects → State → Type 0

@@ -11,5 +11,5 @@ use Rattle.print_room.specs.State.{State}
 abbrev pub ShowsPrinter : ℕ → GetPrinterAttributes → State → Effects → State → Type 0
 ShowsPrinter now request old reply new =
     MatchResult (named_printer request.target old)
-    (λ printer. Shows now old (printer_group printer.place printer.offer now request.requested old ∷ []) reply new)
+    (λ printer. Shows now old (printer_group printer.id printer.offer now request.requested old ∷ []) reply new)
     (λ refusal. Refuses now old refusal reply new)

@@ -16,7 +16,7 @@ abbrev pub paused_of : PrinterRequest → State → Result ℕ Rejection
 paused_of request old =
     named_printer request.target old >>= (λ printer.
     by_operator request.user old >>= (λ _.
-    Ok printer.place))
+    Ok printer.id))
 
 -- the printer is paused, or its pause has ended
 pub record PausesIt (now : ℕ) (old : State) (paused : Bool) (place : ℕ) (reply : Effects) (new : State) : Type 0 where

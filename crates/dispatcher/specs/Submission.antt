@@ -19,7 +19,7 @@ abbrev pub submission_of : JobCreation → ℕ → NamedPrinter → Submission
 submission_of asked now printer =
     let template = template_of printer.offer asked.template in record {
       created = now;
-      printer = printer.place;
+      printer = printer.id;
       owner = asked.user;
       name = asked.name;
       priority = template.priority;

@@ -7,7 +7,7 @@ ghost use Rattle.spool.specs.Jobs.{job_at};
 ghost use Rattle.dispatcher.specs.Checks.{by_operator, format_asked, format_of, is_compressed, named_job, named_printer, printer_of_job, refused, room_for, status_of, unsupported_asked};
 ghost use Rattle.dispatcher.specs.Target.{if_sent_to, job_of, printer_of};
 
-use base_types::{JobId, Limits, Text};
+use base_types::{JobId, Limits, PrinterId, Text};
 use events::{DocumentForm, JobTarget, Status, Target};
 use job_objects::Job;
 use job_template::RequestAttributes;
@@ -24,10 +24,10 @@ pub(crate) struct Rejection {
     pub(crate) unsupported: RequestAttributes,
 }
 
-/// A printer with its offer and its place in the settings.
+/// A printer with its offer.
 #[derive(Drop)]
 pub(crate) struct NamedPrinter<'a> {
-    pub(crate) place: usize,
+    pub(crate) id: PrinterId,
     pub(crate) offer: Offer<'a>,
 }
 
@@ -52,23 +52,23 @@ pub(crate) fn named_printer<'a>(
     let printers = &room.settings().printers;
     match printer_of(printers, target) {
         Some(found) => Ok(NamedPrinter {
-            place: found.0,
+            id: found.0,
             offer: Offer::new(room.devices(), found.1),
         }),
         None => Err(refused(alloc, Status::NotFound)),
     }
 }
 
-/// The first printer that a request names, with its place.
+/// The first printer that a request names, with its settings.
 fn printer_of<'a>(
     printers: &'a [PrinterSettings],
     target: &Target,
-) -> Option<(usize, &'a PrinterSettings)>
+) -> Option<(PrinterId, &'a PrinterSettings)>
     ensures { option_map (λ found. (found.0, found.1.now)) result ≡ printer_of target.now printers.now }
 {
     for (place, printer) in printers.iter().enumerate() {
         if target.names(printer) {
-            return Some((place, printer));
+            return Some((PrinterId::new(place), printer));
         }
     }
     None
@@ -103,9 +103,11 @@ fn job_of<'a>(room: &'a PrintRoom, target: &JobTarget) -> Option<&'a Job>
 fn job_of_printer<'a>(room: &'a PrintRoom, target: &Target, id: JobId) -> Option<&'a Job>
     ensures { option_copied result ≡ option_and_then (λ found. option_and_then (if_sent_to found.0) (job_at id room.now.spool.jobs)) (printer_of target.now room.now.settings.printers) }
 {
-    let found = printer_of(&room.settings().printers, target)?;
+    let Some(found) = printer_of(&room.settings().printers, target) else {
+        return None;
+    };
     let job = room.spool().get(id)?;
-    if job.needs.printer.place() == found.0 {
+    if job.needs.printer == found.0 {
         Some(job)
     } else {
         None
@@ -120,10 +122,10 @@ pub(crate) fn printer_of_job<'a>(
 ) -> Result<NamedPrinter<'a>, Rejection>
     ensures { result ≡ printer_of_job job.now room.now }
 {
-    let place = job.needs.printer.place();
-    match room.settings().printers.get(place) {
+    let id = job.needs.printer;
+    match room.settings().printers.get(id.place()) {
         Some(printer) => Ok(NamedPrinter {
-            place,
+            id,
             offer: Offer::new(room.devices(), printer),
         }),
         None => Err(refused(alloc, Status::NotFound)),

@@ -43,9 +43,9 @@ fn printer_groups(
     now: Moment,
     requested: &[Text],
 ) -> Result<ResponseGroups, AllocError>
-    ensures { IfOk result (λ groups. groups ≡ printer_group printer.now.place printer.now.offer now requested.now room.now ∷ []) }
+    ensures { IfOk result (λ groups. groups ≡ printer_group printer.now.id printer.now.offer now requested.now room.now ∷ []) }
 {
-    let group = printer_group(alloc, room, printer.place, &printer.offer, now, requested)?;
+    let group = printer_group(alloc, room, printer.id, &printer.offer, now, requested)?;
     ResponseGroups::one(alloc, group)
 }
 

@@ -6,7 +6,7 @@ ghost use Rattle.dispatcher.specs.GetJobs.{ListsJobs, finished_asked, owner_aske
 
 use crate::answering::{refuse, show};
 use crate::checks::{Rejection, named_printer};
-use base_types::{Moment, PrinterId, Text};
+use base_types::{Moment, Text};
 use events::{Effects, GetJobs, ResponseGroups, Status, WhichJobs};
 use listings::{Wanted, job_groups};
 use print_room::PrintRoom;
@@ -31,8 +31,8 @@ pub(crate) fn get_jobs(
         limit,
         requested,
     } = request;
-    let place = match named_printer(alloc, room, &asked.target) {
-        Ok(printer) => printer.place,
+    let printer = match named_printer(alloc, room, &asked.target) {
+        Ok(printer) => printer.id,
         Err(refusal) => return Ok(refuse(alloc, room, refusal, now)),
     };
     let finished = match finished_asked(which) {
@@ -40,7 +40,7 @@ pub(crate) fn get_jobs(
         Err(refusal) => return Ok(refuse(alloc, room, refusal, now)),
     };
     let wanted = Wanted {
-        printer: PrinterId::new(place),
+        printer,
         finished,
         owner: owner_asked(mine, &asked.user),
         limit,

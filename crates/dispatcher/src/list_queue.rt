@@ -22,7 +22,7 @@ pub(crate) fn list_queue(
     ensures light { queue_of request.now.queue room.old ≡ None → IsOk result }
 {
     let answer = match queue_of(room, &request.queue) {
-        Some(place) => LpdResponse::Queue(queue_listing(alloc, room, place, request, now)?),
+        Some(printer) => LpdResponse::Queue(queue_listing(alloc, room, printer, request, now)?),
         None => LpdResponse::NoQueue,
     };
     room.advance(now);

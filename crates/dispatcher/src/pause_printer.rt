@@ -42,5 +42,5 @@ fn paused_of(
 {
     let printer = named_printer(alloc, room, &request.target)?;
     by_operator(alloc, room, &request.user)?;
-    Ok(PrinterId::new(printer.place))
+    Ok(printer.id)
 }

@@ -4,7 +4,7 @@ ghost use Rattle.listings.specs.Removal.{active_job, named_jobs};
 ghost use Rattle.dispatcher.specs.RemoveJobs.{RemovesJobs, cancels_if_named, cancels_of_each, told_of};
 
 use crate::cancel_job::cancels_of;
-use base_types::{Moment, Text};
+use base_types::{Moment, PrinterId, Text};
 use events::{Cancel, Effects, RemoveJobs};
 use job_objects::Job;
 use listings::{active_job, is_named, queue_of, remove};
@@ -33,13 +33,13 @@ fn told_of(alloc: Global, room: &PrintRoom, request: &RemoveJobs) -> Result<Vec<
     ensures ok { IfOk result (λ cancels. cancels.items ≡ told_of request.now room.now) }
     ensures err { OnErr result (told_of request.now room.now ≢ []) }
 {
-    let Some(place) = queue_of(room, &request.queue) else {
+    let Some(printer) = queue_of(room, &request.queue) else {
         return Ok(Vec::new(alloc));
     };
     if request.operands.is_empty() {
-        told_of_active(alloc, room, place, &request.agent)
+        told_of_active(alloc, room, printer, &request.agent)
     } else {
-        told_of_named(alloc, room, place, request)
+        told_of_named(alloc, room, printer, request)
     }
 }
 
@@ -47,13 +47,13 @@ fn told_of(alloc: Global, room: &PrintRoom, request: &RemoveJobs) -> Result<Vec<
 fn told_of_active(
     alloc: Global,
     room: &PrintRoom,
-    place: usize,
+    printer: PrinterId,
     agent: &Text,
 ) -> Result<Vec<Cancel>, AllocError>
-    ensures ok { IfOk result (λ cancels. cancels.items ≡ cancels_of_each (option_to_list (active_job place agent.now room.now)) room.now) }
-    ensures err { OnErr result (cancels_of_each (option_to_list (active_job place agent.now room.now)) room.now ≢ []) }
+    ensures ok { IfOk result (λ cancels. cancels.items ≡ cancels_of_each (option_to_list (active_job printer agent.now room.now)) room.now) }
+    ensures err { OnErr result (cancels_of_each (option_to_list (active_job printer agent.now room.now)) room.now ≢ []) }
 {
-    match active_job(room, place, agent) {
+    match active_job(room, printer, agent) {
         Some(id) => cancels_of(alloc, room, id),
         None => Ok(Vec::new(alloc)),
     }
@@ -63,15 +63,15 @@ fn told_of_active(
 fn told_of_named(
     alloc: Global,
     room: &PrintRoom,
-    place: usize,
+    printer: PrinterId,
     request: &RemoveJobs,
 ) -> Result<Vec<Cancel>, AllocError>
-    ensures ok { IfOk result (λ cancels. cancels.items ≡ cancels_of_each (named_jobs place request.now room.now) room.now) }
-    ensures err { OnErr result (cancels_of_each (named_jobs place request.now room.now) room.now ≢ []) }
+    ensures ok { IfOk result (λ cancels. cancels.items ≡ cancels_of_each (named_jobs printer request.now room.now) room.now) }
+    ensures err { OnErr result (cancels_of_each (named_jobs printer request.now room.now) room.now ≢ []) }
 {
     let mut cancels = Vec::new(alloc);
     for spooled in room.spool().jobs() {
-        add_cancel(&mut cancels, room, place, request, spooled.job())?;
+        add_cancel(&mut cancels, room, printer, request, spooled.job())?;
     }
     Ok(cancels)
 }
@@ -80,14 +80,14 @@ fn told_of_named(
 fn add_cancel(
     cancels: &mut Vec<Cancel>,
     room: &PrintRoom,
-    place: usize,
+    printer: PrinterId,
     request: &RemoveJobs,
     job: &Job,
 ) -> Result<(), AllocError>
-    ensures ok { OnOk result (cancels.new.items ≡ cancels.old.items ++ cancels_if_named place request.now room.now job.now) }
-    ensures err { OnErr result (cancels_if_named place request.now room.now job.now ≢ []) }
+    ensures ok { OnOk result (cancels.new.items ≡ cancels.old.items ++ cancels_if_named printer request.now room.now job.now) }
+    ensures err { OnErr result (cancels_if_named printer request.now room.now job.now ≢ []) }
 {
-    if is_named(place, request, job) {
+    if is_named(printer, request, job) {
         if let Some(device) = room.device_of(job.id) {
             cancels.push(Cancel {
                 job: job.id,

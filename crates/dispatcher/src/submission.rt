@@ -4,7 +4,7 @@ ghost use Rattle.spool.specs.Calls.{is_full, new_refusal};
 ghost use Rattle.dispatcher.specs.Submission.{job_asked, group_of};
 
 use crate::checks::{NamedPrinter, Rejection, room_for, unsupported_asked};
-use base_types::{Limits, Moment, PrinterId};
+use base_types::{Limits, Moment};
 use events::{JobCreation, ResponseGroups};
 use job_objects::{JobState, waiting_reasons};
 use job_template::{RequestAttributes, medium_of, template_of};
@@ -56,7 +56,7 @@ pub(crate) fn job_asked(
     let media = medium.copied(alloc)?;
     let job = NewJob {
         created: now,
-        printer: PrinterId::new(printer.place),
+        printer: printer.id,
         owner: user,
         name,
         priority: template.priority,

@@ -65,27 +65,27 @@ fn filed_of(
     if room.spool().admits(&request.documents).is_err() {
         return Ok(None);
     }
-    let Some(place) = queue_of(room, &request.queue) else {
+    let Some(printer) = queue_of(room, &request.queue) else {
         return Ok(None);
     };
-    let job = job_of_files(alloc, room, request, place, now)?;
+    let job = job_of_files(alloc, room, request, printer, now)?;
     Ok(Some(job))
 }
 
-/// The job of the files at the printer at a place of the settings.
+/// The job of the files at a printer.
 fn job_of_files(
     alloc: Global,
     room: &PrintRoom,
     request: SubmitFiles,
-    place: usize,
+    printer: PrinterId,
     now: Moment,
 ) -> Result<NewJob, AllocError>
-    ensures { IfOk result (λ job. job ≡ job_of_files request now room.now place) }
+    ensures { IfOk result (λ job. job ≡ job_of_files request now room.now printer) }
 {
-    let media = default_medium(alloc, &room.settings().printers, place)?;
+    let media = default_medium(alloc, &room.settings().printers, printer)?;
     Ok(NewJob {
         created: now,
-        printer: PrinterId::new(place),
+        printer,
         owner: request.owner,
         name: request.name,
         priority: Priority::normal(),
@@ -99,15 +99,15 @@ fn job_of_files(
     })
 }
 
-/// The default medium of the printer at a place.
+/// The default medium of a printer.
 fn default_medium(
     alloc: Global,
     printers: &[PrinterSettings],
-    place: usize,
+    printer: PrinterId,
 ) -> Result<Text, AllocError>
-    ensures { IfOk result (λ media. media ≡ option_map_or (λ printer. printer.media_default) (slice_get printers.now place) []) }
+    ensures { IfOk result (λ media. media ≡ option_map_or (λ printer. printer.media_default) (slice_get printers.now printer) []) }
 {
-    match printers.get(place) {
+    match printers.get(printer.place()) {
         Some(printer) => printer.media_default.copied(alloc),
         None => Ok(Text::new(Vec::new(alloc))),
     }

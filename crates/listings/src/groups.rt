@@ -21,27 +21,27 @@ use settings_file::{PrinterSettings, Settings};
 use spool::Spool;
 use std::alloc::{AllocError, Global};
 
-/// The printer group of a Get-Printer-Attributes (RFC 8011, section 4.2.5): the requested attributes of the
-/// printer at a place of the settings, with its offer.
+/// The printer group of a Get-Printer-Attributes (RFC 8011, section 4.2.5): the requested attributes of a
+/// printer, with its offer.
 ///
 /// The only error is out of memory.
 pub fn printer_group<'a>(
     alloc: Global,
     room: &'a PrintRoom,
-    place: usize,
+    printer: PrinterId,
     offer: &'a Offer<'a>,
     now: Moment,
     requested: &[Text],
 ) -> Result<Group, AllocError>
-    ensures { IfOk result (λ group. group ≡ printer_group place offer.now now requested.now room.now) }
+    ensures { IfOk result (λ group. group ≡ printer_group printer offer.now now requested.now room.now) }
 {
     let running = Printer::new();
     let shown = PrinterShown {
-        printer: printer_at(room.printers(), place, &running),
+        printer: printer_at(room.printers(), printer, &running),
         offer,
         uri_base: uri_base(room.settings()),
-        busy: is_busy(room.spool(), place),
-        queued: queued(room.spool(), place),
+        busy: is_busy(room.spool(), printer),
+        queued: queued(room.spool(), printer),
         moment: now,
     };
     printer_attributes(alloc, &shown, requested)
@@ -54,58 +54,55 @@ fn uri_base(settings: &Settings) -> &Text
     &settings.uri_base
 }
 
-/// The printer at a place, or `otherwise` if there is none.
-fn printer_at<'a>(printers: &'a [Printer], place: usize, otherwise: &'a Printer) -> &'a Printer
-    ensures { result.now ≡ option_map_or (λ p. p) (slice_get printers.now place) otherwise.now }
+/// A printer of the room, or `otherwise` if there is no such printer.
+fn printer_at<'a>(
+    printers: &'a [Printer],
+    printer: PrinterId,
+    otherwise: &'a Printer,
+) -> &'a Printer
+    ensures { result.now ≡ option_map_or (λ p. p) (slice_get printers.now printer) otherwise.now }
 {
-    match printers.get(place) {
+    match printers.get(printer.place()) {
         Some(printer) => printer,
         None => otherwise,
     }
 }
 
-/// The state of the printer at a place (RFC 8011, section 5.4.11).
-pub fn state_of_printer(room: &PrintRoom, place: usize) -> PrinterState
-    ensures { result ≡ state_of_printer place room.now }
+/// The state of a printer (RFC 8011, section 5.4.11).
+pub fn state_of_printer(room: &PrintRoom, printer: PrinterId) -> PrinterState
+    ensures { result ≡ state_of_printer printer room.now }
 {
     let running = Printer::new();
-    let printer = printer_at(room.printers(), place, &running);
-    printer_state(printer, is_busy(room.spool(), place))
+    let shown = printer_at(room.printers(), printer, &running);
+    printer_state(shown, is_busy(room.spool(), printer))
 }
 
-/// Returns whether some job of the printer at a place is on a device.
-fn is_busy(spool: &Spool, place: usize) -> bool
-    ensures { result ≡ list_any (λ s. is_busy_with place s.job) spool.now.jobs }
+/// Returns whether some job of a printer is on a device.
+fn is_busy(spool: &Spool, printer: PrinterId) -> bool
+    ensures { result ≡ list_any (λ s. is_busy_with printer s.job) spool.now.jobs }
 {
     spool
         .jobs()
         .iter()
-        .any(|spooled| keeps_printer_busy(spooled.job(), place))
+        .any(|spooled| keeps_busy(spooled.job(), printer))
 }
 
-/// Returns whether a job keeps the printer at a place busy.
-fn keeps_printer_busy(job: &Job, place: usize) -> bool
-    ensures { result ≡ is_busy_with place job.now }
-{
-    keeps_busy(job, PrinterId::new(place))
-}
-
-/// Returns the number of unfinished jobs of the printer at a place.
-fn queued(spool: &Spool, place: usize) -> usize
-    ensures { result ≡ count_by (is_queued place) spool.now.jobs }
+/// Returns the number of unfinished jobs of a printer.
+fn queued(spool: &Spool, printer: PrinterId) -> usize
+    ensures { result ≡ count_by (is_queued printer) spool.now.jobs }
 {
     spool
         .jobs()
         .iter()
-        .filter(|spooled| is_queued(spooled.job(), place))
+        .filter(|spooled| is_queued(spooled.job(), printer))
         .count()
 }
 
-/// Returns whether a job was sent to the printer at a place and is unfinished.
-fn is_queued(job: &Job, place: usize) -> bool
-    ensures { result ≡ (job.now.needs.printer == place) && not (is_finished job.now.state) }
+/// Returns whether a job was sent to a printer and is unfinished.
+fn is_queued(job: &Job, printer: PrinterId) -> bool
+    ensures { result ≡ (job.now.needs.printer == printer) && not (is_finished job.now.state) }
 {
-    job.needs.printer.place() == place && !job.state.is_finished()
+    job.needs.printer == printer && !job.state.is_finished()
 }
 
 /// The job group of a Get-Job-Attributes (RFC 8011, section 4.3.4): the requested attributes of a job.

@@ -13,24 +13,24 @@ use job_objects::Job;
 use print_room::PrintRoom;
 use std::alloc::{AllocError, Global};
 
-/// The listing of the queue of the printer at a place of the settings, at a moment: its unfinished jobs that
-/// an operand names, or all of them if there are no operands, in the order of [`listed`].
+/// The listing of the queue of a printer, at a moment: its unfinished jobs that an operand names, or all of
+/// them if there are no operands, in the order of [`listed`].
 ///
 /// The only error is out of memory.
 pub fn queue_listing(
     alloc: Global,
     room: &PrintRoom,
-    place: usize,
+    printer: PrinterId,
     request: &ListQueue,
     now: Moment,
 ) -> Result<QueueListing, AllocError>
-    ensures { IfOk result (λ listing. ShowsQueue now place request.now room.now listing) }
+    ensures { IfOk result (λ listing. ShowsQueue now printer request.now room.now listing) }
 {
     Ok(QueueListing {
         form: request.form,
         name: request.queue.copied(alloc)?,
-        state: state_of_printer(room, place),
-        jobs: shown_jobs(alloc, room, place, &request.operands, now)?,
+        state: state_of_printer(room, printer),
+        jobs: shown_jobs(alloc, room, printer, &request.operands, now)?,
     })
 }
 
@@ -38,14 +38,14 @@ pub fn queue_listing(
 fn shown_jobs(
     alloc: Global,
     room: &PrintRoom,
-    place: usize,
+    printer: PrinterId,
     operands: &[Text],
     now: Moment,
 ) -> Result<Vec<QueueEntry>, AllocError>
-    ensures { IfOk result (λ jobs. jobs.items ≡ entries_of now place operands.now room.now) }
+    ensures { IfOk result (λ jobs. jobs.items ≡ entries_of now printer operands.now room.now) }
 {
     let wanted = Wanted {
-        printer: PrinterId::new(place),
+        printer,
         finished: false,
         owner: None,
         limit: None,

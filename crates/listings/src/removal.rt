@@ -51,60 +51,63 @@ fn is_one_of(agent: &Text, operands: &[Text], job: &Job) -> bool
         .any(|operand| names_for(agent, operand, job))
 }
 
-/// Returns whether a removal from the printer at a place names an unfinished job, by its id or by its owner.
-pub fn is_named(place: usize, request: &RemoveJobs, job: &Job) -> bool
-    ensures { result ≡ is_named place request.now job.now }
+/// Returns whether a removal from a printer names an unfinished job, by its id or by its owner.
+pub fn is_named(printer: PrinterId, request: &RemoveJobs, job: &Job) -> bool
+    ensures { result ≡ is_named printer request.now job.now }
 {
-    job.needs.printer.place() == place
+    job.needs.printer == printer
         && !job.state.is_finished()
         && may_remove(&request.agent, job)
         && is_one_of(&request.agent, &request.operands, job)
 }
 
-/// Returns whether a device has the job for the printer at a place, running or stopped, and the agent may
-/// remove it.
-fn is_active(place: usize, agent: &Text, job: &Job) -> bool
-    ensures { result ≡ is_active place agent.now job.now }
+/// Returns whether a device has the job for a printer, running or stopped, and the agent may remove it.
+fn is_active(printer: PrinterId, agent: &Text, job: &Job) -> bool
+    ensures { result ≡ is_active printer agent.now job.now }
 {
-    keeps_busy(job, PrinterId::new(place)) && may_remove(agent, job)
+    keeps_busy(job, printer) && may_remove(agent, job)
 }
 
 /// The first active job.
-fn find_active<'a>(jobs: &'a [SpooledJob], place: usize, agent: &Text) -> Option<&'a SpooledJob>
-    ensures { option_copied result ≡ find (λ s. is_active place agent.now s.job) jobs.now }
+fn find_active<'a>(
+    jobs: &'a [SpooledJob],
+    printer: PrinterId,
+    agent: &Text,
+) -> Option<&'a SpooledJob>
+    ensures { option_copied result ≡ find (λ s. is_active printer agent.now s.job) jobs.now }
 {
     jobs.iter()
-        .find(|spooled| is_active(place, agent, spooled.job()))
+        .find(|spooled| is_active(printer, agent, spooled.job()))
 }
 
-/// The job that a removal without operands removes from the printer at a place: the job of the least id that
-/// a running or stopped device has and that the agent may remove.
-pub fn active_job(room: &PrintRoom, place: usize, agent: &Text) -> Option<JobId>
-    ensures value { result ≡ active_job place agent.now room.now }
+/// The job that a removal without operands removes from a printer: the job of the least id that a running or
+/// stopped device has and that the agent may remove.
+pub fn active_job(room: &PrintRoom, printer: PrinterId, agent: &Text) -> Option<JobId>
+    ensures value { result ≡ active_job printer agent.now room.now }
     ensures kept { IsSpool room.now.spool }
 {
-    let spooled = find_active(room.spool().jobs(), place, agent)?;
+    let spooled = find_active(room.spool().jobs(), printer, agent)?;
     Some(spooled.job().id)
 }
 
 /// The first job that a removal names.
 fn find_named<'a>(
     jobs: &'a [SpooledJob],
-    place: usize,
+    printer: PrinterId,
     request: &RemoveJobs,
 ) -> Option<&'a SpooledJob>
-    ensures { option_copied result ≡ find (λ s. is_named place request.now s.job) jobs.now }
+    ensures { option_copied result ≡ find (λ s. is_named printer request.now s.job) jobs.now }
 {
     jobs.iter()
-        .find(|spooled| is_named(place, request, spooled.job()))
+        .find(|spooled| is_named(printer, request, spooled.job()))
 }
 
 /// The id of the first job that a removal names.
-fn first_named(room: &PrintRoom, place: usize, request: &RemoveJobs) -> Option<JobId>
-    ensures value { result ≡ option_map (λ s. s.job.id) (find (λ s. is_named place request.now s.job) room.now.spool.jobs) }
+fn first_named(room: &PrintRoom, printer: PrinterId, request: &RemoveJobs) -> Option<JobId>
+    ensures value { result ≡ option_map (λ s. s.job.id) (find (λ s. is_named printer request.now s.job) room.now.spool.jobs) }
     ensures kept { IsSpool room.now.spool }
 {
-    let spooled = find_named(room.spool().jobs(), place, request)?;
+    let spooled = find_named(room.spool().jobs(), printer, request)?;
     Some(spooled.job().id)
 }
 
@@ -118,40 +121,40 @@ pub fn remove(room: &mut PrintRoom, request: &RemoveJobs, now: Moment)
     ensures { room.new ≡ canceling_each now request.now.agent (removed_jobs request.now room.old) room.old }
 {
     match queue_of(room, &request.queue) {
-        Some(place) => remove_from(room, place, request, now),
+        Some(printer) => remove_from(room, printer, request, now),
         None => room.advance(now),
     }
 }
 
-/// Removes jobs from the printer at a place.
-fn remove_from(room: &mut PrintRoom, place: usize, request: &RemoveJobs, now: Moment)
+/// Removes jobs from a printer.
+fn remove_from(room: &mut PrintRoom, printer: PrinterId, request: &RemoveJobs, now: Moment)
     requires { room.old.last ≤ now }
-    ensures { room.new ≡ canceling_each now request.now.agent (removed_from place request.now room.old) room.old }
+    ensures { room.new ≡ canceling_each now request.now.agent (removed_from printer request.now room.old) room.old }
 {
     if request.operands.is_empty() {
-        remove_active(room, place, &request.agent, now);
+        remove_active(room, printer, &request.agent, now);
     } else {
-        remove_named(room, place, request, now);
+        remove_named(room, printer, request, now);
     }
 }
 
 /// Removes the active job.
-fn remove_active(room: &mut PrintRoom, place: usize, agent: &Text, now: Moment)
+fn remove_active(room: &mut PrintRoom, printer: PrinterId, agent: &Text, now: Moment)
     requires { room.old.last ≤ now }
-    ensures { room.new ≡ canceling_each now agent.now (option_to_list (active_job place agent.now room.old)) room.old }
+    ensures { room.new ≡ canceling_each now agent.now (option_to_list (active_job printer agent.now room.old)) room.old }
 {
-    match active_job(room, place, agent) {
+    match active_job(room, printer, agent) {
         Some(id) => cancel(room, id, agent, now),
         None => room.advance(now),
     }
 }
 
 /// Removes each job that the operands name.
-fn remove_named(room: &mut PrintRoom, place: usize, request: &RemoveJobs, now: Moment)
+fn remove_named(room: &mut PrintRoom, printer: PrinterId, request: &RemoveJobs, now: Moment)
     requires { room.old.last ≤ now }
-    ensures { room.new ≡ canceling_each now request.now.agent (named_jobs place request.now room.old) room.old }
+    ensures { room.new ≡ canceling_each now request.now.agent (named_jobs printer request.now room.old) room.old }
 {
-    while let Some(id) = first_named(room, place, request) {
+    while let Some(id) = first_named(room, printer, request) {
         cancel(room, id, &request.agent, now);
     }
     room.advance(now);

@@ -39,7 +39,7 @@ impl<'a> Wanted<'a> {
     pub(crate) fn lists(&self, job: &Job) -> bool
         ensures { result ≡ is_listed self.now job.now }
     {
-        job.needs.printer.place() == self.printer.place()
+        job.needs.printer == self.printer
             && is_finished_as(self.finished, job)
             && is_owned(self.owner, job)
     }

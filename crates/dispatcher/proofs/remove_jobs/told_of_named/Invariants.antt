@@ -6,5 +6,5 @@ use Rattle.dispatcher.proofs.remove_jobs.told_of_named.Given as goal
 -- the appended cancels and the cancels for the jobs that are left are all cancels
 abbrev pub invariant-loop-spooled : goal.invariant-loop-spooled
 invariant-loop-spooled l =
-    l.cancels.items ++ cancels_of_each (map (λ s. s.job.id) (filter (λ s. is_named l.place l.request s.job) (drop l.spooled-index l.spooled-items))) l.room
-    ≡ cancels_of_each (named_jobs l.place l.request l.room) l.room
+    l.cancels.items ++ cancels_of_each (map (λ s. s.job.id) (filter (λ s. is_named l.printer l.request s.job) (drop l.spooled-index l.spooled-items))) l.room
+    ≡ cancels_of_each (named_jobs l.printer l.request l.room) l.room

@@ -8,5 +8,5 @@ pub returns : goal.returns
 returns c =
     let room = c.args.room.now in
     let shown : ShownPrinter = record { paused = c.printer_at.result.now; offer = c.args.offer.now; uri_base = c.uri_base.result.now; busy = c.is_busy.result; queued = c.queued.result; moment = c.args.now } in
-    let paused : c.printer_at.result.now ≡ option_map_or (λ p. p) (slice_get room.paused c.args.place) false = cc in
-    subst (λ (shown : ShownPrinter). IfOk c.printer_attributes.result (λ group. group ≡ printer_attributes shown c.args.requested.now)) (printer_shown_so c.args.place c.args.now c.args.offer.now room shown paused refl (cc) (cc) (cc) refl) c.printer_attributes.ensures
+    let paused : c.printer_at.result.now ≡ option_map_or (λ p. p) (slice_get room.paused c.args.printer) false = cc in
+    subst (λ (shown : ShownPrinter). IfOk c.printer_attributes.result (λ group. group ≡ printer_attributes shown c.args.requested.now)) (printer_shown_so c.args.printer c.args.now c.args.offer.now room shown paused refl (cc) (cc) (cc) refl) c.printer_attributes.ensures

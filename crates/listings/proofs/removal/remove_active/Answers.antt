@@ -3,4 +3,4 @@ use Rattle.listings.proofs.Removing.{active_free}
 use Rattle.listings.proofs.removal.remove_active.Goals as goal
 
 pub cancel-requires-clause-free : goal.cancel-requires-clause-free
-cancel-requires-clause-free c = active_free c.args.place c.args.agent.now c.args.room.now c.in-Some.id c.in-Some.ensures.kept (sym c.in-Some.ensures.value)
+cancel-requires-clause-free c = active_free c.args.printer c.args.agent.now c.args.room.now c.in-Some.id c.in-Some.ensures.kept (sym c.in-Some.ensures.value)
