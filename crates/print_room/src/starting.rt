@@ -29,15 +29,13 @@ fn runs_idle(activity: Activity) -> bool
     }
 }
 
-/// The list that a way has for the device at a place, the first to be printed first.
-fn queue_at(way: &Way, place: usize) -> &[JobId]
-    ensures { result.now ≡ queue_of way.now place }
+/// The list that a way has for a device, the first to be printed first.
+fn queue_of(way: &Way, device: DeviceId) -> &[JobId]
+    ensures { result.now ≡ queue_of way.now device }
 {
-    let queues = way.queues();
-    if place < queues.len() {
-        queues[place].jobs()
-    } else {
-        &[]
+    match way.queues().get(device.place()) {
+        Some(queue) => queue.jobs(),
+        None => &[],
     }
 }
 
@@ -48,7 +46,7 @@ fn first_of_class(class: &PlannedClass, device: DeviceId) -> Option<Started>
 {
     // Reading the problem gives its invariant.
     let _class = class.problem.ids();
-    let jobs = queue_at(&class.priced.way, device.place());
+    let jobs = queue_of(&class.priced.way, device);
     match jobs.first() {
         Some(job) => {
             let job = *job;
@@ -73,19 +71,19 @@ fn first_of(classes: &[PlannedClass], device: DeviceId) -> Option<Started>
     None
 }
 
-/// The job that the device at a place begins at a moment under these classes: the first of its list, if the
-/// device is free.
+/// The job that a device begins at a moment under these classes: the first of its list, if the device is
+/// free.
 fn start_on(
     classes: &[PlannedClass],
-    place: usize,
+    id: DeviceId,
     device: &DeviceNow,
     now: Moment,
 ) -> Option<Started>
-    ensures start { result ≡ (if is_free now device.now then first_of classes.now place else None) }
+    ensures start { result ≡ (if is_free now device.now then first_of classes.now id else None) }
     ensures short { IfSome result (λ start. start.time ≤ Limits.JOB_TIME) }
 {
     if is_free(device, now) {
-        first_of(classes, DeviceId::new(place))
+        first_of(classes, id)
     } else {
         None
     }
@@ -104,7 +102,7 @@ pub(crate) fn starts_of(
 {
     let mut starts = Vec::with_capacity(alloc, devices.len())?;
     for (place, device) in devices.iter().enumerate() {
-        if let Some(start) = start_on(classes, place, device, now) {
+        if let Some(start) = start_on(classes, DeviceId::new(place), device, now) {
             starts.push(start)?;
         }
     }
