@@ -5,7 +5,7 @@ use Rattle.std.specs.Global.{Vec}
 use Rattle.ipp_codec.specs.Message.{IppAttribute, IppGroup}
 use Rattle.base_types.specs.Device.{Device}
 use Rattle.base_types.specs.declared.report.Report.{Report}
-use Rattle.base_types.specs.declared.report.Report.TheVariants as Says
+use Rattle.base_types.specs.declared.report.Report.TheVariants.{Media}
 use Rattle.base_types.specs.Report.{report_of}
 use Rattle.octets.specs.Document.{DocumentRecord}
 use Rattle.job_objects.specs.declared.job_change.JobChange.{JobChange}
@@ -255,16 +255,16 @@ removes_as one other same now old reply new b = record {
 abbrev ReportsAs : ℕ → ℕ → State → Report → Report → Type 0
 ReportsAs now place old one other = (documents : List DocumentRecord) (new : State) → Reports now place other old documents new → Reports now place one old documents new
 
-media_as : (now place : ℕ) (old : State) (one other : Vec (List ℕ)) → one.items ≡ other.items → ReportsAs now place old (Says.Media one) (Says.Media other)
+media_as : (now place : ℕ) (old : State) (one other : Vec (List ℕ)) → one.items ≡ other.items → ReportsAs now place old (Media one) (Media other)
 media_as now place old one other same documents new b = at_device (slice_get old.devices place) b
   where
     at_device : (r : Option Device)
-        → MatchOption r ((new ≡ record old { last = now }) × (documents ≡ [])) (λ device. (new ≡ state_after now place (Says.Media other) device old) × (documents ≡ documents_out (job_on device.activity) None old.spool.jobs))
-        → MatchOption r ((new ≡ record old { last = now }) × (documents ≡ [])) (λ device. (new ≡ state_after now place (Says.Media one) device old) × (documents ≡ documents_out (job_on device.activity) None old.spool.jobs))
+        → MatchOption r ((new ≡ record old { last = now }) × (documents ≡ [])) (λ device. (new ≡ state_after now place (Media other) device old) × (documents ≡ documents_out (job_on device.activity) None old.spool.jobs))
+        → MatchOption r ((new ≡ record old { last = now }) × (documents ≡ [])) (λ device. (new ≡ state_after now place (Media one) device old) × (documents ≡ documents_out (job_on device.activity) None old.spool.jobs))
     at_device None b = b
     at_device (Some device) b = (b.0 ∙ held_same device, b.1)
       where
-        held_same : (device : Device) → state_after now place (Says.Media other) device old ≡ state_after now place (Says.Media one) device old
+        held_same : (device : Device) → state_after now place (Media other) device old ≡ state_after now place (Media one) device old
         held_same device = ap (λ (held : List (List ℕ)). record old { last = now; devices = with_device place (holding held) old.devices; spool = record old.spool { jobs = jobs_after now (job_on device.activity) None old.spool.jobs } }) (sym same)
 
 reports_as : (now place : ℕ) (old : State) (one other : Report) → report_of one ≡ report_of other → ReportsAs now place old one other

@@ -1,5 +1,5 @@
 -- The table of states: the job after each change (RFC 8011, section 5.3.7).
-use Rattle.std.specs.Prelude.{ℕ, true, false, ◌||◌, if◌then◌else◌, Option, Some, None, unwrap_or}
+use Rattle.std.specs.Prelude.{ℕ, Bool, true, false, ◌||◌, if◌then◌else◌, Option, Some, None, unwrap_or}
 use Rattle.job_objects.specs.declared.job_state.JobState.{JobState}
 use Rattle.job_objects.specs.declared.job_state.JobState.TheVariants.{Pending, PendingHeld, Processing, Stopped, Canceled, Aborted, Completed}
 use Rattle.job_objects.specs.declared.job_change.JobChange.{JobChange}
@@ -47,3 +47,9 @@ job_after change now job = changed_from change job.state now job
 -- the job after the change, unchanged if its state doesn't allow the change
 abbrev pub stepped : JobChange → ℕ → JobRecord → JobRecord
 stepped change now job = unwrap_or (job_after change now job) job
+
+-- whether the job's print ends, if its device reports this change
+abbrev pub ends_print : JobChange → Bool
+ends_print Done = true
+ends_print Fail = true
+ends_print _ = false

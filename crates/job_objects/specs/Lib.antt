@@ -2,5 +2,4 @@ pub mod JobState
 pub mod Job
 pub mod Impressions
 pub mod JobStep
-pub mod DeviceSays
 pub mod Reasons

@@ -1,6 +1,6 @@
 //! The table of job states: the changes of a job, and its state after each (RFC 8011, section 5.3.7).
 ghost use Rattle.std.specs.Prelude.{◌≡◌, is_ok, is_some, false};
-ghost use Rattle.job_objects.specs.JobStep.{job_after, stepped, waiting, moved, ended};
+ghost use Rattle.job_objects.specs.JobStep.{job_after, stepped, waiting, moved, ended, ends_print};
 
 use crate::job::{Canceler, Job};
 use crate::job_state::JobState;
@@ -27,6 +27,19 @@ pub enum JobChange {
     Done,
     /// The job can't be printed, or its documents stopped coming.
     Fail,
+}
+
+impl JobChange {
+    /// Returns whether the job's print ends, if its device reports this change.
+    pub fn ends_print(self) -> bool
+        ensures { result ≡ ends_print self }
+    {
+        match self {
+            JobChange::Done | JobChange::Fail => true,
+            JobChange::Close | JobChange::Hold | JobChange::Release | JobChange::Begin => false,
+            JobChange::Stop | JobChange::Continue | JobChange::Cancel(_) => false,
+        }
+    }
 }
 
 /// Why a job isn't changed.

@@ -7,7 +7,6 @@
 //! Tests stand in `unit_tests`.
 #![tactic(auto)]
 
-mod device_says;
 mod impressions;
 mod job;
 mod job_change;
@@ -15,7 +14,6 @@ mod job_state;
 mod printer;
 mod reason;
 
-pub use device_says::DeviceSays;
 pub use impressions::estimated_impressions;
 pub use job::{Canceler, Job};
 pub use job_change::{JobChange, StateRefusal, job_step};

@@ -8,9 +8,10 @@ use Rattle.base_types.specs.Device.{Device}
 use Rattle.base_types.specs.declared.device.Activity.{Activity}
 use Rattle.base_types.specs.declared.device.Activity.TheVariants.{Running, Stopped}
 use Rattle.base_types.specs.declared.report.Report.{Report}
-use Rattle.base_types.specs.declared.report.Report.TheVariants as Says
-use Rattle.job_objects.specs.declared.device_says.DeviceSays.{DeviceSays}
-use Rattle.job_objects.specs.declared.device_says.DeviceSays.TheVariants.{Stop, Continue, Done, Fail}
+use Rattle.base_types.specs.declared.report.Report.TheVariants as reported
+use Rattle.job_objects.specs.declared.job_change.JobChange.{JobChange}
+use Rattle.job_objects.specs.declared.job_change.JobChange.TheVariants.{Done, Fail}
+use Rattle.job_objects.specs.JobStep.{ends_print}
 use Rattle.spool.specs.Spooled.{SpooledRecord}
 use Rattle.spool.specs.Kept.{jobs_told}
 use Rattle.spool.specs.OnDevice.{is_on_device, AllStay}
@@ -19,7 +20,7 @@ use Rattle.settings_file.specs.Settings.{DeviceEntry}
 use Rattle.print_room.specs.Opening.{opening_device}
 use Rattle.print_room.specs.Activity.{job_on, running_from, stopped_at, taking, idle}
 use Rattle.print_room.specs.State.{with_device}
-use Rattle.print_room.specs.Report.{has_job, said_of_job, left_of, activity_after, refitted, jobs_after}
+use Rattle.print_room.specs.Report.{has_job, change_by, left_of, activity_after, refitted, jobs_after}
 use Rattle.print_room.specs.DeviceJobs.{job_of, Agree}
 
 -- ---- one device changes
@@ -121,21 +122,18 @@ agree_begins place id change devices jobs d found begins on free agree = record 
 
 -- ---- a report
 
--- the report of a device about its job, and the device's job after the report
-abbrev pub Leaves : Option DeviceSays → Option ℕ → Option ℕ → Type 0
+-- a device has the same job after a report, or none if the report ends the print of its job
+abbrev pub Leaves : Option JobChange → Option ℕ → Option ℕ → Type 0
 Leaves None old new = new ≡ old
-Leaves (Some Stop) old new = new ≡ old
-Leaves (Some Continue) old new = new ≡ old
-Leaves (Some Done) old new = new ≡ None
-Leaves (Some Fail) old new = new ≡ None
+Leaves (Some change) old new = new ≡ cond (ends_print change) None old
 
-running_job : (now : ℕ) (activity : Activity) → Leaves (said_of_job Says.Ready activity) (job_on activity) (job_on (running_from now activity))
+running_job : (now : ℕ) (activity : Activity) → Leaves (change_by reported.Ready activity) (job_on activity) (job_on (running_from now activity))
 running_job now (Running None) = refl
 running_job now (Running (Some printing)) = refl
 running_job now (Stopped None) = refl
 running_job now (Stopped (Some interrupted)) = refl
 
-stopping_job : (now : ℕ) (activity : Activity) → Leaves (said_of_job Says.Stop activity) (job_on activity) (job_on (stopped_at now activity))
+stopping_job : (now : ℕ) (activity : Activity) → Leaves (change_by reported.Stop activity) (job_on activity) (job_on (stopped_at now activity))
 stopping_job now (Running None) = refl
 stopping_job now (Running (Some printing)) = refl
 stopping_job now (Stopped None) = refl
@@ -167,61 +165,61 @@ failed_job : (b : Bool) (activity : Activity) → Leaves (cond b (Some Fail) Non
 failed_job true activity = idle_job activity
 failed_job false activity = refl
 
-pub activity_leaves : (now : ℕ) (report : Report) (jobs : List SpooledRecord) (d : Device) → Leaves (said_of_job report d.activity) (job_on d.activity) (job_on (activity_after now report jobs d))
-activity_leaves now (Says.Hello name) jobs d = refl
-activity_leaves now (Says.Media names) jobs d = refl
-activity_leaves now Says.Ready jobs d = running_job now d.activity
-activity_leaves now Says.Stop jobs d = stopping_job now d.activity
-activity_leaves now (Says.Busy time) jobs d = refl
-activity_leaves now (Says.Pages number printed) jobs d = paged_job now d.activity (left_of number printed jobs d)
-activity_leaves now (Says.Done number) jobs d = done_job (has_job number d.activity) d.activity
-activity_leaves now (Says.Fail number) jobs d = failed_job (has_job number d.activity) d.activity
-activity_leaves now Says.Gone jobs d = gone_job now d.activity
+pub activity_leaves : (now : ℕ) (report : Report) (jobs : List SpooledRecord) (d : Device) → Leaves (change_by report d.activity) (job_on d.activity) (job_on (activity_after now report jobs d))
+activity_leaves now (reported.Hello name) jobs d = refl
+activity_leaves now (reported.Media names) jobs d = refl
+activity_leaves now reported.Ready jobs d = running_job now d.activity
+activity_leaves now reported.Stop jobs d = stopping_job now d.activity
+activity_leaves now (reported.Busy time) jobs d = refl
+activity_leaves now (reported.Pages number printed) jobs d = paged_job now d.activity (left_of number printed jobs d)
+activity_leaves now (reported.Done number) jobs d = done_job (has_job number d.activity) d.activity
+activity_leaves now (reported.Fail number) jobs d = failed_job (has_job number d.activity) d.activity
+activity_leaves now reported.Gone jobs d = gone_job now d.activity
 
-pub report_leaves : (at now : ℕ) (report : Report) (jobs : List SpooledRecord) (d : Device) → Leaves (said_of_job report d.activity) (job_on d.activity) (job_on (refitted at report (activity_after now report jobs d) d).activity)
-report_leaves at now (Says.Hello name) jobs d = activity_leaves now (Says.Hello name) jobs d
-report_leaves at now (Says.Media names) jobs d = activity_leaves now (Says.Media names) jobs d
-report_leaves at now Says.Ready jobs d = activity_leaves now Says.Ready jobs d
-report_leaves at now Says.Stop jobs d = activity_leaves now Says.Stop jobs d
-report_leaves at now (Says.Busy time) jobs d = activity_leaves now (Says.Busy time) jobs d
-report_leaves at now (Says.Pages number printed) jobs d = activity_leaves now (Says.Pages number printed) jobs d
-report_leaves at now (Says.Done number) jobs d = activity_leaves now (Says.Done number) jobs d
-report_leaves at now (Says.Fail number) jobs d = activity_leaves now (Says.Fail number) jobs d
-report_leaves at now Says.Gone jobs d = activity_leaves now Says.Gone jobs d
+pub report_leaves : (at now : ℕ) (report : Report) (jobs : List SpooledRecord) (d : Device) → Leaves (change_by report d.activity) (job_on d.activity) (job_on (refitted at report (activity_after now report jobs d) d).activity)
+report_leaves at now (reported.Hello name) jobs d = activity_leaves now (reported.Hello name) jobs d
+report_leaves at now (reported.Media names) jobs d = activity_leaves now (reported.Media names) jobs d
+report_leaves at now reported.Ready jobs d = activity_leaves now reported.Ready jobs d
+report_leaves at now reported.Stop jobs d = activity_leaves now reported.Stop jobs d
+report_leaves at now (reported.Busy time) jobs d = activity_leaves now (reported.Busy time) jobs d
+report_leaves at now (reported.Pages number printed) jobs d = activity_leaves now (reported.Pages number printed) jobs d
+report_leaves at now (reported.Done number) jobs d = activity_leaves now (reported.Done number) jobs d
+report_leaves at now (reported.Fail number) jobs d = activity_leaves now (reported.Fail number) jobs d
+report_leaves at now reported.Gone jobs d = activity_leaves now reported.Gone jobs d
 
-pub same_or_none : (said : Option DeviceSays) (old new : Option ℕ) → Leaves said old new → (new ≡ old) ⊎ (new ≡ None)
+pub same_or_none : (change : Option JobChange) (old new : Option ℕ) → Leaves change old new → (new ≡ old) ⊎ (new ≡ None)
 same_or_none None old new is = inl is
-same_or_none (Some Stop) old new is = inl is
-same_or_none (Some Continue) old new is = inl is
-same_or_none (Some Done) old new is = inr is
-same_or_none (Some Fail) old new is = inr is
+same_or_none (Some change) old new is = by (ends_print change) is
+  where
+    by : (ends : Bool) → new ≡ cond ends None old → (new ≡ old) ⊎ (new ≡ None)
+    by true none = inr none
+    by false same = inl same
 
 -- the jobs of devices are on them, once the device at a place has reported about its job and has the job that this report leaves
-pub agree_told : (now place : ℕ) (change : Device → Device) (devices : List Device) (jobs : List SpooledRecord) (d : Device) (said : Option DeviceSays) → slice_get devices place ≡ Some d → Leaves said (job_on d.activity) (job_on (change d).activity) → Agree devices jobs → Agree (with_device place change devices) (jobs_after now (job_on d.activity) said jobs)
-agree_told now place change devices jobs d said found leaves agree = told (job_on d.activity) refl said leaves
+pub agree_told : (now place : ℕ) (refit : Device → Device) (devices : List Device) (jobs : List SpooledRecord) (d : Device) (change : Option JobChange) → slice_get devices place ≡ Some d → Leaves change (job_on d.activity) (job_on (refit d).activity) → Agree devices jobs → Agree (with_device place refit devices) (jobs_after now (job_on d.activity) change jobs)
+agree_told now place refit devices jobs d change found leaves agree = told (job_on d.activity) refl change leaves
   where
-    fewer : (said : Option DeviceSays) → Leaves said (job_on d.activity) (job_on (change d).activity) → Agree (with_device place change devices) jobs
-    fewer said leaves = agree_device place change devices jobs d found (same_or_none said (job_on d.activity) (job_on (change d).activity) leaves) agree
+    fewer : Agree (with_device place refit devices) jobs
+    fewer = agree_device place refit devices jobs d found (same_or_none change (job_on d.activity) (job_on (refit d).activity) leaves) agree
 
-    -- no device has a job that ended
-    ended : (id : ℕ) (says : DeviceSays) → job_on d.activity ≡ Some id → job_on (change d).activity ≡ None → Agree (with_device place change devices) (jobs_told id says now jobs)
-    ended id says had none =
-        let mid : Agree (with_device place change devices) jobs = agree_device place change devices jobs d found (inr none) agree in
-        record {
-          in_spool = λ k one has. (others_told id says now jobs one (λ same. elim (cases_eq k place) [
-            | inl here ↦ not_some (sym none ∙ (sym (job_here place change devices d found) ∙ subst (λ (p : ℕ). job_of (with_device place change devices) p ≡ Some one) here has))
-            | inr differ ↦ differ (agree.apart k place one (sym (job_elsewhere place k change devices differ) ∙ has) (job_found place devices d found ∙ (had ∙ ap (λ (n : ℕ). Some n) (sym same))))
-          ]) (mid.in_spool k one has)).on_device;
-          apart = mid.apart;
-        }
+    -- no device has a job whose print ended
+    ended : (id : ℕ) (change : JobChange) → job_on d.activity ≡ Some id → job_on (refit d).activity ≡ None → Agree (with_device place refit devices) (jobs_told id change now jobs)
+    ended id change had none = record {
+      in_spool = λ k one has. (others_told id change now jobs one (λ same. elim (cases_eq k place) [
+        | inl here ↦ not_some (sym none ∙ (sym (job_here place refit devices d found) ∙ subst (λ (p : ℕ). job_of (with_device place refit devices) p ≡ Some one) here has))
+        | inr differ ↦ differ (agree.apart k place one (sym (job_elsewhere place k refit devices differ) ∙ has) (job_found place devices d found ∙ (had ∙ ap (λ (n : ℕ). Some n) (sym same))))
+      ]) (fewer.in_spool k one has)).on_device;
+      apart = fewer.apart;
+    }
 
-    told : (o : Option ℕ) → job_on d.activity ≡ o → (said : Option DeviceSays) → Leaves said (job_on d.activity) (job_on (change d).activity) → Agree (with_device place change devices) (jobs_after now o said jobs)
-    told None is said leaves = fewer said leaves
-    told (Some id) is None leaves = fewer None leaves
-    told (Some id) is (Some Stop) leaves = agree_stay (with_device place change devices) jobs (jobs_told id Stop now jobs) (stay_told id Stop now jobs refl) (fewer (Some Stop) leaves)
-    told (Some id) is (Some Continue) leaves = agree_stay (with_device place change devices) jobs (jobs_told id Continue now jobs) (stay_told id Continue now jobs refl) (fewer (Some Continue) leaves)
-    told (Some id) is (Some Done) leaves = ended id Done is leaves
-    told (Some id) is (Some Fail) leaves = ended id Fail is leaves
+    changed : (id : ℕ) (change : JobChange) (ends : Bool) → ends_print change ≡ ends → job_on d.activity ≡ Some id → job_on (refit d).activity ≡ cond ends None (job_on d.activity) → Agree (with_device place refit devices) (jobs_told id change now jobs)
+    changed id change true is had none = ended id change had none
+    changed id change false is had same = agree_stay (with_device place refit devices) jobs (jobs_told id change now jobs) (stay_told id change now jobs is) fewer
+
+    told : (o : Option ℕ) → job_on d.activity ≡ o → (change : Option JobChange) → Leaves change (job_on d.activity) (job_on (refit d).activity) → Agree (with_device place refit devices) (jobs_after now o change jobs)
+    told None is change leaves = fewer
+    told (Some id) is None leaves = fewer
+    told (Some id) is (Some change) leaves = changed id change (ends_print change) refl is leaves
 
 -- ---- a room that opens
 

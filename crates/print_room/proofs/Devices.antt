@@ -4,7 +4,7 @@ use Rattle.std.proofs.lemmas.List.Elements.{All-cons, All-head, All-tail, All-we
 use Rattle.base_types.specs.declared.device.Activity.{Activity}
 use Rattle.base_types.specs.declared.device.Activity.TheVariants.{Running, Stopped}
 use Rattle.base_types.specs.declared.report.Report.{Report}
-use Rattle.base_types.specs.declared.report.Report.TheVariants as Says
+use Rattle.base_types.specs.declared.report.Report.TheVariants as reported
 use Rattle.base_types.specs.Device.{Device}
 use Rattle.settings_file.specs.Settings.{DeviceEntry}
 use Rattle.print_room.specs.Opening.{opening_device}
@@ -43,16 +43,16 @@ pub all_keep_later : (last now : ℕ) (devices : List Device) → last ≤ now �
 all_keep_later last now devices later all = All-weaker (λ (d : Device). KeepsTime last d.activity) (λ (d : Device). KeepsTime now d.activity) (λ d keeps. keeps_later last now d.activity later keeps) devices all
 
 -- a report other than of media, of a time or of the device's end is about the device's activity
-pub other_report : (now place : ℕ) (report : Report) (activity : Activity) (devices : List Device) → ((names : _) → report ≡ Says.Media names → ⊥) → ((time : _) → report ≡ Says.Busy time → ⊥) → (report ≡ Says.Gone → ⊥) → with_device place (refitted now report activity) devices ≡ with_device place (doing activity) devices
-other_report now place (Says.Hello name) activity devices media busy gone = refl
-other_report now place (Says.Media names) activity devices media busy gone = absurd (media names refl)
-other_report now place Says.Ready activity devices media busy gone = refl
-other_report now place Says.Stop activity devices media busy gone = refl
-other_report now place (Says.Busy time) activity devices media busy gone = absurd (busy time refl)
-other_report now place (Says.Pages number printed) activity devices media busy gone = refl
-other_report now place (Says.Done number) activity devices media busy gone = refl
-other_report now place (Says.Fail number) activity devices media busy gone = refl
-other_report now place Says.Gone activity devices media busy gone = absurd (gone refl)
+pub other_report : (now place : ℕ) (report : Report) (activity : Activity) (devices : List Device) → ((names : _) → report ≡ reported.Media names → ⊥) → ((time : _) → report ≡ reported.Busy time → ⊥) → (report ≡ reported.Gone → ⊥) → with_device place (refitted now report activity) devices ≡ with_device place (doing activity) devices
+other_report now place (reported.Hello name) activity devices media busy gone = refl
+other_report now place (reported.Media names) activity devices media busy gone = absurd (media names refl)
+other_report now place reported.Ready activity devices media busy gone = refl
+other_report now place reported.Stop activity devices media busy gone = refl
+other_report now place (reported.Busy time) activity devices media busy gone = absurd (busy time refl)
+other_report now place (reported.Pages number printed) activity devices media busy gone = refl
+other_report now place (reported.Done number) activity devices media busy gone = refl
+other_report now place (reported.Fail number) activity devices media busy gone = refl
+other_report now place reported.Gone activity devices media busy gone = absurd (gone refl)
 
 -- a device that is changed twice
 pub twice_changed : (place : ℕ) (first next : Device → Device) (devices : List Device) → with_device place next (with_device place first devices) ≡ with_device place (λ d. next (first d)) devices

@@ -7,9 +7,7 @@ use Rattle.base_types.specs.Device.{Device}
 use Rattle.base_types.specs.declared.report.Report.{Report}
 use Rattle.job_objects.specs.declared.job_change.JobChange.{JobChange}
 use Rattle.job_objects.specs.declared.job_change.JobChange.TheVariants.{Close}
-use Rattle.job_objects.specs.declared.device_says.DeviceSays.{DeviceSays}
-use Rattle.job_objects.specs.declared.device_says.DeviceSays.TheVariants.{Stop, Continue, Done, Fail}
-use Rattle.job_objects.specs.DeviceSays.{is_end}
+use Rattle.job_objects.specs.JobStep.{ends_print}
 use Rattle.octets.specs.Document.{DocumentRecord}
 use Rattle.spool.specs.Spooled.{SpooledRecord, attached, changed, handed_out, expired}
 use Rattle.spool.specs.Jobs.{spooled_at, with_job, documents_told}
@@ -27,7 +25,7 @@ use Rattle.spool.proofs.Sound.{incoming_off, sound_found}
 use Rattle.spool.proofs.OnDevice.{there, others_told, stay_told, stay_same, stay_before, stay_then, stay_map, stay_with, stay_retained, others_with, changed_on, expired_on}
 use Rattle.print_room.specs.Activity.{job_on}
 use Rattle.print_room.specs.State.{State, with_device}
-use Rattle.print_room.specs.Report.{said_of_job, activity_after, refitted, jobs_after, documents_out, state_after, Reports}
+use Rattle.print_room.specs.Report.{change_by, activity_after, refitted, jobs_after, documents_out, state_after, Reports}
 use Rattle.print_room.specs.DeviceJobs.{job_of, Agree, KeepsAt, AllKeep, KeepsOrEnds}
 use Rattle.print_room.proofs.DeviceJobs.{Leaves, report_leaves, job_elsewhere, job_here, job_found, agree_stay}
 
@@ -41,22 +39,26 @@ keep_then old mid new one two place id has =
     let second = two place id first.0 in
     (second.0, second.1 ∙ first.1)
 
--- a job that goes on hands out no document, a job that ends hands out all of its documents
-told_nothing : (says : DeviceSays) → is_end says ≡ false → (id : ℕ) (jobs : List SpooledRecord) → documents_told id says jobs ≡ []
-told_nothing says goes_on id jobs = at (spooled_at id jobs)
+-- a job hands out no document while its print goes on, and all of its documents when the print ends
+told_nothing : (change : JobChange) → ends_print change ≡ false → (id : ℕ) (jobs : List SpooledRecord) → documents_told id change jobs ≡ []
+told_nothing change goes_on id jobs = at (spooled_at id jobs)
   where
-    at : (o : Option SpooledRecord) → option_map_or (handed_out says) o [] ≡ []
+    at : (o : Option SpooledRecord) → option_map_or (handed_out change) o [] ≡ []
     at None = refl
     at (Some s) = ap (λ (b : Bool). cond b (cond s.on_device s.documents []) []) goes_on
 
-told_all : (says : DeviceSays) → is_end says ≡ true → (id : ℕ) (jobs : List SpooledRecord) → is_on_device id jobs ≡ true → documents_told id says jobs ≡ documents_at id jobs
-told_all says ends id jobs on =
+told_all : (change : JobChange) → ends_print change ≡ true → (id : ℕ) (jobs : List SpooledRecord) → is_on_device id jobs ≡ true → documents_told id change jobs ≡ documents_at id jobs
+told_all change ends id jobs on =
     let s = there id jobs on in
-    let out : Option SpooledRecord → List DocumentRecord = λ o. option_map_or (handed_out says) o [] in
+    let out : Option SpooledRecord → List DocumentRecord = λ o. option_map_or (handed_out change) o [] in
     let of : Option SpooledRecord → List DocumentRecord = λ o. option_map_or (λ x. x.documents) o [] in
     ap out s.1
     ∙ (ap (λ (b : Bool). cond b (cond s.0.on_device s.0.documents []) []) ends
     ∙ (ap (λ (b : Bool). cond b s.0.documents []) s.2 ∙ sym (ap of s.1)))
+
+none_still : (ends : Bool) (o : Option ℕ) → o ≡ None → cond ends None o ≡ None
+none_still true o none = refl
+none_still false o none = none
 
 -- the state after a report of the device at the place
 module _ (now place : ℕ) (report : Report) (d : Device) (old : State) (found : slice_get old.devices place ≡ Some d) (agree : Agree old.devices old.spool.jobs) where
@@ -67,31 +69,33 @@ module _ (now place : ℕ) (report : Report) (d : Device) (old : State) (found :
   old_here = job_found place old.devices d found
 
   others : (other : ℕ) → ¬ (other ≡ place) → KeepsAt other old (state_after now place report d old)
-  others other differ id has = (job_elsewhere place other (refitted now report (activity_after now report old.spool.jobs d)) old.devices differ ∙ has, same (job_on d.activity) refl (said_of_job report d.activity))
+  others other differ id has = (job_elsewhere place other (refitted now report (activity_after now report old.spool.jobs d)) old.devices differ ∙ has, same (job_on d.activity) refl (change_by report d.activity))
     where
-      same : (o : Option ℕ) → job_on d.activity ≡ o → (said : Option DeviceSays) → documents_at id (jobs_after now o said old.spool.jobs) ≡ documents_at id old.spool.jobs
-      same None is said = refl
+      same : (o : Option ℕ) → job_on d.activity ≡ o → (change : Option JobChange) → documents_at id (jobs_after now o change old.spool.jobs) ≡ documents_at id old.spool.jobs
+      same None is change = refl
       same (Some one) is None = refl
-      same (Some one) is (Some says) = (others_told one says now old.spool.jobs id (λ e. differ (agree.apart other place id has (old_here ∙ (is ∙ ap (λ (n : ℕ). Some n) (sym e))))) (agree.in_spool other id has)).documents
+      same (Some one) is (Some change) = (others_told one change now old.spool.jobs id (λ e. differ (agree.apart other place id has (old_here ∙ (is ∙ ap (λ (n : ℕ). Some n) (sym e))))) (agree.in_spool other id has)).documents
 
-  own : (said : Option DeviceSays) → Leaves said (job_on d.activity) (job_on (refitted now report (activity_after now report old.spool.jobs d) d).activity) → (o : Option ℕ) → job_on d.activity ≡ o
-      → ((job_of (with_device place (refitted now report (activity_after now report old.spool.jobs d)) old.devices) place ≡ o) × AllStay old.spool.jobs (jobs_after now o said old.spool.jobs) × (documents_out o said old.spool.jobs ≡ []))
-      ⊎ ((id : ℕ) × (o ≡ Some id) × (job_of (with_device place (refitted now report (activity_after now report old.spool.jobs d)) old.devices) place ≡ None) × (documents_out o said old.spool.jobs ≡ documents_at id old.spool.jobs))
+  -- the device keeps its job with its documents, or it has no job any more and the documents are handed out
+  abbrev Settled : Option JobChange → Option ℕ → Type 0
+  Settled change o =
+      ((job_of (with_device place (refitted now report (activity_after now report old.spool.jobs d)) old.devices) place ≡ o) × AllStay old.spool.jobs (jobs_after now o change old.spool.jobs) × (documents_out o change old.spool.jobs ≡ []))
+      ⊎ ((id : ℕ) × (o ≡ Some id) × (job_of (with_device place (refitted now report (activity_after now report old.spool.jobs d)) old.devices) place ≡ None) × (documents_out o change old.spool.jobs ≡ documents_at id old.spool.jobs))
+
+  changed_own : (change : JobChange) (ends : Bool) → ends_print change ≡ ends → job_on (refitted now report (activity_after now report old.spool.jobs d) d).activity ≡ cond ends None (job_on d.activity) → (id : ℕ) → job_on d.activity ≡ Some id → Settled (Some change) (Some id)
+  changed_own change true ends none id is = inr (id, refl, new_here ∙ none, told_all change ends id old.spool.jobs (agree.in_spool place id (old_here ∙ is)))
+  changed_own change false goes_on same id is = inl (new_here ∙ (same ∙ is), stay_told id change now old.spool.jobs goes_on, told_nothing change goes_on id old.spool.jobs)
+
+  own : (change : Option JobChange) → Leaves change (job_on d.activity) (job_on (refitted now report (activity_after now report old.spool.jobs d) d).activity) → (o : Option ℕ) → job_on d.activity ≡ o → Settled change o
   own None leaves None is = inl (new_here ∙ (leaves ∙ is), stay_same old.spool.jobs, refl)
   own None leaves (Some id) is = inl (new_here ∙ (leaves ∙ is), stay_same old.spool.jobs, refl)
-  own (Some Stop) leaves None is = inl (new_here ∙ (leaves ∙ is), stay_same old.spool.jobs, refl)
-  own (Some Continue) leaves None is = inl (new_here ∙ (leaves ∙ is), stay_same old.spool.jobs, refl)
-  own (Some Done) leaves None is = inl (new_here ∙ leaves, stay_same old.spool.jobs, refl)
-  own (Some Fail) leaves None is = inl (new_here ∙ leaves, stay_same old.spool.jobs, refl)
-  own (Some Stop) leaves (Some id) is = inl (new_here ∙ (leaves ∙ is), stay_told id Stop now old.spool.jobs refl, told_nothing Stop refl id old.spool.jobs)
-  own (Some Continue) leaves (Some id) is = inl (new_here ∙ (leaves ∙ is), stay_told id Continue now old.spool.jobs refl, told_nothing Continue refl id old.spool.jobs)
-  own (Some Done) leaves (Some id) is = inr (id, refl, new_here ∙ leaves, told_all Done refl id old.spool.jobs (agree.in_spool place id (old_here ∙ is)))
-  own (Some Fail) leaves (Some id) is = inr (id, refl, new_here ∙ leaves, told_all Fail refl id old.spool.jobs (agree.in_spool place id (old_here ∙ is)))
+  own (Some change) leaves None is = inl (new_here ∙ (leaves ∙ none_still (ends_print change) (job_on d.activity) is), stay_same old.spool.jobs, refl)
+  own (Some change) leaves (Some id) is = changed_own change (ends_print change) refl leaves id is
 
-  pub report_keeps : KeepsOrEnds place old (documents_out (job_on d.activity) (said_of_job report d.activity) old.spool.jobs) (state_after now place report d old)
+  pub report_keeps : KeepsOrEnds place old (documents_out (job_on d.activity) (change_by report d.activity) old.spool.jobs) (state_after now place report d old)
   report_keeps = record {
     others = others;
-    own = elim (own (said_of_job report d.activity) (report_leaves now now report old.spool.jobs d) (job_on d.activity) refl) [
+    own = elim (own (change_by report d.activity) (report_leaves now now report old.spool.jobs d) (job_on d.activity) refl) [
       | inl kept ↦ inl ((λ id has. (kept.0 ∙ (sym old_here ∙ has), (kept.1 id (agree.in_spool place id has)).documents)), kept.2)
       | inr ended ↦ inr (record { job = ended.0; had = old_here ∙ ended.1; has_none = ended.2; all = ended.3 })
     ];
@@ -104,7 +108,7 @@ no_report_keeps now place old = record { others = λ other differ id has. (has, 
 pub reports_keep : (now place : ℕ) (report : Report) (old : State) (documents : List DocumentRecord) (new : State) → Agree old.devices old.spool.jobs → Reports now place report old documents new → KeepsOrEnds place old documents new
 reports_keep now place report old documents new agree = at (slice_get old.devices place) refl
   where
-    at : (o : Option Device) → slice_get old.devices place ≡ o → MatchOption o ((new ≡ record old { last = now }) × (documents ≡ [])) (λ device. (new ≡ state_after now place report device old) × (documents ≡ documents_out (job_on device.activity) (said_of_job report device.activity) old.spool.jobs)) → KeepsOrEnds place old documents new
+    at : (o : Option Device) → slice_get old.devices place ≡ o → MatchOption o ((new ≡ record old { last = now }) × (documents ≡ [])) (λ device. (new ≡ state_after now place report device old) × (documents ≡ documents_out (job_on device.activity) (change_by report device.activity) old.spool.jobs)) → KeepsOrEnds place old documents new
     at None none reports =
         subst (λ (s : State). KeepsOrEnds place old documents s) (sym reports.0) (subst (λ (ds : List DocumentRecord). KeepsOrEnds place old ds (record old { last = now })) (sym reports.1) (no_report_keeps now place old))
     at (Some d) found reports =

@@ -1,14 +1,14 @@
 //! The effect of a device's report.
 ghost use Rattle.std.specs.Prelude.{◌≡◌, ◌≤◌, ◌<◌, length, IfSome};
 ghost use Rattle.print_room.specs.Activity.{KeepsTime};
-ghost use Rattle.print_room.specs.Report.{has_job, said_of_job, time_left, without_job, left_of, paged, activity_after, jobs_after, documents_out, refitted, Reports};
+ghost use Rattle.print_room.specs.Report.{has_job, change_by, time_left, without_job, left_of, paged, activity_after, jobs_after, documents_out, refitted, Reports};
 ghost use Rattle.print_room.specs.State.{with_device, doing};
 ghost use Rattle.print_room.specs.DeviceJobs.{Agree, KeepsOrEnds};
 
 use crate::activity::{idle, job_on, running_from, stopped_at, taking};
 use crate::room::PrintRoom;
 use base_types::{Activity, DeviceNow, JobId, Limits, Moment, Needs, Report};
-use job_objects::DeviceSays;
+use job_objects::JobChange;
 use octets::Document;
 use plan_problem::rate;
 
@@ -22,16 +22,16 @@ pub(crate) fn has_job(activity: Activity, number: u32) -> bool
     }
 }
 
-/// The event of the device's job that a report has.
-fn said_of_job(report: &Report, activity: Activity) -> Option<DeviceSays>
-    ensures { result ≡ said_of_job report.now activity }
+/// The change of the device's job that a report makes.
+fn change_by(report: &Report, activity: Activity) -> Option<JobChange>
+    ensures { result ≡ change_by report.now activity }
 {
     match (report, activity) {
-        (Report::Ready, Activity::Stopped(_)) => Some(DeviceSays::Continue),
-        (Report::Stop, Activity::Running(_)) => Some(DeviceSays::Stop),
-        (Report::Done { job }, _) if has_job(activity, *job) => Some(DeviceSays::Done),
-        (Report::Fail { job }, _) if has_job(activity, *job) => Some(DeviceSays::Fail),
-        (Report::Gone, _) => Some(DeviceSays::Fail),
+        (Report::Ready, Activity::Stopped(_)) => Some(JobChange::Continue),
+        (Report::Stop, Activity::Running(_)) => Some(JobChange::Stop),
+        (Report::Done { job }, _) if has_job(activity, *job) => Some(JobChange::Done),
+        (Report::Fail { job }, _) if has_job(activity, *job) => Some(JobChange::Fail),
+        (Report::Gone, _) => Some(JobChange::Fail),
         _ => None,
     }
 }
@@ -119,10 +119,10 @@ impl PrintRoom {
             return Vec::new(self.alloc);
         };
         let job = job_on(device.activity);
-        let said = said_of_job(report, device.activity);
+        let change = change_by(report, device.activity);
         let next = core.activity_after(report, device, now);
         self.refit(place, report, next);
-        self.settle(job, said, now)
+        self.settle(job, change, now)
     }
 
     /// Changes the device at a place by a report: it holds the media that the report names, or begins no job
@@ -147,16 +147,21 @@ impl PrintRoom {
         }
     }
 
-    /// Changes the job of a report, if it has one. Returns the documents that are handed out.
-    fn settle(&mut self, job: Option<JobId>, said: Option<DeviceSays>, now: Moment) -> Vec<Document>
-        requires { Agree self.old.devices (jobs_after now job said self.old.spool.jobs) }
-        ensures jobs { self.new ≡ record self.old { spool = record self.old.spool { jobs = jobs_after now job said self.old.spool.jobs } } }
-        ensures documents { result.items ≡ documents_out job said self.old.spool.jobs }
+    /// Changes the job of a device, if there is a job and a change. Returns the documents that are handed out.
+    fn settle(
+        &mut self,
+        job: Option<JobId>,
+        change: Option<JobChange>,
+        now: Moment,
+    ) -> Vec<Document>
+        requires { Agree self.old.devices (jobs_after now job change self.old.spool.jobs) }
+        ensures jobs { self.new ≡ record self.old { spool = record self.old.spool { jobs = jobs_after now job change self.old.spool.jobs } } }
+        ensures documents { result.items ≡ documents_out job change self.old.spool.jobs }
     {
-        match (job, said) {
-            (Some(id), Some(said)) => {
+        match (job, change) {
+            (Some(id), Some(change)) => {
                 self.good_for = None;
-                self.spool.tell(id, said, now)
+                self.spool.tell(id, change, now)
             }
             _ => Vec::new(self.alloc),
         }

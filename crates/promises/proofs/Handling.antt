@@ -13,7 +13,7 @@ use Rattle.plan_prices.specs.Way.{queue_of}
 use Rattle.print_room.specs.declared.started.Started.{Started}
 use Rattle.print_room.specs.State.{State, with_device}
 use Rattle.print_room.specs.Activity.{stopped_at, idle, job_on}
-use Rattle.print_room.specs.Report.{Reports, refitted, state_after, documents_out, said_of_job}
+use Rattle.print_room.specs.Report.{Reports, refitted, state_after, documents_out, change_by}
 use Rattle.print_room.specs.Dispatch.{is_free, first_of, first_of_queue, or_next, starts_from}
 use Rattle.octets.specs.Document.{DocumentRecord}
 use Rattle.events.specs.declared.event.Event.{Event}
@@ -769,7 +769,7 @@ gone_begins : (state : State) (now later device : ℕ) (classes : List PlannedCl
 gone_begins state now later device classes old mid documents is = by (slice_get old.devices device) refl is
   where
     by : (o : Option Device) → slice_get old.devices device ≡ o
-        → MatchOption o ((mid ≡ record old { last = now }) × (documents ≡ [])) (λ it. (mid ≡ state_after now device report.Gone it old) × (documents ≡ documents_out (job_on it.activity) (said_of_job report.Gone it.activity) old.spool.jobs))
+        → MatchOption o ((mid ≡ record old { last = now }) × (documents ≡ [])) (λ it. (mid ≡ state_after now device report.Gone it old) × (documents ≡ documents_out (job_on it.activity) (change_by report.Gone it.activity) old.spool.jobs))
         → flat_map (start_for device state) (starts_from later classes 0 mid.devices) ≡ []
     by None there same = subst (λ (devices : List Device). flat_map (start_for device state) (starts_from later classes 0 devices) ≡ []) (sym (ap (λ (s : State). s.devices) same.0)) (none_there state later classes 0 device device old.devices (omega arith) there)
     by (Some it) there same =

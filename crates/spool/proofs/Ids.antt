@@ -8,10 +8,8 @@ use Rattle.job_objects.specs.declared.job_state.JobState.{JobState}
 use Rattle.job_objects.specs.declared.job_state.JobState.TheVariants.{Pending, PendingHeld, Processing, Stopped, Aborted}
 use Rattle.job_objects.specs.declared.job_change.JobChange.{JobChange}
 use Rattle.job_objects.specs.declared.job_change.JobChange.TheVariants.{Close, Hold, Release, Begin, Stop, Continue, Cancel, Done, Fail}
-use Rattle.job_objects.specs.declared.device_says.DeviceSays.{DeviceSays}
-use Rattle.job_objects.specs.DeviceSays.{change_of, is_end}
 use Rattle.job_objects.specs.Job.{JobRecord}
-use Rattle.job_objects.specs.JobStep.{waiting, moved, ended, changed_from, job_after}
+use Rattle.job_objects.specs.JobStep.{waiting, moved, ended, changed_from, job_after, ends_print}
 use Rattle.spool.specs.Spooled.{SpooledRecord, is_settled, settled, on_device_after, changed, let_go, told, is_overdue, expired, marked}
 use Rattle.spool.specs.Calls.{is_ready, marked_by}
 
@@ -81,9 +79,8 @@ let_go_id change now s =
     after None is = refl
     after (Some job) is = is
 
-pub told_id : (says : DeviceSays) (now : ℕ) → KeepsId (told says now)
-told_id says now s =
-    either (λ y. y.job.id ≡ s.job.id) (is_end says) (let_go (change_of says) now s) (changed (change_of says) now s) (let_go_id (change_of says) now s) (changed_id (change_of says) now s)
+pub told_id : (change : JobChange) (now : ℕ) → KeepsId (told change now)
+told_id change now s = either (λ y. y.job.id ≡ s.job.id) (ends_print change) (let_go change now s) (changed change now s) (let_go_id change now s) (changed_id change now s)
 
 pub expired_id : (now : ℕ) → KeepsId (expired now)
 expired_id now s = either (λ y. y.job.id ≡ s.job.id) (is_overdue now s) (changed Fail now s) s (changed_id Fail now s) refl

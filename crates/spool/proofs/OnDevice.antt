@@ -9,10 +9,8 @@ use Rattle.base_types.specs.declared.needs.Stranded.{Stranded}
 use Rattle.job_objects.specs.JobState.{is_finished}
 use Rattle.job_objects.specs.declared.job_change.JobChange.{JobChange}
 use Rattle.job_objects.specs.declared.job_change.JobChange.TheVariants as Change
-use Rattle.job_objects.specs.declared.device_says.DeviceSays.{DeviceSays}
-use Rattle.job_objects.specs.DeviceSays.{change_of, is_end}
 use Rattle.job_objects.specs.Job.{JobRecord}
-use Rattle.job_objects.specs.JobStep.{job_after}
+use Rattle.job_objects.specs.JobStep.{job_after, ends_print}
 use Rattle.octets.specs.Document.{DocumentRecord}
 use Rattle.spool.specs.Spooled.{SpooledRecord, settled, on_device_after, changed, let_go, told, is_overdue, expired, marked}
 use Rattle.spool.specs.Jobs.{spooled_at, with_job}
@@ -210,30 +208,30 @@ marked_on paused stranded = record {
   documents = λ s on. either (λ y. y.documents ≡ s.documents) (is_ready paused s.job) (marked (list_any (λ e. e.job == s.job.id) stranded) s) s refl refl;
 }
 
--- a report of a device that doesn't end the job
-pub told_on : (says : DeviceSays) (now : ℕ) → is_end says ≡ false → KeepsOn (told says now)
-told_on says now goes_on =
-    let keeps = changed_on (change_of says) now in
+-- a change that doesn't end the print
+pub told_on : (change : JobChange) (now : ℕ) → ends_print change ≡ false → KeepsOn (told change now)
+told_on change now goes_on =
+    let keeps = changed_on change now in
     record {
-      id = told_id says now;
-      on_device = λ s on. ap (λ (b : Bool). (cond b (let_go (change_of says) now s) (changed (change_of says) now s)).on_device) goes_on ∙ keeps.on_device s on;
-      documents = λ s on. ap (λ (b : Bool). (cond b (let_go (change_of says) now s) (changed (change_of says) now s)).documents) goes_on ∙ keeps.documents s on;
+      id = told_id change now;
+      on_device = λ s on. ap (λ (b : Bool). (cond b (let_go change now s) (changed change now s)).on_device) goes_on ∙ keeps.on_device s on;
+      documents = λ s on. ap (λ (b : Bool). (cond b (let_go change now s) (changed change now s)).documents) goes_on ∙ keeps.documents s on;
     }
 
--- ---- a device says something of its job
+-- ---- a device reports a change of its job
 
 either_jobs : (P : List SpooledRecord → Type 0) (b : Bool) (xs ys : List SpooledRecord) → P xs → P ys → P (cond b xs ys)
 either_jobs P true xs ys of_xs of_ys = of_xs
 either_jobs P false xs ys of_xs of_ys = of_ys
 
-pub others_told : (one : ℕ) (says : DeviceSays) (now : ℕ) (jobs : List SpooledRecord) → OthersStay one jobs (jobs_told one says now jobs)
-others_told one says now jobs =
-    let after = with_job one (told says now) jobs in
-    let others : OthersStay one jobs after = others_with one (told says now) (told_id says now) jobs in
-    either_jobs (λ new. OthersStay one jobs new) (is_end says) (retained after) after (others_then one jobs after (retained after) others (stay_retained after)) others
+pub others_told : (one : ℕ) (change : JobChange) (now : ℕ) (jobs : List SpooledRecord) → OthersStay one jobs (jobs_told one change now jobs)
+others_told one change now jobs =
+    let after = with_job one (told change now) jobs in
+    let others : OthersStay one jobs after = others_with one (told change now) (told_id change now) jobs in
+    either_jobs (λ new. OthersStay one jobs new) (ends_print change) (retained after) after (others_then one jobs after (retained after) others (stay_retained after)) others
 
-pub stay_told : (one : ℕ) (says : DeviceSays) (now : ℕ) (jobs : List SpooledRecord) → is_end says ≡ false → AllStay jobs (jobs_told one says now jobs)
-stay_told one says now jobs goes_on =
-    let after = with_job one (told says now) jobs in
-    let stay : AllStay jobs after = stay_with one (told says now) (told_on says now goes_on) jobs in
-    either_jobs (λ new. AllStay jobs new) (is_end says) (retained after) after (stay_then jobs after (retained after) stay (stay_retained after)) stay
+pub stay_told : (one : ℕ) (change : JobChange) (now : ℕ) (jobs : List SpooledRecord) → ends_print change ≡ false → AllStay jobs (jobs_told one change now jobs)
+stay_told one change now jobs goes_on =
+    let after = with_job one (told change now) jobs in
+    let stay : AllStay jobs after = stay_with one (told change now) (told_on change now goes_on) jobs in
+    either_jobs (λ new. AllStay jobs new) (ends_print change) (retained after) after (stay_then jobs after (retained after) stay (stay_retained after)) stay

@@ -11,8 +11,6 @@ use Rattle.job_objects.specs.declared.job_state.JobState.{JobState}
 use Rattle.job_objects.specs.declared.job_state.JobState.TheVariants.{Pending, PendingHeld, Processing, Stopped, Canceled, Aborted, Completed}
 use Rattle.job_objects.specs.declared.job_change.JobChange.{JobChange}
 use Rattle.job_objects.specs.declared.job_change.JobChange.TheVariants.{Close, Hold, Release, Begin, Stop, Continue, Cancel, Done, Fail}
-use Rattle.job_objects.specs.declared.device_says.DeviceSays.{DeviceSays}
-use Rattle.job_objects.specs.declared.device_says.DeviceSays.TheVariants as Says
 use Rattle.job_objects.specs.Job.{JobRecord}
 use Rattle.job_objects.specs.JobStep.{waiting, moved, ended, changed_from, job_after}
 use Rattle.octets.specs.Document.{DocumentRecord}
@@ -116,11 +114,10 @@ fail_fits Completed now job on is fits = subst (λ (state : JobState). FitsState
 let_go_sound : (change : JobChange) (now : ℕ) (s : SpooledRecord) → Fits (unwrap_or (job_after change now s.job) s.job) false → IsSound s → IsSound (let_go change now s)
 let_go_sound change now s fits sound = either IsSound s.on_device (record s { job = unwrap_or (job_after change now s.job) s.job; documents = []; on_device = false }) s fits sound
 
-pub told_sound : (says : DeviceSays) (now : ℕ) → KeepsSound (told says now)
-told_sound Says.Stop now s sound = changed_sound Stop now s sound
-told_sound Says.Continue now s sound = changed_sound Continue now s sound
-told_sound Says.Done now s sound = let_go_sound Done now s (done_fits s.job.state now s.job s.on_device refl sound) sound
-told_sound Says.Fail now s sound = let_go_sound Fail now s (fail_fits s.job.state now s.job s.on_device refl sound) sound
+pub told_sound : (change : JobChange) (now : ℕ) → KeepsSound (told change now)
+told_sound Done now s sound = let_go_sound Done now s (done_fits s.job.state now s.job s.on_device refl sound) sound
+told_sound Fail now s sound = let_go_sound Fail now s (fail_fits s.job.state now s.job s.on_device refl sound) sound
+told_sound change now s sound = changed_sound change now s sound
 
 pub same_sound : KeepsSound (λ s. s)
 same_sound s sound = sound

@@ -2,7 +2,7 @@
 use Rattle.std.specs.Prelude.{ℕ, zero, suc, ◌≡◌, ◌<◌, ◌==◌, if◌then◌else◌, List, [], ◌∷◌, map, find, Option, option_map}
 use Rattle.std.specs.Option.{option_map_or}
 use Rattle.job_objects.specs.Job.{JobRecord}
-use Rattle.job_objects.specs.declared.device_says.DeviceSays.{DeviceSays}
+use Rattle.job_objects.specs.declared.job_change.JobChange.{JobChange}
 use Rattle.octets.specs.Document.{DocumentRecord}
 use Rattle.spool.specs.Spooled.{SpooledRecord, handed_out}
 
@@ -28,9 +28,9 @@ map_at place change [] = []
 map_at zero change (spooled ∷ jobs) = change spooled ∷ jobs
 map_at (suc place) change (spooled ∷ jobs) = spooled ∷ map_at place change jobs
 
--- the documents that the job of an id hands out after a device's event
-abbrev pub documents_told : ℕ → DeviceSays → List SpooledRecord → List DocumentRecord
-documents_told id says jobs = option_map_or (handed_out says) (spooled_at id jobs) []
+-- the documents that the job of an id hands out for a change that its device reports
+abbrev pub documents_told : ℕ → JobChange → List SpooledRecord → List DocumentRecord
+documents_told id change jobs = option_map_or (handed_out change) (spooled_at id jobs) []
 
 -- ---- the jobs as the entries of a map
 

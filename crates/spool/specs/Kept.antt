@@ -1,8 +1,8 @@
 -- The finished jobs that are kept for queries.
 use Rattle.std.specs.Prelude.{ℕ, Bool, not, ◌||◌, ◌&&◌, ◌==◌, nat_lt, if◌then◌else◌, List, filter, count_by, unwrap_or}
 use Rattle.base_types.specs.declared.limits.TheConstants.Limits.{FINISHED_JOBS_KEPT}
-use Rattle.job_objects.specs.declared.device_says.DeviceSays.{DeviceSays}
-use Rattle.job_objects.specs.DeviceSays.{is_end}
+use Rattle.job_objects.specs.declared.job_change.JobChange.{JobChange}
+use Rattle.job_objects.specs.JobStep.{ends_print}
 use Rattle.spool.specs.Spooled.{SpooledRecord, is_settled, told}
 use Rattle.spool.specs.Jobs.{with_job}
 
@@ -26,6 +26,6 @@ is_kept jobs spooled = not (is_settled spooled) || nat_lt (later_jobs jobs spool
 abbrev pub retained : List SpooledRecord → List SpooledRecord
 retained jobs = filter (is_kept jobs) jobs
 
--- the jobs after a device's event of the job of an id; if the event ends the job, finished jobs may be forgotten
-abbrev pub jobs_told : ℕ → DeviceSays → ℕ → List SpooledRecord → List SpooledRecord
-jobs_told id says now jobs = if is_end says then retained (with_job id (told says now) jobs) else with_job id (told says now) jobs
+-- the jobs after a device's change of the job of an id; if the change ends the print, finished jobs may be forgotten
+abbrev pub jobs_told : ℕ → JobChange → ℕ → List SpooledRecord → List SpooledRecord
+jobs_told id change now jobs = if ends_print change then retained (with_job id (told change now) jobs) else with_job id (told change now) jobs

@@ -4,11 +4,9 @@ use Rattle.std.specs.Option.{option_map_or}
 use Rattle.base_types.specs.declared.limits.TheConstants.Limits.{INCOMING_JOB_TIME}
 use Rattle.job_objects.specs.declared.job_change.JobChange.{JobChange}
 use Rattle.job_objects.specs.declared.job_change.JobChange.TheVariants.{Begin, Fail}
-use Rattle.job_objects.specs.declared.device_says.DeviceSays.{DeviceSays}
-use Rattle.job_objects.specs.DeviceSays.{change_of, is_end}
 use Rattle.job_objects.specs.JobState.{is_finished}
 use Rattle.job_objects.specs.Job.{JobRecord}
-use Rattle.job_objects.specs.JobStep.{job_after, stepped}
+use Rattle.job_objects.specs.JobStep.{job_after, stepped, ends_print}
 use Rattle.job_objects.specs.Impressions.{impressions_of}
 use Rattle.octets.specs.Document.{DocumentRecord}
 
@@ -43,13 +41,13 @@ abbrev pub let_go : JobChange → ℕ → SpooledRecord → SpooledRecord
 let_go change now spooled =
     if spooled.on_device then record spooled { job = stepped change now spooled.job; documents = []; on_device = false } else spooled
 
--- the job after an event of its device
-abbrev pub told : DeviceSays → ℕ → SpooledRecord → SpooledRecord
-told says now spooled = if is_end says then let_go (change_of says) now spooled else changed (change_of says) now spooled
+-- the job after a change that its device reports
+abbrev pub told : JobChange → ℕ → SpooledRecord → SpooledRecord
+told change now spooled = if ends_print change then let_go change now spooled else changed change now spooled
 
--- the documents that are handed out for the event: all, if the device ends the job
-abbrev pub handed_out : DeviceSays → SpooledRecord → List DocumentRecord
-handed_out says spooled = if is_end says then (if spooled.on_device then spooled.documents else []) else []
+-- the documents that are handed out for a change that the device reports: all, if the change ends the print
+abbrev pub handed_out : JobChange → SpooledRecord → List DocumentRecord
+handed_out change spooled = if ends_print change then (if spooled.on_device then spooled.documents else []) else []
 
 -- the job with one more document, of this format and this many octets
 abbrev pub counted : List ℕ → ℕ → JobRecord → JobRecord

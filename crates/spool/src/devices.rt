@@ -1,6 +1,6 @@
 //! The changes that devices make of jobs.
 ghost use Rattle.std.specs.Prelude.{◌≡◌, false};
-ghost use Rattle.job_objects.specs.DeviceSays.{is_end};
+ghost use Rattle.job_objects.specs.JobStep.{ends_print};
 ghost use Rattle.job_objects.specs.declared.job_change.JobChange.TheVariants as Change;
 ghost use Rattle.spool.specs.Spooled.{changed};
 ghost use Rattle.spool.specs.Kept.{jobs_told};
@@ -9,7 +9,7 @@ ghost use Rattle.spool.specs.OnDevice.{AllStay, OthersStay};
 
 use crate::spool::Spool;
 use base_types::{JobId, Moment};
-use job_objects::{DeviceSays, JobChange};
+use job_objects::JobChange;
 use octets::Document;
 
 /// The changes that devices make of jobs. An id that no job has, and a change that a job's state doesn't
@@ -23,16 +23,16 @@ impl Spool {
         let _refused = self.change(id, JobChange::Begin, now);
     }
 
-    /// Applies an event of the device that has a job. If the event ends the job, the device has it no more,
-    /// and its documents are returned.
-    pub fn tell(&mut self, id: JobId, says: DeviceSays, now: Moment) -> Vec<Document>
-        ensures documents { result.items ≡ documents_told id says self.old.jobs }
-        ensures jobs { self.new ≡ record self.old { jobs = jobs_told id says now self.old.jobs } }
+    /// Makes a change of a job that its device reports. If the change ends the print, the device has the job no
+    /// more, and the job's documents are returned.
+    pub fn tell(&mut self, id: JobId, change: JobChange, now: Moment) -> Vec<Document>
+        ensures documents { result.items ≡ documents_told id change self.old.jobs }
+        ensures jobs { self.new ≡ record self.old { jobs = jobs_told id change now self.old.jobs } }
         ensures others { OthersStay id self.old.jobs self.new.jobs }
-        ensures stay { is_end says ≡ false → AllStay self.old.jobs self.new.jobs }
+        ensures stay { ends_print change ≡ false → AllStay self.old.jobs self.new.jobs }
     {
-        let documents = self.tell_job(id, says, now);
-        if says.is_end() {
+        let documents = self.tell_job(id, change, now);
+        if change.ends_print() {
             self.forget();
         }
         documents

@@ -12,13 +12,13 @@ ghost use Rattle.spool.specs.Ready.{ready_jobs};
 ghost use Rattle.spool.specs.Front.{AllFinished};
 ghost use Rattle.spool.specs.Sound.{IsSound};
 ghost use Rattle.spool.specs.OnDevice.{AllStay, OthersStay};
-ghost use Rattle.job_objects.specs.DeviceSays.{is_end};
+ghost use Rattle.job_objects.specs.JobStep.{ends_print};
 
 use crate::new_job::{NewJob, taken};
 use crate::spooled::SpooledJob;
 use base_types::{JobId, Moment, Stranded, Text};
 use indexmap::IndexMap;
-use job_objects::{DeviceSays, JobChange, Printer, StateRefusal};
+use job_objects::{JobChange, Printer, StateRefusal};
 use octets::Document;
 use std::alloc::Global;
 use std::marker::Model;
@@ -167,19 +167,19 @@ impl Spool {
         spooled.change(change, now)
     }
 
-    /// Applies a device's event to the job of an id, if there is one. Returns the documents that are handed
-    /// out.
-    pub(crate) fn tell_job(&mut self, id: JobId, says: DeviceSays, now: Moment) -> Vec<Document>
-        ensures documents { result.items ≡ documents_told id says self.old.jobs }
-        ensures jobs { self.new ≡ record self.old { jobs = with_job id (told says now) self.old.jobs } }
+    /// Makes a change that a device reports of the job of an id, if there is one. Returns the documents that are
+    /// handed out.
+    pub(crate) fn tell_job(&mut self, id: JobId, change: JobChange, now: Moment) -> Vec<Document>
+        ensures documents { result.items ≡ documents_told id change self.old.jobs }
+        ensures jobs { self.new ≡ record self.old { jobs = with_job id (told change now) self.old.jobs } }
         ensures others { OthersStay id self.old.jobs self.new.jobs }
-        ensures stay { is_end says ≡ false → AllStay self.old.jobs self.new.jobs }
+        ensures stay { ends_print change ≡ false → AllStay self.old.jobs self.new.jobs }
     {
         let alloc = self.alloc;
         let Some(spooled) = self.entries.get_mut(&id.number()) else {
             return Vec::new(alloc);
         };
-        spooled.tell(alloc, says, now)
+        spooled.tell(alloc, change, now)
     }
 
     /// Adds a document to the job of an id. If memory is refused, returns the document.

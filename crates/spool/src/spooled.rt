@@ -4,7 +4,7 @@ ghost use Rattle.job_objects.specs.JobStep.{job_after};
 ghost use Rattle.spool.specs.Spooled.{changed, on_device_after, let_go, told, handed_out, settled, is_settled, counted, attached, expired, is_overdue, marked};
 
 use base_types::{Limits, Moment, Text};
-use job_objects::{DeviceSays, Job, JobChange, StateRefusal, estimated_impressions, job_step};
+use job_objects::{Job, JobChange, StateRefusal, estimated_impressions, job_step};
 use octets::Document;
 use std::alloc::{AllocError, Global};
 use std::marker::Model;
@@ -88,15 +88,14 @@ impl SpooledJob {
         Ok(())
     }
 
-    /// Applies an event of a device. If the event ends the job, the device has it no more, and its documents
-    /// are returned.
-    pub(crate) fn tell(&mut self, alloc: Global, says: DeviceSays, now: Moment) -> Vec<Document>
-        ensures documents { result.items ≡ handed_out says self.old }
-        ensures after { self.new ≡ told says now self.old }
+    /// Makes a change that a device reports. If the change ends the print, the device has the job no more, and
+    /// the job's documents are returned.
+    pub(crate) fn tell(&mut self, alloc: Global, change: JobChange, now: Moment) -> Vec<Document>
+        ensures documents { result.items ≡ handed_out change self.old }
+        ensures after { self.new ≡ told change now self.old }
         ensures same_job { self.new.job.id ≡ self.old.job.id }
     {
-        let change = says.change();
-        if says.is_end() {
+        if change.ends_print() {
             return self.let_go(alloc, change, now);
         }
         let _refused = self.change(change, now);

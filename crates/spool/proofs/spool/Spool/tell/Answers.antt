@@ -4,8 +4,8 @@ use Rattle.spool.specs.OnDevice.{AllStay}
 use Rattle.spool.proofs.OnDevice.{others_then, stay_retained}
 use Rattle.spool.proofs.spool.Spool.tell.Goals as goal
 
-pub returns-then-is_end-clause-others : goal.returns-then-is_end-clause-others
-returns-then-is_end-clause-others c =
+pub returns-then-ends_print-clause-others : goal.returns-then-ends_print-clause-others
+returns-then-ends_print-clause-others c =
     let told = c.tell_job-documents.new.self.jobs in
     others_then c.args.id c.args.self.now.jobs told c.forget.new.self.jobs c.tell_job-documents.ensures.others
     (subst (λ (s : SpoolRecord). AllStay told s.jobs) (sym c.forget.ensures) (stay_retained told))
