@@ -58,7 +58,7 @@ impl PrinterReason {
 pub fn keeps_busy(job: &Job, printer: PrinterId) -> bool
     ensures { result ≡ is_busy_with printer job.now }
 {
-    job.needs.printer.place() == printer.place() && is_printing_or_stopped(job.state)
+    job.needs.printer == printer && is_printing_or_stopped(job.state)
 }
 
 /// Returns whether a job of this state is processing or processing-stopped.
