@@ -94,7 +94,14 @@ impl<P: Planner + Drop> Core<P> {
         self.room.spool().get(id)
     }
 
-    /// The state of the device at a place of the settings. The call takes no memory.
+    /// The states of the devices, in the order of the settings. The call takes no memory.
+    pub fn devices(&self) -> &[DeviceNow]
+        ensures { result.now ≡ self.now.devices }
+    {
+        self.room.devices()
+    }
+
+    /// The state of a device, if the settings have it. The call takes no memory.
     pub fn device(&self, id: DeviceId) -> Option<&DeviceNow>
         ensures { option_copied result ≡ slice_get self.now.devices id }
     {

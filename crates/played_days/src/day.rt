@@ -1,11 +1,10 @@
 //! The jobs of a day, with their times on each device of their printers.
 
-use crate::cause::cause_of;
 use crate::day_job::{DayJob, Member};
-use base_types::{DeviceId, DeviceNow, JobId, Needs, PrinterSet, Stranded};
+use base_types::{Cause, DeviceId, DeviceNow, JobId, Needs, PrinterSet, Stranded};
 use dispatcher::Core;
 use job_lists::ListedJob;
-use plan_problem::{able, time};
+use plan_problem::{able, stranded_cause, time};
 use plan_solver::AugmentingPaths;
 use rand_core::utils::NextWord;
 use rand_pcg::Pcg32;
@@ -93,9 +92,16 @@ fn day_job(
     })
 }
 
+/// The cause that no device of its printer can print a job.
+fn cause_of(core: &Core<AugmentingPaths>, needs: &Needs) -> Cause {
+    let Some(printer) = core.settings().printers.get(needs.printer.place()) else {
+        return Cause::NoDevice;
+    };
+    stranded_cause(needs, &printer.devices, core.devices()).unwrap_or(Cause::NoDevice)
+}
+
 /// Adds a job that no device can print, by its place in the list.
 fn note_stranded(
-    alloc: Global,
     stranded: &mut Vec<Stranded>,
     core: &Core<AugmentingPaths>,
     needs: &Needs,
@@ -103,7 +109,7 @@ fn note_stranded(
 ) -> Result<(), AllocError> {
     let number = u32::try_from(place.saturating_add(1)).unwrap_or(0);
     if let Some(job) = JobId::new(number) {
-        let cause = cause_of(alloc, core, needs)?;
+        let cause = cause_of(core, needs);
         stranded.push(Stranded { job, cause })?;
     }
     Ok(())
@@ -152,7 +158,7 @@ impl Day {
     ) -> Result<(), AllocError> {
         let job = day_job(alloc, core, listed)?;
         if !job.is_printable() {
-            note_stranded(alloc, &mut self.stranded, core, &listed.needs, place)?;
+            note_stranded(&mut self.stranded, core, &listed.needs, place)?;
         }
         self.jobs.push(job)?;
         Ok(())

@@ -19,7 +19,6 @@
 #![tactic(auto)]
 
 mod bytes;
-mod cause;
 mod chart;
 mod day;
 mod day_job;
