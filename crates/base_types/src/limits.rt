@@ -89,7 +89,7 @@ impl Limits {
     /// The greatest total or price in the text of a plan, in ms: 2^62.
     pub const AMOUNT: u64 = 4_611_686_018_427_387_904;
 
-    /// The most bytes of the name of a device, printer or operator in the settings.
+    /// The most bytes of the name of a device or printer in the settings.
     pub const NAME_BYTES: usize = 32;
     /// The most bytes of the name of a medium in the settings.
     pub const MEDIA_BYTES: usize = 64;

@@ -4,8 +4,8 @@
 #[derive(Clone, Copy)]
 pub enum Policy {
     /// The next free device, counted from the device behind the device that got the last job of the printer;
-    /// for the first job, from the first device. It is a class of CUPS (`cupsdFindAvailablePrinter` of its
-    /// scheduler).
+    /// for the first job, from the device behind the first. It is a class of CUPS
+    /// (`cupsdFindAvailablePrinter` of its scheduler).
     RoundRobin,
     /// The first free device, in the order of the printer.
     FirstFree,
