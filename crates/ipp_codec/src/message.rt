@@ -119,6 +119,14 @@ impl Group {
         }
     }
 
+    /// A group of a tag without attributes, which has the memory for so many. The only error is out of memory.
+    pub fn with_capacity(alloc: Global, tag: GroupTag, count: usize) -> Result<Group, AllocError>
+        ensures { IfOk result (λ group. group ≡ record { tag = tag; attributes = [] }) }
+    {
+        let attributes = Vec::with_capacity(alloc, count)?;
+        Ok(Group { tag, attributes })
+    }
+
     /// Appends an attribute. The only error is out of memory.
     pub fn push(&mut self, attribute: Attribute) -> Result<(), AllocError>
         ensures ok { OnOk result (self.new ≡ record self.old { attributes = self.old.attributes ++ attribute ∷ [] }) }

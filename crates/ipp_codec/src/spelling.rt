@@ -17,6 +17,9 @@ use crate::view::Version;
 use base_types::Limits;
 use std::alloc::AllocError;
 
+/// The number of bytes for which a spelling takes memory at first. Most replies have fewer.
+const FIRST_BYTES: usize = 512;
+
 /// Appends the one spelling of the message. An error leaves the vector unchanged.
 pub fn encode(message: &Message, out: &mut Vec<u8>) -> Result<(), EncodeFault>
     ensures ok { OnOk result (out.new.items ≡ out.old.items ++ spelling message.now) }
@@ -27,7 +30,9 @@ pub fn encode(message: &Message, out: &mut Vec<u8>) -> Result<(), EncodeFault>
     if !are_groups(&message.groups) {
         return Err(EncodeFault::Unspellable);
     }
-    let mut bytes = Vec::new(*out.allocator());
+    let Ok(mut bytes) = Vec::with_capacity(*out.allocator(), FIRST_BYTES) else {
+        return Err(EncodeFault::OutOfMemory);
+    };
     if put_message(&mut bytes, &header, &message.groups).is_err() {
         return Err(EncodeFault::OutOfMemory);
     }

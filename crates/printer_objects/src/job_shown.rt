@@ -50,7 +50,7 @@ pub fn job_attributes(
 ) -> Result<Group, AllocError>
     ensures { IfOk result (λ group. group ≡ job_attributes shown.now attributes.now) }
 {
-    let mut group = Group::new(alloc, GroupTag::JOB);
+    let mut group = Group::with_capacity(alloc, GroupTag::JOB, attributes.len())?;
     for which in attributes {
         group.push(which.shown(alloc, shown)?)?;
     }

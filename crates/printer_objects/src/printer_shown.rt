@@ -58,7 +58,8 @@ pub fn printer_attributes(
 ) -> Result<Group, AllocError>
     ensures { IfOk result (λ group. group ≡ printer_attributes shown.now requested.now) }
 {
-    let mut group = Group::new(alloc, GroupTag::PRINTER);
+    let count = requested.len().min(PrinterAttribute::COUNT);
+    let mut group = Group::with_capacity(alloc, GroupTag::PRINTER, count)?;
     for which in PrinterAttribute::all() {
         if which.is_wanted(requested) {
             let attribute = which.shown(alloc, shown)?;
