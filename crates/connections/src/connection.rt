@@ -35,11 +35,11 @@ pub enum Fed {
     Refused(WireId),
 }
 
-/// A connection: its peer, and the bytes that wait to be taken by the wire.
+/// A connection: its peer, and the bytes that wait to be taken by the wire. Each turn of a server looks at
+/// all fields but the peer, which is large: so it is the last.
 #[derive(Drop)]
 pub struct Connection {
     id: WireId,
-    peer: Peer,
     /// Whether the input of the connection has ended.
     ended: bool,
     /// Whether bytes that are read from now on are discarded.
@@ -47,6 +47,7 @@ pub struct Connection {
     /// Whether the connection is to be closed as by a fault.
     broken: bool,
     output: SendQueue,
+    peer: Peer,
 }
 
 impl Model for Connection {
