@@ -1,5 +1,5 @@
 #!/usr/bin/env python3
-"""Compares the server under load with cupsd and ippeveprinter, in one run and on this machine alone.
+"""Compares the server under load with cupsd, ippeveprinter and a program that only answers, on this machine alone.
 
     tools/load.py [SECONDS [ROUNDS]]       (3 seconds for each load and server, in 3 rounds)
 
@@ -11,7 +11,7 @@ server is busy counts as no request. cupsd is given a raw queue for /dev/null, n
 history of them (it is quickest so), `printd` 16 devices that take each job and end it at once. Then: how long a
 Print-Job and a Get-Printer-Attributes take while 120 jobs wait for 16 devices, each of which has one.
 
-Wanted: Debian's cups-daemon, cups-ipp-utils and wrk. PRINTD names the program; without it, it is the one that
+Wanted: Debian's cups-daemon, cups-ipp-utils and wrk, and a C compiler. PRINTD names the program; without it, it is the one that
 ./printd built.
 """
 import pathlib
@@ -26,7 +26,7 @@ from rounds import middles  # noqa: E402
 
 def row(name, one, base):
     """The row of a server, compared with another where that could be measured."""
-    text = f"  {name:14} {one.rate:9.0f}/s {one.used:9.1f} us {one.p50 / 1000:9.2f} ms {one.p99 / 1000:9.2f} ms {one.taken * 100:6.1f} %"
+    text = f"  {name:26} {one.rate:9.0f}/s {one.used:9.1f} us {one.p50 / 1000:9.2f} ms {one.p99 / 1000:9.2f} ms {one.taken * 100:6.1f} %"
     text += "" if isinstance(base, str) else f" {one.rate / base.rate:8.2f} {base.used / one.used:8.2f}"
     if one.reply:
         text += f"  replies of {one.reply:.0f} octets"
@@ -37,13 +37,13 @@ def show(load, rounds, seconds):
     """Prints the rows of a load."""
     found = middles(compare(load, rounds, seconds))
     for name, one in found.items():
-        print(f"  {name:14} {one}" if isinstance(one, str) else row(name, one, found[Cupsd.name]), flush=True)
+        print(f"  {name:26} {one}" if isinstance(one, str) else row(name, one, found[Cupsd.name]), flush=True)
 
 
 def main():
     seconds = int(sys.argv[1]) if len(sys.argv) > 1 else 3
     rounds = int(sys.argv[2]) if len(sys.argv) > 2 else 3
-    print(f"{'':16} {'requests':>11} {'processor':>12} {'p50':>12} {'p99':>12} {'taken':>8} {'to cupsd':>8} {'by time':>8}")
+    print(f"{'':28} {'requests':>11} {'processor':>12} {'p50':>12} {'p99':>12} {'taken':>8} {'to cupsd':>8} {'by time':>8}")
     for load in LOADS:
         print(load[0], flush=True)
         show(load, rounds, seconds)

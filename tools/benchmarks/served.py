@@ -27,13 +27,18 @@ def by_time(one, other):
     return other.used / one.used
 
 
+def shown(name):
+    """The name of a server in a table."""
+    return name if name == Answerer.name else f"`{name}`"
+
+
 def load_row(load, name, found):
     """The row of a server under a load."""
     if isinstance(found[name], str):
-        return reason(10, [load[0], f"`{name}`"], found[name])
+        return reason(10, [load[0], shown(name)], found[name])
     one = middle(found[name])
     times = [ratios_to(found[name], found[Cupsd.name], better) for better in (by_rate, by_time)]
-    return [load[0], f"`{name}`", figure(one.rate), figure(one.used), figure(one.p50 / 1000), figure(one.p99 / 1000), f"{one.taken * 100:.0f} %",
+    return [load[0], shown(name), figure(one.rate), figure(one.used), figure(one.p50 / 1000), figure(one.p99 / 1000), f"{one.taken * 100:.0f} %",
             f"{one.resident / 1024:.1f}", *(spread(it) if it and name != Cupsd.name else "" for it in times)]
 
 

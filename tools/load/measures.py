@@ -1,4 +1,4 @@
-"""What is measured of servers under load: of `printd serve`, and of those of CUPS beside it."""
+"""What is measured of servers under load: of `printd serve`, of those of CUPS beside it, and of a program that only answers."""
 import pathlib
 import shutil
 import socket
@@ -8,11 +8,11 @@ import time
 import typing
 
 from messages import GET_PRINTER_ATTRIBUTES, PRINT_JOB, head, message
-from peers import Cupsd, Ippeveprinter, Ours, SlowOurs, processor_seconds, resident_kib
+from peers import Answerer, Cupsd, Ippeveprinter, Ours, SlowOurs, processor_seconds, resident_kib
 from rounds import CannotMeasure, all_rounds
 
 HERE = pathlib.Path(__file__).resolve().parent
-KINDS = [Ours, Cupsd, Ippeveprinter]
+KINDS = [Ours, Cupsd, Ippeveprinter, Answerer]
 # name, operation, connections, octets of the document
 LOADS = [
     ("Get-Printer-Attributes, 1 connection", GET_PRINTER_ATTRIBUTES, 1, 0),

@@ -336,16 +336,17 @@ class Ippeveprinter(Other):
 
 
 class Answerer(Other):
-    """A program that only answers each read: what of a time is the machine's, and the client's."""
+    """A program that only answers each request: what of a time is the machine's, and the client's."""
 
-    name, wanted = "a program that only answers", "true"
+    name, wanted = "a program that only answers", "cc"
     path = "/"
 
     def __init__(self, folder):
         self.folder = folder
 
     def prepare(self):
-        pass
+        source = pathlib.Path(__file__).with_name("answer.c")
+        subprocess.run(["cc", "-O2", "-o", self.folder / "answer", source], check=True)
 
     def words(self):
-        return [sys.executable, str(pathlib.Path(__file__).with_name("answer.py")), str(self.port)]
+        return [str(self.folder / "answer"), str(self.port)]
