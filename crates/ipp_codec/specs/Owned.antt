@@ -10,6 +10,7 @@ use Rattle.ipp_codec.specs.Message.{IppValue, plain, collection, IppMember, memb
 -- one layer of a value
 abbrev pub value_step : Value-F IppValue IppMember → IppValue
 value_step (layer.Plain tag bytes) = plain tag bytes.items
+value_step (layer.Number tag bytes) = plain tag bytes
 value_step (layer.Collection members) = collection (members_of members.items)
 
 -- one layer of a member

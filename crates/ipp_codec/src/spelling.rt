@@ -128,6 +128,7 @@ fn put_value(out: &mut Vec<u8>, name: &[u8], value: &Value, limit: usize) -> Res
 {
     match value {
         Value::Plain { tag, bytes } => put_field(out, tag.number(), name, bytes),
+        Value::Number { tag, bytes } => put_field(out, tag.number(), name, bytes),
         Value::Collection(members) => {
             put_field(out, BEGIN_COLLECTION, name, &[])?;
             put_members(out, members, limit - 1)?;
@@ -218,6 +219,7 @@ fn is_value(value: &Value, limit: usize) -> bool
 {
     match value {
         Value::Plain { tag, bytes } => is_plain(tag.number(), bytes),
+        Value::Number { tag, bytes } => is_plain(tag.number(), bytes),
         Value::Collection(members) => limit > 0 && are_members(members, limit - 1),
     }
 }

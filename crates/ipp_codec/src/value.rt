@@ -9,11 +9,12 @@ use crate::tag::ValueTag;
 use crate::typed::integer_of;
 use std::alloc::{AllocError, Global};
 
-/// A value: its tag and bytes, or a collection's members.
+/// A value: its tag and bytes, or a collection's members. The four bytes of a number lie in the value itself.
 #[cycle(value)]
 #[derive(Drop)]
 pub enum Value {
     Plain { tag: ValueTag, bytes: Vec<u8> },
+    Number { tag: ValueTag, bytes: [u8; 4] },
     Collection(Vec<Member>),
 }
 
@@ -45,22 +46,24 @@ impl Value {
         }
     }
 
-    /// An integer (RFC 8010, section 3.9). The only error is out of memory.
-    pub fn integer(alloc: Global, number: i32) -> Result<Value, AllocError>
-        ensures { IfOk result (λ value. value_owned value ≡ plain tags.integer (bytes_of_integer number)) }
+    /// An integer (RFC 8010, section 3.9). The call takes no memory.
+    pub fn integer(number: i32) -> Value
+        ensures { value_owned result ≡ plain tags.integer (bytes_of_integer number) }
     {
-        Value::copy_of(
-            alloc,
-            ValueTag::INTEGER,
-            &number.cast_unsigned().to_be_bytes(),
-        )
+        Value::Number {
+            tag: ValueTag::INTEGER,
+            bytes: number.cast_unsigned().to_be_bytes(),
+        }
     }
 
-    /// A number of an enumeration (RFC 8010, section 3.9). The only error is out of memory.
-    pub fn enumeration(alloc: Global, number: i32) -> Result<Value, AllocError>
-        ensures { IfOk result (λ value. value_owned value ≡ plain tags.enumeration (bytes_of_integer number)) }
+    /// A number of an enumeration (RFC 8010, section 3.9). The call takes no memory.
+    pub fn enumeration(number: i32) -> Value
+        ensures { value_owned result ≡ plain tags.enumeration (bytes_of_integer number) }
     {
-        Value::copy_of(alloc, ValueTag::ENUM, &number.cast_unsigned().to_be_bytes())
+        Value::Number {
+            tag: ValueTag::ENUM,
+            bytes: number.cast_unsigned().to_be_bytes(),
+        }
     }
 
     /// A truth value (RFC 8010, section 3.9). The only error is out of memory.
@@ -82,7 +85,7 @@ impl Value {
         ensures { result ≡ tag_of (value_owned self.now) }
     {
         match self {
-            Value::Plain { tag, .. } => *tag,
+            Value::Plain { tag, .. } | Value::Number { tag, .. } => *tag,
             Value::Collection(_) => ValueTag::COLLECTION,
         }
     }
@@ -93,6 +96,7 @@ impl Value {
     {
         match self {
             Value::Plain { bytes, .. } => bytes,
+            Value::Number { bytes, .. } => bytes,
             Value::Collection(_) => &[],
         }
     }

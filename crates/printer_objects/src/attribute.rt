@@ -85,23 +85,21 @@ pub(crate) fn yes(alloc: Global, name: &str) -> Result<Attribute, AllocError>
 pub(crate) fn number(alloc: Global, name: &str, amount: u64) -> Result<Attribute, AllocError>
     ensures { IfOk result (λ a. a ≡ alone name.now (number amount)) }
 {
-    let value = Value::integer(alloc, integer(amount))?;
-    Attribute::new(alloc, name.as_bytes(), value)
+    Attribute::new(alloc, name.as_bytes(), Value::integer(integer(amount)))
 }
 
 /// An attribute of one number of an enumeration.
 pub(crate) fn enumerated(alloc: Global, name: &str, code: u32) -> Result<Attribute, AllocError>
     ensures { IfOk result (λ a. a ≡ alone name.now (enumerated code)) }
 {
-    let value = enumeration(alloc, code)?;
-    Attribute::new(alloc, name.as_bytes(), value)
+    Attribute::new(alloc, name.as_bytes(), enumeration(code))
 }
 
 /// A value of a number of an enumeration.
-pub(crate) fn enumeration(alloc: Global, code: u32) -> Result<Value, AllocError>
-    ensures { IfOk result (λ value. value_owned value ≡ enumerated code) }
+pub(crate) fn enumeration(code: u32) -> Value
+    ensures { value_owned result ≡ enumerated code }
 {
-    Value::enumeration(alloc, integer(u64::from(code)))
+    Value::enumeration(integer(u64::from(code)))
 }
 
 /// An attribute with the value `no-value`.

@@ -92,8 +92,7 @@ pub(crate) fn finishings(
     };
     let mut attribute = enumerated(alloc, name, first.code())?;
     for finishing in others {
-        let value = enumeration(alloc, finishing.code())?;
-        attribute.push(value)?;
+        attribute.push(enumeration(finishing.code()))?;
     }
     Ok(attribute)
 }
@@ -108,8 +107,7 @@ pub(crate) fn supported_finishings(
 {
     let mut attribute = enumerated(alloc, name, NO_FINISHING)?;
     for finishing in finishings {
-        let value = enumeration(alloc, finishing.code())?;
-        attribute.push(value)?;
+        attribute.push(enumeration(finishing.code()))?;
     }
     Ok(attribute)
 }

@@ -22,8 +22,7 @@ pub(crate) fn operations(
     };
     let mut attribute = enumerated(alloc, name, u32::from(first.code()))?;
     for operation in others {
-        let value = enumeration(alloc, u32::from(operation.code()))?;
-        attribute.push(value)?;
+        attribute.push(enumeration(u32::from(operation.code())))?;
     }
     Ok(attribute)
 }

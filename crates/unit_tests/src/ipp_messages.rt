@@ -147,7 +147,7 @@ fn media(rt: &HostRuntime) -> Result<Attribute, AllocError> {
 /// An attribute that is a collection.
 fn collection(rt: &HostRuntime) -> Result<Attribute, AllocError> {
     let mut members = Vec::new(rt.alloc());
-    let number = Value::enumeration(rt.alloc(), -1)?;
+    let number = Value::enumeration(-1);
     members.push(Member::new(rt.alloc(), b"x", number)?)?;
     Attribute::new(rt.alloc(), b"c", Value::collection(members))
 }
