@@ -3,6 +3,7 @@ import statistics
 
 import idle
 import soak
+from instructions import instructions
 from measures import LOADS, compare, one_by_one, percentile, while_jobs_wait
 from peers import Answerer, Cupsd, LoneOurs, Ours
 from rounds import all_rounds, middle, middles
@@ -75,6 +76,19 @@ def in_turn(sizes):
     head = ["Server", "us, at once after the one before", "us, after a pause of 20 ms"]
     rows = [reason(3, [name], one) if isinstance(one, str) else [name, figure(one.at_once), figure(one.paused)] for name, one in found.items()]
     return Table(f"{sizes.in_turn} Print-Jobs of 5 octets, one after the other", table(head, rows))
+
+
+def of_requests(sizes):
+    """The instructions of requests, each over one connection."""
+    say("instructions of requests")
+    rows, ratios = [], []
+    for load in (LOADS[0], JOBS):
+        kinds = {kind.name: lambda kind=kind: instructions(kind, load, sizes.counted) for kind in (Ours, Cupsd)}
+        found = middles(all_rounds(kinds, 1))
+        rows += [reason(3, [load[0], shown(name)], one) if isinstance(one, str) else [load[0], shown(name), figure(one)] for name, one in found.items()]
+        if not any(isinstance(one, str) for one in found.values()):
+            ratios.append(Ratio("instructions of a request (cupsd is 1)", load[0], found[Cupsd.name] / found[Ours.name]))
+    return Table("Instructions of a request", table(["Load", "Server", "instructions"], rows, words=2), ratios)
 
 
 def busy(sizes):
