@@ -7,7 +7,7 @@ use base_types::DeviceId;
 use settings_file::{DeviceSettings, PrinterSettings, Settings};
 
 /// An ability of a device.
-#[derive(Clone, Copy, Debug, PartialEq, Eq)]
+#[derive(Clone, Copy)]
 pub(crate) enum Ability {
     /// The device prints on both sides.
     TwoSided,

@@ -6,7 +6,7 @@ use base_types::Text;
 use std::alloc::{AllocError, Global};
 
 /// A protocol for printing.
-#[derive(Clone, Copy, Debug, PartialEq, Eq)]
+#[derive(Clone, Copy)]
 pub(crate) enum Protocol {
     /// RFC 8011.
     Ipp,

@@ -22,7 +22,7 @@ pub enum ReplyFault {
 }
 
 /// The framing of a body (RFC 9112, section 6.3).
-#[derive(Clone, Copy, Debug, PartialEq, Eq)]
+#[derive(Clone, Copy)]
 pub(crate) enum Framing {
     /// No length: the body ends with the connection.
     Untold,
@@ -31,7 +31,7 @@ pub(crate) enum Framing {
 }
 
 /// A line of a reply.
-#[derive(Clone, Copy, Debug, PartialEq, Eq)]
+#[derive(Clone, Copy)]
 pub(crate) enum Line {
     Status,
     /// A field, or the empty line that ends the head.
@@ -45,7 +45,7 @@ pub(crate) enum Line {
 }
 
 /// The part of a reply that is read next.
-#[derive(Clone, Copy, Debug, PartialEq, Eq)]
+#[derive(Clone, Copy)]
 pub(crate) enum Awaited {
     Line(Line),
     /// This many bytes, at least one, up to the end of the body.
@@ -61,7 +61,7 @@ pub(crate) enum Awaited {
 }
 
 /// The state behind a line.
-#[derive(Clone, Copy, Debug, PartialEq, Eq)]
+#[derive(Clone, Copy)]
 pub(crate) struct Reached {
     pub(crate) awaited: Awaited,
     pub(crate) status: u32,

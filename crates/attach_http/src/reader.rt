@@ -12,7 +12,7 @@ use std::marker::Model;
 /// and the framing, the number of bytes that its lines may still have, the line so far, and the body so far.
 ///
 /// Once the reply is whole or broken, further bytes change nothing.
-#[derive(Debug, Drop)]
+#[derive(Drop)]
 pub struct ReplyReader {
     awaited: Awaited,
     status: u32,

@@ -31,7 +31,7 @@ pub enum OrderItem {
 }
 
 /// The numbers in the line that announces a job.
-#[derive(Clone, Copy, Debug)]
+#[derive(Clone, Copy)]
 pub(crate) struct JobNumbers {
     pub job: JobId,
     pub octets: u32,

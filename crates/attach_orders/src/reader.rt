@@ -16,7 +16,7 @@ use text::{FirstLine, Unread, first_line};
 /// A reader of the server's stream, which is fed in pieces of any length. In clauses it is a record of the
 /// octets of a job that it lends, the bytes that aren't read, how many octets of a job are among these and
 /// those to come, and its fault.
-#[derive(Debug, Drop)]
+#[derive(Drop)]
 pub struct OrderReader {
     alloc: Global,
     unread: Unread,

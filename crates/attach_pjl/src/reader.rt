@@ -15,7 +15,7 @@ const FORM_FEED: u8 = 12;
 
 /// A reader of a printer's stream, byte by byte. In clauses it is the place in the stream: the message so
 /// far, or that the message is too long.
-#[derive(Debug, Drop)]
+#[derive(Drop)]
 pub struct StatusReader {
     message: Vec<u8>,
     skips: bool,

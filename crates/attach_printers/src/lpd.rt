@@ -10,7 +10,7 @@ use std::alloc::{AllocError, Global};
 const HOST: &str = "printd";
 
 /// The part that is sent now. Each part is sent once the part before it is acknowledged.
-#[derive(Clone, Copy, PartialEq, Eq)]
+#[derive(Clone, Copy)]
 enum Part {
     /// The command to receive a job for the queue.
     Queue,

@@ -15,7 +15,7 @@ use text::drop_front;
 const NEEDS_SOMEONE: u32 = 40_000;
 
 /// The part that is sent now, or that all parts are sent.
-#[derive(Clone, Copy, PartialEq, Eq)]
+#[derive(Clone, Copy)]
 enum Part {
     Head,
     Data,

@@ -12,7 +12,7 @@ use std::marker::Model;
 
 /// A printer's attachment. In clauses it is a record of the job in hand, the printer's state, and the state
 /// that was last reported to the server.
-#[derive(Debug, Drop)]
+#[derive(Drop)]
 pub struct Attachment {
     alloc: Global,
     work: Option<Work>,

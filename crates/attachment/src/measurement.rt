@@ -10,7 +10,7 @@ const NO_JOB: &str = "no such job yet";
 const ONE_LENGTH: &str = "jobs of different lengths are needed";
 
 /// The job that is measured.
-#[derive(Clone, Copy, Debug)]
+#[derive(Clone, Copy)]
 struct Running {
     sides: Sides,
     /// The moment at which the job began, in ms.
@@ -20,7 +20,7 @@ struct Running {
 }
 
 /// The printed one-sided jobs, or the printed two-sided jobs.
-#[derive(Debug, Drop)]
+#[derive(Drop)]
 struct Tally {
     jobs: u64,
     impressions: u64,
@@ -66,7 +66,7 @@ impl Tally {
 
 /// The measurements of a device. They are written as lines of the settings: a remark with the number of jobs,
 /// and each of `rate_one`, `rate_two` and `setup`, or a remark if it isn't known yet.
-#[derive(Debug, Drop)]
+#[derive(Drop)]
 pub struct Measurement {
     job: Option<Running>,
     one_side: Tally,

@@ -10,7 +10,7 @@ use std::marker::Model;
 
 /// The loaded media of a printer, and those that were last reported to the server. In clauses it is a record
 /// of both.
-#[derive(Debug, Drop)]
+#[derive(Drop)]
 pub struct LoadedMedia {
     alloc: Global,
     loaded: Option<Vec<Text>>,

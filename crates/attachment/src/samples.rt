@@ -10,7 +10,7 @@ use base_types::Limits;
 use std::marker::Model;
 
 /// Samples of jobs with the same rate, stored as sums. In clauses it is a record of the sums.
-#[derive(Debug, Drop)]
+#[derive(Drop)]
 pub struct Samples {
     count: u32,
     impressions: u64,

@@ -8,7 +8,7 @@ use std::alloc::{AllocError, Global};
 use std::marker::Model;
 
 /// A job in hand, with those of its octets that have come. In clauses it is a record of them.
-#[derive(Debug, Drop)]
+#[derive(Drop)]
 pub(crate) struct Work {
     job: JobId,
     octets: u32,

@@ -8,7 +8,7 @@ use std::mem;
 
 /// A list that is kept as long as there is memory for it. In clauses it is the list, or none once memory for
 /// a part of it was refused.
-#[derive(Debug, Drop)]
+#[derive(Drop)]
 pub struct MemoryLog<T> {
     alloc: Global,
     kept: Vec<T>,

@@ -12,7 +12,7 @@ use std::alloc::{AllocError, Global};
 use std::marker::Model;
 
 /// A job that has left the device that began it, with its state if the server keeps it.
-#[derive(Clone, Copy, Debug)]
+#[derive(Clone, Copy)]
 pub(crate) struct Ended {
     pub(crate) started: Started,
     pub(crate) state: Option<JobState>,

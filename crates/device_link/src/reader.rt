@@ -15,7 +15,7 @@ use text::{FirstLine, Unread, first_line};
 
 /// A reader of a device's stream, which is fed in pieces of any length. In clauses it is a record of the
 /// bytes that aren't read, whether the device has given its name, and its fault.
-#[derive(Debug, Drop)]
+#[derive(Drop)]
 pub struct LinkReader {
     alloc: Global,
     unread: Unread,

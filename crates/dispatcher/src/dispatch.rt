@@ -13,7 +13,7 @@ use print_room::{PrintRoom, Started};
 use std::alloc::AllocError;
 
 /// A view of the last dispatch.
-#[derive(Clone, Copy, Debug)]
+#[derive(Clone, Copy)]
 pub struct Dispatched<'a> {
     room: &'a PrintRoom,
     planned: bool,

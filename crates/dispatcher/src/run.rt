@@ -21,7 +21,7 @@ pub struct Timed {
 }
 
 /// The result of a dispatch.
-#[derive(Clone, Copy, Debug, PartialEq, Eq)]
+#[derive(Clone, Copy)]
 enum Made {
     /// Memory was refused.
     Refused,

@@ -1,5 +1,5 @@
 /// The length of a body, by the fields of the head (RFC 9112, section 6.3).
-#[derive(Clone, Copy, Debug, PartialEq, Eq)]
+#[derive(Clone, Copy)]
 pub(crate) enum Framing {
     /// A body of this many bytes.
     Length(u32),
@@ -8,7 +8,7 @@ pub(crate) enum Framing {
 }
 
 /// The request of a head that passed the checks.
-#[derive(Clone, Copy, Debug, PartialEq, Eq)]
+#[derive(Clone, Copy)]
 pub(crate) struct Request {
     pub framing: Framing,
     /// Whether the client waits for `100 Continue` before it sends the body.
@@ -18,7 +18,7 @@ pub(crate) struct Request {
 }
 
 /// What follows the bytes of a body or of a chunk.
-#[derive(Clone, Copy, Debug, PartialEq, Eq)]
+#[derive(Clone, Copy)]
 pub(crate) enum Following {
     /// The end of the body. Whether the exchange is the last.
     Close(bool),
@@ -29,7 +29,7 @@ pub(crate) enum Following {
 
 /// What a reader reads next. A truth value says whether the connection closes after the reply; in `Trailer`
 /// it says whether the exchange is the last.
-#[derive(Clone, Copy, Debug, PartialEq, Eq)]
+#[derive(Clone, Copy)]
 pub(crate) enum Awaited {
     Head,
     /// The client awaits `100 Continue`.

@@ -5,7 +5,7 @@ ghost use Rattle.http_front.specs.Chunk.{IsSizeOf, chunk_end};
 use httparse::{Status, parse_chunk_size};
 
 /// The bytes at the place where a chunk has to end.
-#[derive(Clone, Copy, Debug, PartialEq, Eq)]
+#[derive(Clone, Copy)]
 pub(crate) enum ChunkEnd {
     /// CR LF, the end of the chunk.
     Whole,

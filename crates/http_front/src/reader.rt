@@ -23,7 +23,7 @@ use text::{FirstLine, Unread, first_line};
 ///
 /// After a request that is refused, one whose connection closes, and one whose body is too short for an IPP
 /// message, the reader gives no more items, and drops the bytes that it is fed.
-#[derive(Debug, Drop)]
+#[derive(Drop)]
 pub struct HttpReader {
     unread: Unread,
     /// Spare room for a piece that is fed when all bytes are read. Its content is not part of the model.
@@ -45,7 +45,7 @@ impl Model for HttpReader {
 }
 
 /// The result of one step of a reader.
-#[derive(Clone, Copy, Debug, PartialEq, Eq)]
+#[derive(Clone, Copy)]
 pub(crate) enum Step {
     Gives(HttpItem),
     /// Bytes were read that give no item.

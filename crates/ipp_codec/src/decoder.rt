@@ -23,7 +23,7 @@ const HEADER_BYTES: usize = Limits::IPP_HEADER_BYTES;
 ///
 /// Its result is that of [`crate::decode`] on all pieces joined, for each cutting into pieces. It keeps only
 /// the bytes of the head, and reads each of them once.
-#[derive(Debug, Drop)]
+#[derive(Drop)]
 pub struct Decoder {
     head: Vec<u8>,
     /// The number of bytes of the head that are read: its header, and whole elements.

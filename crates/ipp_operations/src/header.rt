@@ -6,7 +6,7 @@ use events::Status;
 use printer_objects::Operation;
 
 /// The first eight bytes of a request (RFC 8010, section 3.1.1), without the version's minor number.
-#[derive(Clone, Copy, Debug, PartialEq, Eq)]
+#[derive(Clone, Copy)]
 pub(crate) struct Header {
     pub major: u8,
     /// The code of the operation.

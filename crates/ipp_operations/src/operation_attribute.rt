@@ -6,7 +6,7 @@ use crate::syntax::Syntax;
 use printer_objects::Operation;
 
 /// An attribute of the operation group that an operation reads (RFC 8011, sections 4.1 to 4.3).
-#[derive(Clone, Copy, Debug, PartialEq, Eq)]
+#[derive(Clone, Copy)]
 pub(crate) enum OperationAttribute {
     PrinterUri,
     RequestingUserName,

@@ -16,7 +16,7 @@ use std::marker::Model;
 /// of the octets that it keeps of the document.
 ///
 /// It holds one copy of the head, and one of the document if the operation has a document.
-#[derive(Debug, Drop)]
+#[derive(Drop)]
 pub struct RequestParser {
     alloc: Global,
     decoder: Decoder,

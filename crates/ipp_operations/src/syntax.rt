@@ -5,7 +5,7 @@ ghost use Rattle.ipp_operations.specs.Syntax.{has_tag};
 use ipp_codec::ValueTag;
 
 /// The syntax of an attribute's values (RFC 8011, section 5.1).
-#[derive(Clone, Copy, Debug, PartialEq, Eq)]
+#[derive(Clone, Copy)]
 pub(crate) enum Syntax {
     Integer,
     Boolean,

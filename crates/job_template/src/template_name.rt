@@ -7,7 +7,7 @@ ghost use Rattle.job_template.specs.TemplateName.{template_table, name_of, templ
 use printer_objects::JobAttribute;
 
 /// The job template attributes that this server knows (RFC 8011, section 5.2).
-#[derive(Clone, Copy, Debug, PartialEq, Eq)]
+#[derive(Clone, Copy)]
 pub(crate) enum TemplateName {
     Copies,
     Media,

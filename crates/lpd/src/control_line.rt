@@ -10,7 +10,7 @@ use base_types::{Limits, Text};
 use std::alloc::{AllocError, Global};
 
 /// A line of a control file.
-#[derive(Debug, Drop)]
+#[derive(Drop)]
 pub(crate) enum ControlLine {
     Host(Text),
     User(Text),

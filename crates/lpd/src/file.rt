@@ -10,7 +10,7 @@ use std::alloc::{AllocError, Global};
 use std::marker::Model;
 
 /// A data file. In clauses it is a record of the same fields.
-#[derive(Debug, Drop)]
+#[derive(Drop)]
 pub(crate) struct DataFile {
     pub(crate) name: Text,
     pub(crate) contents: Octets,
@@ -38,7 +38,7 @@ impl DataFile {
 }
 
 /// A control file that describes a job. In clauses it is a record of the same fields.
-#[derive(Debug, Drop)]
+#[derive(Drop)]
 pub(crate) struct JobFile {
     pub(crate) name: Text,
     pub(crate) control: Control,

@@ -12,7 +12,7 @@ use std::alloc::{AllocError, Global};
 use std::marker::Model;
 
 /// Pending files. In clauses they are a record of the same fields.
-#[derive(Debug, Drop)]
+#[derive(Drop)]
 pub(crate) struct Pending {
     controls: Vec<JobFile>,
     files: Vec<DataFile>,

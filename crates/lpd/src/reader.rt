@@ -15,7 +15,7 @@ use std::marker::Model;
 use text::{FirstLine, Unread, first_line};
 
 /// What a reader reads next.
-#[derive(Clone, Copy, Debug, PartialEq, Eq)]
+#[derive(Clone, Copy)]
 enum Awaited {
     Command,
     Subcommand,
@@ -30,7 +30,7 @@ enum Awaited {
 ///
 /// After a fault, and after a command other than that to receive a job, the reader gives no more items, and
 /// drops the bytes that it is fed.
-#[derive(Debug, Drop)]
+#[derive(Drop)]
 pub struct LpdReader {
     alloc: Global,
     unread: Unread,

@@ -3,7 +3,7 @@ use octets::Document;
 use std::marker::Model;
 
 /// A job of files that an LPD client has sent whole. In clauses it is a record of the same fields.
-#[derive(Debug, Drop)]
+#[derive(Drop)]
 pub struct SentJob {
     /// The name of the printer.
     pub queue: Text,

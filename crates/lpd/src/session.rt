@@ -16,7 +16,7 @@ use std::marker::Model;
 
 /// A session that receives jobs for a queue (RFC 1179, section 6). In clauses it is a record of the queue,
 /// the pending files and the announced file.
-#[derive(Debug, Drop)]
+#[derive(Drop)]
 pub struct Session {
     alloc: Global,
     queue: Text,

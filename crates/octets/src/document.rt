@@ -3,7 +3,7 @@ use base_types::Text;
 use std::marker::Model;
 
 /// A document of a job. In clauses it is a record of the same fields.
-#[derive(Debug, Drop)]
+#[derive(Drop)]
 pub struct Document {
     /// The format, as the settings spell it.
     pub format: Text,

@@ -12,7 +12,7 @@ use std::rc::Rc;
 ///
 /// The pages are private: a sender reads one piece after the other, and may keep the octets for as long as it
 /// needs them.
-#[derive(Debug, Drop)]
+#[derive(Drop)]
 pub struct Octets {
     shared: Rc<Pages>,
 }

@@ -27,7 +27,7 @@ pub(crate) fn first_room(full_pages: usize) -> usize
 }
 
 /// Octets that lie together in memory. In clauses they are their list.
-#[derive(Debug, Drop)]
+#[derive(Drop)]
 pub(crate) struct Page {
     bytes: Vec<u8>,
 }

@@ -8,7 +8,7 @@ use std::alloc::{AllocError, Global};
 use std::mem;
 
 /// Full pages, and a last one that isn't full.
-#[derive(Debug, Drop)]
+#[derive(Drop)]
 pub(crate) struct Paged {
     pub pages: Vec<Page>,
     pub last: Page,

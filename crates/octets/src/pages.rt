@@ -10,7 +10,7 @@ use std::marker::Model;
 /// The octets of a document that comes in pieces. In clauses they are their list.
 ///
 /// Octets aren't moved when more of them come, since they lie in pages.
-#[derive(Debug, Drop)]
+#[derive(Drop)]
 pub struct Pages {
     alloc: Global,
     paged: Paged,

@@ -9,7 +9,7 @@ use plan_problem::{ClassProblem, Row, is_class};
 use std::alloc::{AllocError, Global};
 
 /// The course of a day.
-#[derive(Clone, Copy, PartialEq, Eq)]
+#[derive(Clone, Copy)]
 pub(crate) enum Course {
     /// Each print takes the estimated time.
     Estimated,

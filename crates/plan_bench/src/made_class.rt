@@ -8,7 +8,7 @@ use std::alloc::{AllocError, Global};
 const LONGEST: u64 = 1_000_000;
 
 /// The origin of the times of a class.
-#[derive(Clone, Copy, PartialEq, Eq)]
+#[derive(Clone, Copy)]
 pub(crate) enum Kind {
     /// A time comes from the impressions of a job and the speed of a device, as in the server.
     Speeds,

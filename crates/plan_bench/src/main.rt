@@ -37,7 +37,7 @@ use std::env;
 const FEW_JOBS: usize = 4;
 
 /// The mode of a run.
-#[derive(Clone, Copy, PartialEq, Eq)]
+#[derive(Clone, Copy)]
 enum Mode {
     Paths,
     Dense,

@@ -9,7 +9,7 @@ use plan_solver::AugmentingPaths;
 use std::alloc::Global;
 
 /// The planners of a day.
-#[derive(Clone, Copy, PartialEq, Eq)]
+#[derive(Clone, Copy)]
 pub(crate) enum By {
     /// A planner that keeps its last plan.
     Kept,

@@ -18,7 +18,7 @@ use crate::solver::solve;
 use std::alloc::{AllocError, Global};
 
 /// The free places that each device shows.
-#[derive(Clone, Copy, Debug)]
+#[derive(Clone, Copy)]
 pub(crate) enum Shown {
     Next,
     All,

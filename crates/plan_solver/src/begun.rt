@@ -17,7 +17,7 @@ use std::alloc::{AllocError, Global};
 const ROUNDS: u64 = 4;
 
 /// The matching between two jobs, and the jobs that have no column yet.
-#[derive(Debug, Drop)]
+#[derive(Drop)]
 pub(crate) struct Begun {
     pub(crate) matching: Matching,
     pub(crate) by_device: Vec<DeviceColumns>,
@@ -27,7 +27,7 @@ pub(crate) struct Begun {
 }
 
 /// The place that a job can keep: the next place of a device, with a dual.
-#[derive(Clone, Copy, Debug)]
+#[derive(Clone, Copy)]
 struct Stay {
     device: usize,
     dual: u64,

@@ -11,7 +11,7 @@ use std::marker::Model;
 pub(crate) const UNABLE: u64 = Limits::WAIT / 2 * 3;
 
 /// A place of a device, by the number of places behind it. The last place of a list has none.
-#[derive(Clone, Copy, Debug, PartialEq, Eq)]
+#[derive(Clone, Copy, PartialEq, Eq)]
 pub(crate) struct Place {
     pub(crate) device: usize,
     pub(crate) after: u64,
@@ -19,7 +19,7 @@ pub(crate) struct Place {
 
 /// The times of a job on each device, in ms, [`UNABLE`] where the device isn't able. In clauses it is the
 /// list of them.
-#[derive(Debug, Drop)]
+#[derive(Drop)]
 pub(crate) struct TimeRow {
     times: Vec<u64>,
 }
@@ -49,7 +49,7 @@ impl TimeRow {
 }
 
 /// The wait of each device, and the time of each job on each device, in ms.
-#[derive(Debug, Drop)]
+#[derive(Drop)]
 pub(crate) struct Costs {
     pub(crate) waits: Vec<u64>,
     pub(crate) rows: Vec<TimeRow>,

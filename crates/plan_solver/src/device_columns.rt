@@ -5,7 +5,7 @@ use std::alloc::{AllocError, Global};
 use std::marker::Model;
 
 /// The numbers of the columns of one device, that of the last place first. In clauses it is the list of them.
-#[derive(Debug, Drop)]
+#[derive(Drop)]
 pub(crate) struct DeviceColumns {
     columns: Vec<usize>,
 }

@@ -5,14 +5,14 @@ use crate::costs::Place;
 use std::alloc::Global;
 
 /// A guess of a job's place and charge.
-#[derive(Clone, Copy, Debug)]
+#[derive(Clone, Copy)]
 pub(crate) struct Guess {
     pub(crate) place: Place,
     pub(crate) price: u64,
 }
 
 /// The guesses for the jobs of a class: entry `n` is that of the job with the number `n`.
-#[derive(Debug, Drop)]
+#[derive(Drop)]
 pub(crate) struct Hint {
     guesses: Vec<Option<Guess>>,
 }

@@ -9,7 +9,7 @@ use std::alloc::Global;
 const MOST: usize = 8;
 
 /// A planned class: its jobs by rising id, their costs, and their matching.
-#[derive(Debug, Drop)]
+#[derive(Drop)]
 pub(crate) struct Kept {
     pub(crate) ids: Vec<JobId>,
     pub(crate) costs: Costs,
@@ -17,7 +17,7 @@ pub(crate) struct Kept {
 }
 
 /// The classes that were planned last.
-#[derive(Debug, Drop)]
+#[derive(Drop)]
 pub(crate) struct Memory {
     classes: Vec<Kept>,
 }

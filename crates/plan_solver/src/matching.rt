@@ -18,7 +18,7 @@ use std::alloc::{AllocError, Global};
 
 /// The matched jobs. Column c is the place `columns[c]`, has the dual `duals[c]` without its sign, and is
 /// matched to the job `jobs[c]`, whose charge is `prices[c]`.
-#[derive(Debug, Drop)]
+#[derive(Drop)]
 pub(crate) struct Matching {
     pub(crate) columns: Vec<Place>,
     pub(crate) duals: Vec<u64>,

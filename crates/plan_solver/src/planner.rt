@@ -16,7 +16,7 @@ use std::alloc::{AllocError, Global};
 
 /// The planner that shows the used places and the next free place of each device. It keeps the last plans of
 /// some classes, and begins the next plan with the part of one that is left.
-#[derive(Debug, Drop)]
+#[derive(Drop)]
 pub struct AugmentingPaths {
     alloc: Global,
     memory: Memory,
@@ -55,7 +55,7 @@ impl Planner for AugmentingPaths {
 
 /// The planner that shows all free places of each device. It has the same contract as [`AugmentingPaths`],
 /// and takes more time.
-#[derive(Clone, Copy, Debug)]
+#[derive(Clone, Copy)]
 pub struct DenseAugmentingPaths {
     alloc: Global,
 }

@@ -16,7 +16,7 @@ pub(crate) const UNSETTLED: usize = usize::MAX;
 const FAR: u64 = 4 * UNABLE;
 
 /// The nearest free place: its length, its number, and the column from which it is reached.
-#[derive(Clone, Copy, Debug)]
+#[derive(Clone, Copy)]
 pub(crate) struct Exit {
     pub(crate) length: u64,
     pub(crate) place: usize,
@@ -24,7 +24,7 @@ pub(crate) struct Exit {
 }
 
 /// A settled column: its number, its length, and its job's charge.
-#[derive(Clone, Copy, Debug)]
+#[derive(Clone, Copy)]
 struct Origin {
     column: usize,
     base: u64,
@@ -33,7 +33,7 @@ struct Origin {
 
 /// The ways from a settled column: its length, its job's charge, and the charge from which on a place isn't
 /// nearer than the exit.
-#[derive(Clone, Copy, Debug)]
+#[derive(Clone, Copy)]
 struct Ways {
     origin: usize,
     base: u64,
@@ -44,7 +44,7 @@ struct Ways {
 /// The state of the search: for each column its length, the column from which it was reached and the rank in
 /// which it was settled; for each free place its length. The first `count` entries of `reached` are the
 /// columns that were reached.
-#[derive(Debug, Drop)]
+#[derive(Drop)]
 pub(crate) struct Search {
     pub(crate) lengths: Vec<u64>,
     pub(crate) froms: Vec<usize>,

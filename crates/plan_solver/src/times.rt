@@ -40,7 +40,7 @@ pub trait Times {
 
 /// A class problem, the number of looks at its times, and the place of the job of the last look, since the
 /// next look mostly is at the same job.
-#[derive(Debug, Drop)]
+#[derive(Drop)]
 pub struct Counted<'a> {
     class: &'a ClassProblem,
     looks: u64,
@@ -111,7 +111,7 @@ fn entry(class: &ClassProblem, place: usize, device: DeviceId) -> Option<u64>
 }
 
 /// The jobs, waits and times of a class problem.
-#[derive(Debug, Drop)]
+#[derive(Drop)]
 pub(crate) struct Entries {
     pub(crate) ids: Vec<JobId>,
     pub(crate) costs: Costs,

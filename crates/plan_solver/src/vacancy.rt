@@ -12,7 +12,7 @@ const FAR: u64 = u64::MAX / 4;
 
 /// The ways so far: for each column its length, the column from which it was reached and whether it is
 /// settled; and the end of the shortest way so far with its length.
-#[derive(Debug, Drop)]
+#[derive(Drop)]
 struct Ways {
     lengths: Vec<u64>,
     froms: Vec<usize>,

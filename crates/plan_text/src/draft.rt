@@ -15,7 +15,7 @@ use std::alloc::Global;
 use std::mem::replace;
 
 /// The state after the lines of a plan's text that were read.
-#[derive(Debug, Drop)]
+#[derive(Drop)]
 pub(crate) struct Draft {
     pub(crate) stage: Stage,
     pub(crate) devices: Vec<Text>,

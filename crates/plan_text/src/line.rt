@@ -2,7 +2,7 @@ use base_types::{JobId, Priority, Text};
 use plan_prices::Stranded;
 
 /// The content of a line of a plan's text.
-#[derive(Debug, Drop)]
+#[derive(Drop)]
 pub(crate) enum Line {
     Plan,
     /// The name of a device.

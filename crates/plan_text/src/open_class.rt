@@ -9,7 +9,7 @@ use plan_problem::{ClassProblem, Row};
 use std::alloc::Global;
 
 /// A class whose lines are being read.
-#[derive(Debug, Drop)]
+#[derive(Drop)]
 pub(crate) struct OpenClass {
     pub(crate) priority: Priority,
     pub(crate) ids: Vec<JobId>,

@@ -39,7 +39,7 @@ pub struct Played {
 }
 
 /// Why a play ends early.
-#[derive(Debug, Drop)]
+#[derive(Drop)]
 enum Fault {
     /// The exit status, and the reason as a sentence.
     Said(ExitStatus, String),

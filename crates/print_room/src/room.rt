@@ -20,7 +20,7 @@ use std::marker::Model;
 
 /// A print room: settings, printers, devices, jobs, the last moment and the last plan. In clauses it is a
 /// record of these parts.
-#[derive(Debug, Drop)]
+#[derive(Drop)]
 pub struct PrintRoom {
     pub(crate) settings: Settings,
     /// The devices of each printer.

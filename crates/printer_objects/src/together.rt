@@ -6,7 +6,7 @@ use base_types::{DeviceNow, Text};
 use std::alloc::{AllocError, Global};
 
 /// A list of a device.
-#[derive(Clone, Copy, Debug, PartialEq, Eq)]
+#[derive(Clone, Copy)]
 pub(crate) enum Listed {
     /// The document formats that the device prints.
     Formats,

@@ -46,7 +46,7 @@ fn part(octets: &Octets, start: usize) -> (IoSlice<'_>, usize)
 
 /// The rest of octets that may have other owners too. In clauses it is the list of these octets, which isn't
 /// empty.
-#[derive(Debug, Drop)]
+#[derive(Drop)]
 struct Rest {
     octets: Octets,
     /// The number of octets at the front that were taken.
@@ -104,7 +104,7 @@ impl Rest {
 /// The bytes that wait to be taken on a connection. In clauses it is the list of them.
 ///
 /// Documents are not copied: the queue and the core share their octets, for as long as the queue has them.
-#[derive(Debug, Drop)]
+#[derive(Drop)]
 pub struct SendQueue {
     alloc: Global,
     /// The octets that go out first.

@@ -14,7 +14,7 @@ use plan_prices::Planner;
 use wires::{Wire, WireId};
 
 /// The connection that asks: its key, and its number on the wire.
-#[derive(Clone, Copy, Debug)]
+#[derive(Clone, Copy)]
 pub(crate) struct Asker {
     pub key: usize,
     pub id: WireId,

@@ -13,7 +13,7 @@ const DROPPED: usize = 1_048_576;
 
 /// The time and the bytes that are left to a peer whose connection was given up. In clauses it is a record of
 /// the moment at which it was given up, and the number of bytes that may still come.
-#[derive(Clone, Copy, Debug)]
+#[derive(Clone, Copy)]
 pub(crate) struct Allowance {
     from: Moment,
     bytes: usize,

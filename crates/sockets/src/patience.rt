@@ -14,7 +14,7 @@ const PART: usize = 4096;
 /// The time that a peer has used up. Of a device only the time until its first byte counts; it may be silent
 /// from then on. In clauses it is a record of the moment from which the time counts, the number of bytes that
 /// came since (0 while the peer is silent), whether the peer is a device, and whether a byte of it came.
-#[derive(Clone, Copy, Debug)]
+#[derive(Clone, Copy)]
 pub(crate) struct Patience {
     from: Moment,
     came: usize,

@@ -18,14 +18,14 @@ pub enum SpoolRefusal {
 }
 
 /// A refused submission, with the unchanged job.
-#[derive(Debug, Drop)]
+#[derive(Drop)]
 pub struct Refused {
     pub refusal: SpoolRefusal,
     pub job: NewJob,
 }
 
 /// A refused document, with the unchanged document.
-#[derive(Debug, Drop)]
+#[derive(Drop)]
 pub struct RefusedDocument {
     pub refusal: SpoolRefusal,
     pub document: Document,

@@ -24,7 +24,7 @@ use std::alloc::Global;
 use std::marker::Model;
 
 /// The jobs, by rising id. In clauses it is a record of their list and the next id.
-#[derive(Debug, Drop)]
+#[derive(Drop)]
 pub struct Spool {
     entries: IndexMap<u32, SpooledJob>,
     /// The number of jobs at the front that are known to be finished; a plan skips them.

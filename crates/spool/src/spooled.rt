@@ -11,7 +11,7 @@ use std::marker::Model;
 use std::mem;
 
 /// A job with its documents. In clauses it is a record of the same fields.
-#[derive(Debug, Drop)]
+#[derive(Drop)]
 pub struct SpooledJob {
     pub(crate) job: Job,
     /// The documents, until they are handed out or dropped.

@@ -8,7 +8,7 @@ use std::mem;
 
 /// The bytes that a reader was given, in pieces of any length, and hasn't read yet. In clauses they are their
 /// list.
-#[derive(Debug, Drop)]
+#[derive(Drop)]
 pub struct Unread {
     buffer: Vec<u8>,
     /// The number of bytes at the front of the buffer that are read.
