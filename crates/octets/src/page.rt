@@ -6,21 +6,41 @@ use std::marker::Model;
 
 /// The number of octets of a full page. A wire takes four pages in one call, so a large document goes out in
 /// few calls of the system.
-pub(crate) const PAGE_BYTES: usize = 16_384;
+pub(crate) const PAGE_BYTES: usize = 65_536;
 
-/// The number of octets for which a page of a short document takes memory at first.
-const FIRST_BYTES: usize = 4096;
+/// The number of octets for which the first page of a document takes memory at first.
+const SMALL_ROOM: usize = 4096;
 
-/// The number of full pages from which on a document isn't short.
-const LONG_PAGES: usize = 16;
+/// The number of octets for which a page takes memory that needs more than [`SMALL_ROOM`], or follows a full
+/// page of a document that isn't long.
+const MEDIUM_ROOM: usize = 16_384;
+
+/// The number of full pages from which on a document is long.
+const LONG_PAGES: usize = 4;
 
 /// The number of octets for which the page behind `full_pages` full pages takes memory at first: few for a
 /// short document, all of a page for a long one.
 pub(crate) fn first_room(full_pages: usize) -> usize
     ensures { result ≤ PAGE_BYTES }
 {
-    if full_pages < LONG_PAGES {
-        FIRST_BYTES
+    match full_pages {
+        0 => SMALL_ROOM,
+        1..LONG_PAGES => MEDIUM_ROOM,
+        _ => PAGE_BYTES,
+    }
+}
+
+/// The number of octets for which a page that holds `len` octets takes memory, where it took memory for
+/// `first` octets at first.
+fn room_for(len: usize, first: usize) -> usize
+    requires fits { len ≤ PAGE_BYTES }
+    requires first { first ≤ PAGE_BYTES }
+    ensures { (len ≤ result) × (result ≤ PAGE_BYTES) }
+{
+    if len <= first {
+        first
+    } else if len <= MEDIUM_ROOM {
+        MEDIUM_ROOM
     } else {
         PAGE_BYTES
     }
@@ -57,8 +77,8 @@ impl Page {
         &self.bytes
     }
 
-    /// Appends octets that fit in the page. The first call takes memory for `first` octets, a later one for
-    /// the whole page. The only error is out of memory, and nothing is appended then.
+    /// Appends octets that fit in the page. The first call takes memory for `first` octets, if they are
+    /// enough. The only error is out of memory, and nothing is appended then.
     pub fn append(&mut self, piece: &[u8], first: usize) -> Result<(), AllocError>
         requires fits { length self.old + length piece.now ≤ PAGE_BYTES }
         requires first { first ≤ PAGE_BYTES }
@@ -68,8 +88,7 @@ impl Page {
         if piece.is_empty() {
             return Ok(());
         }
-        let behind = self.bytes.len() + piece.len();
-        let room = if behind <= first { first } else { PAGE_BYTES };
+        let room = room_for(self.bytes.len() + piece.len(), first);
         self.bytes.reserve_exact(room - self.bytes.len())?;
         self.bytes.extend_from_slice(piece)
     }
