@@ -5,7 +5,6 @@ pub mod Fronts
 pub mod Laws
 pub mod Feeding
 pub mod Orders
-pub mod Replies
 pub mod Saying
 pub mod Deciding
 pub mod Telling

@@ -1,6 +1,5 @@
 -- The heads of replies (RFC 9112, section 4; RFC 9110, section 15). A reply of 200 has a body. A refusal has no body and closes the connection.
-use Rattle.std.specs.Prelude.{ℕ, ◌≡◌, ◌==◌, ◌++◌, ◌⊎◌, if◌then◌else◌, Bool, true, false, List, [], codes, decimal}
-use Rattle.http.specs.StatusCode.{code_digits}
+use Rattle.std.specs.Prelude.{ℕ, ◌==◌, ◌+◌, ◌/◌, ◌%◌, ◌++◌, ◌∷◌, if◌then◌else◌, Bool, true, false, List, [], codes, decimal}
 use Rattle.http_front.specs.declared.refusal.HttpRejection.{HttpRejection}
 use Rattle.http_front.specs.declared.refusal.HttpRejection.TheVariants.{BadRequest, MethodNotAllowed, ContentTooLarge, UnsupportedMediaType, ExpectationFailed, HeadTooLarge, NotImplemented}
 
@@ -14,9 +13,9 @@ status_of ExpectationFailed = 417
 status_of HeadTooLarge = 431
 status_of NotImplemented = 501
 
--- the status is 200, or that of a refusal
-abbrev pub IsReplyStatus : ℕ → Type 0
-IsReplyStatus status = (status ≡ 200) ⊎ ((refusal : HttpRejection) × (status ≡ status_of refusal))
+-- the three digits of a status
+abbrev pub code_digits : ℕ → List ℕ
+code_digits status = (48 + status / 100) ∷ (48 + status / 10 % 10) ∷ (48 + status % 10) ∷ []
 
 -- the reason phrase of a status (RFC 9110, section 15; RFC 6585, section 5)
 abbrev pub phrase : ℕ → List ℕ
@@ -50,12 +49,9 @@ abbrev pub ending : Bool → List ℕ
 ending true = codes "\r\nConnection: close\r\n\r\n"
 ending false = codes "\r\n\r\n"
 
-abbrev pub lines : ℕ → ℕ → Bool → List ℕ
-lines status length closes = opening status ++ (decimal length ++ ending closes)
-
--- the head of a reply; the length and `closes` are used for 200 alone
+-- the head of a reply of a status with a body of a length
 abbrev pub head : ℕ → ℕ → Bool → List ℕ
-head status length closes = if status == 200 then lines status length closes else lines status 0 true
+head status length closes = opening status ++ (decimal length ++ ending closes)
 
 -- the interim head that tells a client to send the body (RFC 9110, section 15.2.1)
 abbrev pub continue_head : List ℕ

@@ -1,9 +1,9 @@
 //! The heads of replies.
-ghost use Rattle.std.specs.Prelude.{◌≡◌, ◌+◌, ◌<◌, ◌≤◌, ◌++◌, OnOk, OnErr, IsOk, vec_len, length as length_of};
+ghost use Rattle.std.specs.Prelude.{◌≡◌, ◌+◌, ◌<◌, ◌≤◌, ◌++◌, OnOk, OnErr, IsOk, decimal, vec_len, length as length_of, true};
 ghost use Rattle.std.specs.Vec.{vec_capacity};
-ghost use Rattle.http_front.specs.Reply.{IsReplyStatus, continue_head, ending, head, lines, opening};
+ghost use Rattle.http_front.specs.Reply.{continue_head, ending, head, opening, status_of};
 
-use http::StatusCode;
+use crate::refusal::HttpRejection;
 use itoa::Buffer;
 use std::alloc::AllocError;
 
@@ -14,50 +14,54 @@ pub fn continue_head() -> &'static [u8]
     b"HTTP/1.1 100 Continue\r\n\r\n"
 }
 
-/// Appends the head of a reply, whose status is 200 or that of a refusal.
-///
-/// A reply of 200 has a body of `length` bytes, and `closes` says whether the connection closes after it. A
-/// refusal has no body and always closes the connection; `length` and `closes` have no effect on it.
+/// Appends the head of a reply of 200 with a body of `length` bytes. `closes` says whether the connection
+/// closes after it.
 ///
 /// The only error is out of memory, and nothing is appended then. Memory is taken only where the room is less
 /// than the head needs; 128 bytes of room always suffice. The room never shrinks.
-pub fn write_head(
-    status: StatusCode,
-    length: usize,
-    closes: bool,
-    output: &mut Vec<u8>,
-) -> Result<(), AllocError>
-    requires { IsReplyStatus status }
-    ensures ok { OnOk result (output.new.items ≡ output.old.items ++ head status length closes) }
+pub fn write_head(length: usize, closes: bool, output: &mut Vec<u8>) -> Result<(), AllocError>
+    ensures ok { OnOk result (output.new.items ≡ output.old.items ++ head 200 length closes) }
     ensures err { OnErr result (output.new.items ≡ output.old.items) }
     ensures room { vec_len output.old + 128 ≤ vec_capacity output.old → IsOk result }
-    ensures full { OnErr result (vec_capacity output.old < vec_len output.old + length_of (head status length closes)) }
+    ensures full { OnErr result (vec_capacity output.old < vec_len output.old + length_of (head 200 length closes)) }
     ensures capacity { vec_capacity output.old ≤ vec_capacity output.new }
 {
-    if status == StatusCode::OK {
-        return write_lines(status, length, closes, output);
-    }
-    write_lines(status, 0, true, output)
+    let opening =
+        b"HTTP/1.1 200 OK\r\nContent-Type: application/ipp\r\nContent-Length: ".as_slice();
+    write_lines(opening, length, closes, output)
 }
 
-/// Appends the lines of a head.
+/// Appends the head that refuses a request. A refusal has no body, and the connection closes after it.
+///
+/// The only error is out of memory, and nothing is appended then. Memory is taken only where the room is less
+/// than the head needs; 128 bytes of room always suffice. The room never shrinks.
+pub fn write_refusal(refusal: HttpRejection, output: &mut Vec<u8>) -> Result<(), AllocError>
+    ensures ok { OnOk result (output.new.items ≡ output.old.items ++ head (status_of refusal) 0 true) }
+    ensures err { OnErr result (output.new.items ≡ output.old.items) }
+    ensures room { vec_len output.old + 128 ≤ vec_capacity output.old → IsOk result }
+    ensures full { OnErr result (vec_capacity output.old < vec_len output.old + length_of (head (status_of refusal) 0 true)) }
+    ensures capacity { vec_capacity output.old ≤ vec_capacity output.new }
+{
+    write_lines(opening(refusal), 0, true, output)
+}
+
+/// Appends the lines of a head, of which `first` are the bytes before the length.
 ///
 /// The only error is out of memory, and nothing is appended then.
 fn write_lines(
-    status: StatusCode,
+    first: &[u8],
     length: usize,
     closes: bool,
     output: &mut Vec<u8>,
 ) -> Result<(), AllocError>
-    requires { IsReplyStatus status }
-    ensures ok { OnOk result (output.new.items ≡ output.old.items ++ lines status length closes) }
+    requires { length_of first.now ≤ 64 }
+    ensures ok { OnOk result (output.new.items ≡ output.old.items ++ (first.now ++ (decimal length ++ ending closes))) }
     ensures err { OnErr result (output.new.items ≡ output.old.items) }
     ensures room { vec_len output.old + 128 ≤ vec_capacity output.old → IsOk result }
-    ensures full { OnErr result (vec_capacity output.old < vec_len output.old + length_of (lines status length closes)) }
+    ensures full { OnErr result (vec_capacity output.old < vec_len output.old + length_of (first.now ++ (decimal length ++ ending closes))) }
     ensures capacity { vec_capacity output.old ≤ vec_capacity output.new }
 {
     let mut digits = Buffer::new();
-    let first = opening(status);
     let number = digits.format(length).as_bytes();
     let last = ending(closes);
     output.reserve(first.len() + number.len() + last.len())?;
@@ -67,21 +71,22 @@ fn write_lines(
     Ok(())
 }
 
-/// The bytes of a head before the length.
-fn opening(status: StatusCode) -> &'static [u8]
-    requires { IsReplyStatus status }
-    ensures text { result.now ≡ opening status }
+/// The bytes before the length of the head that refuses a request.
+fn opening(refusal: HttpRejection) -> &'static [u8]
+    ensures text { result.now ≡ opening (status_of refusal) }
     ensures short { length_of result.now ≤ 64 }
 {
-    match status.as_u16() {
-        200 => b"HTTP/1.1 200 OK\r\nContent-Type: application/ipp\r\nContent-Length: ",
-        400 => b"HTTP/1.1 400 Bad Request\r\nContent-Length: ",
-        405 => b"HTTP/1.1 405 Method Not Allowed\r\nAllow: POST\r\nContent-Length: ",
-        413 => b"HTTP/1.1 413 Content Too Large\r\nContent-Length: ",
-        415 => b"HTTP/1.1 415 Unsupported Media Type\r\nContent-Length: ",
-        417 => b"HTTP/1.1 417 Expectation Failed\r\nContent-Length: ",
-        431 => b"HTTP/1.1 431 Request Header Fields Too Large\r\nContent-Length: ",
-        _ => b"HTTP/1.1 501 Not Implemented\r\nContent-Length: ",
+    match refusal {
+        HttpRejection::BadRequest => b"HTTP/1.1 400 Bad Request\r\nContent-Length: ",
+        HttpRejection::MethodNotAllowed =>
+            b"HTTP/1.1 405 Method Not Allowed\r\nAllow: POST\r\nContent-Length: ",
+        HttpRejection::ContentTooLarge => b"HTTP/1.1 413 Content Too Large\r\nContent-Length: ",
+        HttpRejection::UnsupportedMediaType =>
+            b"HTTP/1.1 415 Unsupported Media Type\r\nContent-Length: ",
+        HttpRejection::ExpectationFailed => b"HTTP/1.1 417 Expectation Failed\r\nContent-Length: ",
+        HttpRejection::HeadTooLarge =>
+            b"HTTP/1.1 431 Request Header Fields Too Large\r\nContent-Length: ",
+        HttpRejection::NotImplemented => b"HTTP/1.1 501 Not Implemented\r\nContent-Length: ",
     }
 }
 

@@ -9,8 +9,7 @@ ghost use Rattle.send_queues.specs.SendQueue.{OffersFront, IsSome, joined};
 
 use base_types::{JobId, Needs};
 use device_link::{write_cancel, write_job};
-use http::StatusCode;
-use http_front::{HttpRejection, write_head};
+use http_front::{HttpRejection, write_head, write_refusal};
 use octets::{Document, Octets, Pages};
 use std::alloc::{AllocError, Global};
 use std::io::IoSlice;
@@ -347,7 +346,7 @@ fn append_reply(output: &mut Vec<u8>, closes: bool, bytes: &[u8]) -> Result<(), 
     ensures capacity { vec_capacity output.old ≤ vec_capacity output.new }
 {
     let before = output.len();
-    write_head(StatusCode::OK, bytes.len(), closes, output)?;
+    write_head(bytes.len(), closes, output)?;
     let appended = output.extend_from_slice(bytes);
     if appended.is_err() {
         output.truncate(before);
@@ -364,5 +363,5 @@ fn append_refusal(output: &mut Vec<u8>, refusal: HttpRejection) -> Result<(), Al
     ensures full { OnErr result (vec_capacity output.old < vec_len output.old + length (refusal_head refusal)) }
     ensures capacity { vec_capacity output.old ≤ vec_capacity output.new }
 {
-    write_head(refusal.status(), 0, true, output)
+    write_refusal(refusal, output)
 }

@@ -1,31 +1,25 @@
-use Rattle.std.proofs.Common.{rules, ◌≡◌, ap, sym}
-use Rattle.http_front.specs.Reply.{opening}
-use Rattle.http_front.proofs.Replies.{last_status}
+use Rattle.std.proofs.Common.{◌≡◌, ap, sym}
+use Rattle.http_front.specs.declared.refusal.HttpRejection.{HttpRejection}
+use Rattle.http_front.specs.Reply.{opening, status_of}
 use Rattle.http_front.proofs.reply.opening.Goals as goal
 
-pub returns-in-200-clause-text : goal.returns-in-200-clause-text
-returns-in-200-clause-text c = let is : c.args.status ≡ 200 = search rules in ap opening (sym is)
+pub returns-in-BadRequest-clause-text : goal.returns-in-BadRequest-clause-text
+returns-in-BadRequest-clause-text c = ap (λ (r : HttpRejection). opening (status_of r)) (sym c.in-BadRequest.is)
 
-pub returns-in-400-clause-text : goal.returns-in-400-clause-text
-returns-in-400-clause-text c = let is : c.args.status ≡ 400 = search rules in ap opening (sym is)
+pub returns-in-MethodNotAllowed-clause-text : goal.returns-in-MethodNotAllowed-clause-text
+returns-in-MethodNotAllowed-clause-text c = ap (λ (r : HttpRejection). opening (status_of r)) (sym c.in-MethodNotAllowed.is)
 
-pub returns-in-405-clause-text : goal.returns-in-405-clause-text
-returns-in-405-clause-text c = let is : c.args.status ≡ 405 = search rules in ap opening (sym is)
+pub returns-in-ContentTooLarge-clause-text : goal.returns-in-ContentTooLarge-clause-text
+returns-in-ContentTooLarge-clause-text c = ap (λ (r : HttpRejection). opening (status_of r)) (sym c.in-ContentTooLarge.is)
 
-pub returns-in-413-clause-text : goal.returns-in-413-clause-text
-returns-in-413-clause-text c = let is : c.args.status ≡ 413 = search rules in ap opening (sym is)
+pub returns-in-UnsupportedMediaType-clause-text : goal.returns-in-UnsupportedMediaType-clause-text
+returns-in-UnsupportedMediaType-clause-text c = ap (λ (r : HttpRejection). opening (status_of r)) (sym c.in-UnsupportedMediaType.is)
 
-pub returns-in-415-clause-text : goal.returns-in-415-clause-text
-returns-in-415-clause-text c = let is : c.args.status ≡ 415 = search rules in ap opening (sym is)
+pub returns-in-ExpectationFailed-clause-text : goal.returns-in-ExpectationFailed-clause-text
+returns-in-ExpectationFailed-clause-text c = ap (λ (r : HttpRejection). opening (status_of r)) (sym c.in-ExpectationFailed.is)
 
-pub returns-in-417-clause-text : goal.returns-in-417-clause-text
-returns-in-417-clause-text c = let is : c.args.status ≡ 417 = search rules in ap opening (sym is)
+pub returns-in-HeadTooLarge-clause-text : goal.returns-in-HeadTooLarge-clause-text
+returns-in-HeadTooLarge-clause-text c = ap (λ (r : HttpRejection). opening (status_of r)) (sym c.in-HeadTooLarge.is)
 
-pub returns-in-431-clause-text : goal.returns-in-431-clause-text
-returns-in-431-clause-text c = let is : c.args.status ≡ 431 = search rules in ap opening (sym is)
-
-pub returns-in_default-clause-text : goal.returns-in_default-clause-text
-returns-in_default-clause-text c =
-    let is : c.args.status ≡ 501 =
-    last_status c.args.status c.requires (search rules) (search rules) (search rules) (search rules) (search rules) (search rules) (search rules)
-    in ap opening (sym is)
+pub returns-in-NotImplemented-clause-text : goal.returns-in-NotImplemented-clause-text
+returns-in-NotImplemented-clause-text c = ap (λ (r : HttpRejection). opening (status_of r)) (sym c.in-NotImplemented.is)
