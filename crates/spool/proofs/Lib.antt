@@ -1,4 +1,6 @@
-pub mod Entries
+pub mod Places
+pub mod Searching
+pub mod Standing
 pub mod Finished
 pub mod Unfinished
 pub mod Sound
