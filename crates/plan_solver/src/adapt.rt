@@ -26,14 +26,19 @@ pub(crate) fn adapt(
 ) -> Result<(), AllocError> {
     let mut early = next_places(alloc, costs, matching)?;
     early.retain(|place| is_early(costs, before, place.device, gone));
-    let less = fall(costs, matching, &early, gone);
-    for price in matching.prices.iter_mut() {
-        *price = (*price).saturating_sub(less);
-    }
+    lower_prices(costs, matching, &early, gone);
     let most = kept_places(alloc, costs, matching)?;
     drop_before(matching, &most);
     set_duals(costs, matching);
     fill_early(alloc, costs, matching, &early)
+}
+
+/// Lowers the prices by about the time that has passed.
+fn lower_prices(costs: &Costs, matching: &mut Matching, early: &[Place], gone: u64) {
+    let less = fall(costs, matching, early, gone);
+    for price in matching.prices.iter_mut() {
+        *price = (*price).saturating_sub(less);
+    }
 }
 
 /// Returns whether a device is free sooner than in the last plan, with the time that has passed taken off.
@@ -175,9 +180,6 @@ fn fill(
     dual: u64,
 ) -> Result<(), AllocError> {
     let column = matching.columns.len();
-    matching.columns.push(place)?;
-    matching.duals.push(dual)?;
-    matching.jobs.push(usize::MAX)?;
-    matching.prices.push(0)?;
+    matching.push(place, dual, usize::MAX, 0)?;
     vacate(alloc, costs, matching, column)
 }

@@ -26,6 +26,33 @@ pub(crate) struct Matching {
     pub(crate) prices: Vec<u64>,
 }
 
+impl Matching {
+    /// An empty matching with memory for this many columns. The only error is out of memory.
+    pub(crate) fn with_capacity(alloc: Global, columns: usize) -> Result<Matching, AllocError> {
+        Ok(Matching {
+            columns: Vec::with_capacity(alloc, columns)?,
+            duals: Vec::with_capacity(alloc, columns)?,
+            jobs: Vec::with_capacity(alloc, columns)?,
+            prices: Vec::with_capacity(alloc, columns)?,
+        })
+    }
+
+    /// Adds a column. After an error, which is out of memory, the matching is of no use.
+    pub(crate) fn push(
+        &mut self,
+        place: Place,
+        dual: u64,
+        job: usize,
+        price: u64,
+    ) -> Result<(), AllocError> {
+        self.columns.push(place)?;
+        self.duals.push(dual)?;
+        self.jobs.push(job)?;
+        self.prices.push(price)?;
+        Ok(())
+    }
+}
+
 /// Matches one more job, over a shortest augmenting path to one of the free places, and keeps prices and
 /// duals fair. A slack is the amount by which all prices may rise before one exceeds the cost of a free
 /// place. The slacks of the first free places are kept up to date, as many as are given.

@@ -23,7 +23,7 @@ const MOST_TAKEN: usize = 2;
 /// The hint for the next class by its last plan. If memory is refused, the hint is empty.
 pub(crate) fn recall(alloc: Global, kept: Option<Kept>, entries: &Entries) -> Hint {
     match kept {
-        Some(kept) => match recalled(alloc, kept, entries) {
+        Some(mut kept) => match recalled(alloc, &mut kept, entries) {
             Ok(hint) => hint,
             Err(_) => Hint::none(alloc),
         },
@@ -31,17 +31,33 @@ pub(crate) fn recall(alloc: Global, kept: Option<Kept>, entries: &Entries) -> Hi
     }
 }
 
-/// The hint by the last plan. The only error is out of memory.
-fn recalled(alloc: Global, mut kept: Kept, entries: &Entries) -> Result<Hint, AllocError> {
+/// The hint by the last plan, from which the jobs that left are taken out. The only error is out of memory.
+fn recalled(alloc: Global, kept: &mut Kept, entries: &Entries) -> Result<Hint, AllocError> {
     let numbers = numbers_now(alloc, &kept.ids, &entries.ids)?;
     let waits = &entries.costs.waits;
-    let gone = time_gone(alloc, &kept, &numbers, waits)?;
-    take_begun(&mut kept, &numbers, waits, gone);
-    take_left(alloc, &mut kept, &numbers)?;
-    let mut matching = renumbered(alloc, &kept.matching, &numbers)?;
+    let gone = time_gone(alloc, kept, &numbers, waits)?;
+    take_begun(kept, &numbers, waits, gone);
+    take_left(alloc, kept, &numbers)?;
+    hint_after(alloc, kept, &numbers, entries, gone)
+}
+
+/// The hint by what is left of the last plan, after a time. The only error is out of memory.
+fn hint_after(
+    alloc: Global,
+    kept: &Kept,
+    numbers: &[Option<usize>],
+    entries: &Entries,
+    gone: u64,
+) -> Result<Hint, AllocError> {
+    let mut matching = renumbered(alloc, &kept.matching, numbers)?;
     let before = &kept.costs.waits;
     adapt(alloc, &entries.costs, &mut matching, before, gone)?;
-    let mut guesses = guesses(alloc, &matching, entries.ids.len())?;
+    hint_by(alloc, &matching, entries)
+}
+
+/// The hint by a matching of jobs of the next class. The only error is out of memory.
+fn hint_by(alloc: Global, matching: &Matching, entries: &Entries) -> Result<Hint, AllocError> {
+    let mut guesses = guesses(alloc, matching, entries.ids.len())?;
     order_equal(alloc, &entries.costs, &mut guesses)?;
     Ok(Hint::new(guesses))
 }
@@ -130,13 +146,17 @@ fn begin(kept: &mut Kept, device: usize, column: usize, job: usize) {
     if let Some(wait) = kept.costs.waits.get_mut(device) {
         *wait = (*wait).saturating_add(time);
     }
-    let matching = &mut kept.matching;
+    lower_duals(&mut kept.matching, device, time);
+    drop_column(&mut kept.matching, column);
+}
+
+/// Lowers the duals of a device's columns by the same amount.
+fn lower_duals(matching: &mut Matching, device: usize, less: u64) {
     for (dual, place) in matching.duals.iter_mut().zip(matching.columns.iter()) {
         if place.device == device {
-            *dual = (*dual).saturating_sub(time);
+            *dual = (*dual).saturating_sub(less);
         }
     }
-    drop_column(matching, column);
 }
 
 /// Removes a column and its job, and moves the last column to its place.
@@ -179,20 +199,12 @@ fn renumbered(
     before: &Matching,
     numbers: &[Option<usize>],
 ) -> Result<Matching, AllocError> {
-    let mut matching = Matching {
-        columns: Vec::with_capacity(alloc, before.columns.len())?,
-        duals: Vec::with_capacity(alloc, before.columns.len())?,
-        jobs: Vec::with_capacity(alloc, before.columns.len())?,
-        prices: Vec::with_capacity(alloc, before.columns.len())?,
-    };
+    let mut matching = Matching::with_capacity(alloc, before.columns.len())?;
     for (column, place) in before.columns.iter().enumerate() {
         let job = before.jobs.get(column).copied().unwrap_or(0);
         if let Some(number) = number_now(numbers, job) {
-            matching.columns.push(*place)?;
-            matching.duals.push(0)?;
-            matching.jobs.push(number)?;
             let price = before.prices.get(column).copied().unwrap_or(0);
-            matching.prices.push(price)?;
+            matching.push(*place, 0, number, price)?;
         }
     }
     Ok(matching)

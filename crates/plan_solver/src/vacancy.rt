@@ -32,30 +32,47 @@ pub(crate) fn vacate(
     matching: &mut Matching,
     hole: usize,
 ) -> Result<(), AllocError> {
-    let columns = matching.columns.len();
-    let less = least(&matching.duals);
-    lower_all(&mut matching.duals, less);
-    lower_all(&mut matching.prices, less);
-    let mut times = no_times(alloc, costs.waits.len())?;
-    let mut ways = Ways {
-        lengths: vec![in alloc; FAR; columns]?,
-        froms: vec![in alloc; hole; columns]?,
-        settled: vec![in alloc; false; columns]?,
-        least: matching.duals.get(hole).copied().unwrap_or(0),
-        end: hole,
-    };
-    set(&mut ways.lengths, hole, 0);
-    for _ in 0..columns {
-        let Some(column) = nearest(&ways) else {
-            break;
-        };
-        read_times(costs, matching, &mut times, column)?;
-        settle(costs, matching, &times, &mut ways, column);
-    }
+    lower_all(matching);
+    let mut ways = Ways::from(alloc, matching, hole)?;
+    find_end(alloc, costs, matching, &mut ways)?;
     lower(&mut matching.duals, &ways);
     lower(&mut matching.prices, &ways);
     move_jobs(matching, &ways, hole);
     drop_column(matching, ways.end);
+    Ok(())
+}
+
+impl Ways {
+    /// The ways from a column whose job has left, before any other is reached.
+    fn from(alloc: Global, matching: &Matching, hole: usize) -> Result<Ways, AllocError> {
+        let columns = matching.columns.len();
+        let mut lengths = vec![in alloc; FAR; columns]?;
+        set(&mut lengths, hole, 0);
+        Ok(Ways {
+            lengths,
+            froms: vec![in alloc; hole; columns]?,
+            settled: vec![in alloc; false; columns]?,
+            least: matching.duals.get(hole).copied().unwrap_or(0),
+            end: hole,
+        })
+    }
+}
+
+/// Finds the end of the shortest way: settles columns, the nearest first.
+fn find_end(
+    alloc: Global,
+    costs: &Costs,
+    matching: &Matching,
+    ways: &mut Ways,
+) -> Result<(), AllocError> {
+    let mut times = no_times(alloc, costs.waits.len())?;
+    for _ in 0..matching.columns.len() {
+        let Some(column) = nearest(ways) else {
+            return Ok(());
+        };
+        read_times(costs, matching, &mut times, column)?;
+        settle(costs, matching, &times, ways, column);
+    }
     Ok(())
 }
 
@@ -114,9 +131,28 @@ fn settle(costs: &Costs, matching: &Matching, times: &[Vec<u64>], ways: &mut Way
         return;
     };
     let dual = matching.duals.get(column).copied().unwrap_or(0);
-    let base = ways.lengths.get(column).copied().unwrap_or(0);
     let charge = on_device(&costs.waits, place.device).saturating_add(dual);
-    let count = place.after.saturating_add(1);
+    reach_all(
+        matching,
+        times,
+        ways,
+        column,
+        charge,
+        place.after.saturating_add(1),
+    );
+}
+
+/// Reaches the columns of all jobs from a column, by its charge and the times of the jobs there, each counted
+/// `count` times.
+fn reach_all(
+    matching: &Matching,
+    times: &[u64],
+    ways: &mut Ways,
+    column: usize,
+    charge: u64,
+    count: u64,
+) {
+    let base = ways.lengths.get(column).copied().unwrap_or(0);
     for (other, (time, price)) in times.iter().zip(matching.prices.iter()).enumerate() {
         let cost = charge.saturating_add(time.saturating_mul(count));
         let length = base.saturating_add(cost.saturating_sub(*price));
@@ -149,8 +185,15 @@ fn least(values: &[u64]) -> u64 {
     least
 }
 
+/// Lowers all duals and prices by the least dual.
+fn lower_all(matching: &mut Matching) {
+    let less = least(&matching.duals);
+    lower_by(&mut matching.duals, less);
+    lower_by(&mut matching.prices, less);
+}
+
 /// Lowers each value by the same amount.
-fn lower_all(values: &mut [u64], less: u64) {
+fn lower_by(values: &mut [u64], less: u64) {
     for value in values.iter_mut() {
         *value = (*value).saturating_sub(less);
     }
