@@ -69,9 +69,9 @@ impl<'a> Place<'a> {
     }
 
     /// Takes a statement into account.
-    fn add(&mut self, at: &mut Position, table: LastTable, key: &str, statement: Statement<'a>) {
+    fn add(&mut self, at: &mut Position, table: LastTable, key: &str, statement: &Statement<'a>) {
         let line = statement.line;
-        match statement.said {
+        match &statement.said {
             Said::Header(name) => {
                 let name = name.as_deref().unwrap_or("");
                 at.enter(name);
@@ -104,7 +104,7 @@ pub(crate) fn place_of<'a>(alloc: Global, text: &'a str, table: LastTable, key: 
     };
     for _statement in 0..text.len() {
         match statements.next() {
-            Some(statement) => place.add(&mut at, table, key, statement),
+            Some(statement) => place.add(&mut at, table, key, &statement),
             None => return place,
         }
     }

@@ -6,7 +6,7 @@ use crate::place::{Place, place_of};
 use crate::read::read_settings_telling;
 use crate::wanted::wanted;
 use std::alloc::{AllocError, Global};
-use std::str;
+use std::{fmt, str};
 
 /// The most bytes of a value that a sentence shows.
 const MOST_SHOWN: usize = 60;
@@ -20,10 +20,7 @@ const MOST_SHOWN: usize = 60;
 pub fn explain(alloc: Global, file: &str, bytes: &[u8]) -> Result<Option<String>, AllocError> {
     let text = match str::from_utf8(bytes) {
         Ok(text) => text,
-        Err(error) => {
-            let line = line_after(bytes, error.valid_up_to());
-            return Ok(Some(format!(in alloc; "{file}: line {line}: this is no UTF-8")?));
-        }
+        Err(error) => return Ok(Some(no_text(alloc, file, bytes, error.valid_up_to())?)),
     };
     let mut table = LastTable::Root;
     match read_settings_telling(alloc, text, &mut table) {
@@ -38,6 +35,38 @@ fn line_after(bytes: &[u8], count: usize) -> usize {
     1 + front.iter().filter(|byte| **byte == b'\n').count()
 }
 
+/// The sentence about bytes that aren't UTF-8 from `count` on.
+fn no_text(alloc: Global, file: &str, bytes: &[u8], count: usize) -> Result<String, AllocError> {
+    let line = line_after(bytes, count);
+    format!(in alloc; "{file}: line {line}: this is no UTF-8")
+}
+
+/// The place of a fault: the file, and the line and the table as far as they are found.
+#[derive(Clone, Copy)]
+struct At<'a> {
+    file: &'a str,
+    table: LastTable,
+    place: Place<'a>,
+}
+
+impl<'a> fmt::Display for At<'a> {
+    fn fmt<W: fmt::Write>(&self, f: &mut fmt::Formatter<W>) -> fmt::Result {
+        f.write_str(self.file)?;
+        if let Some(line) = self.place.line {
+            write!(f, ": line {line}")?;
+        }
+        let Some(number) = number_of(self.table) else {
+            return Ok(());
+        };
+        let joint = if self.place.line.is_some() { "," } else { ":" };
+        let kind = kind_of(self.table);
+        match self.place.name {
+            Some(name) => write!(f, "{joint} {kind} {name}"),
+            None => write!(f, "{joint} {kind} {number}"),
+        }
+    }
+}
+
 /// The sentence about a fault in a table.
 fn sentence(
     alloc: Global,
@@ -46,34 +75,27 @@ fn sentence(
     table: LastTable,
     fault: &SettingsFault,
 ) -> Result<String, AllocError> {
+    let place = place_of(alloc, text, table, key_of(fault));
+    let at = At { file, table, place };
     match fault {
         SettingsFault::NotToml => no_toml(alloc, file, text),
-        SettingsFault::Missing(key) => {
-            let place = place_of(alloc, text, table, key.name());
-            about_missing(alloc, &at(alloc, file, table, &place)?, *key)
-        }
-        SettingsFault::WrongKind(key) | SettingsFault::OutOfRange(key) => {
-            let place = place_of(alloc, text, table, key.name());
-            about_value(alloc, &at(alloc, file, table, &place)?, *key, place.value)
-        }
-        SettingsFault::Unknown(name) => {
-            let place = place_of(alloc, text, table, name_of(name.as_bytes()));
-            let at = at(alloc, file, table, &place)?;
-            about_unknown(
-                alloc,
-                &at,
-                table,
-                name_of(name.as_bytes()),
-                place.value.is_some(),
-            )
-        }
-        SettingsFault::Twice(name) => {
-            let place = place_of(alloc, text, table, "name");
-            let at = at(alloc, file, table, &place)?;
-            let (name, kind) = (name_of(name.as_bytes()), kind_of(table));
-            format!(in alloc; "{at}: an earlier {kind} has the name \"{name}\"")
-        }
+        SettingsFault::Missing(key) => about_missing(alloc, &at, *key),
+        SettingsFault::WrongKind(key) => about_value(alloc, &at, *key),
+        SettingsFault::OutOfRange(key) => about_value(alloc, &at, *key),
+        SettingsFault::Unknown(name) => about_unknown(alloc, &at, name_of(name.as_bytes())),
+        SettingsFault::Twice(name) => about_twice(alloc, &at, name_of(name.as_bytes())),
         SettingsFault::OutOfMemory => Err(AllocError),
+    }
+}
+
+/// The key at which a fault stands; empty if it stands at none.
+fn key_of(fault: &SettingsFault) -> &str {
+    match fault {
+        SettingsFault::Missing(key) => key.name(),
+        SettingsFault::WrongKind(key) | SettingsFault::OutOfRange(key) => key.name(),
+        SettingsFault::Unknown(name) => name_of(name.as_bytes()),
+        SettingsFault::Twice(_) => "name",
+        SettingsFault::NotToml | SettingsFault::OutOfMemory => "",
     }
 }
 
@@ -123,28 +145,12 @@ fn kind_of(table: LastTable) -> &'static str {
     }
 }
 
-/// The file with the line and the table, as far as they are found.
-fn at(
-    alloc: Global,
-    file: &str,
-    table: LastTable,
-    place: &Place<'_>,
-) -> Result<String, AllocError> {
-    let mut at = format!(in alloc; "{file}")?;
-    if let Some(line) = place.line {
-        write!(at, ": line {line}")?;
+/// The number of a table among those of its kind, counted from 1.
+fn number_of(table: LastTable) -> Option<usize> {
+    match table {
+        LastTable::Root => None,
+        LastTable::Device(number) | LastTable::Printer(number) => Some(number.saturating_add(1)),
     }
-    let kind = kind_of(table);
-    let number = match table {
-        LastTable::Root => return Ok(at),
-        LastTable::Device(number) | LastTable::Printer(number) => number.saturating_add(1),
-    };
-    let joint = if place.line.is_some() { "," } else { ":" };
-    match place.name {
-        Some(name) => write!(at, "{joint} {kind} {name}")?,
-        None => write!(at, "{joint} {kind} {number}")?,
-    }
-    Ok(at)
 }
 
 /// A value as the text writes it, if it is short enough for a line and has no line feed.
@@ -158,41 +164,36 @@ fn shown(value: Option<&str>) -> Option<&str> {
 }
 
 /// The sentence about a key that is missing.
-fn about_missing(alloc: Global, at: &str, key: Key) -> Result<String, AllocError> {
+fn about_missing(alloc: Global, at: &At<'_>, key: Key) -> Result<String, AllocError> {
     let wanted = wanted(alloc, key)?;
     let key = key.name();
     format!(in alloc; "{at}: {key} is missing; it is {wanted}")
 }
 
 /// The sentence about a value that the key may not have.
-fn about_value(
-    alloc: Global,
-    at: &str,
-    key: Key,
-    value: Option<&str>,
-) -> Result<String, AllocError> {
+fn about_value(alloc: Global, at: &At<'_>, key: Key) -> Result<String, AllocError> {
     let wanted = wanted(alloc, key)?;
     let key = key.name();
-    match shown(value) {
+    match shown(at.place.value) {
         Some(value) => format!(in alloc; "{at}: {key} is {value}, and may be {wanted}"),
         None => format!(in alloc; "{at}: {key} may be {wanted}"),
     }
 }
 
 /// The sentence about an unknown name: that of a key of the table, or else that of a device.
-fn about_unknown(
-    alloc: Global,
-    at: &str,
-    table: LastTable,
-    name: &str,
-    is_key: bool,
-) -> Result<String, AllocError> {
-    let kind = kind_of(table);
-    if !is_key {
+fn about_unknown(alloc: Global, at: &At<'_>, name: &str) -> Result<String, AllocError> {
+    if at.place.value.is_none() {
         return format!(in alloc; "{at}: there is no device \"{name}\"");
     }
-    match table {
+    let kind = kind_of(at.table);
+    match at.table {
         LastTable::Root => format!(in alloc; "{at}: {name} is no key of the settings"),
         _ => format!(in alloc; "{at}: {name} is no key of a {kind}"),
     }
+}
+
+/// The sentence about a name that an earlier table of the kind has.
+fn about_twice(alloc: Global, at: &At<'_>, name: &str) -> Result<String, AllocError> {
+    let kind = kind_of(at.table);
+    format!(in alloc; "{at}: an earlier {kind} has the name \"{name}\"")
 }
