@@ -1,4 +1,4 @@
-use Rattle.std.proofs.Common.{◌≡◌, ap, sym}
+use Rattle.std.proofs.Common.{ap, sym}
 use Rattle.http_front.specs.declared.refusal.HttpRejection.{HttpRejection}
 use Rattle.http_front.specs.Reply.{opening, status_of}
 use Rattle.http_front.proofs.reply.opening.Goals as goal
