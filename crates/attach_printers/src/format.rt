@@ -51,7 +51,7 @@ const LOOKED_AT: usize = 512;
 impl Format {
     /// The format of a document with these first bytes.
     pub fn sniffed(bytes: &[u8]) -> Format {
-        for (front, format) in FRONTS {
+        for &(front, format) in &FRONTS {
             if bytes.starts_with(front) {
                 return format;
             }
@@ -66,7 +66,7 @@ impl Format {
 
     /// The format of a media type, without regard to the case of letters; any unknown one is `Octets`.
     fn named(media_type: &str) -> Format {
-        for format in ALL {
+        for &format in &ALL {
             if format.media_type().eq_ignore_ascii_case(media_type) {
                 return format;
             }

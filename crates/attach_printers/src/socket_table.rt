@@ -31,7 +31,7 @@ pub(crate) fn unacknowledged(
 ) -> io::Result<Option<u64>> {
     let link = format!(in alloc; "/proc/self/fd/{}", stream.as_raw_fd())?;
     let number = fs::metadata(files, link.as_str())?.ino();
-    for table in TABLES {
+    for &table in &TABLES {
         let bytes = look_up(alloc, files, table, number)?;
         if bytes.is_some() {
             return Ok(bytes);

@@ -100,7 +100,7 @@ fn put_ending(legend: Legend, ending: Ending) -> Legend {
 /// Appends the strips below bars that the chart has, and their meanings.
 fn put_endings(legend: Legend, chart: &Chart) -> Legend {
     let mut legend = legend;
-    for ending in SHOWN {
+    for &ending in &SHOWN {
         if chart.has_ending(ending) {
             legend = put_ending(legend, ending);
         }

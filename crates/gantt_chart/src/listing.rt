@@ -151,7 +151,7 @@ fn put_ending(line: Line, ending: Ending) -> Line {
 /// Appends the ends of bars that the chart has, and their meanings.
 fn put_endings(line: Line, chart: &Chart) -> Line {
     let mut line = line;
-    for ending in SHOWN {
+    for &ending in &SHOWN {
         if chart.has_ending(ending) {
             line = put_ending(line, ending);
         }

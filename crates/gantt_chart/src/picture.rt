@@ -135,7 +135,7 @@ const STRIPS: &str =
 
 /// Returns whether a chart has a job that a strip marks.
 fn has_strips(chart: &Chart) -> bool {
-    for ending in SHOWN {
+    for &ending in &SHOWN {
         if chart.has_ending(ending) {
             return true;
         }

@@ -54,7 +54,7 @@ fn put_number(cells: &mut [u8], from: usize, number: u64) {
 
 /// Returns whether a cell marks the end of a job that was not printed.
 fn is_ending(byte: u8) -> bool {
-    for ending in SHOWN {
+    for &ending in &SHOWN {
         if edge_of(ending) == byte {
             return true;
         }

@@ -52,7 +52,7 @@ impl Column {
 
     /// The column with a name.
     pub(crate) fn named(name: &[u8]) -> Option<Column> {
-        for column in Column::ALL {
+        for &column in &Column::ALL {
             if column.name().as_bytes() == name {
                 return Some(column);
             }

@@ -102,7 +102,7 @@ fn play_files(rt: &HostRuntime) -> io::Result<bool> {
 /// Plays the days with as many jobs as there can be: whether each is as it must be.
 fn play_crowds(rt: &HostRuntime) -> io::Result<bool> {
     let mut all = true;
-    for crowd in CROWDS {
+    for crowd in &CROWDS {
         let as_wanted = crowd.is_as_wanted(rt.alloc())?;
         tell(rt, crowd.name(), as_wanted)?;
         all = all && as_wanted;

@@ -67,7 +67,7 @@ pub(crate) fn play_all<W: Watch>(
     let devices = core.settings().devices.len();
     let mut outcomes = Vec::new(alloc);
     outcomes.push(play_planned(alloc, core, listed, day, watch)?)?;
-    for policy in Policy::ALL {
+    for &policy in &Policy::ALL {
         outcomes.push(play_policy(alloc, policy, day, printers, devices, watch)?)?;
     }
     Ok(outcomes)

@@ -104,8 +104,8 @@ fn is_kept(alloc: Global, session: Session, cut: (usize, usize)) -> Result<bool,
 /// The octets of the sessions are cut in several ways.
 #[test]
 fn sessions_in_pieces(rt: HostRuntime) -> Result<(), Fail> {
-    for session in SESSIONS {
-        for cut in CUTS {
+    for &session in &SESSIONS {
+        for &cut in &CUTS {
             let kept = is_kept(rt.alloc(), session, cut)?;
             assert!(rt; kept);
         }

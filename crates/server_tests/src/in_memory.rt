@@ -100,8 +100,8 @@ fn is_answered(alloc: Global, exchange: Exchange, cut: (usize, usize)) -> Result
 /// Each client gets its answer, and the connection closes where it is to close, for each size of the pieces.
 #[test]
 fn exchanges_in_pieces(rt: HostRuntime) -> Result<(), Fail> {
-    for exchange in EXCHANGES {
-        for cut in CUTS {
+    for &exchange in &EXCHANGES {
+        for &cut in &CUTS {
             let answered = is_answered(rt.alloc(), exchange, cut)?;
             assert!(rt; answered);
         }

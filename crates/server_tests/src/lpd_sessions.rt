@@ -101,8 +101,8 @@ fn is_answered(alloc: Global, session: Session, cut: (usize, usize)) -> Result<b
 /// The octets of the sessions are cut in several ways.
 #[test]
 fn lpd_sessions_in_pieces(rt: HostRuntime) -> Result<(), Fail> {
-    for session in SESSIONS {
-        for cut in CUTS {
+    for &session in &SESSIONS {
+        for &cut in &CUTS {
             let answered = is_answered(rt.alloc(), session, cut)?;
             assert!(rt; answered);
         }

@@ -31,7 +31,7 @@ const TURNS: usize = 30;
 fn listening(rt: &HostRuntime) -> io::Result<Sockets> {
     let mut sockets = Sockets::new(rt.alloc(), rt)?;
     let address = SocketAddr::new(local(), 0);
-    for door in DOORS {
+    for &door in &DOORS {
         sockets.listen(rt, Listening { door, address })?;
     }
     Ok(sockets)
@@ -296,7 +296,7 @@ fn plays(rt: &HostRuntime, scene: Scene) -> io::Result<bool> {
 
 #[test]
 fn exchanges(rt: HostRuntime) -> Result<(), Fail> {
-    for exchange in [PLAIN, CHUNKED, LAST, TWO, BOTH_FRAMINGS, NOT_POST] {
+    for &exchange in &[PLAIN, CHUNKED, LAST, TWO, BOTH_FRAMINGS, NOT_POST] {
         let played = plays(&rt, Scene::Exchange(exchange))?;
         assert!(rt; played);
     }

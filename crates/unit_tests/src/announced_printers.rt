@@ -97,7 +97,7 @@ const SERVICE: &str = r#"<?xml version='1.0' standalone='no'?>
 
 #[test]
 fn ports_of_bases(rt: HostRuntime) {
-    for (base, port) in BASES {
+    for &(base, port) in &BASES {
         assert!(rt; ipp_port(base) == port);
     }
 }

@@ -69,7 +69,7 @@ fn heard(alloc: Global, first: &[u8], second: &[u8]) -> Result<String, AllocErro
 
 #[test]
 fn orders_in_two_pieces(rt: HostRuntime) -> Result<(), Fail> {
-    for count in [0, 5, 32, 35, 40, 46] {
+    for &count in &[0, 5, 32, 35, 40, 46] {
         let (first, second) = STREAM.split_at(count);
         let text = heard(rt.alloc(), first, second)?;
         assert!(rt; text.as_str() == HEARD);

@@ -144,7 +144,7 @@ fn ends(alloc: Global, line: &str, wanted: ExitStatus) -> Result<bool, AllocErro
 
 #[test]
 fn words_that_are_read(rt: HostRuntime) -> Result<(), Fail> {
-    for (line, asked) in READ {
+    for &(line, asked) in &READ {
         let read = is_read(rt.alloc(), line, asked)?;
         assert!(rt; read, "{line}");
     }
@@ -153,7 +153,7 @@ fn words_that_are_read(rt: HostRuntime) -> Result<(), Fail> {
 
 #[test]
 fn words_that_are_refused(rt: HostRuntime) -> Result<(), Fail> {
-    for line in REFUSED {
+    for &line in &REFUSED {
         let refused = ends(rt.alloc(), line, ExitStatus::Refused)?;
         assert!(rt; refused, "{line}");
     }
@@ -162,7 +162,7 @@ fn words_that_are_refused(rt: HostRuntime) -> Result<(), Fail> {
 
 #[test]
 fn words_that_ask_for_a_text(rt: HostRuntime) -> Result<(), Fail> {
-    for line in TOLD {
+    for &line in &TOLD {
         let told = ends(rt.alloc(), line, ExitStatus::Done)?;
         assert!(rt; told, "{line}");
     }

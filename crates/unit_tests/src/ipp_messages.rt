@@ -81,7 +81,7 @@ const MALFORMED: [(&[&[u8]], CodecFault); 9] = [
 
 #[test]
 fn malformed_messages(rt: HostRuntime) -> Result<(), Fail> {
-    for (parts, fault) in MALFORMED {
+    for &(parts, fault) in &MALFORMED {
         assert_eq!(rt; fault_of(&rt, parts)?, Some(fault));
     }
     Ok(())

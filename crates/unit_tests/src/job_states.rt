@@ -100,10 +100,10 @@ fn tabled(state: JobState, code: u32) -> (u32, bool, bool, bool) {
 
 #[test]
 fn state_table(rt: HostRuntime) -> Result<(), Fail> {
-    for (change, codes) in TABLE {
-        for (from, code) in FROM.into_iter().zip(codes) {
-            let (state, _, _) = from;
-            assert_eq!(rt; stepped(rt.alloc(), from, change)?, tabled(state, code));
+    for (change, codes) in &TABLE {
+        for (from, code) in FROM.iter().zip(codes) {
+            let (state, _, _) = *from;
+            assert_eq!(rt; stepped(rt.alloc(), *from, *change)?, tabled(state, *code));
         }
     }
     Ok(())

@@ -101,7 +101,7 @@ fn measured(alloc: Global, jobs: &[Job]) -> Result<String, AllocError> {
 
 #[test]
 fn measured_rates(rt: HostRuntime) -> Result<(), Fail> {
-    for (jobs, wanted) in ROWS {
+    for &(jobs, wanted) in &ROWS {
         let text = measured(rt.alloc(), jobs)?;
         assert!(rt; text.as_str() == wanted, "{text}");
     }

@@ -47,7 +47,7 @@ const TEXTS: [(&str, Option<TextFault>); 11] = [
 
 #[test]
 fn refused_texts(rt: HostRuntime) -> Result<(), Fail> {
-    for (text, fault) in TEXTS {
+    for &(text, fault) in &TEXTS {
         assert_eq!(rt; fault_of(rt.alloc(), text)?, fault);
     }
     Ok(())

@@ -73,7 +73,7 @@ fn told(alloc: Global, old: &str, new: &str) -> Result<String, AllocError> {
 
 #[test]
 fn sentences_about_settings(rt: HostRuntime) -> Result<(), Fail> {
-    for (old, new, sentence) in ROWS {
+    for &(old, new, sentence) in &ROWS {
         let told = told(rt.alloc(), old, new)?;
         assert_eq!(rt; told.as_str(), sentence);
     }

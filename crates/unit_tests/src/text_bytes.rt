@@ -12,7 +12,7 @@ const VALUES: [(&[u8], &[u8]); 5] = [
 
 #[test]
 fn values_without_parameters(rt: HostRuntime) {
-    for (value, plain) in VALUES {
+    for &(value, plain) in &VALUES {
         assert!(rt; without_parameters(value) == plain);
         assert!(rt; trimmed(plain) == plain);
     }
@@ -20,10 +20,10 @@ fn values_without_parameters(rt: HostRuntime) {
 
 #[test]
 fn numbers_in_words(rt: HostRuntime) {
-    for word in [b"0".as_slice(), b"7", b"18446744073709551616"] {
+    for &word in &[b"0".as_slice(), b"7", b"18446744073709551616"] {
         assert!(rt; is_number(word));
     }
-    for word in [b"".as_slice(), b"00", b"07", b"-1", b"1 "] {
+    for &word in &[b"".as_slice(), b"00", b"07", b"-1", b"1 "] {
         assert!(rt; !is_number(word));
     }
     assert!(rt; number_up_to(b"007", 7) == Some(7));
