@@ -1,7 +1,8 @@
 #!/usr/bin/env python3
 """Plays each example again and again, each time with one request for memory refused, the first one first, and compares
 what comes of it: the same output as ever, or with status 3 a front of it. Where connections are open the server may also
-go on, as it does for want of memory: a reply of 0x0505, an LPD byte 01, a connection that is closed. In the exchanges of
+go on, as it does for want of memory: a reply of 0x0505, an LPD byte 01, a connection that is closed. A recorded day then
+differs from its record: status 1, and the output before the difference. In the exchanges of
 Print-Jobs alone 0x0505 has to be among the answers, and never with a job: the ids of the jobs that are taken follow one
 another, and there is no plan more than these. Ends with status 1 where anything else came.
 
@@ -55,13 +56,17 @@ def play(library, example, refused):
     return run.returncode, run.stdout, int(words[-1]) if words else 0
 
 
-def outcome(run, wanted, connects):
+def outcome(run, wanted, example):
     """What came of a refused request."""
     status, output, _ = run
+    day = example.read_bytes()
+    connects = b"\nopen " in day
     if (status, output) == wanted[:2]:
         return "as ever"
     if connects and status == wanted[0]:
         return "went on"
+    if b"\nrecorded " in day and status == 1 and wanted[1].startswith(output):
+        return "differed"
     return "stopped" if status == 3 and (connects or wanted[1].startswith(output)) else "wrong"
 
 
@@ -92,11 +97,10 @@ def has_job_of_none(output):
 def refuse_each(library, example, most):
     """How many requests there were, how many runs ended in which way, and after which requests something else came."""
     wanted = play(library, example, 0)
-    connects = b"\nopen " in example.read_bytes()
     ways, wrong, busy = collections.Counter(), [], 0
     for refused in range(1, wanted[2] + 1, max(1, -(-wanted[2] // most))):
         run = play(library, example, refused)
-        way = outcome(run, wanted, connects)
+        way = outcome(run, wanted, example)
         if example.stem in PRINTS:
             # one request is refused, so that a run with this answer has no connection that was closed without its own
             is_busy = any(body.startswith(BUSY) for body in bodies(run[1]))
