@@ -3,6 +3,7 @@ import statistics
 
 import idle
 import soak
+from floods import READY, REFUSED, while_ready, while_refused
 from instructions import instructions
 from measures import LOADS, compare, one_by_one, percentile, while_jobs_wait
 from peers import Answerer, Cupsd, LoneOurs, Ours
@@ -106,6 +107,19 @@ def busy(sizes):
     else:
         rows = [[name, figure(found[2 * place]), figure(found[2 * place + 1])] for place, name in enumerate(names)]
     return Table(f"While {sizes.busy} jobs wait for 16 devices", table(head, rows))
+
+
+def flooded(sizes):
+    """What others wait while one peer sends too much."""
+    say("a client beside a flood")
+    floods = {
+        f"a device that prints says `READY` {READY:,} times": while_ready,
+        f"a client sends {REFUSED:,} Print-Jobs at once that are refused": while_refused,
+    }
+    found = middles(all_rounds({name: lambda flood=flood: flood(sizes.behind) for name, flood in floods.items()}, sizes.rounds))
+    rows = [reason(2, [name], one) if isinstance(one, str) else [name, figure(one)] for name, one in found.items()]
+    head = ["While", "the longest that another client waits for a status report, ms"]
+    return Table(f"A flood, while {sizes.behind} jobs wait for 32 devices", table(head, rows))
 
 
 def waiting(sizes):

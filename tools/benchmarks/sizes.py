@@ -20,6 +20,8 @@ class Sizes(typing.NamedTuple):
     # jobs that wait while requests are timed, and requests of each kind
     busy: int
     asked: int
+    # jobs that wait while a peer floods the server
+    behind: int
     # jobs that wait for so many devices, events that leave the queue as it is, and events that change it
     waiting: int
     devices: int
@@ -34,7 +36,7 @@ class Sizes(typing.NamedTuple):
     limit: int
 
 
-FULL = Sizes(5, 3, 400, 120, 5.0, 100_000, 2000, 120, 1000, 480, 32, 300, 32, 20_000, 10_000, ((32, 8, 100), (128, 16, 20), (512, 32, 2)), 120)
-UNPROVED = FULL._replace(rounds=3, counted=0, soaked=300, soaked_early=100, asked=20, waiting=60, devices=8, many_events=30, few_events=8,
+FULL = Sizes(5, 3, 400, 120, 5.0, 100_000, 2000, 120, 1000, 450, 480, 32, 300, 32, 20_000, 10_000, ((32, 8, 100), (128, 16, 20), (512, 32, 2)), 120)
+UNPROVED = FULL._replace(rounds=3, counted=0, soaked=300, soaked_early=100, asked=20, behind=20, waiting=60, devices=8, many_events=30, few_events=8,
                          questions=2000, short_jobs=200, classes=((32, 8, 10), (64, 8, 4)), limit=60)
-QUICK = Sizes(2, 1, 20, 8, 1.0, 60, 20, 32, 10, 24, 4, 10, 4, 200, 20, ((16, 4, 40), (32, 8, 20)), 20)
+QUICK = Sizes(2, 1, 20, 8, 1.0, 60, 20, 32, 10, 20, 24, 4, 10, 4, 200, 20, ((16, 4, 40), (32, 8, 20)), 20)

@@ -122,11 +122,13 @@ class Devices(threading.Thread):
         self.slow, self.count = slow, len(names)
         self.has = {}
         self.poll = selectors.DefaultSelector()
+        self.connections = []
         for name in names:
             connection = socket.create_connection(("127.0.0.1", port))
             connection.setsockopt(socket.IPPROTO_TCP, socket.TCP_NODELAY, 1)
             connection.sendall(f"HELLO {name}\nREADY\n".encode("ascii"))
             self.poll.register(connection, selectors.EVENT_READ, Jobs())
+            self.connections.append(connection)
 
     def run(self):
         while self.poll.get_map():
@@ -194,9 +196,10 @@ class Ours:
 
     name, wanted = "printd", "true"
     path = "/printers/lab"
+    count = 16
 
     def __init__(self, folder, slow=False, words=()):
-        names = [f"d{number}" for number in range(16)]
+        names = [f"d{number}" for number in range(self.count)]
         settings = folder / "load.toml"
         # fifteen milliseconds an impression, so that five octets are one of them
         settings.write_text(settings_of([(name, 15, 0) for name in names]))
@@ -220,6 +223,12 @@ class SlowOurs(Ours):
 
     def __init__(self, folder):
         super().__init__(folder, slow=True)
+
+
+class WideOurs(SlowOurs):
+    """The same with 32 devices."""
+
+    count = 32
 
 
 class LoneOurs(Ours):
