@@ -14,6 +14,8 @@ REPLIED = b"HTTP/1.1 200".hex()
 START = re.compile(r"^start (\d+) (\S+)$", re.M)
 # each job has more impressions, so that no device ends two jobs before each other device has ended one
 FEWEST = 100
+# that of a job that names none
+PRIORITY = 50
 
 
 TICK, READY, PAGES, DONE = "time alone goes on (`tick`)", "`READY` of a device that runs", "`PAGES` as estimated", "`DONE` as estimated"
@@ -21,11 +23,13 @@ CANCELED, COMES, MISSING = "a job is canceled", "a job comes", "before a job com
 
 
 class Queue(typing.NamedTuple):
-    """Jobs that wait, by their impressions, for devices, by their names, ms an impression and ms before a job."""
+    """Jobs that wait, by their impressions, for devices, by their names, ms an impression and ms before a job. The
+    jobs have so many priorities, in turns."""
 
     name: str
     jobs: list
     devices: list
+    priorities: int = 1
 
 
 class Events(typing.NamedTuple):
@@ -50,7 +54,12 @@ def queues(waiting, devices):
     unlike = [(name, 8 + place, 100 * (place % 8)) for place, name in enumerate(names)]
     one_length = [FEWEST + 50] * (waiting + devices)
     lengths = [FEWEST + 1 + place * 77 % 200 for place in range(waiting + devices)]
-    return [Queue("alike", one_length, alike), Queue("of 200 lengths", lengths, alike), Queue("of 200 lengths, devices unlike", lengths, unlike)]
+    return [
+        Queue("alike", one_length, alike),
+        Queue("of 200 lengths", lengths, alike),
+        Queue("of 200 lengths, devices unlike", lengths, unlike),
+        Queue("of 200 lengths and two priorities, devices unlike", lengths, unlike, 2),
+    ]
 
 
 def ipp(operation, user, more=b"", document=b""):
@@ -58,9 +67,11 @@ def ipp(operation, user, more=b"", document=b""):
     return f"ipp {request(operation, PRINTER, user, more, document).hex()}"
 
 
-def added(impressions):
-    """The line of a job that comes."""
-    return ipp(PRINT_JOB, "ann", attribute(INTEGER, "job-impressions", impressions), b"hello")
+def comes(queue, place):
+    """The line of a job of a queue that comes."""
+    asked = attribute(INTEGER, "job-impressions", queue.jobs[place])
+    template = b"\x02" + attribute(INTEGER, "job-priority", PRIORITY + place % queue.priorities)
+    return ipp(PRINT_JOB, "ann", asked + template, b"hello")
 
 
 def canceled(job):
@@ -77,7 +88,7 @@ def full(queue, left_out=0):
     """The lines until all jobs of a queue, but so many of the last, wait for devices that print: at first one comes for
     each device, a ms after the one before, then all others at once."""
     devices = len(queue.devices)
-    jobs = [added(it) for it in queue.jobs[:len(queue.jobs) - left_out]]
+    jobs = [comes(queue, place) for place in range(len(queue.jobs) - left_out)]
     lines = [*settings_of(queue.devices).splitlines(), ".", "at 0", *(f"dev {name} READY" for name, _, _ in queue.devices)]
     return [*lines, *each_ms(jobs[:devices], 0), ipp(PAUSE_PRINTER, "root"), *jobs[devices:], ipp(RESUME_PRINTER, "root")]
 
@@ -176,8 +187,8 @@ def events(program, queue, many, few, limit):
         CANCELED: each_ms(all_canceled(queue, said, few), len(names)),
     }
     traces = {name: Events(before + lines, len(lines) // 2, None) for name, lines in kinds.items()}
-    added_lines = each_ms([added(it) for it in queue.jobs[-few:]], len(names))
-    traces[COMES] = Events(missing + added_lines, few, MISSING)
+    last = range(len(queue.jobs) - few, len(queue.jobs))
+    traces[COMES] = Events(missing + each_ms([comes(queue, place) for place in last], len(names)), few, MISSING)
     return {None: Events(before, 0, None), MISSING: Events(missing, 0, None), **traces}
 
 
