@@ -1,5 +1,5 @@
 //! Attributes of the syntaxes that the tables use.
-ghost use Rattle.std.specs.Prelude.{◌≡◌, IfOk, pos, min, [], ◌∷◌, codes, take};
+ghost use Rattle.std.specs.Prelude.{◌≡◌, IfOk, OnOk, pos, min, [], ◌∷◌, ◌++◌, codes, take};
 ghost use Rattle.ipp_codec.specs.Message.{plain};
 ghost use Rattle.ipp_codec.specs.Owned.{value_owned};
 ghost use Rattle.ipp_codec.specs.Tag as tags;
@@ -135,9 +135,12 @@ pub(crate) fn reasons(
     let first = reasons.first.keyword();
     let mut attribute = keyword(alloc, name, first.as_bytes())?;
     if let Some(second) = reasons.second {
-        let second = second.keyword();
-        let value = text_value(alloc, ValueTag::KEYWORD, second.as_bytes())?;
-        attribute.push(value)?;
+        add_text(
+            alloc,
+            &mut attribute,
+            ValueTag::KEYWORD,
+            second.keyword().as_bytes(),
+        )?;
     }
     Ok(attribute)
 }
@@ -156,10 +159,22 @@ pub(crate) fn texts(
     };
     let mut attribute = text(alloc, name, tag, first.as_bytes())?;
     for other in others {
-        let value = text_value(alloc, tag, other.as_bytes())?;
-        attribute.push(value)?;
+        add_text(alloc, &mut attribute, tag, other.as_bytes())?;
     }
     Ok(attribute)
+}
+
+/// Appends a text with a tag to an attribute. The only error is out of memory.
+pub(crate) fn add_text(
+    alloc: Global,
+    attribute: &mut Attribute,
+    tag: ValueTag,
+    bytes: &[u8],
+) -> Result<(), AllocError>
+    ensures { OnOk result (attribute.new ≡ record attribute.old { others = attribute.old.others ++ text tag bytes.now ∷ [] }) }
+{
+    let value = text_value(alloc, tag, bytes)?;
+    attribute.push(value)
 }
 
 /// A number as an integer of IPP; a number above the greatest integer as that.

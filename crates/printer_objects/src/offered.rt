@@ -3,7 +3,7 @@ ghost use Rattle.std.specs.Prelude.{◌≡◌, IfOk};
 ghost use Rattle.printer_objects.specs.Attribute.{alone};
 ghost use Rattle.printer_objects.specs.Offered.{operations_attribute, range, hold_untils_attribute, sides_attribute};
 
-use crate::attribute::{bytes, enumerated, enumeration, keyword, no_value, text_value};
+use crate::attribute::{add_text, bytes, enumerated, enumeration, keyword, no_value};
 use crate::operation::Operation;
 use base_types::{Hold, Limits, Sides};
 use ipp_codec::{Attribute, ValueTag};
@@ -43,8 +43,12 @@ pub(crate) fn hold_untils(alloc: Global, name: &str) -> Result<Attribute, AllocE
 {
     let mut attribute = keyword(alloc, name, Hold::NoHold.keyword().as_bytes())?;
     let indefinite = Hold::Indefinite.keyword();
-    let value = text_value(alloc, ValueTag::KEYWORD, indefinite.as_bytes())?;
-    attribute.push(value)?;
+    add_text(
+        alloc,
+        &mut attribute,
+        ValueTag::KEYWORD,
+        indefinite.as_bytes(),
+    )?;
     Ok(attribute)
 }
 
@@ -57,8 +61,12 @@ pub(crate) fn sides(alloc: Global, name: &str, sides: &[Sides]) -> Result<Attrib
     };
     let mut attribute = keyword(alloc, name, first.keyword().as_bytes())?;
     for sides in others {
-        let value = text_value(alloc, ValueTag::KEYWORD, sides.keyword().as_bytes())?;
-        attribute.push(value)?;
+        add_text(
+            alloc,
+            &mut attribute,
+            ValueTag::KEYWORD,
+            sides.keyword().as_bytes(),
+        )?;
     }
     Ok(attribute)
 }
