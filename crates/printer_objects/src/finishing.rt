@@ -64,10 +64,7 @@ impl Finishing {
 }
 
 /// Each of the finishings, by rising number. The only error is out of memory.
-pub(crate) fn each_finishing(
-    alloc: Global,
-    finishings: Finishings,
-) -> Result<Vec<Finishing>, AllocError>
+fn each_finishing(alloc: Global, finishings: Finishings) -> Result<Vec<Finishing>, AllocError>
     ensures { IfOk result (λ each. each.items ≡ each_finishing finishings) }
 {
     let mut each = Vec::new(alloc);
@@ -80,11 +77,19 @@ pub(crate) fn each_finishing(
 }
 
 /// An attribute of the numbers of a job's finishings, or of the number of no finishing.
-pub(crate) fn finishings(
+pub(crate) fn job_finishings(
     alloc: Global,
     name: &str,
-    finishings: &[Finishing],
+    needed: Finishings,
 ) -> Result<Attribute, AllocError>
+    ensures { IfOk result (λ a. a ≡ finishings_attribute name.now (each_finishing needed)) }
+{
+    let each = each_finishing(alloc, needed)?;
+    finishings(alloc, name, &each)
+}
+
+/// An attribute of the numbers of finishings, or of the number of no finishing.
+fn finishings(alloc: Global, name: &str, finishings: &[Finishing]) -> Result<Attribute, AllocError>
     ensures { IfOk result (λ a. a ≡ finishings_attribute name.now finishings.now) }
 {
     let [first, others @ ..] = finishings else {

@@ -1,9 +1,11 @@
 //! The attributes of a job, with their values.
 ghost use Rattle.std.specs.Prelude.{◌≡◌, IfOk, None, Some};
+ghost use Rattle.ipp_codec.specs.Tag as tags;
+ghost use Rattle.printer_objects.specs.Attribute.{alone, text};
 ghost use Rattle.printer_objects.specs.JobShown.{job_uri, printer_uri, k_octets, impressions_shown, job_shown, job_attributes};
 
 use crate::attribute::{enumerated, keyword, number, reasons, text, time};
-use crate::finishing::{each_finishing, finishings};
+use crate::finishing::job_finishings;
 use crate::job_attribute::JobAttribute;
 use base_types::{Hold, JobId, Moment, Text};
 use ipp_codec::{Attribute, Group, GroupTag, ValueTag};
@@ -65,14 +67,10 @@ impl JobAttribute {
         let name = self.name();
         let job = shown.job;
         match self {
-            JobAttribute::Uri => {
-                let uri = job_uri(alloc, shown.uri_base, job.id)?;
-                text(alloc, name, ValueTag::URI, &uri)
-            }
+            JobAttribute::Uri => uri_of_job(alloc, name, shown.uri_base, job.id),
             JobAttribute::Id => number(alloc, name, u64::from(job.id.number())),
             JobAttribute::PrinterUri => {
-                let uri = printer_uri(alloc, shown.uri_base, shown.printer_name)?;
-                text(alloc, name, ValueTag::URI, &uri)
+                uri_of_printer(alloc, name, shown.uri_base, shown.printer_name)
             }
             JobAttribute::Name => text(alloc, name, ValueTag::NAME, job.name.as_bytes()),
             JobAttribute::OriginatingUserName => {
@@ -100,12 +98,35 @@ impl JobAttribute {
                 let sides = job.needs.sides;
                 keyword(alloc, name, sides.keyword().as_bytes())
             }
-            JobAttribute::Finishings => {
-                let each = each_finishing(alloc, job.needs.finishings)?;
-                finishings(alloc, name, &each)
-            }
+            JobAttribute::Finishings => job_finishings(alloc, name, job.needs.finishings),
         }
     }
+}
+
+/// An attribute of the URI of a job.
+pub(crate) fn uri_of_job(
+    alloc: Global,
+    name: &str,
+    uri_base: &Text,
+    id: JobId,
+) -> Result<Attribute, AllocError>
+    ensures { IfOk result (λ a. a ≡ alone name.now (text tags.uri (job_uri uri_base.now id))) }
+{
+    let uri = job_uri(alloc, uri_base, id)?;
+    text(alloc, name, ValueTag::URI, &uri)
+}
+
+/// An attribute of the URI of a printer.
+pub(crate) fn uri_of_printer(
+    alloc: Global,
+    name: &str,
+    uri_base: &Text,
+    printer_name: &Text,
+) -> Result<Attribute, AllocError>
+    ensures { IfOk result (λ a. a ≡ alone name.now (text tags.uri (printer_uri uri_base.now printer_name.now))) }
+{
+    let uri = printer_uri(alloc, uri_base, printer_name)?;
+    text(alloc, name, ValueTag::URI, &uri)
 }
 
 /// The URI of a job: the base, `/jobs/` and the id.

@@ -1,9 +1,14 @@
 //! The attributes of a printer's offer.
 ghost use Rattle.std.specs.Prelude.{◌≡◌, IfOk};
-ghost use Rattle.printer_objects.specs.Attribute.{alone};
+ghost use Rattle.ipp_codec.specs.Tag as tags;
+ghost use Rattle.printer_objects.specs.Attribute.{alone, texts_attribute};
+ghost use Rattle.printer_objects.specs.Finishing.{finishings_supported};
+ghost use Rattle.printer_objects.specs.Offer.{formats_of, media_of, ready_media_of, finishings_of};
 ghost use Rattle.printer_objects.specs.Offered.{operations_attribute, range, hold_untils_attribute, sides_attribute};
 
-use crate::attribute::{add_text, bytes, enumerated, enumeration, keyword, no_value};
+use crate::attribute::{add_text, bytes, enumerated, enumeration, keyword, no_value, texts};
+use crate::finishing::supported_finishings;
+use crate::offer::Offer;
 use crate::operation::Operation;
 use base_types::{Hold, Limits, Sides};
 use ipp_codec::{Attribute, ValueTag};
@@ -25,6 +30,46 @@ pub(crate) fn operations(
         attribute.push(enumeration(u32::from(operation.code())))?;
     }
     Ok(attribute)
+}
+
+/// An attribute of the document formats of an offer.
+pub(crate) fn formats(alloc: Global, name: &str, offer: &Offer<'_>) -> Result<Attribute, AllocError>
+    ensures { IfOk result (λ a. a ≡ texts_attribute name.now tags.mime_media_type (formats_of offer.now)) }
+{
+    let formats = offer.formats(alloc)?;
+    texts(alloc, name, ValueTag::MIME_MEDIA_TYPE, &formats)
+}
+
+/// An attribute of the media of an offer, loaded or not.
+pub(crate) fn media(alloc: Global, name: &str, offer: &Offer<'_>) -> Result<Attribute, AllocError>
+    ensures { IfOk result (λ a. a ≡ texts_attribute name.now tags.keyword (media_of offer.now)) }
+{
+    let media = offer.media(alloc)?;
+    texts(alloc, name, ValueTag::KEYWORD, &media)
+}
+
+/// An attribute of the loaded media of an offer.
+pub(crate) fn ready_media(
+    alloc: Global,
+    name: &str,
+    offer: &Offer<'_>,
+) -> Result<Attribute, AllocError>
+    ensures { IfOk result (λ a. a ≡ texts_attribute name.now tags.keyword (ready_media_of offer.now)) }
+{
+    let media = offer.ready_media(alloc)?;
+    texts(alloc, name, ValueTag::KEYWORD, &media)
+}
+
+/// An attribute of the finishings of an offer.
+pub(crate) fn offered_finishings(
+    alloc: Global,
+    name: &str,
+    offer: &Offer<'_>,
+) -> Result<Attribute, AllocError>
+    ensures { IfOk result (λ a. a ≡ finishings_supported name.now (finishings_of offer.now)) }
+{
+    let finishings = offer.finishings(alloc)?;
+    supported_finishings(alloc, name, &finishings)
 }
 
 /// An attribute of the number of copies that a job may have.

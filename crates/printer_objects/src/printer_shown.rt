@@ -2,13 +2,13 @@
 ghost use Rattle.std.specs.Prelude.{◌≡◌, IfOk, Some};
 ghost use Rattle.printer_objects.specs.PrinterShown.{printer_shown, printer_attributes};
 
-use crate::attribute::{
-    MILLIS_PER_SECOND, english, enumerated, keyword, number, text, texts, time, yes,
-};
-use crate::finishing::{NO_FINISHING, supported_finishings};
-use crate::job_shown::printer_uri;
+use crate::attribute::{MILLIS_PER_SECOND, english, enumerated, keyword, number, text, time, yes};
+use crate::finishing::NO_FINISHING;
+use crate::job_shown::uri_of_printer;
 use crate::offer::Offer;
-use crate::offered::{copies, hold_untils, operations, sides};
+use crate::offered::{
+    copies, formats, hold_untils, media, offered_finishings, operations, ready_media, sides,
+};
 use crate::operation::Operation;
 use crate::printer_attribute::PrinterAttribute;
 use crate::state::{printer_reason, printer_state};
@@ -79,10 +79,11 @@ impl PrinterAttribute {
         let settings = offer.printer();
         match self {
             PrinterAttribute::UriSupported => {
-                let uri = printer_uri(alloc, shown.uri_base, &settings.name)?;
-                text(alloc, name, ValueTag::URI, &uri)
+                uri_of_printer(alloc, name, shown.uri_base, &settings.name)
             }
-            PrinterAttribute::UriSecuritySupported => keyword(alloc, name, b"none"),
+            PrinterAttribute::UriSecuritySupported | PrinterAttribute::CompressionSupported => {
+                keyword(alloc, name, b"none")
+            }
             PrinterAttribute::UriAuthenticationSupported => keyword(
                 alloc,
                 name,
@@ -99,30 +100,28 @@ impl PrinterAttribute {
             }
             PrinterAttribute::IppVersionsSupported => keyword(alloc, name, b"1.1"),
             PrinterAttribute::OperationsSupported => operations(alloc, name, &Operation::all()),
-            PrinterAttribute::MultipleDocumentJobsSupported => yes(alloc, name),
+            PrinterAttribute::MultipleDocumentJobsSupported | PrinterAttribute::IsAcceptingJobs => {
+                yes(alloc, name)
+            }
             PrinterAttribute::MultipleOperationTimeOut => {
                 let seconds = Limits::INCOMING_JOB_TIME / MILLIS_PER_SECOND;
                 number(alloc, name, seconds)
             }
-            PrinterAttribute::CharsetConfigured => text(alloc, name, ValueTag::CHARSET, b"utf-8"),
-            PrinterAttribute::CharsetSupported => text(alloc, name, ValueTag::CHARSET, b"utf-8"),
-            PrinterAttribute::NaturalLanguageConfigured => english(alloc, name),
-            PrinterAttribute::GeneratedNaturalLanguageSupported => english(alloc, name),
+            PrinterAttribute::CharsetConfigured | PrinterAttribute::CharsetSupported => {
+                text(alloc, name, ValueTag::CHARSET, b"utf-8")
+            }
+            PrinterAttribute::NaturalLanguageConfigured
+            | PrinterAttribute::GeneratedNaturalLanguageSupported => english(alloc, name),
             PrinterAttribute::DocumentFormatDefault => text(
                 alloc,
                 name,
                 ValueTag::MIME_MEDIA_TYPE,
                 settings.format_default.as_bytes(),
             ),
-            PrinterAttribute::DocumentFormatSupported => {
-                let formats = offer.formats(alloc)?;
-                texts(alloc, name, ValueTag::MIME_MEDIA_TYPE, &formats)
-            }
-            PrinterAttribute::IsAcceptingJobs => yes(alloc, name),
+            PrinterAttribute::DocumentFormatSupported => formats(alloc, name, offer),
             PrinterAttribute::QueuedJobCount => number(alloc, name, shown.queued as u64),
             PrinterAttribute::PdlOverrideSupported => keyword(alloc, name, b"not-attempted"),
             PrinterAttribute::UpTime => time(alloc, name, Some(shown.moment)),
-            PrinterAttribute::CompressionSupported => keyword(alloc, name, b"none"),
             PrinterAttribute::CopiesDefault => number(alloc, name, 1),
             PrinterAttribute::CopiesSupported => copies(alloc, name),
             PrinterAttribute::HoldUntilDefault => {
@@ -144,23 +143,14 @@ impl PrinterAttribute {
                 name,
                 settings.media_default.as_bytes(),
             ),
-            PrinterAttribute::MediaSupported => {
-                let media = offer.media(alloc)?;
-                texts(alloc, name, ValueTag::KEYWORD, &media)
-            }
-            PrinterAttribute::MediaReady => {
-                let media = offer.ready_media(alloc)?;
-                texts(alloc, name, ValueTag::KEYWORD, &media)
-            }
+            PrinterAttribute::MediaSupported => media(alloc, name, offer),
+            PrinterAttribute::MediaReady => ready_media(alloc, name, offer),
             PrinterAttribute::SidesDefault => {
                 keyword(alloc, name, Sides::One.keyword().as_bytes())
             }
             PrinterAttribute::SidesSupported => sides(alloc, name, offer.sides()),
             PrinterAttribute::FinishingsDefault => enumerated(alloc, name, NO_FINISHING),
-            PrinterAttribute::FinishingsSupported => {
-                let finishings = offer.finishings(alloc)?;
-                supported_finishings(alloc, name, &finishings)
-            }
+            PrinterAttribute::FinishingsSupported => offered_finishings(alloc, name, offer),
         }
     }
 }
