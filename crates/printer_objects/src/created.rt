@@ -1,11 +1,11 @@
 //! The response to a job creation.
 ghost use Rattle.std.specs.Prelude.{◌≡◌, IfOk};
-ghost use Rattle.printer_objects.specs.Created.{created_attributes};
+ghost use Rattle.printer_objects.specs.Created.{created_attributes, named_group};
 
-use crate::attribute::{enumerated, number, reasons, text};
-use crate::job_shown::job_uri;
+use crate::attribute::{enumerated, number, reasons};
+use crate::job_shown::uri_of_job;
 use base_types::{JobId, Text};
-use ipp_codec::{Group, GroupTag, ValueTag};
+use ipp_codec::{Group, GroupTag};
 use job_objects::{JobReasons, JobState};
 use std::alloc::{AllocError, Global};
 
@@ -22,11 +22,18 @@ pub fn created_job_attributes(
 ) -> Result<Group, AllocError>
     ensures { IfOk result (λ group. group ≡ created_attributes uri_base.now id state why) }
 {
-    let mut group = Group::new(alloc, GroupTag::JOB);
-    let uri = job_uri(alloc, uri_base, id)?;
-    group.push(text(alloc, "job-uri", ValueTag::URI, &uri)?)?;
-    group.push(number(alloc, "job-id", u64::from(id.number()))?)?;
+    let mut group = named_group(alloc, uri_base, id)?;
     group.push(enumerated(alloc, "job-state", state.code())?)?;
     group.push(reasons(alloc, "job-state-reasons", why)?)?;
+    Ok(group)
+}
+
+/// The job group with the URI and the id alone.
+fn named_group(alloc: Global, uri_base: &Text, id: JobId) -> Result<Group, AllocError>
+    ensures { IfOk result (λ group. group ≡ named_group uri_base.now id) }
+{
+    let mut group = Group::new(alloc, GroupTag::JOB);
+    group.push(uri_of_job(alloc, "job-uri", uri_base, id)?)?;
+    group.push(number(alloc, "job-id", u64::from(id.number()))?)?;
     Ok(group)
 }
