@@ -1,6 +1,7 @@
 //! The text of a queue for an LPD client (RFC 1179, sections 5.3 and 5.4), and the byte that acknowledges a
 //! job (section 6).
-ghost use Rattle.std.specs.Prelude.{◌≡◌, ◌++◌, IfOk, OnOk};
+ghost use Rattle.std.specs.Prelude.{◌≡◌, ◌++◌, IfOk, OnOk, codes};
+ghost use Rattle.std.specs.Fmt.{decimal};
 ghost use Rattle.std.specs.List.{flat_map};
 ghost use Rattle.ipp_operations.specs.QueueText.{ack_of, line_of, lines_of, long_line, long_start, printer_word, queue_text, reasons_word, short_line, shown, sizes_of, shown_byte, state_word, text_of};
 
@@ -96,17 +97,31 @@ fn line_of(alloc: Global, form: QueueForm, job: &QueueEntry) -> Result<Vec<u8>, 
 fn short_line(alloc: Global, job: &QueueEntry) -> Result<Vec<u8>, AllocError>
     ensures { IfOk result (λ line. line.items ≡ short_line job.now) }
 {
-    let number = job.id.number();
-    let state = state_word(job.state);
-    let octets = job.octets;
-    let head = format!(in alloc; "{number} {state} ")?;
-    let size = format!(in alloc; " {octets} ")?;
-    let mut line = Vec::from_slice(alloc, head.as_bytes())?;
-    line.extend_from_slice(&shown(alloc, true, job.owner.as_bytes())?)?;
-    line.extend_from_slice(size.as_bytes())?;
-    line.extend_from_slice(&shown(alloc, false, job.name.as_bytes())?)?;
+    let mut line = start_of(alloc, job)?;
+    put_shown(alloc, &mut line, true, job.owner.as_bytes())?;
+    put_octets(alloc, &mut line, job.octets)?;
+    put_shown(alloc, &mut line, false, job.name.as_bytes())?;
     line.extend_from_slice(b"\n")?;
     Ok(line)
+}
+
+/// The front of both forms: the id and the state.
+fn start_of(alloc: Global, job: &QueueEntry) -> Result<Vec<u8>, AllocError>
+    ensures { IfOk result (λ start. start.items ≡ decimal job.now.id ++ (codes " " ++ (state_word job.now.state ++ codes " "))) }
+{
+    let number = job.id.number();
+    let state = state_word(job.state);
+    let start = format!(in alloc; "{number} {state} ")?;
+    Vec::from_slice(alloc, start.as_bytes())
+}
+
+/// Appends a number of octets, with spaces around it.
+fn put_octets(alloc: Global, line: &mut Vec<u8>, octets: usize) -> Result<(), AllocError>
+    ensures { OnOk result (line.new.items ≡ line.old.items ++ (codes " " ++ (decimal octets ++ codes " "))) }
+{
+    let size = format!(in alloc; " {octets} ")?;
+    line.extend_from_slice(size.as_bytes())?;
+    Ok(())
 }
 
 /// The line of a job in the long form.
@@ -114,9 +129,9 @@ fn long_line(alloc: Global, job: &QueueEntry) -> Result<Vec<u8>, AllocError>
     ensures { IfOk result (λ line. line.items ≡ long_line job.now) }
 {
     let mut line = long_start(alloc, job)?;
-    line.extend_from_slice(&shown(alloc, true, job.owner.as_bytes())?)?;
+    put_shown(alloc, &mut line, true, job.owner.as_bytes())?;
     line.extend_from_slice(&sizes_of(alloc, job)?)?;
-    line.extend_from_slice(&shown(alloc, false, job.name.as_bytes())?)?;
+    put_shown(alloc, &mut line, false, job.name.as_bytes())?;
     line.extend_from_slice(b"\n")?;
     Ok(line)
 }
@@ -126,10 +141,7 @@ fn long_line(alloc: Global, job: &QueueEntry) -> Result<Vec<u8>, AllocError>
 fn long_start(alloc: Global, job: &QueueEntry) -> Result<Vec<u8>, AllocError>
     ensures { IfOk result (λ start. start.items ≡ long_start job.now) }
 {
-    let number = job.id.number();
-    let state = state_word(job.state);
-    let head = format!(in alloc; "{number} {state} ")?;
-    let mut start = Vec::from_slice(alloc, head.as_bytes())?;
+    let mut start = start_of(alloc, job)?;
     put_reasons(&mut start, job.reasons)?;
     start.extend_from_slice(b" ")?;
     Ok(start)
@@ -156,6 +168,20 @@ fn put_reasons(line: &mut Vec<u8>, reasons: JobReasons) -> Result<(), AllocError
         line.extend_from_slice(b",")?;
         line.extend_from_slice(second.keyword().as_bytes())?;
     }
+    Ok(())
+}
+
+/// Appends the written form of a name.
+fn put_shown(
+    alloc: Global,
+    line: &mut Vec<u8>,
+    one_word: bool,
+    bytes: &[u8],
+) -> Result<(), AllocError>
+    ensures { OnOk result (line.new.items ≡ line.old.items ++ shown one_word bytes.now) }
+{
+    let written = shown(alloc, one_word, bytes)?;
+    line.extend_from_slice(&written)?;
     Ok(())
 }
 
