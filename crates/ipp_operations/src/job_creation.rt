@@ -43,7 +43,8 @@ pub(crate) fn form_of(alloc: Global, group: &GroupView<'_>) -> Result<DocumentFo
     })
 }
 
-/// The fields of a Print-Job. They take the document, unless memory is refused.
+/// The fields of a Print-Job: those of a Validate-Job, and the document, which they take unless memory is
+/// refused.
 pub(crate) fn print_job_of(
     alloc: Global,
     message: &MessageView<'_>,
@@ -54,8 +55,7 @@ pub(crate) fn print_job_of(
     ensures request { IfOk result (λ request. request ≡ print_job_of (group_shown group.now) (job_attributes (message_shown message.now)) document.old) }
     ensures err { OnErr result (document.new ≡ document.old) }
 {
-    let job = asked_job_of(alloc, message, group)?;
-    let form = form_of(alloc, group)?;
+    let ValidateJob { job, form } = validate_job_of(alloc, message, group)?;
     let octets = Octets::take(alloc, document)?;
     Ok(PrintJob { job, form, octets })
 }
