@@ -1,7 +1,7 @@
 //! Responses as bytes.
 ghost use Rattle.std.specs.Prelude.{◌≡◌, IfOk};
 ghost use Rattle.ipp_codec.specs.Grammar.{IsMessage};
-ghost use Rattle.ipp_operations.specs.Reply.{opening_group, tells_unsupported, message_of, IsReply};
+ghost use Rattle.ipp_operations.specs.Reply.{alone, opening_group, tells_unsupported, message_of, IsReply};
 
 use events::{IppResponse, Status};
 use ipp_codec::{
@@ -66,9 +66,22 @@ fn opening_group(alloc: Global) -> Result<Group, AllocError>
     ensures { IfOk result (λ group. group ≡ opening_group) }
 {
     let mut group = Group::new(alloc, GroupTag::OPERATION);
-    let charset = Value::copy_of(alloc, ValueTag::CHARSET, b"utf-8")?;
-    group.push(Attribute::new(alloc, b"attributes-charset", charset)?)?;
-    let language = Value::copy_of(alloc, ValueTag::NATURAL_LANGUAGE, b"en")?;
-    group.push(Attribute::new(alloc, b"attributes-natural-language", language)?)?;
+    let charset = alone(alloc, b"attributes-charset", ValueTag::CHARSET, b"utf-8")?;
+    group.push(charset)?;
+    let language = alone(
+        alloc,
+        b"attributes-natural-language",
+        ValueTag::NATURAL_LANGUAGE,
+        b"en",
+    )?;
+    group.push(language)?;
     Ok(group)
+}
+
+/// An attribute of one value: bytes with a tag.
+fn alone(alloc: Global, name: &[u8], tag: ValueTag, bytes: &[u8]) -> Result<Attribute, AllocError>
+    ensures { IfOk result (λ attribute. attribute ≡ alone name.now tag bytes.now) }
+{
+    let value = Value::copy_of(alloc, tag, bytes)?;
+    Attribute::new(alloc, name, value)
 }
