@@ -1,5 +1,5 @@
 //! The groups of a printer, of a job, and of a list of jobs.
-ghost use Rattle.std.specs.Prelude.{◌≡◌, ◌==◌, ◌&&◌, not, IfOk, count_by, slice_get};
+ghost use Rattle.std.specs.Prelude.{◌≡◌, ◌==◌, ◌&&◌, not, IfOk, count_by, map, slice_get};
 ghost use Rattle.std.specs.List.{list_any};
 ghost use Rattle.std.specs.Option.{option_map_or};
 ghost use Rattle.job_objects.specs.JobState.{is_finished};
@@ -7,6 +7,7 @@ ghost use Rattle.printer_objects.specs.PrinterState.{is_busy_with};
 ghost use Rattle.printer_objects.specs.JobShown.{job_attributes};
 ghost use Rattle.listings.specs.Groups.{is_queued, job_group, job_groups, printer_group, shown_job, state_of_printer};
 
+use crate::entry::Entry;
 use crate::listing::listed;
 use crate::wanted::Wanted;
 use base_types::{Moment, PrinterId, Text};
@@ -169,9 +170,22 @@ pub fn job_groups(
 {
     let attributes = JobAttribute::wanted(alloc, requested)?;
     let listed = listed(alloc, room, wanted, now)?;
+    groups_of(alloc, room, &listed, now, &attributes)
+}
+
+/// The group of each listed job, with these attributes.
+fn groups_of(
+    alloc: Global,
+    room: &PrintRoom,
+    listed: &[Entry<'_>],
+    now: Moment,
+    attributes: &[JobAttribute],
+) -> Result<Vec<Group>, AllocError>
+    ensures { IfOk result (λ groups. groups.items ≡ map (λ job. job_attributes (shown_job now room.now job) attributes.now) (map (λ e. e.job) listed.now)) }
+{
     let mut groups = Vec::with_capacity(alloc, listed.len())?;
-    for entry in &listed {
-        groups.push(group_of(alloc, room, entry.job(), now, &attributes)?)?;
+    for entry in listed {
+        groups.push(group_of(alloc, room, entry.job(), now, attributes)?)?;
     }
     Ok(groups)
 }
