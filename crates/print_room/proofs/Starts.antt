@@ -79,7 +79,7 @@ first_place (class ∷ classes) place = or_both (λ s. s.device ≡ place) (firs
     queue_place class place [] = tt
     queue_place class place (job ∷ jobs) = refl
 
-all_option : (P : Started → Type 0) (o : Option Started) → IfSome o P → All P (option_to_list o)
+pub all_option : (P : Started → Type 0) (o : Option Started) → IfSome o P → All P (option_to_list o)
 all_option P None h = All-nil P
 all_option P (Some s) h = All-cons P s [] h (All-nil P)
 
@@ -94,3 +94,11 @@ starts_inside now classes place (device ∷ devices) =
     All-append P (option_to_list (if is_free now device then first_of classes place else None)) (starts_from now classes (suc place) devices)
     (All-weaker (λ s. s.device ≡ place) P (λ s is. omega (arith, is)) (option_to_list (if is_free now device then first_of classes place else None)) (all_option (λ s. s.device ≡ place) (if is_free now device then first_of classes place else None) (chosen (λ s. s.device ≡ place) (is_free now device) (first_of classes place) (first_place classes place))))
     (All-weaker (λ s. s.device < suc place + length devices) P (λ s below. omega (arith, below)) (starts_from now classes (suc place) devices) (starts_inside now classes (suc place) devices))
+
+-- one device further
+pub starts_step : (now : ℕ) (classes : List PlannedClass) (devices : List Device) (place id : ℕ) (device : Device) (found : Option Started) (before after all : List Started)
+    → place < length devices → device ≡ get_or devices place device → id ≡ place → found ≡ (if is_free now device then first_of classes id else None) → after ≡ before ++ option_to_list found
+    → before ++ starts_from now classes place (drop place devices) ≡ all → after ++ starts_from now classes (place + 1) (drop (place + 1) devices) ≡ all
+starts_step now classes devices place id device found before after all inside at same is grown so =
+    let front = drop-cons devices place device inside ∙ ap (λ (x : Device). x ∷ drop (suc place) devices) (sym at) in
+    rw (grown, is, same, add-one) (append_assoc before _ _ ∙ ap (λ (ds : List Device). before ++ starts_from now classes place ds) (sym front) ∙ so)

@@ -1,5 +1,5 @@
 //! The jobs that begin.
-ghost use Rattle.std.specs.Prelude.{◌≡◌, ◌<◌, ◌≤◌, IfOk, IfSome, None, length, All, if◌then◌else◌};
+ghost use Rattle.std.specs.Prelude.{◌≡◌, ◌<◌, ◌≤◌, ◌++◌, OnOk, IfOk, IfSome, None, length, option_to_list, All, if◌then◌else◌};
 ghost use Rattle.plan_prices.specs.Way.{queue_of};
 ghost use Rattle.print_room.specs.Beginning.{CanBegin, AllCanBegin};
 ghost use Rattle.print_room.specs.Dispatch.{runs_idle, is_free, beginning, beginning_all, first_of, first_of_queue, starts_from};
@@ -102,11 +102,22 @@ pub(crate) fn starts_of(
 {
     let mut starts = Vec::with_capacity(alloc, devices.len())?;
     for (place, device) in devices.iter().enumerate() {
-        if let Some(start) = start_on(classes, DeviceId::new(place), device, now) {
-            starts.push(start)?;
-        }
+        add_start(
+            &mut starts,
+            start_on(classes, DeviceId::new(place), device, now),
+        )?;
     }
     Ok(starts)
+}
+
+/// Appends a job that a device begins, if there is one.
+fn add_start(starts: &mut Vec<Started>, start: Option<Started>) -> Result<(), AllocError>
+    ensures { OnOk result (starts.new.items ≡ starts.old.items ++ option_to_list start) }
+{
+    if let Some(start) = start {
+        starts.push(start)?;
+    }
+    Ok(())
 }
 
 impl PrintRoom {
