@@ -54,8 +54,8 @@ def kind_of(program):
     return f"{program.name}, of which isn't known whether it is proved"
 
 
-def head_of(program, quick):
-    """The head of a section, at its start."""
+def head_of(program, quick, earlier):
+    """The head of a section, at its start. `earlier` names an earlier program, if there is one."""
     commit = said("git", "rev-parse", "--short", "HEAD") or "unknown"
     changed = said("git", "status", "--porcelain", "--", "crates", "crates.txt")
     version = said(str(program), "--version").removeprefix("printd ") or (TOP / "VERSION").read_text().strip()
@@ -71,6 +71,8 @@ def head_of(program, quick):
         ["program", kind_of(program)],
         ["CUPS", said("dpkg-query", "-W", "-f", "${Version}", "cups-daemon") or "not installed"],
     ]
+    if earlier:
+        rows.append(["measured beside it", f"`printd {earlier}`, an earlier program"])
     if quick:
         rows.append(["measured", "with `--quick`, to try the tool: no figure is worth keeping"])
     return Head(version, commit, date, rows)

@@ -28,12 +28,14 @@ def queue_times(program, queue, sizes):
     return {name: event_ms(found, name, kinds[name]) for name in EVENTS}
 
 
-def full_queue(program, sizes):
+def full_queue(program, sizes, name="printd"):
     """What events take with a full queue; and the least and the most ms of any, or why these aren't known."""
     queues = traces.queues(sizes.waiting, sizes.devices)
     times = {queue.name: queue_times(program, queue, sizes) for queue in queues}
     rows = [[name, *(cell(times[queue.name][name]) for queue in queues)] for name in EVENTS]
     title = f"An event, with its plan, while {sizes.waiting} jobs wait for {sizes.devices} devices that print"
+    if name != "printd":
+        title += f" (`{name}`)"
     known = [ms for found in times.values() for ms in found.values() if not isinstance(ms, str)]
     text = table(["Event, ms of a processor", *(f"jobs {queue.name}" for queue in queues)], rows)
     return Table(title, text), (max(0, min(known)), max(known)) if known else "no event could be measured"

@@ -51,11 +51,11 @@ class Process:
 
 
 class Running(Process):
-    """`printd serve`."""
+    """`printd serve`, by the program that is measured or tried, or by another."""
 
-    def __init__(self, settings=TOP / "examples/office.toml", words=(), log=subprocess.DEVNULL):
+    def __init__(self, settings=TOP / "examples/office.toml", words=(), log=subprocess.DEVNULL, program=None):
         doors = ["--ipp", "0", "--lpd", "0", "--devices", "0"]
-        super().__init__([PROGRAM, "serve", "--settings", settings, *doors, *words], stdout=subprocess.PIPE, stderr=log, text=True)
+        super().__init__([program or PROGRAM, "serve", "--settings", settings, *doors, *words], stdout=subprocess.PIPE, stderr=log, text=True)
 
     def __enter__(self):
         super().__enter__()

@@ -197,13 +197,14 @@ class Ours:
     name, wanted = "printd", "true"
     path = "/printers/lab"
     count = 16
+    program = None
 
     def __init__(self, folder, slow=False, words=()):
         names = [f"d{number}" for number in range(self.count)]
         settings = folder / "load.toml"
         # fifteen milliseconds an impression, so that five octets are one of them
         settings.write_text(settings_of([(name, 15, 0) for name in names]))
-        self.running = Running(settings, words)
+        self.running = Running(settings, words, program=self.program)
         self.names, self.slow = names, slow
 
     def __enter__(self):
@@ -216,6 +217,11 @@ class Ours:
 
     def __exit__(self, *end):
         self.running.__exit__(*end)
+
+
+def earlier(name, program):
+    """The same by an earlier build of the program."""
+    return type("Earlier", (Ours,), {"name": f"printd {name}", "program": program})
 
 
 class SlowOurs(Ours):
