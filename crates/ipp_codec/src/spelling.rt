@@ -1,9 +1,9 @@
 //! Messages as bytes.
-ghost use Rattle.std.specs.Prelude.{◌≡◌, ◌<◌, ◌++◌, length, OnOk, OnErr, IsErrOf, IsTrue, ◌↔◌, [], ◌∷◌};
+ghost use Rattle.std.specs.Prelude.{◌≡◌, ◌<◌, ◌++◌, length, IfOk, OnOk, OnErr, IsErrOf, IsTrue, ◌↔◌, [], ◌∷◌};
 ghost use Rattle.std.specs.List.{AllByRecursion};
 ghost use Rattle.base_types.specs.declared.limits.TheConstants.Limits.{COLLECTION_DEPTH};
 ghost use Rattle.ipp_codec.specs.Message.{values_of, members_of};
-ghost use Rattle.ipp_codec.specs.Spelling.{value_bytes, spelling};
+ghost use Rattle.ipp_codec.specs.Spelling.{value_bytes, elements, bytes_of, spelling};
 ghost use Rattle.ipp_codec.specs.Written.{value_written, values_written, members_written, attributes_written, groups_written, header_bytes};
 ghost use Rattle.ipp_codec.specs.Grammar.{IsPlain, IsName, IsValue, AreValues, AreMembers, IsAttribute, IsGroup, IsMessage};
 ghost use Rattle.ipp_codec.specs.Owned.{value_owned, values_owned, member_owned, members_owned};
@@ -15,7 +15,7 @@ use crate::shape::has_shape;
 use crate::value::{Member, Value};
 use crate::view::Version;
 use base_types::Limits;
-use std::alloc::AllocError;
+use std::alloc::{AllocError, Global};
 
 /// The number of bytes for which a spelling takes memory at first. Most replies have fewer.
 const FIRST_BYTES: usize = 512;
@@ -30,16 +30,25 @@ pub fn encode(message: &Message, out: &mut Vec<u8>) -> Result<(), EncodeFault>
     if !are_groups(&message.groups) {
         return Err(EncodeFault::Unspellable);
     }
-    let Ok(mut bytes) = Vec::with_capacity(*out.allocator(), FIRST_BYTES) else {
+    let Ok(bytes) = encode_behind(*out.allocator(), &header, &message.groups) else {
         return Err(EncodeFault::OutOfMemory);
     };
-    if put_message(&mut bytes, &header, &message.groups).is_err() {
-        return Err(EncodeFault::OutOfMemory);
-    }
     if out.extend_from_slice(&bytes).is_err() {
         return Err(EncodeFault::OutOfMemory);
     }
     Ok(())
+}
+
+/// The bytes of a message whose front is spelt already: the front, then the groups, then the end byte. The front
+/// is the header, or the header and groups before these. The only error is out of memory.
+#[tactic(auto, using(crate::proofs::Writing::groups_is))]
+pub fn encode_behind(alloc: Global, front: &[u8], groups: &[Group]) -> Result<Vec<u8>, AllocError>
+    requires { AllByRecursion IsGroup groups.now }
+    ensures { IfOk result (λ bytes. bytes.items ≡ front.now ++ (bytes_of (elements groups.now) ++ 3 ∷ [])) }
+{
+    let mut bytes = Vec::with_capacity(alloc, FIRST_BYTES)?;
+    put_message(&mut bytes, front, groups)?;
+    Ok(bytes)
 }
 
 /// The eight bytes before the groups.
@@ -60,11 +69,11 @@ fn header_of(version: Version, code: u16, request_id: u32) -> [u8; 8]
     ]
 }
 
-fn put_message(out: &mut Vec<u8>, header: &[u8], groups: &[Group]) -> Result<(), AllocError>
+fn put_message(out: &mut Vec<u8>, front: &[u8], groups: &[Group]) -> Result<(), AllocError>
     requires { AllByRecursion IsGroup groups.now }
-    ensures { OnOk result (out.new.items ≡ out.old.items ++ (header.now ++ (groups_written groups.now ++ 3 ∷ []))) }
+    ensures { OnOk result (out.new.items ≡ out.old.items ++ (front.now ++ (groups_written groups.now ++ 3 ∷ []))) }
 {
-    out.extend_from_slice(header)?;
+    out.extend_from_slice(front)?;
     put_groups(out, groups)?;
     out.push(END)?;
     Ok(())

@@ -1,15 +1,21 @@
 //! Responses as bytes.
-ghost use Rattle.std.specs.Prelude.{◌≡◌, IfOk};
-ghost use Rattle.ipp_codec.specs.Grammar.{IsMessage};
-ghost use Rattle.ipp_operations.specs.Reply.{alone, opening_group, tells_unsupported, message_of, IsReply};
+ghost use Rattle.std.specs.Prelude.{◌≡◌, ◌++◌, IfOk};
+ghost use Rattle.std.specs.List.{AllByRecursion};
+ghost use Rattle.ipp_codec.specs.Grammar.{IsGroup};
+ghost use Rattle.ipp_operations.specs.Reply.{tells_unsupported, unsupported_of, IsReply};
 
-use events::{IppResponse, Status};
-use ipp_codec::{
-    Attribute, EncodeFault, Group, GroupTag, Message, Value, ValueTag, Version, encode,
-};
+use crate::refusal::ipp_refusal;
+use events::{IppResponse, ResponseGroups, Status};
+use ipp_codec::{Group, GroupTag, encode_behind};
+use job_template::RequestAttributes;
 use std::alloc::{AllocError, Global};
 
-/// The bytes of the reply to a request-id (RFC 8011, section 4.1.4.2). The only error is out of memory.
+/// The number of bytes of a refusal before its end byte.
+const REFUSAL_FRONT: usize = 71;
+
+/// The bytes of the reply to a request-id (RFC 8011, section 4.1.4.2). They begin as a refusal of the status
+/// does. The only error is out of memory.
+#[tactic(auto, using(crate::proofs::Replying::behind_front))]
 pub fn ipp_response(
     alloc: Global,
     answer: IppResponse,
@@ -17,38 +23,39 @@ pub fn ipp_response(
 ) -> Result<Vec<u8>, AllocError>
     ensures { IfOk result (λ bytes. IsReply answer request_id bytes.items) }
 {
-    let message = message_of(alloc, answer, request_id)?;
-    let mut bytes = Vec::new(alloc);
-    match encode(&message, &mut bytes) {
-        Ok(()) => Ok(bytes),
-        Err(EncodeFault::Unspellable) => unreachable!(),
-        Err(EncodeFault::OutOfMemory) => Err(AllocError),
-    }
-}
-
-/// The message of a response. The only error is out of memory.
-fn message_of(alloc: Global, answer: IppResponse, request_id: u32) -> Result<Message, AllocError>
-    ensures value { IfOk result (λ message. message ≡ message_of answer request_id) }
-    ensures spelt { IfOk result IsMessage }
-{
     let IppResponse {
         status,
         unsupported,
         groups,
     } = answer;
-    let unsupported = unsupported.into_vec();
+    let groups = groups_of(alloc, status, unsupported, groups)?;
+    let refusal = ipp_refusal(status, request_id);
+    encode_behind(alloc, &refusal[..REFUSAL_FRONT], &groups)
+}
+
+/// The groups behind the operation group of a reply: that of the unsupported attributes, if the status reports
+/// them and there are any, and then those of the response. The only error is out of memory.
+fn groups_of(
+    alloc: Global,
+    status: Status,
+    unsupported: RequestAttributes,
+    groups: ResponseGroups,
+) -> Result<Vec<Group>, AllocError>
+    ensures value { IfOk result (λ all. all.items ≡ unsupported_of status unsupported ++ groups) }
+    ensures spelt { IfOk result (λ all. AllByRecursion IsGroup all.items) }
+{
+    let attributes = unsupported.into_vec();
     let mut groups = groups.into_vec();
-    let version = Version { major: 1, minor: 1 };
-    let mut message = Message::new(alloc, version, status.code(), request_id);
-    message.push(opening_group(alloc)?)?;
-    if tells_unsupported(status) && !unsupported.is_empty() {
-        message.push(Group {
-            tag: GroupTag::UNSUPPORTED,
-            attributes: unsupported,
-        })?;
+    if !tells_unsupported(status) || attributes.is_empty() {
+        return Ok(groups);
     }
-    message.groups.append(&mut groups)?;
-    Ok(message)
+    let mut all = Vec::with_capacity(alloc, groups.len() + 1)?;
+    all.push(Group {
+        tag: GroupTag::UNSUPPORTED,
+        attributes,
+    })?;
+    all.append(&mut groups)?;
+    Ok(all)
 }
 
 /// Returns whether the status reports unsupported attributes.
@@ -59,29 +66,4 @@ fn tells_unsupported(status: Status) -> bool
         status,
         Status::OkIgnoredOrSubstituted | Status::AttributesNotSupported
     )
-}
-
-/// The operation group of each reply: its charset and natural language.
-fn opening_group(alloc: Global) -> Result<Group, AllocError>
-    ensures { IfOk result (λ group. group ≡ opening_group) }
-{
-    let mut group = Group::new(alloc, GroupTag::OPERATION);
-    let charset = alone(alloc, b"attributes-charset", ValueTag::CHARSET, b"utf-8")?;
-    group.push(charset)?;
-    let language = alone(
-        alloc,
-        b"attributes-natural-language",
-        ValueTag::NATURAL_LANGUAGE,
-        b"en",
-    )?;
-    group.push(language)?;
-    Ok(group)
-}
-
-/// An attribute of one value: bytes with a tag.
-fn alone(alloc: Global, name: &[u8], tag: ValueTag, bytes: &[u8]) -> Result<Attribute, AllocError>
-    ensures { IfOk result (λ attribute. attribute ≡ alone name.now tag bytes.now) }
-{
-    let value = Value::copy_of(alloc, tag, bytes)?;
-    Attribute::new(alloc, name, value)
 }
