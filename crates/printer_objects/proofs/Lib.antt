@@ -2,3 +2,4 @@ pub mod Searches
 pub mod Listing
 pub mod Taken
 pub mod Spelt
+pub mod Asking

@@ -1,5 +1,5 @@
 -- The attributes of a printer: their order, names and groups (RFC 8011, sections 5.4 and 5.2).
-use Rattle.std.specs.Prelude.{ℕ, Bool, List, [], ◌∷◌, codes}
+use Rattle.std.specs.Prelude.{ℕ, Bool, true, false, if◌then◌else◌, List, [], ◌∷◌, codes}
 use Rattle.printer_objects.specs.declared.printer_attribute.PrinterAttribute.{PrinterAttribute}
 use Rattle.printer_objects.specs.declared.printer_attribute.PrinterAttribute.TheVariants.{UriSupported, UriSecuritySupported, UriAuthenticationSupported, Name, State, StateReasons, IppVersionsSupported, OperationsSupported, MultipleDocumentJobsSupported, MultipleOperationTimeOut, CharsetConfigured, CharsetSupported, NaturalLanguageConfigured, GeneratedNaturalLanguageSupported, DocumentFormatDefault, DocumentFormatSupported, IsAcceptingJobs, QueuedJobCount, PdlOverrideSupported, UpTime, CompressionSupported, CopiesDefault, CopiesSupported, HoldUntilDefault, HoldUntilSupported, PriorityDefault, PrioritySupported, MediaDefault, MediaSupported, MediaReady, SidesDefault, SidesSupported, FinishingsDefault, FinishingsSupported}
 use Rattle.printer_objects.specs.Requested.{is_requested}
@@ -44,42 +44,26 @@ printer_attribute_name SidesSupported = codes "sides-supported"
 printer_attribute_name FinishingsDefault = codes "finishings-default"
 printer_attribute_name FinishingsSupported = codes "finishings-supported"
 
+-- whether it is an attribute of the job template (section 5.2)
+abbrev pub is_of_template : PrinterAttribute → Bool
+is_of_template CopiesDefault = true
+is_of_template CopiesSupported = true
+is_of_template HoldUntilDefault = true
+is_of_template HoldUntilSupported = true
+is_of_template PriorityDefault = true
+is_of_template PrioritySupported = true
+is_of_template MediaDefault = true
+is_of_template MediaSupported = true
+is_of_template MediaReady = true
+is_of_template SidesDefault = true
+is_of_template SidesSupported = true
+is_of_template FinishingsDefault = true
+is_of_template FinishingsSupported = true
+is_of_template _ = false
+
 -- the name of the attribute's group in requested-attributes
 abbrev pub printer_attribute_group : PrinterAttribute → List ℕ
-printer_attribute_group UriSupported = codes "printer-description"
-printer_attribute_group UriSecuritySupported = codes "printer-description"
-printer_attribute_group UriAuthenticationSupported = codes "printer-description"
-printer_attribute_group Name = codes "printer-description"
-printer_attribute_group State = codes "printer-description"
-printer_attribute_group StateReasons = codes "printer-description"
-printer_attribute_group IppVersionsSupported = codes "printer-description"
-printer_attribute_group OperationsSupported = codes "printer-description"
-printer_attribute_group MultipleDocumentJobsSupported = codes "printer-description"
-printer_attribute_group MultipleOperationTimeOut = codes "printer-description"
-printer_attribute_group CharsetConfigured = codes "printer-description"
-printer_attribute_group CharsetSupported = codes "printer-description"
-printer_attribute_group NaturalLanguageConfigured = codes "printer-description"
-printer_attribute_group GeneratedNaturalLanguageSupported = codes "printer-description"
-printer_attribute_group DocumentFormatDefault = codes "printer-description"
-printer_attribute_group DocumentFormatSupported = codes "printer-description"
-printer_attribute_group IsAcceptingJobs = codes "printer-description"
-printer_attribute_group QueuedJobCount = codes "printer-description"
-printer_attribute_group PdlOverrideSupported = codes "printer-description"
-printer_attribute_group UpTime = codes "printer-description"
-printer_attribute_group CompressionSupported = codes "printer-description"
-printer_attribute_group CopiesDefault = codes "job-template"
-printer_attribute_group CopiesSupported = codes "job-template"
-printer_attribute_group HoldUntilDefault = codes "job-template"
-printer_attribute_group HoldUntilSupported = codes "job-template"
-printer_attribute_group PriorityDefault = codes "job-template"
-printer_attribute_group PrioritySupported = codes "job-template"
-printer_attribute_group MediaDefault = codes "job-template"
-printer_attribute_group MediaSupported = codes "job-template"
-printer_attribute_group MediaReady = codes "job-template"
-printer_attribute_group SidesDefault = codes "job-template"
-printer_attribute_group SidesSupported = codes "job-template"
-printer_attribute_group FinishingsDefault = codes "job-template"
-printer_attribute_group FinishingsSupported = codes "job-template"
+printer_attribute_group which = if is_of_template which then codes "job-template" else codes "printer-description"
 
 -- whether requested-attributes asks for the attribute
 abbrev pub is_wanted_of_printer : List (List ℕ) → PrinterAttribute → Bool

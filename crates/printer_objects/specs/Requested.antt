@@ -10,3 +10,15 @@ asks_for name group asked = bytes_eq asked (codes "all") || bytes_eq asked group
 -- some value asks for the attribute; a value that names nothing is ignored
 abbrev pub is_requested : List ℕ → List ℕ → List (List ℕ) → Bool
 is_requested name group requested = list_any (asks_for name group) requested
+
+-- some value is this name
+abbrev pub has_name : List ℕ → List (List ℕ) → Bool
+has_name name requested = list_any (λ asked. bytes_eq asked name) requested
+
+-- a value asks for a group of a printer's attributes, or for all attributes
+abbrev pub names_group : List ℕ → Bool
+names_group asked = bytes_eq asked (codes "all") || bytes_eq asked (codes "printer-description") || bytes_eq asked (codes "job-template")
+
+-- some value does so
+abbrev pub has_group : List (List ℕ) → Bool
+has_group requested = list_any names_group requested

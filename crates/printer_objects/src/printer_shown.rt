@@ -11,6 +11,7 @@ use crate::offered::{
 };
 use crate::operation::Operation;
 use crate::printer_attribute::PrinterAttribute;
+use crate::requested::has_group;
 use crate::state::{printer_reason, printer_state};
 use base_types::{Hold, Limits, Moment, Sides, Text};
 use ipp_codec::{Attribute, Group, GroupTag, ValueTag};
@@ -60,8 +61,9 @@ pub fn printer_attributes(
 {
     let count = requested.len().min(PrinterAttribute::COUNT);
     let mut group = Group::with_capacity(alloc, GroupTag::PRINTER, count)?;
+    let by_group = has_group(requested);
     for which in PrinterAttribute::all() {
-        if which.is_wanted(requested) {
+        if which.is_wanted(by_group, requested) {
             let attribute = which.shown(alloc, shown)?;
             group.push(attribute)?;
         }
