@@ -17,6 +17,7 @@ mod ends;
 mod last_plan;
 mod log;
 mod log_writer;
+mod lookout;
 mod recorder;
 mod run;
 mod serving;

@@ -4,6 +4,7 @@ ghost use Rattle.settings_file.specs.Settings.{MeetsLimits};
 ghost use Rattle.daemon.specs.Serving.{TakesTurn, ServesTurn, AddsLines};
 
 use crate::chronicle::Chronicle;
+use crate::lookout::Lookout;
 use crate::traced::TracedEngine;
 use crate::witness::Witness;
 use base_types::Moment;
@@ -18,8 +19,8 @@ use std::io;
 use std::time::Duration;
 use wires::WireId;
 
-/// A server: its engine, its sockets, the chronicle of its log, and the moment of the last turn in which a
-/// tick was due by the clock.
+/// A server: its engine, its sockets, the chronicle of its log, the moment of the last turn in which a tick was
+/// due by the clock, and the lookout before its waits.
 #[derive(Drop)]
 pub struct Server {
     alloc: Global,
@@ -27,6 +28,7 @@ pub struct Server {
     wire: Noted<Sockets>,
     chronicle: Chronicle,
     ticked: Option<Moment>,
+    lookout: Lookout,
 }
 
 /// The events of a log of connections. Empty if no log was kept.
@@ -53,6 +55,7 @@ impl Server {
             wire: Noted::new(alloc, sockets),
             chronicle: Chronicle::new(alloc, names),
             ticked: None,
+            lookout: Lookout::new(),
         })
     }
 
@@ -171,11 +174,22 @@ impl Server {
     /// at most once in a ms.
     pub fn rest(&mut self, most: u64) -> io::Result<()> {
         let sockets = &mut self.wire.wire;
-        let worked = sockets.take_worked();
-        if worked && sockets.has_just_waited() {
-            return Ok(());
+        if sockets.take_worked() {
+            self.lookout.works();
+            return if sockets.has_just_waited() {
+                Ok(())
+            } else {
+                sockets.wait(Duration::ZERO)
+            };
         }
-        let pause = if worked { 0 } else { sockets.time_left(most) };
+        if self.lookout.is_due() {
+            let found = sockets.look()?;
+            self.lookout.looked(found);
+            if found {
+                return Ok(());
+            }
+        }
+        let pause = sockets.time_left(most);
         sockets.wait(Duration::from_millis(pause))
     }
 }

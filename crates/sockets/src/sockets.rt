@@ -19,6 +19,9 @@ use wires::{Door, Progress, Wire, WireId};
 /// The most sockets that a wait reports: all sockets that there are.
 const EVENTS: usize = 128;
 
+/// The most times that one [`Sockets::look`] asks the system for events: for some 30 us.
+const LOOKS: usize = 120;
+
 /// The token of the first listener at the poll. Each further listener has the token below the token of the
 /// listener before. A connection has its own number as its token; the tokens of lingering connections are
 /// between both.
@@ -148,6 +151,20 @@ impl Sockets {
         );
         self.lingerings.drain(self.moment);
         Ok(())
+    }
+
+    /// Asks the system for events without a wait, up to [`LOOKS`] times, until it reports one. Returns whether
+    /// there was an event.
+    ///
+    /// A peer that answers at once needs less time than the system needs to wake a server that waits.
+    pub fn look(&mut self) -> io::Result<bool> {
+        for _ in 0..LOOKS {
+            self.wait(Duration::ZERO)?;
+            if !self.events.is_empty() {
+                return Ok(true);
+            }
+        }
+        Ok(false)
     }
 
     /// Returns whether the last wait was at the current moment: what it reported is at most 1 ms old.
