@@ -1,6 +1,5 @@
 -- Where no value of requested-attributes names a group, an attribute is asked for by its name alone.
 use Rattle.std.proofs.Common.{◌≡◌, ℕ, Bool, true, false, ◌||◌, if◌then◌else◌, List, [], ◌∷◌, codes, refl, ap}
-use Rattle.std.specs.List.{list_any}
 use Rattle.std.specs.Str.{bytes_eq}
 use Rattle.printer_objects.specs.declared.printer_attribute.PrinterAttribute.{PrinterAttribute}
 use Rattle.printer_objects.specs.PrinterAttribute.{is_of_template, printer_attribute_group, printer_attribute_name, is_wanted_of_printer}
