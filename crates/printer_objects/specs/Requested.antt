@@ -19,6 +19,6 @@ has_name name requested = list_any (λ asked. bytes_eq asked name) requested
 abbrev pub names_group : List ℕ → Bool
 names_group asked = bytes_eq asked (codes "all") || bytes_eq asked (codes "printer-description") || bytes_eq asked (codes "job-template")
 
--- some value does so
+-- some value asks for a group of a printer's attributes, or for all
 abbrev pub has_group : List (List ℕ) → Bool
 has_group requested = list_any names_group requested

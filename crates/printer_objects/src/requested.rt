@@ -1,6 +1,5 @@
 //! The attributes that requested-attributes asks for.
 ghost use Rattle.std.specs.Prelude.{◌≡◌, ◌++◌, ◌∷◌, [], OnOk, OnErr};
-ghost use Rattle.std.specs.Str.{bytes_eq};
 ghost use Rattle.printer_objects.specs.Requested.{asks_for, has_group, has_name, is_requested, names_group};
 
 use base_types::Text;
