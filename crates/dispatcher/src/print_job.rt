@@ -103,12 +103,15 @@ fn asked_of_format(
     ensures free { IfOk result (λ asked. IfOk asked (λ accepted. new_refusal room.now.spool accepted.job.documents ≡ None)) }
 {
     let PrintJob { job, octets, .. } = request;
-    let mut accepted = match job_asked(alloc, room, printer, job, octets.len(), now)? {
+    let Accepted {
+        mut job,
+        unsupported,
+    } = match job_asked(alloc, room, printer, job, octets.len(), now)? {
         Ok(accepted) => accepted,
         Err(refusal) => return Ok(Err(refusal)),
     };
-    accepted.job.documents = one_document(alloc, format, octets)?;
-    Ok(Ok(accepted))
+    job.documents = one_document(alloc, format, octets)?;
+    Ok(Ok(Accepted { job, unsupported }))
 }
 
 /// A list of one document of a format. The only error is out of memory.

@@ -6,7 +6,7 @@ ghost use Rattle.dispatcher.specs.ValidateJob.{Validates, ValidatesJob, validate
 use crate::answering::{refuse, taken_with};
 use crate::checks::{NamedPrinter, Rejection, format_asked, named_printer, unsupported_asked};
 use base_types::Moment;
-use events::{Effects, ResponseGroups, ValidateJob};
+use events::{Effects, JobCreation, ResponseGroups, ValidateJob};
 use job_template::RequestAttributes;
 use print_room::PrintRoom;
 use std::alloc::Global;
@@ -63,7 +63,12 @@ fn validated_of_printer(
 ) -> Result<RequestAttributes, Rejection>
     ensures { result ≡ validated_of_printer request printer.now }
 {
-    let _format = format_asked(alloc, &printer.offer, &request.form)?;
-    let job = request.job;
-    unsupported_asked(alloc, &printer.offer, job.fidelity, job.template)
+    let ValidateJob { job, form } = request;
+    let _format = format_asked(alloc, &printer.offer, &form)?;
+    let JobCreation {
+        fidelity,
+        template,
+        ..
+    } = job;
+    unsupported_asked(alloc, &printer.offer, fidelity, template)
 }

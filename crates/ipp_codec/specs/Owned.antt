@@ -1,5 +1,6 @@
 -- The content of owned values.
 use Rattle.std.specs.Prelude.{List, map}
+use Rattle.std.specs.Cow.{cow_slice_items}
 use Rattle.ipp_codec.specs.declared.value.Value.{Value}
 use Rattle.ipp_codec.specs.declared.value.Value.TheOpen.{Value-F, Member-F}
 use Rattle.ipp_codec.specs.declared.value.Value.TheOpen as layer
@@ -9,7 +10,7 @@ use Rattle.ipp_codec.specs.Message.{IppValue, plain, collection, IppMember, memb
 
 -- one layer of a value
 abbrev pub value_step : Value-F IppValue IppMember → IppValue
-value_step (layer.Plain tag bytes) = plain tag bytes.items
+value_step (layer.Plain tag bytes) = plain tag (cow_slice_items bytes)
 value_step (layer.Number tag bytes) = plain tag bytes
 value_step (layer.Collection members) = collection (members_of members.items)
 

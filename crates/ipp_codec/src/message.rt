@@ -7,12 +7,13 @@ use crate::tag::GroupTag;
 use crate::value::Value;
 use crate::view::Version;
 use std::alloc::{AllocError, Global};
+use std::borrow::CowSlice;
 use std::marker::Model;
 
-/// An attribute: its name, and one or more values.
+/// An attribute: its name, which the program knows or the attribute owns, and one or more values.
 #[derive(Drop)]
 pub struct Attribute {
-    pub name: Vec<u8>,
+    pub name: CowSlice<'static, u8>,
     pub first: Value,
     pub others: Vec<Value>,
 }
@@ -35,6 +36,7 @@ pub struct Message {
 
 impl Model for Attribute {
     ghost use Rattle.std.specs.Prelude.{map};
+    ghost use Rattle.std.specs.Cow.{cow_slice_items};
     ghost use Rattle.ipp_codec.specs.Code.{attribute_code};
     ghost use Rattle.ipp_codec.specs.Message.{IppAttribute};
     ghost use Rattle.ipp_codec.specs.Owned.{value_owned};
@@ -44,7 +46,7 @@ impl Model for Attribute {
     ghost coded = { attribute_code };
 
     ghost view = { λ a. record {
-      name = a.name.items;
+      name = cow_slice_items a.name;
       first = value_owned a.first;
       others = map value_owned a.others.items;
     } };
@@ -85,17 +87,35 @@ impl Attribute {
     {
         let name = Vec::from_slice(alloc, name)?;
         Ok(Attribute {
-            name,
+            name: CowSlice::Owned(name),
             first,
             others: Vec::new(alloc),
         })
+    }
+
+    /// An attribute of a name that the program knows, with one value. The call takes no memory.
+    pub fn known(alloc: Global, name: &'static [u8], first: Value) -> Attribute
+        ensures { result ≡ record { name = name.now; first = value_owned first; others = [] } }
+    {
+        Attribute {
+            name: CowSlice::Borrowed(name),
+            first,
+            others: Vec::new(alloc),
+        }
     }
 
     /// The name of the attribute.
     pub fn name(&self) -> &[u8]
         ensures { result.now ≡ self.now.name }
     {
-        &self.name
+        self.name.as_slice()
+    }
+
+    /// Takes memory for so many more values. The only error is out of memory.
+    pub fn reserve(&mut self, count: usize) -> Result<(), AllocError>
+        ensures { self.new ≡ self.old }
+    {
+        self.others.reserve(count)
     }
 
     /// Appends a value. The only error is out of memory, and nothing is appended then.

@@ -11,6 +11,7 @@ use crate::value::{Member, Value};
 use crate::view::{AttributeView, GroupView, MessageView, ValueView};
 use crate::walk::{next_attribute, next_group, next_member, next_value};
 use std::alloc::{AllocError, Global};
+use std::borrow::CowSlice;
 
 #[cycle(own)]
 fn own_value(alloc: Global, value: ValueView<'_>) -> Result<Value, AllocError>
@@ -90,7 +91,7 @@ impl<'a> AttributeView<'a> {
         ensures { IfOk result (λ attribute. attribute ≡ attribute_shown self.now) }
     {
         Ok(Attribute {
-            name: Vec::from_slice(alloc, self.name)?,
+            name: CowSlice::Owned(Vec::from_slice(alloc, self.name)?),
             first: own_value(alloc, self.first)?,
             others: own_values(alloc, self.rest)?,
         })

@@ -121,12 +121,25 @@ fn put_field(out: &mut Vec<u8>, tag: u8, name: &[u8], bytes: &[u8]) -> Result<()
     requires bytes { length bytes.now < 0x8000 }
     ensures { OnOk result (out.new.items ≡ out.old.items ++ value_bytes tag name.now bytes.now) }
 {
-    out.push(tag)?;
-    out.extend_from_slice(&(name.len() as u16).to_be_bytes())?;
+    if name.is_empty() {
+        return put_unnamed(out, tag, bytes);
+    }
+    let [high, low] = (name.len() as u16).to_be_bytes();
+    out.extend_from_slice(&[tag, high, low])?;
     out.extend_from_slice(name)?;
     out.extend_from_slice(&(bytes.len() as u16).to_be_bytes())?;
     out.extend_from_slice(bytes)?;
     Ok(())
+}
+
+/// Appends a field without a name: a further value of an attribute, or a part of a collection.
+fn put_unnamed(out: &mut Vec<u8>, tag: u8, bytes: &[u8]) -> Result<(), AllocError>
+    requires { length bytes.now < 0x8000 }
+    ensures { OnOk result (out.new.items ≡ out.old.items ++ value_bytes tag [] bytes.now) }
+{
+    let [high, low] = (bytes.len() as u16).to_be_bytes();
+    out.extend_from_slice(&[tag, 0, 0, high, low])?;
+    out.extend_from_slice(bytes)
 }
 
 #[cycle(put)]

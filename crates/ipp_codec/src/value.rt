@@ -8,13 +8,21 @@ ghost use Rattle.ipp_codec.specs.Tag as tags;
 use crate::tag::ValueTag;
 use crate::typed::integer_of;
 use std::alloc::{AllocError, Global};
+use std::borrow::CowSlice;
 
-/// A value: its tag and bytes, or a collection's members. The four bytes of a number lie in the value itself.
+/// A value: its tag and bytes, or a collection's members. The program knows the bytes, or the value owns them. The
+/// four bytes of a number lie in the value itself.
 #[cycle(value)]
 #[derive(Drop)]
 pub enum Value {
-    Plain { tag: ValueTag, bytes: Vec<u8> },
-    Number { tag: ValueTag, bytes: [u8; 4] },
+    Plain {
+        tag: ValueTag,
+        bytes: CowSlice<'static, u8>,
+    },
+    Number {
+        tag: ValueTag,
+        bytes: [u8; 4],
+    },
     Collection(Vec<Member>),
 }
 
@@ -32,17 +40,17 @@ impl Value {
     pub fn copy_of(alloc: Global, tag: ValueTag, bytes: &[u8]) -> Result<Value, AllocError>
         ensures { IfOk result (λ value. value_owned value ≡ plain tag bytes.now) }
     {
-        let bytes = Vec::from_slice(alloc, bytes)?;
+        let bytes = CowSlice::Owned(Vec::from_slice(alloc, bytes)?);
         Ok(Value::Plain { tag, bytes })
     }
 
-    /// A value of a tag without bytes. The call takes no memory.
-    pub fn empty(alloc: Global, tag: ValueTag) -> Value
-        ensures { value_owned result ≡ plain tag [] }
+    /// A value of a tag with bytes that the program knows. The call takes no memory.
+    pub fn known(tag: ValueTag, bytes: &'static [u8]) -> Value
+        ensures { value_owned result ≡ plain tag bytes.now }
     {
         Value::Plain {
             tag,
-            bytes: Vec::new(alloc),
+            bytes: CowSlice::Borrowed(bytes),
         }
     }
 
@@ -66,11 +74,11 @@ impl Value {
         }
     }
 
-    /// A truth value (RFC 8010, section 3.9). The only error is out of memory.
-    pub fn boolean(alloc: Global, truth: bool) -> Result<Value, AllocError>
-        ensures { IfOk result (λ value. value_owned value ≡ plain tags.boolean (byte_of_boolean truth ∷ [])) }
+    /// A truth value (RFC 8010, section 3.9). The call takes no memory.
+    pub fn boolean(truth: bool) -> Value
+        ensures { value_owned result ≡ plain tags.boolean (byte_of_boolean truth ∷ []) }
     {
-        Value::copy_of(alloc, ValueTag::BOOLEAN, &[u8::from(truth)])
+        Value::known(ValueTag::BOOLEAN, if truth { &[1] } else { &[0] })
     }
 
     /// A collection of members.

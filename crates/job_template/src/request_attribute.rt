@@ -94,6 +94,6 @@ pub(crate) fn make_returned(attribute: &mut Attribute, alloc: Global)
 fn lose_values(attribute: &mut Attribute, alloc: Global)
     ensures { attribute.new ≡ record { name = attribute.old.name; first = plain tags.unsupported []; others = [] } }
 {
-    attribute.first = Value::empty(alloc, ValueTag::UNSUPPORTED);
+    attribute.first = Value::known(ValueTag::UNSUPPORTED, b"");
     attribute.others = Vec::new(alloc);
 }

@@ -23,7 +23,7 @@ pub fn created_job_attributes(
     ensures { IfOk result (λ group. group ≡ created_attributes uri_base.now id state why) }
 {
     let mut group = named_group(alloc, uri_base, id)?;
-    group.push(enumerated(alloc, "job-state", state.code())?)?;
+    group.push(enumerated(alloc, "job-state", state.code()))?;
     group.push(reasons(alloc, "job-state-reasons", why)?)?;
     Ok(group)
 }
@@ -34,6 +34,6 @@ fn named_group(alloc: Global, uri_base: &Text, id: JobId) -> Result<Group, Alloc
 {
     let mut group = Group::new(alloc, GroupTag::JOB);
     group.push(uri_of_job(alloc, "job-uri", uri_base, id)?)?;
-    group.push(number(alloc, "job-id", u64::from(id.number()))?)?;
+    group.push(number(alloc, "job-id", u64::from(id.number())))?;
     Ok(group)
 }

@@ -79,7 +79,7 @@ fn each_finishing(alloc: Global, finishings: Finishings) -> Result<Vec<Finishing
 /// An attribute of the numbers of a job's finishings, or of the number of no finishing.
 pub(crate) fn job_finishings(
     alloc: Global,
-    name: &str,
+    name: &'static str,
     needed: Finishings,
 ) -> Result<Attribute, AllocError>
     ensures { IfOk result (λ a. a ≡ finishings_attribute name.now (each_finishing needed)) }
@@ -89,13 +89,17 @@ pub(crate) fn job_finishings(
 }
 
 /// An attribute of the numbers of finishings, or of the number of no finishing.
-fn finishings(alloc: Global, name: &str, finishings: &[Finishing]) -> Result<Attribute, AllocError>
+fn finishings(
+    alloc: Global,
+    name: &'static str,
+    finishings: &[Finishing],
+) -> Result<Attribute, AllocError>
     ensures { IfOk result (λ a. a ≡ finishings_attribute name.now finishings.now) }
 {
     let [first, others @ ..] = finishings else {
-        return enumerated(alloc, name, NO_FINISHING);
+        return Ok(enumerated(alloc, name, NO_FINISHING));
     };
-    let mut attribute = enumerated(alloc, name, first.code())?;
+    let mut attribute = enumerated(alloc, name, first.code());
     for finishing in others {
         attribute.push(enumeration(finishing.code()))?;
     }
@@ -105,12 +109,12 @@ fn finishings(alloc: Global, name: &str, finishings: &[Finishing]) -> Result<Att
 /// An attribute of the finishings that a job may have: the number of no finishing, and then these.
 pub(crate) fn supported_finishings(
     alloc: Global,
-    name: &str,
+    name: &'static str,
     finishings: &[Finishing],
 ) -> Result<Attribute, AllocError>
     ensures { IfOk result (λ a. a ≡ finishings_supported name.now finishings.now) }
 {
-    let mut attribute = enumerated(alloc, name, NO_FINISHING)?;
+    let mut attribute = enumerated(alloc, name, NO_FINISHING);
     for finishing in finishings {
         attribute.push(enumeration(finishing.code()))?;
     }

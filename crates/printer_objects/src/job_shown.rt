@@ -68,7 +68,7 @@ impl JobAttribute {
         let job = shown.job;
         match self {
             JobAttribute::Uri => uri_of_job(alloc, name, shown.uri_base, job.id),
-            JobAttribute::Id => number(alloc, name, u64::from(job.id.number())),
+            JobAttribute::Id => Ok(number(alloc, name, u64::from(job.id.number()))),
             JobAttribute::PrinterUri => {
                 uri_of_printer(alloc, name, shown.uri_base, shown.printer_name)
             }
@@ -76,27 +76,29 @@ impl JobAttribute {
             JobAttribute::OriginatingUserName => {
                 text(alloc, name, ValueTag::NAME, job.owner.as_bytes())
             }
-            JobAttribute::State => enumerated(alloc, name, job.state.code()),
+            JobAttribute::State => Ok(enumerated(alloc, name, job.state.code())),
             JobAttribute::StateReasons => {
                 reasons(alloc, name, job_objects::reasons(job, shown.printer_paused))
             }
-            JobAttribute::NumberOfDocuments => number(alloc, name, job.documents as u64),
-            JobAttribute::KOctets => number(alloc, name, k_octets(job.octets)),
-            JobAttribute::Impressions => number(alloc, name, impressions(job)),
-            JobAttribute::TimeAtCreation => time(alloc, name, Some(job.created)),
-            JobAttribute::TimeAtProcessing => time(alloc, name, job.started),
-            JobAttribute::TimeAtCompleted => time(alloc, name, job.finished),
-            JobAttribute::PrinterUpTime => time(alloc, name, Some(shown.moment)),
-            JobAttribute::Copies => number(alloc, name, u64::from(job.needs.copies)),
+            JobAttribute::NumberOfDocuments => Ok(number(alloc, name, job.documents as u64)),
+            JobAttribute::KOctets => Ok(number(alloc, name, k_octets(job.octets))),
+            JobAttribute::Impressions => Ok(number(alloc, name, impressions(job))),
+            JobAttribute::TimeAtCreation => Ok(time(alloc, name, Some(job.created))),
+            JobAttribute::TimeAtProcessing => Ok(time(alloc, name, job.started)),
+            JobAttribute::TimeAtCompleted => Ok(time(alloc, name, job.finished)),
+            JobAttribute::PrinterUpTime => Ok(time(alloc, name, Some(shown.moment))),
+            JobAttribute::Copies => Ok(number(alloc, name, u64::from(job.needs.copies))),
             JobAttribute::HoldUntil => {
                 let hold = Hold::held_where(job.held);
-                keyword(alloc, name, hold.keyword().as_bytes())
+                Ok(keyword(alloc, name, hold.keyword()))
             }
-            JobAttribute::Priority => number(alloc, name, u64::from(job.priority.level())),
-            JobAttribute::Media => keyword(alloc, name, job.needs.media.as_bytes()),
+            JobAttribute::Priority => Ok(number(alloc, name, u64::from(job.priority.level()))),
+            JobAttribute::Media => {
+                text(alloc, name, ValueTag::KEYWORD, job.needs.media.as_bytes())
+            }
             JobAttribute::Sides => {
                 let sides = job.needs.sides;
-                keyword(alloc, name, sides.keyword().as_bytes())
+                Ok(keyword(alloc, name, sides.keyword()))
             }
             JobAttribute::Finishings => job_finishings(alloc, name, job.needs.finishings),
         }
@@ -106,7 +108,7 @@ impl JobAttribute {
 /// An attribute of the URI of a job.
 pub(crate) fn uri_of_job(
     alloc: Global,
-    name: &str,
+    name: &'static str,
     uri_base: &Text,
     id: JobId,
 ) -> Result<Attribute, AllocError>
@@ -119,7 +121,7 @@ pub(crate) fn uri_of_job(
 /// An attribute of the URI of a printer.
 pub(crate) fn uri_of_printer(
     alloc: Global,
-    name: &str,
+    name: &'static str,
     uri_base: &Text,
     printer_name: &Text,
 ) -> Result<Attribute, AllocError>

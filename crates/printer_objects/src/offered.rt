@@ -6,7 +6,7 @@ ghost use Rattle.printer_objects.specs.Finishing.{finishings_supported};
 ghost use Rattle.printer_objects.specs.Offer.{formats_of, media_of, ready_media_of, finishings_of};
 ghost use Rattle.printer_objects.specs.Offered.{operations_attribute, range, hold_untils_attribute, sides_attribute};
 
-use crate::attribute::{add_text, bytes, enumerated, enumeration, keyword, no_value, texts};
+use crate::attribute::{add_keyword, bytes, enumerated, enumeration, keyword, no_value, texts};
 use crate::finishing::supported_finishings;
 use crate::offer::Offer;
 use crate::operation::Operation;
@@ -17,15 +17,16 @@ use std::alloc::{AllocError, Global};
 /// An attribute of operations; the value `no-value` if there are none.
 pub(crate) fn operations(
     alloc: Global,
-    name: &str,
+    name: &'static str,
     operations: &[Operation],
 ) -> Result<Attribute, AllocError>
     ensures { IfOk result (λ a. a ≡ operations_attribute name.now operations.now) }
 {
     let [first, others @ ..] = operations else {
-        return no_value(alloc, name);
+        return Ok(no_value(alloc, name));
     };
-    let mut attribute = enumerated(alloc, name, u32::from(first.code()))?;
+    let mut attribute = enumerated(alloc, name, u32::from(first.code()));
+    attribute.reserve(others.len())?;
     for operation in others {
         attribute.push(enumeration(u32::from(operation.code())))?;
     }
@@ -33,7 +34,11 @@ pub(crate) fn operations(
 }
 
 /// An attribute of the document formats of an offer.
-pub(crate) fn formats(alloc: Global, name: &str, offer: &Offer<'_>) -> Result<Attribute, AllocError>
+pub(crate) fn formats(
+    alloc: Global,
+    name: &'static str,
+    offer: &Offer<'_>,
+) -> Result<Attribute, AllocError>
     ensures { IfOk result (λ a. a ≡ texts_attribute name.now tags.mime_media_type (formats_of offer.now)) }
 {
     let formats = offer.formats(alloc)?;
@@ -41,7 +46,11 @@ pub(crate) fn formats(alloc: Global, name: &str, offer: &Offer<'_>) -> Result<At
 }
 
 /// An attribute of the media of an offer, loaded or not.
-pub(crate) fn media(alloc: Global, name: &str, offer: &Offer<'_>) -> Result<Attribute, AllocError>
+pub(crate) fn media(
+    alloc: Global,
+    name: &'static str,
+    offer: &Offer<'_>,
+) -> Result<Attribute, AllocError>
     ensures { IfOk result (λ a. a ≡ texts_attribute name.now tags.keyword (media_of offer.now)) }
 {
     let media = offer.media(alloc)?;
@@ -51,7 +60,7 @@ pub(crate) fn media(alloc: Global, name: &str, offer: &Offer<'_>) -> Result<Attr
 /// An attribute of the loaded media of an offer.
 pub(crate) fn ready_media(
     alloc: Global,
-    name: &str,
+    name: &'static str,
     offer: &Offer<'_>,
 ) -> Result<Attribute, AllocError>
     ensures { IfOk result (λ a. a ≡ texts_attribute name.now tags.keyword (ready_media_of offer.now)) }
@@ -63,7 +72,7 @@ pub(crate) fn ready_media(
 /// An attribute of the finishings of an offer.
 pub(crate) fn offered_finishings(
     alloc: Global,
-    name: &str,
+    name: &'static str,
     offer: &Offer<'_>,
 ) -> Result<Attribute, AllocError>
     ensures { IfOk result (λ a. a ≡ finishings_supported name.now (finishings_of offer.now)) }
@@ -73,7 +82,7 @@ pub(crate) fn offered_finishings(
 }
 
 /// An attribute of the number of copies that a job may have.
-pub(crate) fn copies(alloc: Global, name: &str) -> Result<Attribute, AllocError>
+pub(crate) fn copies(alloc: Global, name: &'static str) -> Result<Attribute, AllocError>
     ensures { IfOk result (λ a. a ≡ alone name.now (range 1 Limits.COPIES)) }
 {
     let least: u32 = 1;
@@ -83,35 +92,28 @@ pub(crate) fn copies(alloc: Global, name: &str) -> Result<Attribute, AllocError>
 }
 
 /// An attribute of the supported values of job-hold-until.
-pub(crate) fn hold_untils(alloc: Global, name: &str) -> Result<Attribute, AllocError>
+pub(crate) fn hold_untils(alloc: Global, name: &'static str) -> Result<Attribute, AllocError>
     ensures { IfOk result (λ a. a ≡ hold_untils_attribute name.now) }
 {
-    let mut attribute = keyword(alloc, name, Hold::NoHold.keyword().as_bytes())?;
-    let indefinite = Hold::Indefinite.keyword();
-    add_text(
-        alloc,
-        &mut attribute,
-        ValueTag::KEYWORD,
-        indefinite.as_bytes(),
-    )?;
+    let mut attribute = keyword(alloc, name, Hold::NoHold.keyword());
+    add_keyword(&mut attribute, Hold::Indefinite.keyword())?;
     Ok(attribute)
 }
 
 /// An attribute of sides; the value `no-value` if there are none.
-pub(crate) fn sides(alloc: Global, name: &str, sides: &[Sides]) -> Result<Attribute, AllocError>
+pub(crate) fn sides(
+    alloc: Global,
+    name: &'static str,
+    sides: &[Sides],
+) -> Result<Attribute, AllocError>
     ensures { IfOk result (λ a. a ≡ sides_attribute name.now sides.now) }
 {
     let [first, others @ ..] = sides else {
-        return no_value(alloc, name);
+        return Ok(no_value(alloc, name));
     };
-    let mut attribute = keyword(alloc, name, first.keyword().as_bytes())?;
+    let mut attribute = keyword(alloc, name, first.keyword());
     for sides in others {
-        add_text(
-            alloc,
-            &mut attribute,
-            ValueTag::KEYWORD,
-            sides.keyword().as_bytes(),
-        )?;
+        add_keyword(&mut attribute, sides.keyword())?;
     }
     Ok(attribute)
 }

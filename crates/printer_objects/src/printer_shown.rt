@@ -2,7 +2,9 @@
 ghost use Rattle.std.specs.Prelude.{◌≡◌, IfOk, Some};
 ghost use Rattle.printer_objects.specs.PrinterShown.{printer_shown, printer_attributes};
 
-use crate::attribute::{MILLIS_PER_SECOND, english, enumerated, keyword, number, text, time, yes};
+use crate::attribute::{
+    MILLIS_PER_SECOND, english, enumerated, keyword, known_text, number, text, time, yes,
+};
 use crate::finishing::NO_FINISHING;
 use crate::job_shown::uri_of_printer;
 use crate::offer::Offer;
@@ -84,36 +86,34 @@ impl PrinterAttribute {
                 uri_of_printer(alloc, name, shown.uri_base, &settings.name)
             }
             PrinterAttribute::UriSecuritySupported | PrinterAttribute::CompressionSupported => {
-                keyword(alloc, name, b"none")
+                Ok(keyword(alloc, name, "none"))
             }
-            PrinterAttribute::UriAuthenticationSupported => keyword(
-                alloc,
-                name,
-                b"requesting-user-name",
-            ),
+            PrinterAttribute::UriAuthenticationSupported => {
+                Ok(keyword(alloc, name, "requesting-user-name"))
+            }
             PrinterAttribute::Name => text(alloc, name, ValueTag::NAME, settings.name.as_bytes()),
             PrinterAttribute::State => {
                 let state = printer_state(shown.printer, shown.busy);
-                enumerated(alloc, name, state.code())
+                Ok(enumerated(alloc, name, state.code()))
             }
             PrinterAttribute::StateReasons => {
                 let reason = printer_reason(shown.printer, shown.busy);
-                keyword(alloc, name, reason.keyword().as_bytes())
+                Ok(keyword(alloc, name, reason.keyword()))
             }
-            PrinterAttribute::IppVersionsSupported => keyword(alloc, name, b"1.1"),
+            PrinterAttribute::IppVersionsSupported => Ok(keyword(alloc, name, "1.1")),
             PrinterAttribute::OperationsSupported => operations(alloc, name, &Operation::all()),
             PrinterAttribute::MultipleDocumentJobsSupported | PrinterAttribute::IsAcceptingJobs => {
-                yes(alloc, name)
+                Ok(yes(alloc, name))
             }
             PrinterAttribute::MultipleOperationTimeOut => {
                 let seconds = Limits::INCOMING_JOB_TIME / MILLIS_PER_SECOND;
-                number(alloc, name, seconds)
+                Ok(number(alloc, name, seconds))
             }
             PrinterAttribute::CharsetConfigured | PrinterAttribute::CharsetSupported => {
-                text(alloc, name, ValueTag::CHARSET, b"utf-8")
+                Ok(known_text(alloc, name, ValueTag::CHARSET, b"utf-8"))
             }
             PrinterAttribute::NaturalLanguageConfigured
-            | PrinterAttribute::GeneratedNaturalLanguageSupported => english(alloc, name),
+            | PrinterAttribute::GeneratedNaturalLanguageSupported => Ok(english(alloc, name)),
             PrinterAttribute::DocumentFormatDefault => text(
                 alloc,
                 name,
@@ -121,37 +121,32 @@ impl PrinterAttribute {
                 settings.format_default.as_bytes(),
             ),
             PrinterAttribute::DocumentFormatSupported => formats(alloc, name, offer),
-            PrinterAttribute::QueuedJobCount => number(alloc, name, shown.queued as u64),
-            PrinterAttribute::PdlOverrideSupported => keyword(alloc, name, b"not-attempted"),
-            PrinterAttribute::UpTime => time(alloc, name, Some(shown.moment)),
-            PrinterAttribute::CopiesDefault => number(alloc, name, 1),
+            PrinterAttribute::QueuedJobCount => Ok(number(alloc, name, shown.queued as u64)),
+            PrinterAttribute::PdlOverrideSupported => Ok(keyword(alloc, name, "not-attempted")),
+            PrinterAttribute::UpTime => Ok(time(alloc, name, Some(shown.moment))),
+            PrinterAttribute::CopiesDefault => Ok(number(alloc, name, 1)),
             PrinterAttribute::CopiesSupported => copies(alloc, name),
             PrinterAttribute::HoldUntilDefault => {
-                keyword(alloc, name, Hold::NoHold.keyword().as_bytes())
+                Ok(keyword(alloc, name, Hold::NoHold.keyword()))
             }
             PrinterAttribute::HoldUntilSupported => hold_untils(alloc, name),
-            PrinterAttribute::PriorityDefault => number(
+            PrinterAttribute::PriorityDefault => {
+                Ok(number(alloc, name, u64::from(Limits::DEFAULT_PRIORITY)))
+            }
+            PrinterAttribute::PrioritySupported => {
+                Ok(number(alloc, name, u64::from(Limits::HIGHEST_PRIORITY)))
+            }
+            PrinterAttribute::MediaDefault => text(
                 alloc,
                 name,
-                u64::from(Limits::DEFAULT_PRIORITY),
-            ),
-            PrinterAttribute::PrioritySupported => number(
-                alloc,
-                name,
-                u64::from(Limits::HIGHEST_PRIORITY),
-            ),
-            PrinterAttribute::MediaDefault => keyword(
-                alloc,
-                name,
+                ValueTag::KEYWORD,
                 settings.media_default.as_bytes(),
             ),
             PrinterAttribute::MediaSupported => media(alloc, name, offer),
             PrinterAttribute::MediaReady => ready_media(alloc, name, offer),
-            PrinterAttribute::SidesDefault => {
-                keyword(alloc, name, Sides::One.keyword().as_bytes())
-            }
+            PrinterAttribute::SidesDefault => Ok(keyword(alloc, name, Sides::One.keyword())),
             PrinterAttribute::SidesSupported => sides(alloc, name, offer.sides()),
-            PrinterAttribute::FinishingsDefault => enumerated(alloc, name, NO_FINISHING),
+            PrinterAttribute::FinishingsDefault => Ok(enumerated(alloc, name, NO_FINISHING)),
             PrinterAttribute::FinishingsSupported => offered_finishings(alloc, name, offer),
         }
     }

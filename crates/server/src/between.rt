@@ -6,6 +6,7 @@ ghost use Rattle.server.specs.Turn.{Ticked, Reported, BodyAsks, BodyBrings, Body
 ghost use Rattle.server.specs.Refinement.{Reports, AnswersBody, RefinesCall, RefinesBody, AnswerAs, BytesAs, RefusalAs, said_of};
 
 use crate::engine::Engine;
+use crate::handling::Handled;
 use crate::served::{Served, answered};
 use base_types::{DeviceId, Moment, Report};
 use dispatcher::{AllocationSite, Listener};
@@ -93,9 +94,9 @@ impl<P: Planner + Drop> Engine<P> {
     ) -> Result<Served, AllocError>
         ensures { AnswersBody N.told (BodyBrings moment request event) notes.old self.old notes.new self.new result }
     {
-        let handled = self.handle(moment, event, notes);
-        let bytes = self.bytes_of(handled.outcome.into_reply(), request, notes);
-        answered(bytes, handled.refused)
+        let Handled { outcome, refused } = self.handle(moment, event, notes);
+        let bytes = self.bytes_of(outcome.into_reply(), request, notes);
+        answered(bytes, refused)
     }
 
     /// Returns the bytes of the reply to an event. The only error is out of memory, for the event or for the
