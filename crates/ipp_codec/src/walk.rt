@@ -89,14 +89,27 @@ pub(crate) fn next_attribute(bytes: &[u8]) -> Option<AttributeView<'_>>
     ensures { NextAttribute bytes.now result }
 {
     let mut rest = bytes;
-    while let Some((entry, after)) = next_entry(rest) {
+    while let Some((element, after)) = first_of(rest) {
         rest = after;
-        match entry {
-            Entry::Group(_) | Entry::End => return None,
-            Entry::Value(name, first) if !name.is_empty() => {
-                return Some(AttributeView { name, first, rest });
+        match element {
+            ElementView::Opening(_) | ElementView::Finish => return None,
+            ElementView::Plain(tag, name, content) => {
+                if !name.is_empty() {
+                    let first = ValueView { tag, content };
+                    return Some(AttributeView { name, first, rest });
+                }
             }
-            Entry::Value(..) | Entry::Member(_) => {}
+            ElementView::Begin(name) => {
+                rest = behind(after);
+                if !name.is_empty() {
+                    let first = ValueView {
+                        tag: BEGIN_COLLECTION,
+                        content: after,
+                    };
+                    return Some(AttributeView { name, first, rest });
+                }
+            }
+            ElementView::Named(_) => {}
         }
     }
     None
@@ -130,9 +143,18 @@ pub(crate) fn next_member(bytes: &[u8]) -> Option<MemberView<'_>>
 pub(crate) fn next_value(bytes: &[u8]) -> Option<(ValueView<'_>, &[u8])>
     ensures { NextValue bytes.now result }
 {
-    let (entry, after) = next_entry(bytes)?;
-    match entry {
-        Entry::Value(name, value) if name.is_empty() => Some((value, after)),
+    let (element, after) = first_of(bytes)?;
+    match element {
+        ElementView::Plain(tag, name, content) if name.is_empty() => {
+            Some((ValueView { tag, content }, after))
+        }
+        ElementView::Begin(name) if name.is_empty() => {
+            let value = ValueView {
+                tag: BEGIN_COLLECTION,
+                content: after,
+            };
+            Some((value, behind(after)))
+        }
         _ => None,
     }
 }
