@@ -12,6 +12,9 @@ use ipp_codec::{AttributeView, GroupView};
 use printer_objects::Requested;
 use std::alloc::{AllocError, Global};
 
+/// The number of values for which a copy takes memory at first. Most requests have fewer.
+const FIRST_VALUES: usize = 16;
+
 /// The values of requested-attributes, or a default if the group doesn't have it. The only error is out of
 /// memory.
 pub(crate) fn requested_of(
@@ -31,7 +34,7 @@ pub(crate) fn requested_of(
 fn values_of(alloc: Global, attribute: &AttributeView<'_>) -> Result<Requested, AllocError>
     ensures { IfOk result (λ requested. requested ≡ map bytes_in (values_in_order (attribute_shown attribute.now))) }
 {
-    let mut requested = Requested::new(alloc);
+    let mut requested = Requested::with_capacity(alloc, FIRST_VALUES)?;
     for value in attribute.values() {
         requested.push(Text::copy_of(alloc, value.bytes())?)?;
     }

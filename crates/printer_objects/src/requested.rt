@@ -1,5 +1,5 @@
 //! The attributes that requested-attributes asks for.
-ghost use Rattle.std.specs.Prelude.{◌≡◌, ◌++◌, ◌∷◌, [], OnOk, OnErr};
+ghost use Rattle.std.specs.Prelude.{◌≡◌, ◌++◌, ◌∷◌, [], IfOk, OnOk, OnErr};
 ghost use Rattle.printer_objects.specs.Requested.{asks_for, has_group, has_name, is_requested, names_group};
 
 use base_types::Text;
@@ -28,6 +28,14 @@ impl Requested {
         Requested {
             names: Vec::new(alloc),
         }
+    }
+
+    /// Creates an empty list, which has the memory for so many values. The only error is out of memory.
+    pub fn with_capacity(alloc: Global, count: usize) -> Result<Requested, AllocError>
+        ensures { IfOk result (λ requested. requested ≡ []) }
+    {
+        let names = Vec::with_capacity(alloc, count)?;
+        Ok(Requested { names })
     }
 
     /// Appends a value. The only error is out of memory, and nothing is changed then.
