@@ -53,7 +53,7 @@ pub(crate) fn named_printer<'a>(
     match printer_of(printers, target) {
         Some(found) => Ok(NamedPrinter {
             id: found.0,
-            offer: Offer::new(room.devices(), found.1),
+            offer: Offer::new(room.devices(), found.1, room.formats(found.0)),
         }),
         None => Err(refused(alloc, Status::NotFound)),
     }
@@ -126,7 +126,7 @@ pub(crate) fn printer_of_job<'a>(
     match room.settings().printers.get(id.place()) {
         Some(printer) => Ok(NamedPrinter {
             id,
-            offer: Offer::new(room.devices(), printer),
+            offer: Offer::new(room.devices(), printer, room.formats(id)),
         }),
         None => Err(refused(alloc, Status::NotFound)),
     }

@@ -9,3 +9,4 @@ pub mod DeviceJobs
 pub mod Keeping
 pub mod Beginning
 pub mod StillGood
+pub mod Formats

@@ -5,8 +5,9 @@ use Rattle.std.specs.Str.{bytes_eq}
 use Rattle.base_types.specs.Device.{Device}
 use Rattle.base_types.specs.declared.device.Medium.{Medium}
 use Rattle.base_types.specs.declared.device.Activity.{Activity}
-use Rattle.settings_file.specs.Settings.{ServerSettings}
+use Rattle.settings_file.specs.Settings.{PrinterEntry, ServerSettings}
 use Rattle.spool.specs.Jobs.{SpoolRecord}
+use Rattle.printer_objects.specs.Offer.{formats_of}
 use Rattle.plan_prices.specs.Plan.{PlanRecord}
 use Rattle.print_room.specs.declared.started.Started.{Started}
 use Rattle.print_room.specs.Activity.{KeepsTime}
@@ -28,6 +29,10 @@ pub record State : Type 0 where
 -- the devices of each printer, by their places
 abbrev pub sets_of : ServerSettings → List (List ℕ)
 sets_of settings = map (λ p. p.devices) settings.printers
+
+-- the document formats of each printer
+abbrev pub formats_by : List Device → List PrinterEntry → List (List (List ℕ))
+formats_by devices printers = map (λ p. formats_of (record { devices = devices; printer = p })) printers
 
 -- each device's job takes at most JOB_TIME from the last moment on
 abbrev pub AllKeepTime : ℕ → List Device → Type 0

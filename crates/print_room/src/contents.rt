@@ -1,13 +1,15 @@
 //! The calls that read a room.
-ghost use Rattle.std.specs.Prelude.{◌≡◌};
+ghost use Rattle.std.specs.Prelude.{◌≡◌, Some, slice_get};
 ghost use Rattle.std.specs.Option.{option_copied};
+ghost use Rattle.settings_file.specs.Settings.{PrinterEntry};
+ghost use Rattle.printer_objects.specs.Offer.{formats_of};
 ghost use Rattle.spool.specs.Calls.{paused_at};
 ghost use Rattle.print_room.specs.DeviceJobs.{IsRoom, device_of};
 
 use crate::report::has_job;
 use crate::room::PrintRoom;
 use crate::started::Started;
-use base_types::{DeviceId, DeviceNow, JobId, Moment, PrinterId};
+use base_types::{DeviceId, DeviceNow, JobId, Moment, PrinterId, Text};
 use job_objects::Printer;
 use plan_prices::Plan;
 use settings_file::Settings;
@@ -29,6 +31,16 @@ impl PrintRoom {
         ensures kept { IsRoom self.now }
     {
         &self.devices
+    }
+
+    /// The document formats of a printer: those of its devices in order, then its default, each once.
+    pub fn formats(&self, printer: PrinterId) -> &[Text]
+        ensures { (entry : PrinterEntry) → slice_get self.now.settings.printers printer ≡ Some entry → result.now ≡ formats_of (record { devices = self.now.devices; printer = entry }) }
+    {
+        match self.formats.get(printer.place()) {
+            Some(formats) => formats,
+            None => &[],
+        }
     }
 
     /// The device that has the job of an id, if one has it.

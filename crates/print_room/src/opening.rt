@@ -2,10 +2,12 @@
 ghost use Rattle.std.specs.Prelude.{◌≡◌, IfOk, map, replicate, false};
 ghost use Rattle.settings_file.specs.Settings.{MeetsLimits};
 ghost use Rattle.print_room.specs.Opening.{opening, opening_device, loaded_medium};
+ghost use Rattle.print_room.specs.State.{formats_by};
 
 use crate::room::PrintRoom;
 use base_types::{Activity, DeviceNow, JobId, Medium, Moment, PrinterSet, Text};
 use job_objects::Printer;
+use printer_objects::printer_formats;
 use settings_file::{DeviceSettings, PrinterSettings, Settings};
 use spool::Spool;
 use std::alloc::{AllocError, Global};
@@ -22,10 +24,12 @@ impl PrintRoom {
     {
         let devices = opening_devices(alloc, &settings.devices)?;
         let sets = printer_sets(alloc, &settings.printers)?;
+        let formats = opening_formats(alloc, &devices, &settings.printers)?;
         let printers = opening_printers(alloc, settings.printers.len())?;
         Ok(PrintRoom {
             settings,
             sets,
+            formats,
             printers,
             devices,
             spool: Spool::new(alloc, first),
@@ -57,6 +61,21 @@ fn printer_sets(alloc: Global, settings: &[PrinterSettings]) -> Result<Vec<Print
         sets.push(PrinterSet::new(devices))?;
     }
     Ok(sets)
+}
+
+/// The document formats of each printer. The only error is out of memory.
+fn opening_formats(
+    alloc: Global,
+    devices: &[DeviceNow],
+    settings: &[PrinterSettings],
+) -> Result<Vec<Vec<Text>>, AllocError>
+    ensures { IfOk result (λ formats. map (λ f. f.items) formats.items ≡ formats_by devices.now settings.now) }
+{
+    let mut formats = Vec::with_capacity(alloc, settings.len())?;
+    for printer in settings {
+        formats.push(printer_formats(alloc, devices, printer)?)?;
+    }
+    Ok(formats)
 }
 
 /// The devices of the settings, as they start. The only error is out of memory.

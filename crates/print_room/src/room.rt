@@ -25,6 +25,8 @@ pub struct PrintRoom {
     pub(crate) settings: Settings,
     /// The devices of each printer.
     pub(crate) sets: Vec<PrinterSet>,
+    /// The document formats of each printer. They stay while the server runs.
+    pub(crate) formats: Vec<Vec<Text>>,
     pub(crate) printers: Vec<Printer>,
     pub(crate) devices: Vec<DeviceNow>,
     pub(crate) spool: Spool,
@@ -39,9 +41,9 @@ pub struct PrintRoom {
 }
 
 impl Model for PrintRoom {
-    ghost use Rattle.std.specs.Prelude.{◌≡◌, ◌≤◌, length};
+    ghost use Rattle.std.specs.Prelude.{◌≡◌, ◌≤◌, length, map};
     ghost use Rattle.base_types.specs.declared.limits.TheConstants.Limits.{DEVICES};
-    ghost use Rattle.print_room.specs.State.{State, AllKeepTime, sets_of};
+    ghost use Rattle.print_room.specs.State.{State, AllKeepTime, formats_by, sets_of};
     ghost use Rattle.print_room.specs.DeviceJobs.{Agree};
     ghost use Rattle.print_room.specs.StillGood.{HoldsFor};
     ghost use Rattle.settings_file.specs.Settings.{MeetsLimits};
@@ -58,7 +60,7 @@ impl Model for PrintRoom {
       begun = c.begun.items;
     } };
 
-    ghost invariant = { λ c. AllKeepTime c.last c.devices.items × (length c.devices.items ≤ DEVICES) × (c.sets.items ≡ sets_of c.settings) × Agree c.devices.items c.spool.jobs × (length c.printers.items ≡ length c.settings.printers) × (length c.devices.items ≡ length c.settings.devices) × MeetsLimits c.settings × HoldsFor c.good_for (record { settings = c.settings; paused = c.printers.items; devices = c.devices.items; spool = c.spool; last = c.last; plan = c.plan; begun = c.begun.items }) };
+    ghost invariant = { λ c. AllKeepTime c.last c.devices.items × (length c.devices.items ≤ DEVICES) × (c.sets.items ≡ sets_of c.settings) × Agree c.devices.items c.spool.jobs × (length c.printers.items ≡ length c.settings.printers) × (length c.devices.items ≡ length c.settings.devices) × MeetsLimits c.settings × HoldsFor c.good_for (record { settings = c.settings; paused = c.printers.items; devices = c.devices.items; spool = c.spool; last = c.last; plan = c.plan; begun = c.begun.items }) × (map (λ f. f.items) c.formats.items ≡ formats_by c.devices.items c.settings.printers) };
 }
 
 impl PrintRoom {

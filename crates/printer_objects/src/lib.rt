@@ -31,7 +31,7 @@ pub use finishing::{Finishing, NO_FINISHING};
 pub use job_attribute::JobAttribute;
 pub use job_shown::{JobShown, job_attributes, job_uri, printer_uri};
 pub use law::groups_are_spelt;
-pub use offer::Offer;
+pub use offer::{Offer, printer_formats};
 pub use operation::Operation;
 pub use printer_attribute::PrinterAttribute;
 pub use printer_shown::{PrinterShown, printer_attributes};

@@ -18,15 +18,15 @@ use settings_file::PrinterSettings;
 use std::alloc::{AllocError, Global};
 use std::marker::Model;
 
-/// The offer of a printer, by the state of its devices now. In clauses it is a record of the same fields.
+/// A printer and its devices now.
 #[derive(Drop)]
-pub struct Offer<'a> {
+struct Fleet<'a> {
     /// All devices, in the order of the settings.
     devices: &'a [DeviceNow],
     printer: &'a PrinterSettings,
 }
 
-impl<'a> Model for Offer<'a> {
+impl<'a> Model for Fleet<'a> {
     ghost use Rattle.printer_objects.specs.Offer.{OfferRecord};
 
     ghost Value = { OfferRecord };
@@ -34,30 +34,123 @@ impl<'a> Model for Offer<'a> {
     ghost view = { λ o. record { devices = o.devices.now; printer = o.printer.now } };
 }
 
+/// The offer of a printer, by the state of its devices now. In clauses it is a record of the printer and of all
+/// devices.
+#[derive(Drop)]
+pub struct Offer<'a> {
+    fleet: Fleet<'a>,
+    /// The document formats of the printer. They stay while the server runs.
+    formats: &'a [Text],
+}
+
+impl<'a> Model for Offer<'a> {
+    ghost use Rattle.std.specs.Prelude.{◌≡◌};
+    ghost use Rattle.printer_objects.specs.Offer.{OfferRecord, formats_of};
+
+    ghost Value = { OfferRecord };
+
+    ghost view = { λ o. o.fleet };
+
+    ghost invariant = { λ o. o.formats.now ≡ formats_of o.fleet };
+}
+
+/// The document formats of a printer: those of its devices in order, then its default, each once. `devices` are
+/// all devices of the settings. The only error is out of memory.
+#[tactic(auto, unfolding(crate::specs::Offer::formats_of))]
+pub fn printer_formats(
+    alloc: Global,
+    devices: &[DeviceNow],
+    printer: &PrinterSettings,
+) -> Result<Vec<Text>, AllocError>
+    ensures { IfOk result (λ formats. formats.items ≡ formats_of (record { devices = devices.now; printer = printer.now })) }
+{
+    let fleet = Fleet { devices, printer };
+    let mut formats = fleet.listed(alloc, Listed::Formats)?;
+    add_once(alloc, &mut formats, &printer.format_default)?;
+    Ok(formats)
+}
+
+impl<'a> Fleet<'a> {
+    /// The settings of the printer.
+    fn printer(&self) -> &'a PrinterSettings
+        ensures { result.now ≡ self.now.printer }
+    {
+        self.printer
+    }
+
+    /// The places of the printer's devices.
+    fn places(&self) -> &'a [DeviceId]
+        ensures { result.now ≡ self.now.printer.devices }
+    {
+        let printer = self.printer;
+        printer.devices.devices()
+    }
+
+    /// The device at a place.
+    fn device(&self, place: DeviceId) -> Option<&'a DeviceNow>
+        ensures { option_copied result ≡ slice_get self.now.devices place }
+    {
+        self.devices.get(place.place())
+    }
+
+    /// The entries of the printer's devices, in order, each once. The only error is out of memory.
+    fn listed(&self, alloc: Global, listed: Listed) -> Result<Vec<Text>, AllocError>
+        ensures { IfOk result (λ found. found.items ≡ distinct (listed_of listed self.now)) }
+    {
+        let mut found = Vec::new(alloc);
+        let places = self.places();
+        for place in places {
+            self.add_listed_at(alloc, &mut found, listed, *place)?;
+        }
+        Ok(found)
+    }
+
+    /// Adds the entries of the device at a place, if there is one.
+    fn add_listed_at(
+        &self,
+        alloc: Global,
+        found: &mut Vec<Text>,
+        listed: Listed,
+        place: DeviceId,
+    ) -> Result<(), AllocError>
+        ensures { OnOk result (found.new.items ≡ with_entries found.old.items (listed_at listed self.now place)) }
+    {
+        match self.device(place) {
+            Some(device) => add_listed(alloc, found, listed, device),
+            None => Ok(()),
+        }
+    }
+}
+
 impl<'a> Offer<'a> {
-    /// The offer of a printer. `devices` are all devices of the settings.
-    pub fn new(devices: &'a [DeviceNow], printer: &'a PrinterSettings) -> Offer<'a>
+    /// The offer of a printer. `devices` are all devices of the settings, and `formats` those of
+    /// [`printer_formats`].
+    pub fn new(
+        devices: &'a [DeviceNow],
+        printer: &'a PrinterSettings,
+        formats: &'a [Text],
+    ) -> Offer<'a>
+        requires { formats.now ≡ formats_of (record { devices = devices.now; printer = printer.now }) }
         ensures { result ≡ record { devices = devices.now; printer = printer.now } }
     {
-        Offer { devices, printer }
+        Offer {
+            fleet: Fleet { devices, printer },
+            formats,
+        }
     }
 
     /// The settings of the printer.
     pub fn printer(&self) -> &'a PrinterSettings
         ensures { result.now ≡ self.now.printer }
     {
-        self.printer
+        self.fleet.printer()
     }
 
-    /// The document formats: those of the printer's devices in order, then its default, each once. The only
-    /// error is out of memory.
-    #[tactic(auto, unfolding(crate::specs::Offer::formats_of))]
-    pub fn formats(&self, alloc: Global) -> Result<Vec<Text>, AllocError>
-        ensures { IfOk result (λ formats. formats.items ≡ formats_of self.now) }
+    /// The document formats: those of the printer's devices in order, then its default, each once.
+    pub fn formats(&self) -> &'a [Text]
+        ensures { result.now ≡ formats_of self.now }
     {
-        let mut formats = self.listed(alloc, Listed::Formats)?;
-        add_once(alloc, &mut formats, self.default_format())?;
-        Ok(formats)
+        self.formats
     }
 
     /// The media, loaded or not: those of the printer's devices in order, then its default, each once. The
@@ -154,7 +247,7 @@ impl<'a> Offer<'a> {
     pub fn default_format(&self) -> &'a Text
         ensures { result.now ≡ self.now.printer.format_default }
     {
-        let printer = self.printer;
+        let printer = self.printer();
         &printer.format_default
     }
 
@@ -162,7 +255,7 @@ impl<'a> Offer<'a> {
     pub fn default_medium(&self) -> &'a Text
         ensures { result.now ≡ self.now.printer.media_default }
     {
-        let printer = self.printer;
+        let printer = self.printer();
         &printer.media_default
     }
 
@@ -170,43 +263,21 @@ impl<'a> Offer<'a> {
     fn places(&self) -> &'a [DeviceId]
         ensures { result.now ≡ self.now.printer.devices }
     {
-        let printer = self.printer;
-        printer.devices.devices()
+        self.fleet.places()
     }
 
     /// The device at a place.
     fn device(&self, place: DeviceId) -> Option<&'a DeviceNow>
         ensures { option_copied result ≡ slice_get self.now.devices place }
     {
-        self.devices.get(place.place())
+        self.fleet.device(place)
     }
 
     /// The entries of the printer's devices, in order, each once. The only error is out of memory.
     fn listed(&self, alloc: Global, listed: Listed) -> Result<Vec<Text>, AllocError>
         ensures { IfOk result (λ found. found.items ≡ distinct (listed_of listed self.now)) }
     {
-        let mut found = Vec::new(alloc);
-        let places = self.places();
-        for place in places {
-            self.add_listed_at(alloc, &mut found, listed, *place)?;
-        }
-        Ok(found)
-    }
-
-    /// Adds the entries of the device at a place, if there is one.
-    fn add_listed_at(
-        &self,
-        alloc: Global,
-        found: &mut Vec<Text>,
-        listed: Listed,
-        place: DeviceId,
-    ) -> Result<(), AllocError>
-        ensures { OnOk result (found.new.items ≡ with_entries found.old.items (listed_at listed self.now place)) }
-    {
-        match self.device(place) {
-            Some(device) => add_listed(alloc, found, listed, device),
-            None => Ok(()),
-        }
+        self.fleet.listed(alloc, listed)
     }
 
     /// Returns whether some device of the printer prints two-sided.

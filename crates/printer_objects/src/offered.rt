@@ -41,8 +41,7 @@ pub(crate) fn formats(
 ) -> Result<Attribute, AllocError>
     ensures { IfOk result (λ a. a ≡ texts_attribute name.now tags.mime_media_type (formats_of offer.now)) }
 {
-    let formats = offer.formats(alloc)?;
-    texts(alloc, name, ValueTag::MIME_MEDIA_TYPE, &formats)
+    texts(alloc, name, ValueTag::MIME_MEDIA_TYPE, offer.formats())
 }
 
 /// An attribute of the media of an offer, loaded or not.

@@ -14,4 +14,5 @@ invariant_of-self c = (
   c.self.invariant.5,
   c.self.invariant.6,
   holds_later c.self.inside.good_for _ c.args.now c.self.invariant.7,
+  c.self.invariant.8,
 )

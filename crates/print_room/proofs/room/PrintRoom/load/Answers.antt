@@ -4,11 +4,12 @@ use Rattle.std.proofs.lemmas.List.{with_items_is}
 use Rattle.base_types.specs.declared.device.Medium.{Medium}
 use Rattle.base_types.specs.Device.{Device}
 use Rattle.settings_file.specs.Settings.{MeetsLimits}
-use Rattle.print_room.specs.State.{State, with_device, holding, loaded_if, sets_of}
+use Rattle.print_room.specs.State.{State, with_device, holding, loaded_if, sets_of, formats_by}
 use Rattle.print_room.specs.DeviceJobs.{Agree}
 use Rattle.print_room.specs.Activity.{KeepsTime}
 use Rattle.base_types.specs.declared.limits.TheConstants.Limits.{DEVICES}
 use Rattle.print_room.proofs.Devices.{set_one, all_with, length_with}
+use Rattle.print_room.proofs.Formats.{same_formats}
 use Rattle.print_room.proofs.DeviceJobs.{found_device, agree_device}
 use Rattle.print_room.proofs.room.PrintRoom.load.Goals as goal
 
@@ -38,7 +39,7 @@ invariant_of-self c =
     let loaded : (with_items c.device.inside.media c.load.new.media).items ≡ map (loaded_if c.args.names.now) c.device.inside.media.items =
     with_items_is c.device.inside.media c.load.new.media same ∙ (c.load.ensures ∙ ap (λ (ms : List Medium). map (loaded_if c.args.names.now) ms) c.deref_mut.ensures.value) in
     rw loaded
-    (subst (λ (ds : List Device). All (λ d. KeepsTime old.last d.activity) ds × (length ds ≤ DEVICES) × (old.sets.items ≡ sets_of old.settings) × Agree ds old.spool.jobs × (length old.printers.items ≡ length old.settings.printers) × (length ds ≡ length old.settings.devices) × MeetsLimits old.settings × Unit {0})
+    (subst (λ (ds : List Device). All (λ d. KeepsTime old.last d.activity) ds × (length ds ≤ DEVICES) × (old.sets.items ≡ sets_of old.settings) × Agree ds old.spool.jobs × (length old.printers.items ≡ length old.settings.printers) × (length ds ≡ length old.settings.devices) × MeetsLimits old.settings × Unit {0} × (map (λ f. f.items) old.formats.items ≡ formats_by ds old.settings.printers))
     (sym (ap written c.device.view_is ∙ (ap written c.index_mut-device.ensures.value ∙ set_one change old.devices.items place c.index_mut-device.result.now inside))) (
       all_with (λ d. KeepsTime old.last d.activity) place change (λ d h. h) old.devices.items c.self.invariant.0,
       rw (length_with place change old.devices.items) c.self.invariant.1,
@@ -48,4 +49,5 @@ invariant_of-self c =
       length_with place change old.devices.items ∙ c.self.invariant.5,
       c.self.invariant.6,
       tt,
+      c.self.invariant.8 ∙ sym (same_formats change (λ d. refl) place old.devices.items old.settings.printers),
     ))

@@ -1,10 +1,11 @@
-use Rattle.std.proofs.Common.{◌≡◌, ◌∙◌, ◌<◌, ◌≤◌, ap, sym, subst, List, set, length, All}
+use Rattle.std.proofs.Common.{◌≡◌, ◌∙◌, ◌<◌, ◌≤◌, ap, sym, subst, List, set, length, All, map, refl}
 use Rattle.base_types.specs.Device.{Device}
 use Rattle.settings_file.specs.Settings.{MeetsLimits}
-use Rattle.print_room.specs.State.{State, with_device, doing, sets_of}
+use Rattle.print_room.specs.State.{State, with_device, doing, sets_of, formats_by}
 use Rattle.print_room.specs.DeviceJobs.{Agree}
 use Rattle.print_room.specs.Activity.{KeepsTime}
 use Rattle.base_types.specs.declared.limits.TheConstants.Limits.{DEVICES}
+use Rattle.print_room.proofs.Formats.{same_formats}
 use Rattle.print_room.proofs.Devices.{set_one, all_with, length_with}
 use Rattle.print_room.proofs.room.PrintRoom.set_activity.Goals as goal
 
@@ -26,7 +27,7 @@ invariant_of-self c =
     let inside : place < length old.devices.items = rw (ap (λ (s : State). s.devices) c.self.view_is) c.requires.inside in
     let written : Device → List Device = λ (d : Device). set old.devices.items place (change d) in
     let in_time : KeepsTime old.last c.args.activity = subst (λ (s : State). KeepsTime s.last c.args.activity) (sym c.self.view_is) c.requires.in_time in
-    subst (λ (ds : List Device). All (λ d. KeepsTime old.last d.activity) ds × (length ds ≤ DEVICES) × (old.sets.items ≡ sets_of old.settings) × Agree ds old.spool.jobs × (length old.printers.items ≡ length old.settings.printers) × (length ds ≡ length old.settings.devices) × MeetsLimits old.settings × Unit {0})
+    subst (λ (ds : List Device). All (λ d. KeepsTime old.last d.activity) ds × (length ds ≤ DEVICES) × (old.sets.items ≡ sets_of old.settings) × Agree ds old.spool.jobs × (length old.printers.items ≡ length old.settings.printers) × (length ds ≡ length old.settings.devices) × MeetsLimits old.settings × Unit {0} × (map (λ f. f.items) old.formats.items ≡ formats_by ds old.settings.printers))
     (sym (ap written c.device.view_is ∙ (ap written c.index_mut-device.ensures.value ∙ set_one change old.devices.items place c.index_mut-device.result.now inside))) (
       all_with (λ d. KeepsTime old.last d.activity) place change (λ d h. in_time) old.devices.items c.self.invariant.0,
       rw (length_with place change old.devices.items) c.self.invariant.1,
@@ -36,4 +37,5 @@ invariant_of-self c =
       length_with place change old.devices.items ∙ c.self.invariant.5,
       c.self.invariant.6,
       tt,
+      c.self.invariant.8 ∙ sym (same_formats change (λ d. refl) place old.devices.items old.settings.printers),
     )
