@@ -22,9 +22,11 @@ fn empty_line_end(bytes: &[u8]) -> Option<usize>
 {
     let mut begins = true;
     for i in 0..bytes.len() {
-        let length = empty_line(&bytes[i..]);
-        if begins && length > 0 {
-            return Some(i + length);
+        if begins {
+            let length = empty_line(&bytes[i..]);
+            if length > 0 {
+                return Some(i + length);
+            }
         }
         begins = bytes[i] == b'\n';
     }
