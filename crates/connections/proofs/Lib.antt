@@ -2,3 +2,4 @@ pub mod Readers
 pub mod Loads
 pub mod Entries
 pub mod Choices
+pub mod Keys

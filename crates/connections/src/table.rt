@@ -1,5 +1,5 @@
 //! The connections of a server under their keys. Each function acts on the connection under one key.
-ghost use Rattle.std.specs.Prelude.{◌≡◌, ◌≢◌, ℕ, true, false, Some, IsTrue, IsFalse, IfSome, IfNone};
+ghost use Rattle.std.specs.Prelude.{◌≡◌, ◌≢◌, ◌≤◌, ℕ, true, false, None, Some, IsTrue, IsFalse, IfSome, IfNone};
 ghost use Rattle.std.specs.Option.{option_map_or};
 ghost use Rattle.slab.specs.Slab.{get};
 ghost use Rattle.device_link.specs.Orders.{cancel_line};
@@ -253,12 +253,23 @@ fn is_of(connections: &Slab<Connection>, device: DeviceId, key: usize) -> bool
     }
 }
 
+/// One more than the greatest key of a connection; 0 if there is no connection.
+pub fn keys(connections: &Slab<Connection>) -> usize
+    ensures { (key : ℕ) → result ≤ key → get connections.now key ≡ None }
+{
+    let most = connections.capacity();
+    match connections.iter().next_back() {
+        Some((last, _)) => most.min(last.saturating_add(1)),
+        None => 0,
+    }
+}
+
 /// Returns a key of a device's connection.
 pub fn key_of(connections: &Slab<Connection>, device: DeviceId) -> Option<usize>
     ensures some { IfSome result (λ key. is_of connections.now.slots device key ≡ true) }
     ensures none { IfNone result ((key : ℕ) → is_of connections.now.slots device key ≡ false) }
 {
-    for key in 0..connections.capacity() {
+    for key in 0..keys(connections) {
         if is_of(connections, device, key) {
             return Some(key);
         }
@@ -272,7 +283,7 @@ pub fn other_key_of(connections: &Slab<Connection>, device: DeviceId, this: usiz
     ensures other { IfSome result (λ key. key ≢ this) }
     ensures none { IfNone result ((key : ℕ) → key ≢ this → is_of connections.now.slots device key ≡ false) }
 {
-    for key in 0..connections.capacity() {
+    for key in 0..keys(connections) {
         if key != this && is_of(connections, device, key) {
             return Some(key);
         }

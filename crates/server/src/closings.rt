@@ -20,7 +20,7 @@ impl<P: Planner + Drop> Engine<P> {
         ensures some { IfSome result (IsFirstBroken self.now.slots) }
         ensures none { IfNone result ((key : ℕ) → broken_at self.now.slots key ≡ false) }
     {
-        for key in 0..self.connections.capacity() {
+        for key in 0..self.keys() {
             if is_broken(&self.connections, key) {
                 return Some(key);
             }

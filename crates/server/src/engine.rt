@@ -48,7 +48,6 @@ impl<P: Planner + Drop> Engine<P> {
         ensures { IfOk result (StandsAt (opening settings 1) []) }
     {
         let core = Core::new(alloc, settings, planner)?;
-        // There are as many keys as connections were open at one time. Each turn goes over all keys.
         let connections = Slab::new(alloc);
         Ok(Engine {
             core,

@@ -10,6 +10,7 @@ ghost use Rattle.server.specs.Refinement.{Refines};
 use crate::engine::Engine;
 use crate::polls::PIECE;
 use base_types::Moment;
+use connections::table::keys;
 use dispatcher::Listener;
 use plan_prices::Planner;
 use wires::{Door, Wire};
@@ -39,11 +40,11 @@ impl<P: Planner + Drop> Engine<P> {
         self.end_all(moment, keys, world);
     }
 
-    /// The number of keys. No connection is open under this key or a greater one.
-    fn keys(&self) -> usize
+    /// One more than the greatest key of a connection. No connection is open under this key or a greater one.
+    pub(crate) fn keys(&self) -> usize
         ensures { (key : ℕ) → result ≤ key → slot_at self.now key ≡ None }
     {
-        self.connections.capacity()
+        keys(&self.connections)
     }
 
     /// Reads each connection once. All reads use one buffer.
