@@ -10,7 +10,7 @@ use mio::event::Event;
 use mio::net::TcpStream;
 use std::alloc::Global;
 use std::io;
-use std::io::{ErrorKind, IoSlice, Read};
+use std::io::{ErrorKind, IoSlice, Read, Write};
 
 /// The socket of a connection, with the events that the poll reported and the time that its peer has left. A
 /// call never blocks. After a call that would have to wait, or that moved fewer bytes than it asked for, the
@@ -162,7 +162,10 @@ impl Link {
         if !self.writable {
             return Err(waits());
         }
-        let written = self.stream.write_vectored(bytes);
+        let written = match bytes {
+            [part] => self.stream.write(part),
+            parts => self.stream.write_vectored(parts),
+        };
         match &written {
             Ok(_) => self.patience.went(moment),
             Err(error) => self.writable = error.kind() != ErrorKind::WouldBlock,
