@@ -170,13 +170,13 @@ impl Server {
     }
 
     /// Waits until the poll reports an event, a peer has been silent for too long, or `most` ms have passed.
-    /// It doesn't wait if the turns since the last call had work to do; then the system is asked for events
-    /// at most once in a ms.
+    /// It doesn't wait if the turns since the last call had work to do. Then the system is asked for events,
+    /// but while bytes are left to read, only once in a ms.
     pub fn rest(&mut self, most: u64) -> io::Result<()> {
         let sockets = &mut self.wire.wire;
         if sockets.take_worked() {
             self.lookout.works();
-            return if sockets.has_just_waited() {
+            return if sockets.take_more() && sockets.has_just_waited() {
                 Ok(())
             } else {
                 sockets.wait(Duration::ZERO)

@@ -121,6 +121,9 @@ impl Lingerings {
 
     /// Drops the bytes that have come, and closes the connections that have ended or used up their allowance.
     pub(crate) fn drain(&mut self, moment: Moment) {
+        if self.all.is_empty() {
+            return;
+        }
         for key in 0..self.all.capacity() {
             let ended = match self.all.get_mut(key) {
                 Some(one) => one.ends(moment),
@@ -134,6 +137,9 @@ impl Lingerings {
 
     /// Returns the ms until the first allowance is used up, at most `most`.
     pub(crate) fn left(&self, moment: Moment, most: u64) -> u64 {
+        if self.all.is_empty() {
+            return most;
+        }
         let mut least = most;
         for key in 0..self.all.capacity() {
             if let Some(one) = self.all.get(key) {

@@ -1,5 +1,6 @@
 //! The system's sockets as a wire.
-ghost use Rattle.std.specs.Prelude.{◌≡◌, ◌+◌, false, if◌then◌else◌};
+ghost use Rattle.std.specs.Prelude.{◌≡◌, ◌+◌, ℕ, false, if◌then◌else◌};
+ghost use Rattle.wires.specs.Poll.{HasCause, IsCount};
 
 use crate::connection_log::{CloseReason, ConnectionEvent, ConnectionLog};
 use crate::entrance::{Entrance, Entrances, Listening};
@@ -44,6 +45,8 @@ pub struct Sockets {
     failures: u64,
     /// Whether a call did more than find that it would have to wait.
     worked: bool,
+    /// Whether a read filled its buffer, so that more bytes may be there.
+    more: bool,
     /// The moment by which silence is measured.
     moment: Moment,
     /// The moment of the last wait.
@@ -90,6 +93,7 @@ impl Sockets {
             poll: Poll::new(net)?,
             failures: 0,
             worked: false,
+            more: false,
             moment: Moment::start(),
             waited: Moment::start(),
             visits: None,
@@ -195,6 +199,12 @@ impl Sockets {
         worked
     }
 
+    /// Returns whether a read since the last call of `take_more` filled its buffer, so that more bytes may be
+    /// there.
+    pub fn take_more(&mut self) -> bool {
+        mem::replace(&mut self.more, false)
+    }
+
     /// Accepts the next connection of a door, and registers it at the poll under the next free number. Bytes
     /// that are written to it go out at once, and a silent device is probed.
     fn accept(&mut self, door: Door) -> io::Result<(Link, SocketAddr)>
@@ -250,6 +260,23 @@ impl Sockets {
             let stream = link.into_stream();
             let _kept = self.lingerings.add(&self.poll, stream, self.moment);
         }
+    }
+
+    /// Returns the answer of a read or a write of a connection that failed. `over` says whether the peer has no
+    /// time left.
+    fn failed(&mut self, id: WireId, error: io::Error, over: bool) -> Progress<usize>
+        ensures count { (room : ℕ) → IsCount result room }
+        ensures cause { HasCause self.old.failures self.new.failures result }
+    {
+        if self.counts_fault(error) {
+            self.breaks(id);
+            return Progress::Fault;
+        }
+        if over {
+            self.falls_silent(id);
+            return Progress::End;
+        }
+        Progress::Waiting
     }
 
     /// Counts a failed call, unless it only would have had to wait or the count is full. Returns whether it
@@ -321,17 +348,10 @@ impl Wire for Sockets {
             }
             Ok(count) => {
                 self.worked = true;
+                self.more |= count == buffer.len();
                 Progress::Done(count)
             }
-            Err(error) if self.counts_fault(error) => {
-                self.breaks(id);
-                Progress::Fault
-            }
-            Err(_) if over => {
-                self.falls_silent(id);
-                Progress::End
-            }
-            Err(_) => Progress::Waiting,
+            Err(error) => self.failed(id, error, over),
         }
     }
 
@@ -347,15 +367,7 @@ impl Wire for Sockets {
                 self.worked = true;
                 Progress::Done(count)
             }
-            Err(error) if self.counts_fault(error) => {
-                self.breaks(id);
-                Progress::Fault
-            }
-            Err(_) if over => {
-                self.falls_silent(id);
-                Progress::End
-            }
-            Err(_) => Progress::Waiting,
+            Err(error) => self.failed(id, error, over),
         }
     }
 
