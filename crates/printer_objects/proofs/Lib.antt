@@ -3,3 +3,4 @@ pub mod Listing
 pub mod Taken
 pub mod Spelt
 pub mod Asking
+pub mod Marking

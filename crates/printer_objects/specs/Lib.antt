@@ -12,3 +12,4 @@ pub mod Offered
 pub mod PrinterAttribute
 pub mod PrinterShown
 pub mod Created
+pub mod Named

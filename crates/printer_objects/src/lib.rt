@@ -17,6 +17,7 @@ mod finishing;
 mod job_attribute;
 mod job_shown;
 mod law;
+mod named;
 mod offer;
 mod offered;
 mod operation;

@@ -1,9 +1,9 @@
 //! The attributes of a printer, as a table (RFC 8011, section 5.4).
 ghost use Rattle.std.specs.Prelude.{◌≡◌};
-ghost use Rattle.printer_objects.specs.Requested.{has_group};
+ghost use Rattle.printer_objects.specs.Requested.{has_group, has_name};
 ghost use Rattle.printer_objects.specs.PrinterAttribute.{is_wanted_of_printer, printer_attribute_group, printer_attribute_name, printer_table};
 
-use crate::requested::{has_name, is_requested};
+use crate::requested::is_requested;
 use base_types::Text;
 
 /// An attribute of a printer (RFC 8011, sections 5.4 and 5.2).
@@ -153,16 +153,18 @@ impl PrinterAttribute {
         }
     }
 
-    /// Returns whether requested-attributes asks for the attribute. `by_group` says whether it asks for a group.
+    /// Returns whether requested-attributes asks for the attribute. `by_group` says whether it asks for a group,
+    /// and `named` whether it has the attribute's name.
     #[tactic(auto, using(crate::proofs::Asking::by_name))]
-    pub(crate) fn is_wanted(self, by_group: bool, requested: &[Text]) -> bool
-        requires { by_group ≡ has_group requested.now }
+    pub(crate) fn is_wanted(self, by_group: bool, named: bool, requested: &[Text]) -> bool
+        requires group { by_group ≡ has_group requested.now }
+        requires named { named ≡ has_name (printer_attribute_name self) requested.now }
         ensures { result ≡ is_wanted_of_printer requested.now self }
     {
         if by_group {
             is_requested(self.name(), self.group(), requested)
         } else {
-            has_name(self.name(), requested)
+            named
         }
     }
 }

@@ -7,6 +7,7 @@ use crate::attribute::{
 };
 use crate::finishing::NO_FINISHING;
 use crate::job_shown::uri_of_printer;
+use crate::named::named;
 use crate::offer::Offer;
 use crate::offered::{
     copies, formats, hold_untils, media, offered_finishings, operations, ready_media, sides,
@@ -64,10 +65,12 @@ pub fn printer_attributes(
     let count = requested.len().min(PrinterAttribute::COUNT);
     let mut group = Group::with_capacity(alloc, GroupTag::PRINTER, count)?;
     let by_group = has_group(requested);
-    for which in PrinterAttribute::all() {
-        if which.is_wanted(by_group, requested) {
-            let attribute = which.shown(alloc, shown)?;
-            group.push(attribute)?;
+    let named = named(requested);
+    let table = PrinterAttribute::all();
+    for place in 0..PrinterAttribute::COUNT {
+        let which = table[place];
+        if which.is_wanted(by_group, named[place], requested) {
+            group.push(which.shown(alloc, shown)?)?;
         }
     }
     Ok(group)

@@ -1,6 +1,6 @@
 //! The attributes that requested-attributes asks for.
 ghost use Rattle.std.specs.Prelude.{◌≡◌, ◌++◌, ◌∷◌, [], IfOk, OnOk, OnErr};
-ghost use Rattle.printer_objects.specs.Requested.{asks_for, has_group, has_name, is_requested, names_group};
+ghost use Rattle.printer_objects.specs.Requested.{asks_for, has_group, is_requested, names_group};
 
 use base_types::Text;
 use std::alloc::{AllocError, Global};
@@ -69,14 +69,6 @@ fn asks_for(asked: &Text, name: &str, group: &str) -> bool
 {
     let asked = asked.as_bytes();
     asked == b"all".as_slice() || asked == group.as_bytes() || asked == name.as_bytes()
-}
-
-/// Returns whether requested-attributes has a name.
-pub(crate) fn has_name(name: &str, requested: &[Text]) -> bool
-    ensures { result ≡ has_name name.now requested.now }
-{
-    let name = name.as_bytes();
-    requested.iter().any(|asked| asked.as_bytes() == name)
 }
 
 /// Returns whether requested-attributes asks for a group of a printer's attributes, or for all attributes.
