@@ -49,14 +49,6 @@ named_more requested i asked inside is = more_in requested i asked inside is pri
 nat_eq-self : (n : ℕ) → nat_eq n n ≡ true
 nat_eq-self n = grind arith
 
-unmet : (old eq : Bool) → old ≡ (old || (eq && false))
-unmet true eq = refl
-unmet false true = refl
-unmet false false = refl
-
-pub at_start : (asked : List ℕ) (marks : List Bool) → length marks ≡ 34 → MarkedSoFar asked marks [] marks
-at_start asked marks long = (long, λ place inside. unmet (get_or marks place false) (bytes_eq asked (name_at printer_table place)))
-
 -- at another place, and at this one by whether the name is met
 elsewhere : (old eq met : Bool) → (old || (eq && met)) ≡ (old || (eq && (met || false)))
 elsewhere true eq met = refl
