@@ -1,6 +1,7 @@
 -- All that was read on a connection was acted on, unless nothing counts any more.
-use Rattle.std.proofs.Common.{◌≡◌, ◌≢◌, ℕ, zero, suc, Bool, true, false, List, [], ◌∷◌, ◌++◌, length, take, refl, sym, ap, subst, Option, Some, None, ◌⊎◌, inl, inr}
-use Rattle.std.specs.Prelude.{◌==◌, ◌||◌, nat_lt, if◌then◌else◌}
+use Rattle.std.proofs.Common.{◌≡◌, ◌≢◌, ℕ, zero, suc, Bool, true, false, List, [], ◌∷◌, ◌++◌, length, take, refl, sym, ap, subst, arith, Option, Some, None, ◌⊎◌, inl, inr}
+use Rattle.std.specs.Prelude.{◌==◌, ◌||◌, nat_lt, if◌then◌else◌, All}
+use Rattle.std.specs.List.{concat}
 use Rattle.base_types.specs.declared.limits.TheConstants.Limits.{CONNECTIONS}
 use Rattle.base_types.specs.declared.report.Report.TheVariants as report
 use Rattle.print_room.specs.State.{State}
@@ -26,8 +27,9 @@ use Rattle.server.specs.Closing.{Leaves, IsGone, ClosesAs, Settles}
 use Rattle.server.specs.Polling.{Opens, AcceptsAs, AcceptsOne, AcceptsAt, IsHeardAt, FedWhole, FeedsAt, Fails, ReadsAs, ReadsOpen, ReadsAt, is_read, ReadsOne, WritesAs, WritesOpen, WritesAt, WritesOne, is_done, EndsAt, EndsOne}
 use Rattle.server.specs.Turn as Between
 use Rattle.server.specs.Turn.{Ticks, Notes, is_tick_due, TicksIfDue, Covers, Round, Turn, BodyAsks, BodyComes, Action, Turned, Served_body, Reported, Ticked, Trace, DoesAction, Runs}
+use Rattle.promises.specs.Others.{IsOrder, IsCause}
 use Rattle.promises.proofs.Sending.{same_key, other_key}
-use Rattle.promises.proofs.Sparing.{IsOut, Left, Leaves_it, left_unanswered, left_settles, left_happens, left_reads, left_writes}
+use Rattle.promises.proofs.Sparing.{IsOut, Left, Spared, brings, Spares_in, spares_unanswered, spares_settles, spares_reads, spares_writes}
 
 -- on each open connection
 abbrev pub AllHeard : Ledger → Type 0
@@ -41,29 +43,32 @@ pub broken_heard : (e : Entry) → e.broken ≡ true → IsHeard e
 broken_heard e is = inl (or_true e.draining e.broken is)
 
 -- a part that doesn't concern it leaves it so
-heard_left : (x y : Option Entry) → Left x y → IsHeardAt x → IsHeardAt y
-heard_left None y left heard = subst IsHeardAt (sym (left.none refl)) tt
-heard_left (Some e) y left heard = by (e.broken) refl (device_of e.progress) refl
+heard_left : (O : ℕ → List ℕ → Type 0) (C : ℕ → ℕ → Bool → Type 0) (x y : Option Entry) → Left O C x y → IsHeardAt x → IsHeardAt y
+heard_left O C None y left heard = subst IsHeardAt (sym (left.none refl)) tt
+heard_left O C (Some e) y left heard = by (e.broken) refl (device_of e.progress) refl
   where
     out : IsOut y → IsHeardAt y
     out (inl gone) = subst IsHeardAt (sym gone) tt
     out (inr (d, is, lost)) = subst IsHeardAt (sym is) (broken_heard d lost)
 
-    more : IsOut y ⊎ ((orders : List ℕ) × (y ≡ Some (owing orders e))) → IsHeardAt y
-    more (inl gone) = out gone
-    more (inr (orders, is)) = subst IsHeardAt (sym is) heard
+    more : (device : ℕ) → (IsOut y × C device e.id e.ended) ⊎ ((orders : List (List ℕ)) × All (O device) orders × (y ≡ Some (owing (concat orders) e))) → IsHeardAt y
+    more device (inl (gone, cause)) = out gone
+    more device (inr (orders, each, is)) = subst IsHeardAt (sym is) heard
 
     by : (t : Bool) → e.broken ≡ t → (o : Option ℕ) → device_of e.progress ≡ o → IsHeardAt y
     by true is o progress = out (left.out e refl is)
     by false is None progress = subst IsHeardAt (sym (left.client e refl is progress)) heard
-    by false is (Some device) progress = more (left.device e device refl is progress)
+    by false is (Some device) progress = more device (left.device e device refl is progress)
+
+heard_spared : (moment key other : ℕ) (l : Ledger) (hs : List Happening) (l' : Ledger) → other ≢ key → Spared moment key l hs l' → IsHeardAt (l.entries other) → IsHeardAt (l'.entries other)
+heard_spared moment key other l hs l' apart it = heard_left (IsOrder it.came) (IsCause it.came hs) (l.entries other) (l'.entries other) (it.each other apart)
 
 abbrev Hears : Rel → Type 0
 Hears R = (l : Ledger) (hs : List Happening) (l' : Ledger) → AllHeard l → R l hs l' → AllHeard l'
 
 -- a part that concerns none
-hears_left : (R : Rel) → ((other : ℕ) → Leaves_it other R) → Hears R
-hears_left R left l hs l' heard it key = heard_left (l.entries key) (l'.entries key) (left key l hs l' it) (heard key)
+hears_left : (moment : ℕ) (R : Rel) → ((key : ℕ) → Spares_in moment key R) → Hears R
+hears_left moment R spares l hs l' heard it key = heard_spared moment (suc key) key l hs l' (λ same. absurd (omega (arith, same))) (spares (suc key) l hs l' it) (heard key)
 
 pub hears_same : (l l' : Ledger) → l'.entries ≡ l.entries → AllHeard l → AllHeard l'
 hears_same l l' same heard key = subst (λ (entries : ℕ → Option Entry). IsHeardAt (entries key)) (sym same) (heard key)
@@ -83,7 +88,7 @@ hears_each zero R r = hears_nothing
 hears_each (suc n) R r = hears_then (Each n R) (R n) (hears_each n R r) (r n)
 
 pub hears_settles : (moment : ℕ) → Hears (Settles moment)
-hears_settles moment = hears_left (Settles moment) (λ other. left_settles other moment)
+hears_settles moment = hears_left moment (Settles moment) (spares_settles moment)
 
 at_if : (t : Bool) (x y : Option Entry) → (t ≡ true → IsHeardAt x) → (t ≡ false → IsHeardAt y) → IsHeardAt (if t then x else y)
 at_if true x y p q = p refl
@@ -99,12 +104,12 @@ there l key e heard is = subst IsHeardAt is (heard key)
 -- ---- reads, writes and closings
 
 -- for its own connection by this property, for other connections since the part leaves them alone
-by_key : (R : Rel) (key : ℕ) → ((other : ℕ) → other ≢ key → Leaves_it other R) → ((l : Ledger) (hs : List Happening) (l' : Ledger) → AllHeard l → R l hs l' → IsHeardAt (l'.entries key)) → Hears R
-by_key R key left own l hs l' heard it other = by (other == key) refl
+by_key : (R : Rel) (moment key : ℕ) → Spares_in moment key R → ((l : Ledger) (hs : List Happening) (l' : Ledger) → AllHeard l → R l hs l' → IsHeardAt (l'.entries key)) → Hears R
+by_key R moment key spares own l hs l' heard it other = by (other == key) refl
   where
     by : (t : Bool) → (other == key) ≡ t → IsHeardAt (l'.entries other)
     by true same = subst (λ (k : ℕ). IsHeardAt (l'.entries k)) (sym (same_key other key same)) (own l hs l' heard it)
-    by false same = heard_left (l.entries other) (l'.entries other) (left other (other_key other key same) l hs l' it) (heard other)
+    by false same = heard_spared moment key other l hs l' (other_key other key same) (spares l hs l' it) (heard other)
 
 hears_sets : (key : ℕ) (e : Entry) (l : Ledger) (hs : List Happening) (l' : Ledger) → AllHeard l → IsHeard e → Sets key e l hs l' → AllHeard l'
 hears_sets key e l hs l' heard is it = hears_at key (Some e) l l' heard is (ap (λ (x : Ledger). x.entries) it.1)
@@ -152,7 +157,7 @@ own_reads moment key None l hs l' heard is it = hears_nothing l hs l' heard it k
 own_reads moment key (Some e) l hs l' heard is it = own_reads_if (is_read e) moment key e l hs l' heard is it
 
 pub hears_reads : (moment key : ℕ) → Hears (ReadsOne moment key)
-hears_reads moment key = by_key (ReadsOne moment key) key (λ other apart. left_reads other moment key apart) (λ l hs l' heard it. own_reads moment key (l.entries key) l hs l' heard (heard key) it)
+hears_reads moment key = by_key (ReadsOne moment key) moment key (spares_reads moment key) (λ l hs l' heard it. own_reads moment key (l.entries key) l hs l' heard (heard key) it)
 
 own_writes_as : (moment key : ℕ) (e : Entry) (offered : List ℕ) (answer : WireAnswer ℕ) (l : Ledger) (hs : List Happening) (l' : Ledger) → AllHeard l → IsHeard e → WritesAs moment key e offered answer l hs l' → IsHeardAt (l'.entries key)
 own_writes_as moment key e offered (wire.Done n) l hs l' heard is it =
@@ -170,11 +175,11 @@ own_writes moment key None l hs l' heard is it = hears_nothing l hs l' heard it 
 own_writes moment key (Some e) l hs l' heard is it = own_writes_if (nat_lt 0 (length (waiting e))) moment key e l hs l' heard is it
 
 pub hears_writes : (moment key : ℕ) → Hears (WritesOne moment key)
-hears_writes moment key = by_key (WritesOne moment key) key (λ other apart. left_writes other moment key apart) (λ l hs l' heard it. own_writes moment key (l.entries key) l hs l' heard (heard key) it)
+hears_writes moment key = by_key (WritesOne moment key) moment key (spares_writes moment key) (λ l hs l' heard it. own_writes moment key (l.entries key) l hs l' heard (heard key) it)
 
 hears_gone : (moment : ℕ) (device : Option ℕ) → Hears (IsGone moment device)
 hears_gone moment None = hears_nothing
-hears_gone moment (Some device) = hears_left (IsGone moment (Some device)) (λ other. left_unanswered other moment (Is.Report device report.Gone))
+hears_gone moment (Some device) = hears_left moment (IsGone moment (Some device)) (λ key. spares_unanswered moment key (Is.Report device report.Gone))
 
 hears_closes : (moment key : ℕ) (e : Entry) → Hears (ClosesAs moment Drained key e)
 hears_closes moment key e =
@@ -210,7 +215,7 @@ hears_accepts door l hs l' heard it = hears_if (nat_lt l.count CONNECTIONS) (Acc
 -- ---- turns, and calls between them
 
 hears_unanswered : (moment : ℕ) (event : Event) → Hears (Unanswered moment event)
-hears_unanswered moment event = hears_left (Unanswered moment event) (λ other. left_unanswered other moment event)
+hears_unanswered moment event = hears_left moment (Unanswered moment event) (λ key. spares_unanswered moment key event)
 
 hears_ticks : (moment : ℕ) → Hears (Ticks moment)
 hears_ticks moment l hs l' heard it =
@@ -243,7 +248,7 @@ body_asks moment asked.TooShort served l hs l' heard it = hears_nothing l hs l' 
 body_asks moment (asked.Refused status request) served l hs l' heard (is, inl it) = hears_same l l' (ap (λ (x : Ledger). x.entries) it.1) heard
 body_asks moment (asked.Refused status request) served l hs l' heard (is, inr it) = hears_same l l' (ap (λ (x : Ledger). x.entries) it.1) heard
 body_asks moment (asked.Event request event) served l hs l' heard (bytes, is, (outcome, it)) =
-    hears_then (Happens moment event outcome) (Between.Answers request (reply_of outcome) bytes) (hears_left (Happens moment event outcome) (λ other. left_happens other moment event outcome)) (between_answers request (reply_of outcome) bytes) l hs l' heard it
+    hears_then (Happens moment event outcome) (Between.Answers request (reply_of outcome) bytes) (hears_left moment (Happens moment event outcome) (λ key a ks b one. (brings moment key event outcome a ks b one).spared)) (between_answers request (reply_of outcome) bytes) l hs l' heard it
 
 body_comes : (moment : ℕ) (body : List ℕ) (served : Between.Outcome) → Hears (BodyComes moment body served)
 body_comes moment body served l hs l' heard (inl (it, asks, comes)) =

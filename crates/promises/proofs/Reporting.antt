@@ -81,11 +81,11 @@ record Goes (turn : Bool) (moment : ℕ) (l : Ledger) (hs : List Happening) (l' 
   reported : Sound l → (device : ℕ) (before : List ReportRecord) → IsReported device before l → IsReported device (before ++ reports_by device came) l'
   greeted : (Name : List ℕ → ℕ → Type 0) → AreNames Name l.core came → Sound l → AllGreeted Name l → AllGreeted Name l'
 
-run_then : (old mid new : State) (first later : List Came) → AreRun old first mid → AreRun mid later new → AreRun old (first ++ later) new
+pub run_then : (old mid new : State) (first later : List Came) → AreRun old first mid → AreRun mid later new → AreRun old (first ++ later) new
 run_then old mid new [] later same rest = subst (λ (s : State). AreRun s later new) same rest
 run_then old mid new (it ∷ first) later (handles, more) rest = (handles, run_then it.state mid new first later more rest)
 
-told_then : (hs front back : List Happening) (first later : List Came) → hs ≡ front ++ back → core_notes front ≡ flat_map (λ (it : Came). it.notes) first → core_notes back ≡ flat_map (λ (it : Came). it.notes) later → core_notes hs ≡ flat_map (λ (it : Came). it.notes) (first ++ later)
+pub told_then : (hs front back : List Happening) (first later : List Came) → hs ≡ front ++ back → core_notes front ≡ flat_map (λ (it : Came). it.notes) first → core_notes back ≡ flat_map (λ (it : Came). it.notes) later → core_notes hs ≡ flat_map (λ (it : Came). it.notes) (first ++ later)
 told_then hs front back first later whole p q =
     ap core_notes whole ∙ (notes_append front back ∙ (ap (λ (ns : List Note). ns ++ core_notes back) p ∙ (ap (λ (ns : List Note). flat_map (λ (it : Came). it.notes) first ++ ns) q ∙ sym (flat_map-append (λ (it : Came). it.notes) first later))))
 

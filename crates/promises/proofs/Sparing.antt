@@ -1,9 +1,16 @@
--- The changes of one connection by a part that concerns another connection.
-use Rattle.std.proofs.Common.{◌≡◌, ◌≢◌, ℕ, zero, suc, Bool, true, false, List, [], ◌∷◌, ◌++◌, length, take, refl, sym, ◌∙◌, ap, subst, append_assoc, append-nil, Option, Some, None, ◌⊎◌, inl, inr}
-use Rattle.std.specs.Prelude.{◌==◌, nat_lt, if◌then◌else◌}
+-- The changes of the other connections by a part of a turn that concerns one connection.
+use Rattle.std.proofs.Common.{◌≡◌, ◌≢◌, arith, ℕ, zero, suc, Bool, true, false, List, [], ◌∷◌, ◌++◌, length, take, refl, sym, ◌∙◌, ap, subst, append_assoc, append-nil, Option, Some, None, ◌⊎◌, inl, inr}
+use Rattle.std.specs.Prelude.{◌==◌, nat_lt, if◌then◌else◌, All, Contains}
+use Rattle.std.specs.List.{concat, flat_map}
+use Rattle.std.proofs.lemmas.List.Elements.{All-nil, All-cons, All-append, All-weaker, Contains-append_left, Contains-append_right}
+use Rattle.std.proofs.lemmas.List.Folds.{concat-append}
 use Rattle.base_types.specs.declared.report.Report.TheVariants as report
+use Rattle.device_link.specs.Orders.{cancel_line}
+use Rattle.print_room.specs.declared.started.Started.{Started}
+use Rattle.print_room.specs.State.{State}
 use Rattle.events.specs.declared.event.Event.{Event}
 use Rattle.events.specs.declared.event.Event.TheVariants as Is
+use Rattle.events.specs.declared.effects.Cancel.{Cancel}
 use Rattle.events.specs.declared.effects.Response.{Response}
 use Rattle.events.specs.declared.effects.Response.TheVariants as answered
 use Rattle.events.specs.declared.effects.LpdResponse.{LpdResponse}
@@ -12,7 +19,6 @@ use Rattle.events.specs.declared.effects.Effects.{Effects}
 use Rattle.events.specs.declared.status.Status.{Status}
 use Rattle.events.specs.declared.status.Status.TheVariants.{TemporaryError}
 use Rattle.events.specs.Event.{is_query}
-use Rattle.device_link.specs.Orders.{cancel_line}
 use Rattle.dispatcher.specs.declared.outcome.Outcome.{Outcome}
 use Rattle.dispatcher.specs.declared.outcome.Outcome.TheVariants.{Dropped, Queried, Undispatched, Idle, Dispatched}
 use Rattle.dispatcher.specs.declared.listener.DeviceRefusal.TheVariants as why
@@ -27,22 +33,28 @@ use Rattle.wires.specs.declared.wire.Progress.{Progress as WireAnswer}
 use Rattle.wires.specs.declared.wire.Progress.TheVariants as wire
 use Rattle.connections.specs.declared.ask.Ask.{Ask}
 use Rattle.connections.specs.declared.ask.Ask.TheVariants as ask
+use Rattle.connections.specs.declared.ask.Growth.TheVariants as growth
+use Rattle.connections.specs.declared.ask.Part.TheVariants as part
 use Rattle.connections.specs.declared.ask.Client.{Client}
 use Rattle.connections.specs.declared.ask.Client.TheVariants as client
 use Rattle.connections.specs.Steps.{http_status}
 use Rattle.connections.specs.Entry.{Entry, device_of, closes_of, broken, owing, given_up, reading, waiting, needs_memory}
-use Rattle.server.specs.Polls.{Happening, Choice, Found, Rested}
+use Rattle.server.specs.Polls.{Happening, Told, Choice, Found, Rested}
 use Rattle.server.specs.Ledger.{Ledger, Drained, at_key, with_entry, job_bytes}
 use Rattle.server.specs.Rel.{Rel, Nothing, Polls, Tells, Chooses, Then, If, Or, Times, Many, EachOf}
 use Rattle.server.specs.Enqueuing.{Sets, BreaksAt, Breaks, Drops, EnqueuesOpen, EnqueuesAt, Enqueues, EnqueuesReplyAt, EnqueuesResponse, EnqueuesStatus, IsDevice, EnqueuesOn}
-use Rattle.server.specs.Happening.{Decides, Sends, Starts, StartsAll, SendsAll, Orders, Happens, Unanswered}
+use Rattle.server.specs.Happening.{Sends, Starts, Orders, Happens, Unanswered}
 use Rattle.server.specs.Closing.{Leaves, IsGone, ClosesAs, IsBroken, ClosesFirst, NoneBroken, Settles}
 use Rattle.server.specs.Answering as Ans
-use Rattle.server.specs.Greeting.{IsDeviceAs, GivesWayAt, GivesWay, SaysName, Greets}
-use Rattle.server.specs.Acting.{place_of, place_of_part, Asks, ActsOn, ActsNext}
+use Rattle.server.specs.Greeting.{IsDeviceAs, GivesWayAt, GivesWay, TakesOver, Greets}
+use Rattle.server.specs.Acting.{Asks, ActsOn, ActsNext}
 use Rattle.server.specs.Polling.{Acts, Serves, FedWhole, FeedsAt, FeedsOne, Fails, ReadsAs, ReadsOpen, ReadsAt, is_read, ReadsOne, WritesAs, WritesOpen, WritesAt, WritesOne, is_done, EndsAt, EndsOne}
-use Rattle.promises.specs.Others.{SparedAs, IsSpared, SparesAll}
+use Rattle.server.specs.Law.{core_notes}
+use Rattle.promises.specs.Heard.{Came, AreRun, ComeAt}
+use Rattle.promises.specs.Others.{IsOrderBy, IsOrder, ComesAgain, IsCause, SparedAs, IsSpared, Spares, SparesAll}
 use Rattle.promises.proofs.Sending.{same_key}
+use Rattle.promises.proofs.Calms.{no_notes, enqueues_on, each_sent, calms_orders, happened}
+use Rattle.promises.proofs.Reporting.{run_then, told_then}
 
 -- ---- one connection
 
@@ -50,387 +62,611 @@ use Rattle.promises.proofs.Sending.{same_key}
 abbrev pub IsOut : Option Entry → Type 0
 IsOut now = (now ≡ None) ⊎ ((e : Entry) × (now ≡ Some e) × (e.broken ≡ true))
 
--- the changes of a connection that a part doesn't concern
-pub record Left (x y : Option Entry) : Type 0 where
+-- The changes of a connection by a part that concerns another one: on a device's connection orders become due, or it breaks for a cause. `O` says of bytes that they are an order for a device. `C` says of a device, and of the number of its connection and whether the input has ended, that there is a cause.
+pub record Left (O : ℕ → List ℕ → Type 0) (C : ℕ → ℕ → Bool → Type 0) (x y : Option Entry) : Type 0 where
   pub none : x ≡ None → y ≡ None
   pub client : (e : Entry) → x ≡ Some e → e.broken ≡ false → device_of e.progress ≡ None → y ≡ Some e
-  pub device : (e : Entry) (device : ℕ) → x ≡ Some e → e.broken ≡ false → device_of e.progress ≡ Some device → IsOut y ⊎ ((orders : List ℕ) × (y ≡ Some (owing orders e)))
+  pub device : (e : Entry) (device : ℕ) → x ≡ Some e → e.broken ≡ false → device_of e.progress ≡ Some device → (IsOut y × C device e.id e.ended) ⊎ ((orders : List (List ℕ)) × All (O device) orders × (y ≡ Some (owing (concat orders) e)))
   pub out : (e : Entry) → x ≡ Some e → e.broken ≡ true → IsOut y
 
-owing_none : (e : Entry) → Some e ≡ Some (owing [] e)
-owing_none e = ap (λ (due : List ℕ). Some (record e { due = due })) (sym (append-nil e.due))
-
-pub left_same : (x y : Option Entry) → y ≡ x → Left x y
-left_same x y same = record {
-  none = λ is. same ∙ is;
-  client = λ e is sound progress. same ∙ is;
-  device = λ e device is sound progress. inr ([], (same ∙ is) ∙ owing_none e);
-  out = λ e is broken. inr (e, same ∙ is, broken);
-}
-
-pub left_then : (x y z : Option Entry) → Left x y → Left y z → Left x z
-left_then x y z p q = record {
-  none = λ is. q.none (p.none is);
-  client = λ e is sound progress. q.client e (p.client e is sound progress) sound progress;
-  device = λ e device is sound progress. of_device e device sound progress (p.device e device is sound progress);
-  out = λ e is broken. still_out (p.out e is broken);
+left_weaker : (O O' : ℕ → List ℕ → Type 0) (C C' : ℕ → ℕ → Bool → Type 0) (x y : Option Entry) → ((device : ℕ) (bytes : List ℕ) → O device bytes → O' device bytes) → ((device id : ℕ) (ended : Bool) → C device id ended → C' device id ended) → Left O C x y → Left O' C' x y
+left_weaker O O' C C' x y orders causes p = record {
+  none = p.none;
+  client = p.client;
+  device = λ e device is sound progress. by e device (p.device e device is sound progress);
+  out = p.out;
 }
   where
-    still_out : IsOut y → IsOut z
-    still_out (inl gone) = inl (q.none gone)
-    still_out (inr (e, is, broken)) = q.out e is broken
+    by : (e : Entry) (device : ℕ) → (IsOut y × C device e.id e.ended) ⊎ ((orders : List (List ℕ)) × All (O device) orders × (y ≡ Some (owing (concat orders) e))) → (IsOut y × C' device e.id e.ended) ⊎ ((orders : List (List ℕ)) × All (O' device) orders × (y ≡ Some (owing (concat orders) e)))
+    by e device (inl (gone, cause)) = inl (gone, causes device e.id e.ended cause)
+    by e device (inr (more, each, is)) = inr (more, All-weaker (O device) (O' device) (orders device) more each, is)
 
-    more_due : (e : Entry) (orders : List ℕ) → IsOut z ⊎ ((more : List ℕ) × (z ≡ Some (owing more (owing orders e)))) → IsOut z ⊎ ((more : List ℕ) × (z ≡ Some (owing more e)))
-    more_due e orders (inl gone) = inl gone
-    more_due e orders (inr (more, is)) = inr (orders ++ more, is ∙ ap (λ (due : List ℕ). Some (record e { due = due })) (append_assoc e.due orders more))
+module _ (O : ℕ → List ℕ → Type 0) (C : ℕ → ℕ → Bool → Type 0) where
+  left_same : (x y : Option Entry) → y ≡ x → Left O C x y
+  left_same x y same = record {
+    none = λ is. same ∙ is;
+    client = λ e is sound progress. same ∙ is;
+    device = λ e device is sound progress. inr ([], All-nil (O device), (same ∙ is) ∙ ap (λ (due : List ℕ). Some (record e { due = due })) (sym (append-nil e.due)));
+    out = λ e is broken. inr (e, same ∙ is, broken);
+  }
 
-    of_device : (e : Entry) (device : ℕ) → e.broken ≡ false → device_of e.progress ≡ Some device → IsOut y ⊎ ((orders : List ℕ) × (y ≡ Some (owing orders e))) → IsOut z ⊎ ((orders : List ℕ) × (z ≡ Some (owing orders e)))
-    of_device e device sound progress (inl gone) = inl (still_out gone)
-    of_device e device sound progress (inr (orders, is)) = more_due e orders (q.device (owing orders e) device is sound progress)
+  left_then : (x y z : Option Entry) → Left O C x y → Left O C y z → Left O C x z
+  left_then x y z p q = record {
+    none = λ is. q.none (p.none is);
+    client = λ e is sound progress. q.client e (p.client e is sound progress) sound progress;
+    device = λ e device is sound progress. of_device e device sound progress (p.device e device is sound progress);
+    out = λ e is broken. still_out (p.out e is broken);
+  }
+    where
+      still_out : IsOut y → IsOut z
+      still_out (inl gone) = inl (q.none gone)
+      still_out (inr (e, is, broken)) = q.out e is broken
 
--- a device's connection breaks
-left_out : (d : Entry) (device : ℕ) (y : Option Entry) → device_of d.progress ≡ Some device → IsOut y → Left (Some d) y
-left_out d device y named gone = record {
-  none = λ is. cc;
-  client = λ e is sound progress. let same : d ≡ e = cc in absurd (never (device_of d.progress) named (ap (λ (x : Entry). device_of x.progress) same ∙ progress));
-  device = λ e other is sound progress. inl gone;
-  out = λ e is broken. gone;
-}
-  where
-    never : (o : Option ℕ) → o ≡ Some device → o ≡ None → ⊥
-    never o p q = cc
+      more_due : (e : Entry) (device : ℕ) (orders : List (List ℕ)) → All (O device) orders → (IsOut z × C device e.id e.ended) ⊎ ((more : List (List ℕ)) × All (O device) more × (z ≡ Some (owing (concat more) (owing (concat orders) e)))) → (IsOut z × C device e.id e.ended) ⊎ ((more : List (List ℕ)) × All (O device) more × (z ≡ Some (owing (concat more) e)))
+      more_due e device orders each (inl gone) = inl gone
+      more_due e device orders each (inr (more, later, is)) =
+          inr (orders ++ more, All-append (O device) orders more each later, is ∙ ap (λ (due : List ℕ). Some (record e { due = due })) (appended e.due (concat orders) (concat more) (concat (orders ++ more)) (concat-append orders more)))
+        where
+          appended : (due first later whole : List ℕ) → whole ≡ first ++ later → (due ++ first) ++ later ≡ due ++ whole
+          appended due first later whole is = append_assoc due first later ∙ ap (λ (bytes : List ℕ). due ++ bytes) (sym is)
 
--- more is due on it, where it is a device's
-left_owing : (d : Entry) (device : ℕ) (bytes : List ℕ) → device_of d.progress ≡ Some device → d.broken ≡ false → Left (Some d) (Some (owing bytes d))
-left_owing d device bytes named unbroken = record {
-  none = λ is. cc;
-  client = λ e is sound progress. let same : d ≡ e = cc in absurd (never (device_of d.progress) named (ap (λ (x : Entry). device_of x.progress) same ∙ progress));
-  device = λ e other is sound progress. let same : d ≡ e = cc in inr (bytes, ap (λ (x : Entry). Some (owing bytes x)) same);
-  out = λ e is broken. let same : d ≡ e = cc in absurd (untrue d.broken unbroken (ap (λ (x : Entry). x.broken) same ∙ broken));
-}
-  where
-    never : (o : Option ℕ) → o ≡ Some device → o ≡ None → ⊥
-    never o p q = cc
+      of_device : (e : Entry) (device : ℕ) → e.broken ≡ false → device_of e.progress ≡ Some device → (IsOut y × C device e.id e.ended) ⊎ ((orders : List (List ℕ)) × All (O device) orders × (y ≡ Some (owing (concat orders) e))) → (IsOut z × C device e.id e.ended) ⊎ ((orders : List (List ℕ)) × All (O device) orders × (z ≡ Some (owing (concat orders) e)))
+      of_device e device sound progress (inl (gone, cause)) = inl (still_out gone, cause)
+      of_device e device sound progress (inr (orders, each, is)) = more_due e device orders each (q.device (owing (concat orders) e) device is sound progress)
 
-    untrue : (t : Bool) → t ≡ false → t ≡ true → ⊥
-    untrue true p q = cc
-    untrue false p q = cc
+  same_device : (d e : Entry) (device other : ℕ) → d ≡ e → device_of d.progress ≡ Some device → device_of e.progress ≡ Some other → device ≡ other
+  same_device d e device other same named progress = one (device_of e.progress) (sym (ap (λ (x : Entry). device_of x.progress) same) ∙ named) progress
+    where
+      one : (o : Option ℕ) → o ≡ Some device → o ≡ Some other → device ≡ other
+      one o p q = cc
 
--- a broken one is closed
-left_closed : (d : Entry) → d.broken ≡ true → Left (Some d) None
-left_closed d is = record {
-  none = λ same. refl;
-  client = λ e same sound progress. let one : d ≡ e = cc in absurd (untrue d.broken is (ap (λ (x : Entry). x.broken) one ∙ sound));
-  device = λ e device same sound progress. inl (inl refl);
-  out = λ e same broken. inl refl;
-}
-  where
-    untrue : (t : Bool) → t ≡ true → t ≡ false → ⊥
-    untrue true p q = cc
-    untrue false p q = cc
+  never : (o : Option ℕ) (device : ℕ) → o ≡ Some device → o ≡ None → ⊥
+  never o device p q = cc
 
--- ---- parts
+  untrue : (t : Bool) → t ≡ false → t ≡ true → ⊥
+  untrue true p q = cc
+  untrue false p q = cc
 
--- of the connection under another key
-abbrev pub Leaves_it : ℕ → Rel → Type 0
-Leaves_it other R = (l : Ledger) (hs : List Happening) (l' : Ledger) → R l hs l' → Left (l.entries other) (l'.entries other)
+  -- a device's connection breaks for a cause
+  left_out : (d : Entry) (device : ℕ) (y : Option Entry) → device_of d.progress ≡ Some device → IsOut y → C device d.id d.ended → Left O C (Some d) y
+  left_out d device y named gone cause = record {
+    none = λ is. cc;
+    client = λ e is sound progress. let same : d ≡ e = cc in absurd (never (device_of d.progress) device named (ap (λ (x : Entry). device_of x.progress) same ∙ progress));
+    device = λ e other is sound progress.
+        let same : d ≡ e = cc in
+        let caused : C device e.id e.ended = subst (λ (x : Entry). C device x.id x.ended) same cause in
+        inl (gone, subst (λ (k : ℕ). C k e.id e.ended) (same_device d e device other same named progress) caused);
+    out = λ e is broken. gone;
+  }
 
-pub is_left : (other : ℕ) (l l' : Ledger) → l' ≡ l → Left (l.entries other) (l'.entries other)
-is_left other l l' same = left_same (l.entries other) (l'.entries other) (ap (λ (x : Ledger). x.entries other) same)
+  -- an order becomes due on a device's connection
+  left_owing : (d : Entry) (device : ℕ) (bytes : List ℕ) → device_of d.progress ≡ Some device → d.broken ≡ false → O device bytes → Left O C (Some d) (Some (owing bytes d))
+  left_owing d device bytes named unbroken order = record {
+    none = λ is. cc;
+    client = λ e is sound progress. let same : d ≡ e = cc in absurd (never (device_of d.progress) device named (ap (λ (x : Entry). device_of x.progress) same ∙ progress));
+    device = λ e other is sound progress.
+        let same : d ≡ e = cc in
+        let its : O other bytes = subst (λ (k : ℕ). O k bytes) (same_device d e device other same named progress) order in
+        inr (bytes ∷ [], All-cons (O other) bytes [] its (All-nil (O other)), ap (λ (x : Entry). Some (owing bytes x)) same ∙ ap (λ (more : List ℕ). Some (owing more e)) (sym (append-nil bytes)));
+    out = λ e is broken. let same : d ≡ e = cc in absurd (untrue d.broken unbroken (ap (λ (x : Entry). x.broken) same ∙ broken));
+  }
 
--- another connection, or none, under a key
-at_if : (t : Bool) (x y : Option Entry) (new : Option Entry) → (t ≡ true → Left x new) → (t ≡ false → Left x y) → Left x (if t then new else y)
-at_if true x y new here there = here refl
-at_if false x y new here there = there refl
+  -- a broken one is closed
+  left_closed : (d : Entry) → d.broken ≡ true → Left O C (Some d) None
+  left_closed d is = record {
+    none = λ same. refl;
+    client = λ e same sound progress. let one : d ≡ e = cc in absurd (untrue d.broken (ap (λ (x : Entry). x.broken) one ∙ sound) is);
+    device = λ e device same sound progress. let one : d ≡ e = cc in absurd (untrue d.broken (ap (λ (x : Entry). x.broken) one ∙ sound) is);
+    out = λ e same broken. inl refl;
+  }
 
-left_at : (other key : ℕ) (new : Option Entry) (l l' : Ledger) → l'.entries ≡ at_key key new l.entries → (other ≡ key → Left (l.entries other) new) → Left (l.entries other) (l'.entries other)
-left_at other key new l l' after here =
-    subst (λ (o : Option Entry). Left (l.entries other) o) (sym (ap (λ (entries : ℕ → Option Entry). entries other) after))
-    (at_if (other == key) (l.entries other) (l.entries other) new (λ is. here (same_key other key is)) (λ is. left_same (l.entries other) (l.entries other) refl))
+  -- another connection, or none, under a key
+  at_if : (t : Bool) (x y : Option Entry) (new : Option Entry) → (t ≡ true → Left O C x new) → (t ≡ false → Left O C x y) → Left O C x (if t then new else y)
+  at_if true x y new here there = here refl
+  at_if false x y new here there = there refl
 
--- under its own key
-aside : {A : Type 0} (other key : ℕ) → other ≢ key → other ≡ key → A
-aside other key apart same = absurd (apart same)
+  left_at : (other key : ℕ) (new : Option Entry) (l l' : Ledger) → l'.entries ≡ at_key key new l.entries → (other ≡ key → Left O C (l.entries other) new) → Left O C (l.entries other) (l'.entries other)
+  left_at other key new l l' after here =
+      subst (λ (o : Option Entry). Left O C (l.entries other) o) (sym (ap (λ (entries : ℕ → Option Entry). entries other) after))
+      (at_if (other == key) (l.entries other) (l.entries other) new (λ is. here (same_key other key is)) (λ is. left_same (l.entries other) (l.entries other) refl))
 
-pub left_nothing : (other : ℕ) → Leaves_it other Nothing
-left_nothing other l hs l' it = is_left other l l' it.1
+  is_left : (other : ℕ) (l l' : Ledger) → l' ≡ l → Left O C (l.entries other) (l'.entries other)
+  is_left other l l' same = left_same (l.entries other) (l'.entries other) (ap (λ (x : Ledger). x.entries other) same)
 
-pub left_joined : (other : ℕ) (R S : Rel) → Leaves_it other R → Leaves_it other S → Leaves_it other (Then R S)
-left_joined other R S r s l hs l' it = left_then (l.entries other) (it.mid.entries other) (l'.entries other) (r l it.front it.mid it.first) (s it.mid it.back l' it.second)
+-- ---- parts that bring no event, and concern one connection
 
-left_or : (other : ℕ) (R S : Rel) → Leaves_it other R → Leaves_it other S → Leaves_it other (Or R S)
-left_or other R S r s l hs l' (inl it) = r l hs l' it
-left_or other R S r s l hs l' (inr it) = s l hs l' it
+-- the core stays and tells nothing, and every other connection is as it was
+record Aside (key : ℕ) (l : Ledger) (hs : List Happening) (l' : Ledger) : Type 0 where
+  core : l'.core ≡ l.core
+  notes : core_notes hs ≡ []
+  others : (other : ℕ) → other ≢ key → l'.entries other ≡ l.entries other
 
-left_if : (other : ℕ) (t : Bool) (R S : Rel) → Leaves_it other R → Leaves_it other S → Leaves_it other (If t R S)
-left_if other true R S r s l hs l' it = r l hs l' it
-left_if other false R S r s l hs l' it = s l hs l' it
+entry_if : (t : Bool) (x y : Option Entry) → (t ≡ true → ⊥) → (if t then x else y) ≡ y
+entry_if true x y unlike = absurd (unlike refl)
+entry_if false x y unlike = refl
 
-left_times : (other n : ℕ) (R : Rel) → Leaves_it other R → Leaves_it other (Times n R)
-left_times other zero R r = left_nothing other
-left_times other (suc n) R r = left_joined other (Times n R) R (left_times other n R r) r
+module _ (key : ℕ) where
+  abbrev Asides : Rel → Type 0
+  Asides R = (l : Ledger) (hs : List Happening) (l' : Ledger) → R l hs l' → Aside key l hs l'
 
-left_many : (other : ℕ) (R : Rel) → Leaves_it other R → Leaves_it other (Many R)
-left_many other R r l hs l' (n, it) = left_times other n R r l hs l' it
+  aside_same : (l : Ledger) (hs : List Happening) (l' : Ledger) → core_notes hs ≡ [] → l' ≡ l → Aside key l hs l'
+  aside_same l hs l' silent same = record { core = ap (λ (x : Ledger). x.core) same; notes = silent; others = λ other apart. ap (λ (x : Ledger). x.entries other) same }
 
-left_each_of : {A : Type 0} (other : ℕ) (xs : List A) (R : A → Rel) → ((x : A) → Leaves_it other (R x)) → Leaves_it other (EachOf xs R)
-left_each_of other [] R r = left_nothing other
-left_each_of other (x ∷ xs) R r = left_joined other (R x) (EachOf xs R) (r x) (left_each_of other xs R r)
+  aside_with : (o : Option Entry) (l : Ledger) (hs : List Happening) (l' : Ledger) → core_notes hs ≡ [] → l'.core ≡ l.core → l'.entries ≡ at_key key o l.entries → Aside key l hs l'
+  aside_with o l hs l' silent core after = record {
+    core = core;
+    notes = silent;
+    others = λ other apart. ap (λ (entries : ℕ → Option Entry). entries other) after ∙ entry_if (other == key) o (l.entries other) (λ is. apart (same_key other key is));
+  }
 
-pub left_chooses : (other : ℕ) (choice : Choice) → Leaves_it other (Chooses choice)
-left_chooses other choice l hs l' it = is_left other l l' it.1
+  aside_then : (R S : Rel) → Asides R → Asides S → Asides (Then R S)
+  aside_then R S r s l hs l' it =
+      let p = r l it.front it.mid it.first in
+      let q = s it.mid it.back l' it.second in
+      record { core = q.core ∙ p.core; notes = no_notes hs it.front it.back it.whole p.notes ∙ q.notes; others = λ other apart. q.others other apart ∙ p.others other apart }
 
-pub left_tells : (other : ℕ) (note : Note) → Leaves_it other (Tells note)
-left_tells other note l hs l' it = is_left other l l' it.1
+  aside_or : (R S : Rel) → Asides R → Asides S → Asides (Or R S)
+  aside_or R S r s l hs l' (inl it) = r l hs l' it
+  aside_or R S r s l hs l' (inr it) = s l hs l' it
 
-left_polls : (other : ℕ) (poll : Poll) → Leaves_it other (Polls poll)
-left_polls other poll l hs l' it = is_left other l l' it.1
+  aside_if : (t : Bool) (R S : Rel) → Asides R → Asides S → Asides (If t R S)
+  aside_if true R S r s l hs l' it = r l hs l' it
+  aside_if false R S r s l hs l' it = s l hs l' it
 
--- ---- at the key that a part concerns
+  aside_nothing : Asides Nothing
+  aside_nothing l hs l' it = aside_same l hs l' (ap core_notes it.0) it.1
 
-module _ (other key : ℕ) (apart : other ≢ key) where
-  left_sets : (e : Entry) → Leaves_it other (Sets key e)
-  left_sets e l hs l' it = left_at other key (Some e) l l' (ap (λ (x : Ledger). x.entries) it.1) (aside other key apart)
+  aside_chooses : (choice : Choice) → Asides (Chooses choice)
+  aside_chooses choice l hs l' it = aside_same l hs l' (ap core_notes it.0) it.1
 
-  left_drops : (place : AllocationSite) (e : Entry) → Leaves_it other (Drops place key e)
-  left_drops place e l hs l' it = left_at other key (Some (broken e)) l l' (ap (λ (x : Ledger). x.entries) it.1) (aside other key apart)
+  aside_tells : (note : Note) → core_notes (Told note ∷ []) ≡ [] → Asides (Tells note)
+  aside_tells note silent l hs l' it = aside_same l hs l' (ap core_notes it.0 ∙ silent) it.1
 
-  breaks_at : (o : Option Entry) → Leaves_it other (BreaksAt key o)
-  breaks_at None = left_nothing other
-  breaks_at (Some e) = left_sets (broken e)
+  aside_polls : (poll : Poll) → Asides (Polls poll)
+  aside_polls poll l hs l' it = aside_same l hs l' (ap core_notes it.0) it.1
 
-  left_breaks : Leaves_it other (Breaks key)
-  left_breaks l hs l' it = breaks_at (l.entries key) l hs l' it
+  aside_sets : (e : Entry) → Asides (Sets key e)
+  aside_sets e l hs l' it = aside_with (Some e) l hs l' (ap core_notes it.0) (ap (λ (x : Ledger). x.core) it.1) (ap (λ (x : Ledger). x.entries) it.1)
 
-  enqueues_at : (refusable : Entry → Bool) (bytes : List ℕ) (o : Option Entry) → Leaves_it other (EnqueuesAt refusable key bytes o)
-  enqueues_at refusable bytes None = left_nothing other
+  aside_drops : (place : AllocationSite) (e : Entry) → core_notes (Told (Refused place (Some e.id)) ∷ []) ≡ [] → Asides (Drops place key e)
+  aside_drops place e silent l hs l' it = aside_with (Some (broken e)) l hs l' (ap core_notes it.0 ∙ silent) (ap (λ (x : Ledger). x.core) it.1) (ap (λ (x : Ledger). x.entries) it.1)
+
+  breaks_at : (o : Option Entry) → Asides (BreaksAt key o)
+  breaks_at None = aside_nothing
+  breaks_at (Some e) = aside_sets (broken e)
+
+  aside_breaks : Asides (Breaks key)
+  aside_breaks l hs l' it = breaks_at (l.entries key) l hs l' it
+
+  gives_way_at : (o : Option Entry) → Asides (GivesWayAt key o)
+  gives_way_at None = aside_nothing
+  gives_way_at (Some e) = aside_sets (given_up e)
+
+  aside_gives_way : Asides (GivesWay key)
+  aside_gives_way l hs l' it = gives_way_at (l.entries key) l hs l' it
+
+  enqueues_at : (refusable : Entry → Bool) (bytes : List ℕ) (o : Option Entry) → Asides (EnqueuesAt refusable key bytes o)
+  enqueues_at refusable bytes None = aside_nothing
   enqueues_at refusable bytes (Some e) =
-      left_if other e.broken Nothing (EnqueuesOpen (refusable e) key bytes e) (left_nothing other)
-      (left_if other (refusable e) (Or (Then (Chooses Found) (Sets key (owing bytes e))) (Drops At.Enqueue key e)) (Sets key (owing bytes e))
-      (left_or other (Then (Chooses Found) (Sets key (owing bytes e))) (Drops At.Enqueue key e) (left_joined other (Chooses Found) (Sets key (owing bytes e)) (left_chooses other Found) (left_sets (owing bytes e))) (left_drops At.Enqueue e)) (left_sets (owing bytes e)))
+      aside_if e.broken Nothing (EnqueuesOpen (refusable e) key bytes e) aside_nothing
+      (aside_if (refusable e) (Or (Then (Chooses Found) (Sets key (owing bytes e))) (Drops At.Enqueue key e)) (Sets key (owing bytes e))
+      (aside_or (Then (Chooses Found) (Sets key (owing bytes e))) (Drops At.Enqueue key e) (aside_then (Chooses Found) (Sets key (owing bytes e)) (aside_chooses Found) (aside_sets (owing bytes e))) (aside_drops At.Enqueue e refl)) (aside_sets (owing bytes e)))
 
-  left_enqueues : (bytes : List ℕ) → Leaves_it other (Enqueues key bytes)
-  left_enqueues bytes l hs l' it = enqueues_at (needs_memory bytes) bytes (l.entries key) l hs l' it
+  aside_enqueues : (bytes : List ℕ) → Asides (Enqueues key bytes)
+  aside_enqueues bytes l hs l' it = enqueues_at (needs_memory bytes) bytes (l.entries key) l hs l' it
 
-  reply_at : (bytes : Bool → List ℕ) (o : Option Entry) → Leaves_it other (EnqueuesReplyAt bytes key o)
-  reply_at bytes None = left_nothing other
-  reply_at bytes (Some e) = left_enqueues (bytes (closes_of e.progress))
+  reply_at : (bytes : Bool → List ℕ) (o : Option Entry) → Asides (EnqueuesReplyAt bytes key o)
+  reply_at bytes None = aside_nothing
+  reply_at bytes (Some e) = aside_enqueues (bytes (closes_of e.progress))
 
-  left_reply : (bytes : List ℕ) → Leaves_it other (EnqueuesResponse key bytes)
-  left_reply bytes l hs l' it = reply_at (λ closes. http_reply closes bytes) (l.entries key) l hs l' it
+  aside_reply : (bytes : List ℕ) → Asides (EnqueuesResponse key bytes)
+  aside_reply bytes l hs l' it = reply_at (λ closes. http_reply closes bytes) (l.entries key) l hs l' it
 
-  left_status : (status : Status) (request : ℕ) → Leaves_it other (EnqueuesStatus key status request)
-  left_status status request l hs l' it = reply_at (λ closes. http_status closes status request) (l.entries key) l hs l' it
+  aside_status : (status : Status) (request : ℕ) → Asides (EnqueuesStatus key status request)
+  aside_status status request l hs l' it = reply_at (λ closes. http_status closes status request) (l.entries key) l hs l' it
 
   -- ---- answers
 
-  left_dropped : (id request : ℕ) → Leaves_it other (Ans.Drops key id request)
-  left_dropped id request = left_joined other (Tells (Refused At.Event (Some id))) (EnqueuesStatus key TemporaryError request) (left_tells other (Refused At.Event (Some id))) (left_status TemporaryError request)
+  aside_dropped : (id request : ℕ) → Asides (Ans.Drops key id request)
+  aside_dropped id request = aside_then (Tells (Refused At.Event (Some id))) (EnqueuesStatus key TemporaryError request) (aside_tells (Refused At.Event (Some id)) refl) (aside_status TemporaryError request)
 
-  left_lost : (id request : ℕ) (query : Bool) → Leaves_it other (Ans.LosesReply key id request query)
-  left_lost id request query =
-      left_joined other (Tells (Refused At.Reply (Some id))) (If query (EnqueuesStatus key TemporaryError request) (Breaks key)) (left_tells other (Refused At.Reply (Some id)))
-      (left_if other query (EnqueuesStatus key TemporaryError request) (Breaks key) (left_status TemporaryError request) left_breaks)
+  aside_lost : (id request : ℕ) (query : Bool) → Asides (Ans.LosesReply key id request query)
+  aside_lost id request query =
+      aside_then (Tells (Refused At.Reply (Some id))) (If query (EnqueuesStatus key TemporaryError request) (Breaks key)) (aside_tells (Refused At.Reply (Some id)) refl)
+      (aside_if query (EnqueuesStatus key TemporaryError request) (Breaks key) (aside_status TemporaryError request) aside_breaks)
 
-  left_replies_with : (id request : ℕ) (query : Bool) (answer : Response) → Leaves_it other (Ans.RepliesWith key id request query answer)
-  left_replies_with id request query (answered.Ipp answer) l hs l' (inl (bytes, is, it)) = left_joined other (Chooses Found) (EnqueuesResponse key bytes) (left_chooses other Found) (left_reply bytes) l hs l' it
-  left_replies_with id request query (answered.Ipp answer) l hs l' (inr it) = left_lost id request query l hs l' it
-  left_replies_with id request query (answered.Lpd answer) l hs l' it = left_nothing other l hs l' it
-  left_replies_with id request query answered.Nothing l hs l' it = left_nothing other l hs l' it
+  aside_replies_with : (id request : ℕ) (query : Bool) (answer : Response) → Asides (Ans.RepliesWith key id request query answer)
+  aside_replies_with id request query (answered.Ipp answer) l hs l' (inl (bytes, is, it)) = aside_then (Chooses Found) (EnqueuesResponse key bytes) (aside_chooses Found) (aside_reply bytes) l hs l' it
+  aside_replies_with id request query (answered.Ipp answer) l hs l' (inr it) = aside_lost id request query l hs l' it
+  aside_replies_with id request query (answered.Lpd answer) l hs l' it = aside_nothing l hs l' it
+  aside_replies_with id request query answered.Nothing l hs l' it = aside_nothing l hs l' it
 
-  left_replies : (id request : ℕ) (query : Bool) (reply : Option Effects) → Leaves_it other (Ans.Replies key id request query reply)
-  left_replies id request query (Some reply) = left_replies_with id request query reply.answer
-  left_replies id request query None = left_dropped id request
+  aside_replies : (id request : ℕ) (query : Bool) (reply : Option Effects) → Asides (Ans.Replies key id request query reply)
+  aside_replies id request query (Some reply) = aside_replies_with id request query reply.answer
+  aside_replies id request query None = aside_dropped id request
 
-  left_declines : (place : AllocationSite) (id : ℕ) → Leaves_it other (Ans.Declines place key id)
-  left_declines place id = left_joined other (Tells (Refused place (Some id))) (Enqueues key (1 ∷ [])) (left_tells other (Refused place (Some id))) (left_enqueues (1 ∷ []))
+  aside_declines : (place : AllocationSite) (id : ℕ) → core_notes (Told (Refused place (Some id)) ∷ []) ≡ [] → Asides (Ans.Declines place key id)
+  aside_declines place id silent = aside_then (Tells (Refused place (Some id))) (Enqueues key (1 ∷ [])) (aside_tells (Refused place (Some id)) silent) (aside_enqueues (1 ∷ []))
 
-  left_shows : (id : ℕ) (text : List ℕ) → Leaves_it other (Ans.Shows key id text)
-  left_shows id text =
-      left_or other (Then (Chooses Found) (Enqueues key text)) (Then (Tells (Refused At.Reply (Some id))) (Breaks key)) (left_joined other (Chooses Found) (Enqueues key text) (left_chooses other Found) (left_enqueues text))
-      (left_joined other (Tells (Refused At.Reply (Some id))) (Breaks key) (left_tells other (Refused At.Reply (Some id))) left_breaks)
+  aside_shows : (id : ℕ) (text : List ℕ) → Asides (Ans.Shows key id text)
+  aside_shows id text =
+      aside_or (Then (Chooses Found) (Enqueues key text)) (Then (Tells (Refused At.Reply (Some id))) (Breaks key)) (aside_then (Chooses Found) (Enqueues key text) (aside_chooses Found) (aside_enqueues text))
+      (aside_then (Tells (Refused At.Reply (Some id))) (Breaks key) (aside_tells (Refused At.Reply (Some id)) refl) aside_breaks)
 
-  left_told : (id : ℕ) (answer : LpdResponse) → Leaves_it other (Ans.IsTold key id answer)
-  left_told id (shown.Taken taken) = left_enqueues (ack_of (shown.Taken taken) ∷ [])
-  left_told id (shown.Queue listing) = left_shows id (text_of (shown.Queue listing))
-  left_told id shown.NoQueue = left_shows id (text_of shown.NoQueue)
+  aside_told : (id : ℕ) (answer : LpdResponse) → Asides (Ans.IsTold key id answer)
+  aside_told id (shown.Taken taken) = aside_enqueues (ack_of (shown.Taken taken) ∷ [])
+  aside_told id (shown.Queue listing) = aside_shows id (text_of (shown.Queue listing))
+  aside_told id shown.NoQueue = aside_shows id (text_of shown.NoQueue)
 
-  left_shown : (id : ℕ) (answer : Response) → Leaves_it other (Ans.IsShown key id answer)
-  left_shown id (answered.Lpd answer) = left_told id answer
-  left_shown id (answered.Ipp answer) = left_nothing other
-  left_shown id answered.Nothing = left_nothing other
+  aside_shown : (id : ℕ) (answer : Response) → Asides (Ans.IsShown key id answer)
+  aside_shown id (answered.Lpd answer) = aside_told id answer
+  aside_shown id (answered.Ipp answer) = aside_nothing
+  aside_shown id answered.Nothing = aside_nothing
 
-  left_answers : (id : ℕ) (who : Client) (query : Bool) (reply : Option Effects) → Leaves_it other (Ans.Answers key id who query reply)
-  left_answers id (client.Ipp request) query reply = left_replies id request query reply
-  left_answers id client.LpdJob query (Some reply) = left_shown id reply.answer
-  left_answers id client.LpdJob query None = left_declines At.Event id
-  left_answers id client.LpdCommand query (Some reply) = left_shown id reply.answer
-  left_answers id client.LpdCommand query None = left_joined other (Tells (Refused At.Event (Some id))) (Breaks key) (left_tells other (Refused At.Event (Some id))) left_breaks
+  aside_answers : (id : ℕ) (who : Client) (query : Bool) (reply : Option Effects) → Asides (Ans.Answers key id who query reply)
+  aside_answers id (client.Ipp request) query reply = aside_replies id request query reply
+  aside_answers id client.LpdJob query (Some reply) = aside_shown id reply.answer
+  aside_answers id client.LpdJob query None = aside_declines At.Event id refl
+  aside_answers id client.LpdCommand query (Some reply) = aside_shown id reply.answer
+  aside_answers id client.LpdCommand query None = aside_then (Tells (Refused At.Event (Some id))) (Breaks key) (aside_tells (Refused At.Event (Some id)) refl) aside_breaks
 
--- ---- events, which concern devices' connections
+-- ---- the orders of an event
 
-enqueues_open : (grows : Bool) (other key device : ℕ) (bytes : List ℕ) (e : Entry) (l : Ledger) (hs : List Happening) (l' : Ledger) → l.entries key ≡ Some e → device_of e.progress ≡ Some device → e.broken ≡ false → EnqueuesOpen grows key bytes e l hs l' → Left (l.entries other) (l'.entries other)
-enqueues_open false other key device bytes e l hs l' there named sound it =
-    left_at other key (Some (owing bytes e)) l l' (ap (λ (x : Ledger). x.entries) it.1)
-    (λ same. subst (λ (o : Option Entry). Left o (Some (owing bytes e))) (sym (ap l.entries same ∙ there)) (left_owing e device bytes named sound))
-enqueues_open true other key device bytes e l hs l' there named sound (inl it) =
-    left_at other key (Some (owing bytes e)) l l' (ap (λ (x : Ledger). x.entries) (it.second.1 ∙ ap (λ (x : Ledger). with_entry key (owing bytes e) x) it.first.1))
-    (λ same. subst (λ (o : Option Entry). Left o (Some (owing bytes e))) (sym (ap l.entries same ∙ there)) (left_owing e device bytes named sound))
-enqueues_open true other key device bytes e l hs l' there named sound (inr it) =
-    left_at other key (Some (broken e)) l l' (ap (λ (x : Ledger). x.entries) it.1) (λ same. subst (λ (o : Option Entry). Left o (Some (broken e))) (sym (ap l.entries same ∙ there)) (left_out e device (Some (broken e)) named (inr (broken e, refl, refl))))
+-- the listener was told that memory for bytes on the connection of this number was refused
+abbrev IsRefused : List Happening → ℕ → ℕ → Bool → Type 0
+IsRefused hs device id ended = Contains hs (Told (Refused At.Enqueue (Some id)))
 
-enqueues_if : (t grows : Bool) (other key device : ℕ) (bytes : List ℕ) (e : Entry) (l : Ledger) (hs : List Happening) (l' : Ledger) → e.broken ≡ t → l.entries key ≡ Some e → device_of e.progress ≡ Some device → If t Nothing (EnqueuesOpen grows key bytes e) l hs l' → Left (l.entries other) (l'.entries other)
-enqueues_if true grows other key device bytes e l hs l' is there named it = left_nothing other l hs l' it
-enqueues_if false grows other key device bytes e l hs l' is there named it = enqueues_open grows other key device bytes e l hs l' there named is it
+refused_front : (hs front back : List Happening) → hs ≡ front ++ back → (device id : ℕ) (ended : Bool) → IsRefused front device id ended → IsRefused hs device id ended
+refused_front hs front back whole device id ended is = subst (λ (xs : List Happening). Contains xs (Told (Refused At.Enqueue (Some id)))) (sym whole) (Contains-append_left front back (Told (Refused At.Enqueue (Some id))) is)
 
-enqueues_there : (refusable : Entry → Bool) (other key device : ℕ) (bytes : List ℕ) (o : Option Entry) (l : Ledger) (hs : List Happening) (l' : Ledger) → l.entries key ≡ o → IsDevice device o → EnqueuesAt refusable key bytes o l hs l' → Left (l.entries other) (l'.entries other)
-enqueues_there refusable other key device bytes None l hs l' there is it = absurd is
-enqueues_there refusable other key device bytes (Some e) l hs l' there is it = enqueues_if e.broken (refusable e) other key device bytes e l hs l' refl there is it
+refused_back : (hs front back : List Happening) → hs ≡ front ++ back → (device id : ℕ) (ended : Bool) → IsRefused back device id ended → IsRefused hs device id ended
+refused_back hs front back whole device id ended is = subst (λ (xs : List Happening). Contains xs (Told (Refused At.Enqueue (Some id)))) (sym whole) (Contains-append_right front back (Told (Refused At.Enqueue (Some id))) is)
 
-left_enqueues_on : (refusable : Entry → Bool) (other device : ℕ) (bytes : List ℕ) → Leaves_it other (EnqueuesOn refusable device bytes)
-left_enqueues_on refusable other device bytes l hs l' (inl (key, is, it)) =
-    let kept : EnqueuesAt refusable key bytes (l.entries key) l it.back l' = subst (λ (x : Ledger). EnqueuesAt refusable key bytes (x.entries key) x it.back l') it.first.1 it.second in
-    enqueues_there refusable other key device bytes (l.entries key) l it.back l' refl is kept
-left_enqueues_on refusable other device bytes l hs l' (inr (absent, it)) = left_nothing other l hs l' it
+contains_first : {A : Type 0} (x : A) (xs : List A) → Contains (x ∷ xs) x
+contains_first x xs = (0, omega arith, refl)
 
-left_sends : (other : ℕ) (reply : Effects) → Leaves_it other (SendsAll reply)
-left_sends other reply = left_each_of other reply.cancels.items Sends (λ cancel. left_enqueues_on (needs_memory (cancel_line cancel.job)) other cancel.device (cancel_line cancel.job))
+just_told : (hs : List Happening) (device id : ℕ) (ended : Bool) → hs ≡ Told (Refused At.Enqueue (Some id)) ∷ [] → IsRefused hs device id ended
+just_told hs device id ended is = subst (λ (xs : List Happening). Contains xs (Told (Refused At.Enqueue (Some id)))) (sym is) (contains_first (Told (Refused At.Enqueue (Some id))) [])
 
-left_starts : (other : ℕ) → Leaves_it other StartsAll
-left_starts other l hs l' it = left_each_of other l.core.begun Starts (λ start a ks b one. left_enqueues_on (λ e. true) other start.device (job_bytes a.core start.job) a ks b one) l hs l' it
+module _ (O : ℕ → List ℕ → Type 0) (other : ℕ) where
+  abbrev Leaves_it : Ledger → List Happening → Ledger → Type 0
+  Leaves_it l hs l' = Left O (IsRefused hs) (l.entries other) (l'.entries other)
 
-left_orders : (other : ℕ) (outcome : Outcome) → Leaves_it other (Orders outcome)
-left_orders other Dropped = left_nothing other
-left_orders other (Queried reply) = left_sends other reply
-left_orders other (Undispatched reply) = left_sends other reply
-left_orders other (Idle reply) = left_sends other reply
-left_orders other (Dispatched reply) = left_joined other (SendsAll reply) StartsAll (left_sends other reply) (left_starts other)
+  leaves_same : (l : Ledger) (hs : List Happening) (l' : Ledger) → l' ≡ l → Leaves_it l hs l'
+  leaves_same l hs l' same = is_left O (IsRefused hs) other l l' same
 
-pub left_happens : (other moment : ℕ) (event : Event) (outcome : Outcome) → Leaves_it other (Happens moment event outcome)
-left_happens other moment event outcome =
-    left_joined other (Decides moment event outcome) (Orders outcome) (λ l hs l' it. left_same (l.entries other) (l'.entries other) (ap (λ (x : Ledger). x.entries other) it.after)) (left_orders other outcome)
+  leaves_then : (l : Ledger) (front : List Happening) (mid : Ledger) (back : List Happening) (l' : Ledger) (hs : List Happening) → hs ≡ front ++ back → Leaves_it l front mid → Leaves_it mid back l' → Leaves_it l hs l'
+  leaves_then l front mid back l' hs whole p q =
+      left_then O (IsRefused hs) (l.entries other) (mid.entries other) (l'.entries other)
+      (left_weaker O O (IsRefused front) (IsRefused hs) (l.entries other) (mid.entries other) (λ device bytes is. is) (refused_front hs front back whole) p)
+      (left_weaker O O (IsRefused back) (IsRefused hs) (mid.entries other) (l'.entries other) (λ device bytes is. is) (refused_back hs front back whole) q)
 
-pub left_unanswered : (other moment : ℕ) (event : Event) → Leaves_it other (Unanswered moment event)
-left_unanswered other moment event l hs l' (outcome, it) = left_happens other moment event outcome l hs l' it
+  enqueues_open : (grows : Bool) (key device : ℕ) (bytes : List ℕ) (e : Entry) (l : Ledger) (hs : List Happening) (l' : Ledger) → O device bytes → l.entries key ≡ Some e → device_of e.progress ≡ Some device → e.broken ≡ false → EnqueuesOpen grows key bytes e l hs l' → Leaves_it l hs l'
+  enqueues_open false key device bytes e l hs l' order there named sound it =
+      left_at O (IsRefused hs) other key (Some (owing bytes e)) l l' (ap (λ (x : Ledger). x.entries) it.1)
+      (λ same. subst (λ (o : Option Entry). Left O (IsRefused hs) o (Some (owing bytes e))) (sym (ap l.entries same ∙ there)) (left_owing O (IsRefused hs) e device bytes named sound order))
+  enqueues_open true key device bytes e l hs l' order there named sound (inl it) =
+      left_at O (IsRefused hs) other key (Some (owing bytes e)) l l' (ap (λ (x : Ledger). x.entries) (it.second.1 ∙ ap (λ (x : Ledger). with_entry key (owing bytes e) x) it.first.1))
+      (λ same. subst (λ (o : Option Entry). Left O (IsRefused hs) o (Some (owing bytes e))) (sym (ap l.entries same ∙ there)) (left_owing O (IsRefused hs) e device bytes named sound order))
+  enqueues_open true key device bytes e l hs l' order there named sound (inr it) =
+      left_at O (IsRefused hs) other key (Some (broken e)) l l' (ap (λ (x : Ledger). x.entries) it.1)
+      (λ same. subst (λ (o : Option Entry). Left O (IsRefused hs) o (Some (broken e))) (sym (ap l.entries same ∙ there)) (left_out O (IsRefused hs) e device (Some (broken e)) named (inr (broken e, refl, refl)) (just_told hs device e.id e.ended it.0)))
 
--- ---- closings
+  enqueues_if : (t grows : Bool) (key device : ℕ) (bytes : List ℕ) (e : Entry) (l : Ledger) (hs : List Happening) (l' : Ledger) → O device bytes → e.broken ≡ t → l.entries key ≡ Some e → device_of e.progress ≡ Some device → If t Nothing (EnqueuesOpen grows key bytes e) l hs l' → Leaves_it l hs l'
+  enqueues_if true grows key device bytes e l hs l' order is there named it = leaves_same l hs l' it.1
+  enqueues_if false grows key device bytes e l hs l' order is there named it = enqueues_open grows key device bytes e l hs l' order there named is it
 
-left_gone : (other moment : ℕ) (device : Option ℕ) → Leaves_it other (IsGone moment device)
-left_gone other moment None = left_nothing other
-left_gone other moment (Some device) = left_unanswered other moment (Is.Report device report.Gone)
+  enqueues_there : (refusable : Entry → Bool) (key device : ℕ) (bytes : List ℕ) (o : Option Entry) (l : Ledger) (hs : List Happening) (l' : Ledger) → O device bytes → l.entries key ≡ o → IsDevice device o → EnqueuesAt refusable key bytes o l hs l' → Leaves_it l hs l'
+  enqueues_there refusable key device bytes None l hs l' order there is it = absurd is
+  enqueues_there refusable key device bytes (Some e) l hs l' order there is it = enqueues_if e.broken (refusable e) key device bytes e l hs l' order refl there is it
 
-closes_first : (other moment : ℕ) → Leaves_it other (ClosesFirst moment)
-closes_first other moment l hs l' it =
-    let leaves = it.closes.first in
-    let gone : Left (l.entries other) (it.closes.mid.entries other) =
-    left_at other it.key None l it.closes.mid (ap (λ (x : Ledger). x.entries) leaves.2) (λ same. subst (λ (o : Option Entry). Left o None) (sym (ap l.entries same ∙ it.there)) (left_closed it.entry it.is_broken)) in
-    left_then (l.entries other) (it.closes.mid.entries other) (l'.entries other) gone (left_gone other moment (device_of it.entry.progress) it.closes.mid it.closes.back l' it.closes.second)
+  left_enqueues_on : (refusable : Entry → Bool) (device : ℕ) (bytes : List ℕ) → O device bytes → (l : Ledger) (hs : List Happening) (l' : Ledger) → EnqueuesOn refusable device bytes l hs l' → Leaves_it l hs l'
+  left_enqueues_on refusable device bytes order l hs l' (inl (key, is, it)) =
+      let kept : EnqueuesAt refusable key bytes (l.entries key) l it.back l' = subst (λ (x : Ledger). EnqueuesAt refusable key bytes (x.entries key) x it.back l') it.first.1 it.second in
+      leaves_then l it.front l it.back l' hs it.whole (leaves_same l it.front l refl) (enqueues_there refusable key device bytes (l.entries key) l it.back l' order refl is kept)
+  left_enqueues_on refusable device bytes order l hs l' (inr (absent, it)) = leaves_same l hs l' it.1
 
-pub left_settles : (other moment : ℕ) → Leaves_it other (Settles moment)
-left_settles other moment l hs l' it = left_many other (ClosesFirst moment) (closes_first other moment) l hs l' it.0
+  left_sends : (cancels : List Cancel) → ((cancel : Cancel) → Contains cancels cancel → O cancel.device (cancel_line cancel.job)) → (l : Ledger) (hs : List Happening) (l' : Ledger) → EachOf cancels Sends l hs l' → Leaves_it l hs l'
+  left_sends [] each l hs l' it = leaves_same l hs l' it.1
+  left_sends (cancel ∷ cancels) each l hs l' it =
+      leaves_then l it.front it.mid it.back l' hs it.whole (left_enqueues_on (needs_memory (cancel_line cancel.job)) cancel.device (cancel_line cancel.job) (each cancel (contains_first cancel cancels)) l it.front it.mid it.first)
+      (left_sends cancels (λ one has. each one (Contains-append_right (cancel ∷ []) cancels one has)) it.mid it.back l' it.second)
 
--- ---- the asks of a connection
+  left_starts : (core : State) (starts : List Started) → ((start : Started) → Contains starts start → O start.device (job_bytes core start.job)) → (l : Ledger) (hs : List Happening) (l' : Ledger) → l.core ≡ core → EachOf starts Starts l hs l' → Leaves_it l hs l'
+  left_starts core [] each l hs l' same it = leaves_same l hs l' it.1
+  left_starts core (start ∷ starts) each l hs l' same it =
+      let first : EnqueuesOn (λ e. true) start.device (job_bytes core start.job) l it.front it.mid = subst (λ (c : State). EnqueuesOn (λ e. true) start.device (job_bytes c start.job) l it.front it.mid) same it.first in
+      let core_kept : it.mid.core ≡ core = (enqueues_on (λ e. true) start.device (job_bytes core start.job) l it.front it.mid first).core ∙ same in
+      leaves_then l it.front it.mid it.back l' hs it.whole (left_enqueues_on (λ e. true) start.device (job_bytes core start.job) (each start (contains_first start starts)) l it.front it.mid first)
+      (left_starts core starts (λ one has. each one (Contains-append_right (start ∷ []) starts one has)) it.mid it.back l' core_kept it.second)
 
-gives_way_at : (other key device : ℕ) (o : Option Entry) (l : Ledger) (hs : List Happening) (l' : Ledger) → l.entries key ≡ o → (other ≡ key → IsDevice device o) → GivesWayAt key o l hs l' → Left (l.entries other) (l'.entries other)
-gives_way_at other key device None l hs l' there is it = left_nothing other l hs l' it
-gives_way_at other key device (Some e) l hs l' there is it =
-    left_at other key (Some (given_up e)) l l' (ap (λ (x : Ledger). x.entries) it.1)
-    (λ same. subst (λ (o : Option Entry). Left o (Some (given_up e))) (sym (ap l.entries same ∙ there)) (left_out e device (Some (given_up e)) (is same) (inr (given_up e, refl, refl))))
+left_orders : (outcome : Outcome) (core : State) (other : ℕ) (l : Ledger) (hs : List Happening) (l' : Ledger) → l.core ≡ core → Orders outcome l hs l' → Left (λ device bytes. IsOrderBy device outcome core bytes) (IsRefused hs) (l.entries other) (l'.entries other)
+left_orders Dropped core other l hs l' same it = leaves_same (λ device bytes. IsOrderBy device Dropped core bytes) other l hs l' it.1
+left_orders (Queried reply) core other l hs l' same it = left_sends (λ device bytes. IsOrderBy device (Queried reply) core bytes) other reply.cancels.items (λ cancel has. inl (cancel, has, refl, refl)) l hs l' it
+left_orders (Undispatched reply) core other l hs l' same it = left_sends (λ device bytes. IsOrderBy device (Undispatched reply) core bytes) other reply.cancels.items (λ cancel has. inl (cancel, has, refl, refl)) l hs l' it
+left_orders (Idle reply) core other l hs l' same it = left_sends (λ device bytes. IsOrderBy device (Idle reply) core bytes) other reply.cancels.items (λ cancel has. inl (cancel, has, refl, refl)) l hs l' it
+left_orders (Dispatched reply) core other l hs l' same it =
+    let O : ℕ → List ℕ → Type 0 = λ device bytes. IsOrderBy device (Dispatched reply) core bytes in
+    let core_kept : it.mid.core ≡ core = (each_sent reply.cancels.items l it.front it.mid it.first).core ∙ same in
+    let begun : EachOf core.begun Starts it.mid it.back l' = subst (λ (c : State). EachOf c.begun Starts it.mid it.back l') core_kept it.second in
+    leaves_then O other l it.front it.mid it.back l' hs it.whole (left_sends O other reply.cancels.items (λ cancel has. inl (cancel, has, refl, refl)) l it.front it.mid it.first)
+    (left_starts O other core core.begun (λ start has. inr (start, has, refl, refl)) it.mid it.back l' core_kept begun)
 
-as_device : (ended : Bool) (device : ℕ) (o : Option Entry) → IsDeviceAs ended device o → IsDevice device o
-as_device ended device None is = absurd is
-as_device ended device (Some e) is = is.0
+-- ---- parts that bring events
 
-left_greets : (other moment key id device : ℕ) (name : List ℕ) → other ≢ key → Leaves_it other (Greets moment key id device name)
-left_greets other moment key id device name apart l hs l' (inl (alone, it)) = left_unanswered other moment (Is.Report device (report.Hello name)) l hs l' it
-left_greets other moment key id device name apart l hs l' (inr (inl (old, has, it))) =
-    let same : it.mid ≡ l = it.first.1 in
-    let draining = it.second in
-    let is : IsDevice device (it.mid.entries old) = subst (λ (x : Ledger). IsDevice device (x.entries old)) (sym same) (as_device true device (l.entries old) has.1) in
-    let way : Left (it.mid.entries other) (draining.mid.entries other) = gives_way_at other old device (it.mid.entries old) it.mid draining.front draining.mid refl (λ here. is) draining.first in
-    let rest = left_joined other (IsGone moment (Some device)) (SaysName moment device name) (left_gone other moment (Some device)) (left_unanswered other moment (Is.Report device (report.Hello name))) draining.mid draining.back l' draining.second in
-    left_then (l.entries other) (it.mid.entries other) (l'.entries other) (is_left other l it.mid same) (left_then (it.mid.entries other) (draining.mid.entries other) (l'.entries other) way rest)
-left_greets other moment key id device name apart l hs l' (inr (inr (old, has, it))) =
-    left_joined other (GivesWay key) (Tells (DeviceRefused id (why.Connected device))) (λ a ks b more. gives_way_at other key device (a.entries key) a ks b refl (aside other key apart) more) (left_tells other (DeviceRefused id (why.Connected device))) l hs l' it
+-- the events of a part, and the changes of all connections but the one under a key
+pub record Spared (moment key : ℕ) (l : Ledger) (hs : List Happening) (l' : Ledger) : Type 0 where
+  pub came : List Came
+  pub timed : ComeAt true moment came
+  pub run : AreRun l.core came l'.core
+  pub told : core_notes hs ≡ flat_map (λ (it : Came). it.notes) came
+  pub each : (other : ℕ) → other ≢ key → Left (IsOrder came) (IsCause came hs) (l.entries other) (l'.entries other)
 
-left_does : (other moment key id : ℕ) (what : Ask) → other ≢ key → Leaves_it other (ActsOn moment key id what)
-left_does other moment key id ask.Nothing apart = left_nothing other
-left_does other moment key id (ask.Broke growth) apart = left_tells other (Refused (place_of growth) (Some id))
-left_does other moment key id (ask.Event who event) apart =
-    λ l hs l' it. left_joined other (Happens moment event it.0) (Ans.Answers key id who (is_query event) (reply_of it.0)) (left_happens other moment event it.0) (left_answers other key apart id who (is_query event) (reply_of it.0)) l hs l' it.1
-left_does other moment key id (ask.Unread request) apart = left_dropped other key apart id request
-left_does other moment key id (ask.Lost part) apart = left_declines other key apart (place_of_part part) id
-left_does other moment key id (ask.Hello device name) apart = left_greets other moment key id device name apart
-left_does other moment key id (ask.Report device report) apart = left_unanswered other moment (Is.Report device report)
-left_does other moment key id (ask.Stranger name) apart = left_tells other (DeviceRefused id (why.UnknownName name))
-left_does other moment key id (ask.Fault device) apart = left_tells other (DeviceRefused id (why.Fault device))
+-- more events, and more happenings
+module _ (first later : List Came) (front back : List Happening) where
+  order_left : (device : ℕ) (bytes : List ℕ) → IsOrder first device bytes → IsOrder (first ++ later) device bytes
+  order_left device bytes (it, has, is) = (it, Contains-append_left first later it has, is)
 
-left_acts_next : (other moment key : ℕ) → other ≢ key → Leaves_it other (ActsNext moment key)
-left_acts_next other moment key apart l hs l' (id, what, it) =
-    left_joined other (Asks key id what) (ActsOn moment key id what) (λ a ks b asks. left_at other key (Some asks.new) a b (ap (λ (x : Ledger). x.entries) asks.after) (aside other key apart)) (left_does other moment key id what apart) l hs l' it
+  order_right : (device : ℕ) (bytes : List ℕ) → IsOrder later device bytes → IsOrder (first ++ later) device bytes
+  order_right device bytes (it, has, is) = (it, Contains-append_right first later it has, is)
 
-left_acts : (other moment key : ℕ) → other ≢ key → Leaves_it other (Acts moment key)
-left_acts other moment key apart = left_joined other (ActsNext moment key) (Settles moment) (left_acts_next other moment key apart) (left_settles other moment)
+  cause_left : (hs : List Happening) → hs ≡ front ++ back → (device id : ℕ) (ended : Bool) → IsCause first front device id ended → IsCause (first ++ later) hs device id ended
+  cause_left hs whole device id ended (inl told) = inl (refused_front hs front back whole device id ended told)
+  cause_left hs whole device id ended (inr (is, (it, has, name, named))) = inr (is, (it, Contains-append_left first later it has, name, named))
 
-left_serves : (other moment key : ℕ) → other ≢ key → Leaves_it other (Serves moment key)
-left_serves other moment key apart l hs l' it = left_joined other (Many (Acts moment key)) (Chooses Rested) (left_many other (Acts moment key) (left_acts other moment key apart)) (left_chooses other Rested) l hs l' it.0
+  cause_right : (hs : List Happening) → hs ≡ front ++ back → (device id : ℕ) (ended : Bool) → IsCause later back device id ended → IsCause (first ++ later) hs device id ended
+  cause_right hs whole device id ended (inl told) = inl (refused_back hs front back whole device id ended told)
+  cause_right hs whole device id ended (inr (is, (it, has, name, named))) = inr (is, (it, Contains-append_right first later it has, name, named))
 
--- ---- reads, writes and closings that are not at once
+abbrev IsInTurn : ℕ → Came → Type 0
+IsInTurn moment it = (it.moment ≡ moment) × (it.in_turn ≡ true)
 
-module _ (other moment key : ℕ) (apart : other ≢ key) where
-  left_fails : Leaves_it other (Fails moment key)
-  left_fails = left_joined other (Breaks key) (Settles moment) (left_breaks other key apart) (left_settles other moment)
+spared_then : (moment key : ℕ) (l : Ledger) (front : List Happening) (mid : Ledger) (back : List Happening) (l' : Ledger) (hs : List Happening) → hs ≡ front ++ back → Spared moment key l front mid → Spared moment key mid back l' → Spared moment key l hs l'
+spared_then moment key l front mid back l' hs whole p q = record {
+  came = p.came ++ q.came;
+  timed = All-append (IsInTurn moment) p.came q.came p.timed q.timed;
+  run = run_then l.core mid.core l'.core p.came q.came p.run q.run;
+  told = told_then hs front back p.came q.came whole p.told q.told;
+  each = λ other apart.
+      left_then (IsOrder (p.came ++ q.came)) (IsCause (p.came ++ q.came) hs) (l.entries other) (mid.entries other) (l'.entries other)
+      (left_weaker (IsOrder p.came) (IsOrder (p.came ++ q.came)) (IsCause p.came front) (IsCause (p.came ++ q.came) hs) (l.entries other) (mid.entries other) (order_left p.came q.came front back) (cause_left p.came q.came front back hs whole) (p.each other apart))
+      (left_weaker (IsOrder q.came) (IsOrder (p.came ++ q.came)) (IsCause q.came back) (IsCause (p.came ++ q.came) hs) (mid.entries other) (l'.entries other) (order_right p.came q.came front back) (cause_right p.came q.came front back hs whole) (q.each other apart));
+}
 
-  left_fed : (e : Entry) (bytes : List ℕ) → Leaves_it other (FedWhole moment key e bytes)
-  left_fed e bytes =
-      left_or other (Then (Sets key (reading bytes e)) (Serves moment key)) (Then (Drops At.Feed key e) (Settles moment))
-      (left_joined other (Sets key (reading bytes e)) (Serves moment key) (left_sets other key apart (reading bytes e)) (left_serves other moment key apart))
-      (left_joined other (Drops At.Feed key e) (Settles moment) (left_drops other key apart At.Feed e) (left_settles other moment))
+-- no event
+spared_none : (moment key : ℕ) (l : Ledger) (hs : List Happening) (l' : Ledger) → l'.core ≡ l.core → core_notes hs ≡ [] → ((other : ℕ) → other ≢ key → Left (IsOrder []) (IsCause [] hs) (l.entries other) (l'.entries other)) → Spared moment key l hs l'
+spared_none moment key l hs l' core silent each = record { came = []; timed = All-nil (IsInTurn moment); run = core; told = silent; each = each }
 
-  feeds_at : (bytes : List ℕ) (o : Option Entry) → Leaves_it other (FeedsAt moment key bytes o)
-  feeds_at bytes None = left_nothing other
-  feeds_at bytes (Some e) = left_if other e.draining (Sets key e) (FedWhole moment key e bytes) (left_sets other key apart e) (left_fed e bytes)
+spared_aside : (moment key : ℕ) (l : Ledger) (hs : List Happening) (l' : Ledger) → Aside key l hs l' → Spared moment key l hs l'
+spared_aside moment key l hs l' p = spared_none moment key l hs l' p.core p.notes (λ other apart. left_same (IsOrder []) (IsCause [] hs) (l.entries other) (l'.entries other) (p.others other apart))
 
-  left_feeds : (bytes : List ℕ) → Leaves_it other (FeedsOne moment key bytes)
-  left_feeds bytes l hs l' it = feeds_at bytes (l.entries key) l hs l' it
+-- one event
+pub record Brings (moment key : ℕ) (event : Event) (l : Ledger) (hs : List Happening) (l' : Ledger) : Type 0 where
+  pub spared : Spared moment key l hs l'
+  pub it : Came
+  pub has : Contains spared.came it
+  pub is : it.event ≡ event
 
-  reads_as : (e : Entry) (answer : WireAnswer (List ℕ)) → Leaves_it other (ReadsAs moment key e answer)
-  reads_as e (wire.Done bytes) = left_joined other (Polls (Reads e.id (wire.Done bytes))) (FeedsOne moment key bytes) (left_polls other (Reads e.id (wire.Done bytes))) (left_feeds bytes)
-  reads_as e wire.Waiting = left_polls other (Reads e.id wire.Waiting)
-  reads_as e wire.End = left_joined other (Polls (Reads e.id wire.End)) (Sets key (record e { ended = true })) (left_polls other (Reads e.id wire.End)) (left_sets other key apart (record e { ended = true }))
-  reads_as e wire.Fault = left_joined other (Polls (Reads e.id wire.Fault)) (Fails moment key) (left_polls other (Reads e.id wire.Fault)) left_fails
+pub brings : (moment key : ℕ) (event : Event) (outcome : Outcome) (l : Ledger) (hs : List Happening) (l' : Ledger) → Happens moment event outcome l hs l' → Brings moment key event l hs l'
+brings moment key event outcome l hs l' happens = record { spared = one; it = it; has = contains_first it []; is = refl }
+  where
+    it : Came
+    it = record { moment = moment; event = event; outcome = outcome; notes = core_notes hs; state = l'.core; in_turn = true }
 
-  reads_at : (o : Option Entry) → Leaves_it other (ReadsAt moment key o)
-  reads_at None = left_nothing other
-  reads_at (Some e) = left_if other (is_read e) (ReadsOpen moment key e) Nothing (λ l hs l' it. reads_as e it.0 l hs l' it.2) (left_nothing other)
+    core_kept : happens.mid.core ≡ l'.core
+    core_kept = sym ((calms_orders outcome happens.mid happens.back l' happens.second).core)
 
-  pub left_reads : Leaves_it other (ReadsOne moment key)
-  left_reads l hs l' it = reads_at (l.entries key) l hs l' it
+    decided : (other : ℕ) → happens.mid.entries other ≡ l.entries other
+    decided other = ap (λ (x : Ledger). x.entries other) happens.first.after
 
-  writes_as : (e : Entry) (offered : List ℕ) (answer : WireAnswer ℕ) → Leaves_it other (WritesAs moment key e offered answer)
+    order : (device : ℕ) (bytes : List ℕ) → IsOrderBy device outcome l'.core bytes → IsOrder (it ∷ []) device bytes
+    order device bytes by = (it, contains_first it [], by)
+
+    each : (other : ℕ) → Left (IsOrder (it ∷ [])) (IsCause (it ∷ []) hs) (l.entries other) (l'.entries other)
+    each other =
+        subst (λ (o : Option Entry). Left (IsOrder (it ∷ [])) (IsCause (it ∷ []) hs) o (l'.entries other)) (decided other)
+        (left_weaker (λ device bytes. IsOrderBy device outcome l'.core bytes) (IsOrder (it ∷ [])) (IsRefused happens.back) (IsCause (it ∷ []) hs) (happens.mid.entries other) (l'.entries other) order
+        (λ device id ended told. inl (refused_back hs happens.front happens.back happens.whole device id ended told)) (left_orders outcome l'.core other happens.mid happens.back l' core_kept happens.second))
+
+    one : Spared moment key l hs l'
+    one = record {
+      came = it ∷ [];
+      timed = All-cons (IsInTurn moment) it [] (refl, refl) (All-nil (IsInTurn moment));
+      run = ((happened moment event outcome l hs l' happens).handles, refl);
+      told = sym (append-nil (core_notes hs));
+      each = λ other apart. each other;
+    }
+
+module _ (moment key : ℕ) where
+  abbrev pub Spares_in : Rel → Type 0
+  Spares_in R = (l : Ledger) (hs : List Happening) (l' : Ledger) → R l hs l' → Spared moment key l hs l'
+
+  aside_in : {R : Rel} → Asides key R → Spares_in R
+  aside_in aside l hs l' it = spared_aside moment key l hs l' (aside l hs l' it)
+
+  joins : (R S : Rel) → Spares_in R → Spares_in S → Spares_in (Then R S)
+  joins R S r s l hs l' it = spared_then moment key l it.front it.mid it.back l' hs it.whole (r l it.front it.mid it.first) (s it.mid it.back l' it.second)
+
+  or_in : (R S : Rel) → Spares_in R → Spares_in S → Spares_in (Or R S)
+  or_in R S r s l hs l' (inl it) = r l hs l' it
+  or_in R S r s l hs l' (inr it) = s l hs l' it
+
+  if_in : (t : Bool) (R S : Rel) → Spares_in R → Spares_in S → Spares_in (If t R S)
+  if_in true R S r s l hs l' it = r l hs l' it
+  if_in false R S r s l hs l' it = s l hs l' it
+
+  times_in : (n : ℕ) (R : Rel) → Spares_in R → Spares_in (Times n R)
+  times_in zero R r = aside_in (aside_nothing key)
+  times_in (suc n) R r = joins (Times n R) R (times_in n R r) r
+
+  many_in : (R : Rel) → Spares_in R → Spares_in (Many R)
+  many_in R r l hs l' (n, it) = times_in n R r l hs l' it
+
+  pub spares_unanswered : (event : Event) → Spares_in (Unanswered moment event)
+  spares_unanswered event l hs l' (outcome, it) = (brings moment key event outcome l hs l' it).spared
+
+  -- ---- closings
+
+  spares_gone : (device : Option ℕ) → Spares_in (IsGone moment device)
+  spares_gone None = aside_in (aside_nothing key)
+  spares_gone (Some device) = spares_unanswered (Is.Report device report.Gone)
+
+  closes_first : Spares_in (ClosesFirst moment)
+  closes_first l hs l' it = spared_then moment key l it.closes.front it.closes.mid it.closes.back l' hs it.closes.whole closed (spares_gone (device_of it.entry.progress) it.closes.mid it.closes.back l' it.closes.second)
+    where
+      gone : (other : ℕ) → Left (IsOrder []) (IsCause [] it.closes.front) (l.entries other) (it.closes.mid.entries other)
+      gone other =
+          left_at (IsOrder []) (IsCause [] it.closes.front) other it.key None l it.closes.mid (ap (λ (x : Ledger). x.entries) it.closes.first.2)
+          (λ same. subst (λ (o : Option Entry). Left (IsOrder []) (IsCause [] it.closes.front) o None) (sym (ap l.entries same ∙ it.there)) (left_closed (IsOrder []) (IsCause [] it.closes.front) it.entry it.is_broken))
+
+      closed : Spared moment key l it.closes.front it.closes.mid
+      closed = spared_none moment key l it.closes.front it.closes.mid (ap (λ (x : Ledger). x.core) it.closes.first.2) (ap core_notes it.closes.first.0) (λ other apart. gone other)
+
+  pub spares_settles : Spares_in (Settles moment)
+  spares_settles l hs l' it = many_in (ClosesFirst moment) closes_first l hs l' it.0
+
+  -- ---- the asks of a connection
+
+  as_device : (device : ℕ) (o : Option Entry) (e : Entry) → o ≡ Some e → IsDeviceAs true device o → (device_of e.progress ≡ Some device) × (e.ended ≡ true)
+  as_device device None e there is = absurd is
+  as_device device (Some d) e there is = let same : d ≡ e = cc in subst (λ (x : Entry). (device_of x.progress ≡ Some device) × (x.ended ≡ true)) same is
+
+  -- the old connection of a device that comes again gives way
+  gives_way : (came : List Came) (hs : List Happening) (old device other : ℕ) (o : Option Entry) (l : Ledger) (ks : List Happening) (l' : Ledger) → l.entries old ≡ o → IsDeviceAs true device o → ComesAgain device came → GivesWayAt old o l ks l' → Left (IsOrder came) (IsCause came hs) (l.entries other) (l'.entries other)
+  gives_way came hs old device other None l ks l' there is again it = absurd is
+  gives_way came hs old device other (Some e) l ks l' there is again it =
+      left_at (IsOrder came) (IsCause came hs) other old (Some (given_up e)) l l' (ap (λ (x : Ledger). x.entries) it.1)
+      (λ same.
+      subst (λ (o : Option Entry). Left (IsOrder came) (IsCause came hs) o (Some (given_up e))) (sym (ap l.entries same ∙ there))
+      (left_out (IsOrder came) (IsCause came hs) e device (Some (given_up e)) is.0 (inr (given_up e, refl, refl)) (inr (is.1, again))))
+
+  way_core : (old : ℕ) (o : Option Entry) (l : Ledger) (hs : List Happening) (l' : Ledger) → GivesWayAt old o l hs l' → (l'.core ≡ l.core) × (core_notes hs ≡ [])
+  way_core old None l hs l' it = (ap (λ (x : Ledger). x.core) it.1, ap core_notes it.0)
+  way_core old (Some e) l hs l' it = (ap (λ (x : Ledger). x.core) it.1, ap core_notes it.0)
+
+  takes_over : (old device : ℕ) (name : List ℕ) (l : Ledger) (hs : List Happening) (l' : Ledger) → IsDeviceAs true device (l.entries old) → TakesOver moment old device name l hs l' → Spared moment key l hs l'
+  unfolding spared_then
+  takes_over old device name l hs l' is it = record {
+    came = later.came;
+    timed = later.timed;
+    run = subst (λ (c : State). AreRun c later.came l'.core) way.0 later.run;
+    told = no_notes hs it.front it.back it.whole way.1 ∙ later.told;
+    each = λ other apart.
+        left_then (IsOrder later.came) (IsCause later.came hs) (l.entries other) (it.mid.entries other) (l'.entries other) (gives_way later.came hs old device other (l.entries old) l it.front it.mid refl is again it.first)
+        (left_weaker (IsOrder later.came) (IsOrder later.came) (IsCause later.came it.back) (IsCause later.came hs) (it.mid.entries other) (l'.entries other) (λ of bytes order. order) behind (later.each other apart));
+  }
+    where
+      gone : Spared moment key it.mid it.second.front it.second.mid
+      gone = spares_gone (Some device) it.mid it.second.front it.second.mid it.second.first
+
+      named : Brings moment key (Is.Report device (report.Hello name)) it.second.mid it.second.back l'
+      named = brings moment key (Is.Report device (report.Hello name)) it.second.second.0 it.second.mid it.second.back l' it.second.second.1
+
+      later : Spared moment key it.mid it.back l'
+      later = spared_then moment key it.mid it.second.front it.second.mid it.second.back l' it.back it.second.whole gone named.spared
+
+      way : (it.mid.core ≡ l.core) × (core_notes it.front ≡ [])
+      way = way_core old (l.entries old) l it.front it.mid it.first
+
+      again : ComesAgain device (gone.came ++ named.spared.came)
+      again = (named.it, Contains-append_right gone.came named.spared.came named.it named.has, name, named.is)
+
+      behind : (of id : ℕ) (ended : Bool) → IsCause later.came it.back of id ended → IsCause later.came hs of id ended
+      behind of id ended (inl told) = inl (refused_back hs it.front it.back it.whole of id ended told)
+      behind of id ended (inr more) = inr more
+
+  spares_greets : (id device : ℕ) (name : List ℕ) → Spares_in (Greets moment key id device name)
+  spares_greets id device name l hs l' (inl (alone, it)) = spares_unanswered (Is.Report device (report.Hello name)) l hs l' it
+  spares_greets id device name l hs l' (inr (inl (old, has, it))) =
+      spared_then moment key l it.front it.mid it.back l' hs it.whole (spared_aside moment key l it.front it.mid (aside_same key l it.front it.mid (ap core_notes it.first.0) it.first.1))
+      (takes_over old device name it.mid it.back l' (subst (λ (x : Ledger). IsDeviceAs true device (x.entries old)) (sym it.first.1) has.1) it.second)
+  spares_greets id device name l hs l' (inr (inr (old, has, it))) =
+      aside_in {R = Then (GivesWay key) (Tells (DeviceRefused id (why.Connected device)))} (aside_then key (GivesWay key) (Tells (DeviceRefused id (why.Connected device))) (aside_gives_way key) (aside_tells key (DeviceRefused id (why.Connected device)) refl)) l hs l' it
+
+  spares_does : (id : ℕ) (what : Ask) → Spares_in (ActsOn moment key id what)
+  spares_does id ask.Nothing = aside_in (aside_nothing key)
+  spares_does id (ask.Broke growth.Input) = aside_in (aside_tells key (Refused At.Feed (Some id)) refl)
+  spares_does id (ask.Broke growth.Output) = aside_in (aside_tells key (Refused At.Enqueue (Some id)) refl)
+  spares_does id (ask.Event who event) =
+      λ l hs l' it.
+      joins (Happens moment event it.0) (Ans.Answers key id who (is_query event) (reply_of it.0)) (λ a ks b one. (brings moment key event it.0 a ks b one).spared) (aside_in (aside_answers key id who (is_query event) (reply_of it.0))) l hs l' it.1
+  spares_does id (ask.Unread request) = aside_in (aside_dropped key id request)
+  spares_does id (ask.Lost part.File) = aside_in (aside_declines key At.File id refl)
+  spares_does id (ask.Lost part.Job) = aside_in (aside_declines key At.Event id refl)
+  spares_does id (ask.Hello device name) = spares_greets id device name
+  spares_does id (ask.Report device report) = spares_unanswered (Is.Report device report)
+  spares_does id (ask.Stranger name) = aside_in (aside_tells key (DeviceRefused id (why.UnknownName name)) refl)
+  spares_does id (ask.Fault device) = aside_in (aside_tells key (DeviceRefused id (why.Fault device)) refl)
+
+  aside_asks : (id : ℕ) (what : Ask) → Asides key (Asks key id what)
+  aside_asks id what l hs l' asks = aside_with key (Some asks.new) l hs l' (ap core_notes asks.chosen) (ap (λ (x : Ledger). x.core) asks.after) (ap (λ (x : Ledger). x.entries) asks.after)
+
+  spares_acts_next : Spares_in (ActsNext moment key)
+  spares_acts_next l hs l' (id, what, it) = joins (Asks key id what) (ActsOn moment key id what) (aside_in (aside_asks id what)) (spares_does id what) l hs l' it
+
+  spares_acts : Spares_in (Acts moment key)
+  spares_acts = joins (ActsNext moment key) (Settles moment) spares_acts_next spares_settles
+
+  spares_serves : Spares_in (Serves moment key)
+  spares_serves l hs l' it = joins (Many (Acts moment key)) (Chooses Rested) (many_in (Acts moment key) spares_acts) (aside_in (aside_chooses key Rested)) l hs l' it.0
+
+  -- ---- reads, writes and closings that are not at once
+
+  spares_fails : Spares_in (Fails moment key)
+  spares_fails = joins (Breaks key) (Settles moment) (aside_in (aside_breaks key)) spares_settles
+
+  spares_fed : (e : Entry) (bytes : List ℕ) → Spares_in (FedWhole moment key e bytes)
+  spares_fed e bytes =
+      or_in (Then (Sets key (reading bytes e)) (Serves moment key)) (Then (Drops At.Feed key e) (Settles moment)) (joins (Sets key (reading bytes e)) (Serves moment key) (aside_in (aside_sets key (reading bytes e))) spares_serves)
+      (joins (Drops At.Feed key e) (Settles moment) (aside_in (aside_drops key At.Feed e refl)) spares_settles)
+
+  feeds_at : (bytes : List ℕ) (o : Option Entry) → Spares_in (FeedsAt moment key bytes o)
+  feeds_at bytes None = aside_in (aside_nothing key)
+  feeds_at bytes (Some e) = if_in e.draining (Sets key e) (FedWhole moment key e bytes) (aside_in (aside_sets key e)) (spares_fed e bytes)
+
+  spares_feeds : (bytes : List ℕ) → Spares_in (FeedsOne moment key bytes)
+  spares_feeds bytes l hs l' it = feeds_at bytes (l.entries key) l hs l' it
+
+  polls_in : (poll : Poll) → Spares_in (Polls poll)
+  polls_in poll = aside_in (aside_polls key poll)
+
+  reads_as : (e : Entry) (answer : WireAnswer (List ℕ)) → Spares_in (ReadsAs moment key e answer)
+  reads_as e (wire.Done bytes) = joins (Polls (Reads e.id (wire.Done bytes))) (FeedsOne moment key bytes) (polls_in (Reads e.id (wire.Done bytes))) (spares_feeds bytes)
+  reads_as e wire.Waiting = polls_in (Reads e.id wire.Waiting)
+  reads_as e wire.End = joins (Polls (Reads e.id wire.End)) (Sets key (record e { ended = true })) (polls_in (Reads e.id wire.End)) (aside_in (aside_sets key (record e { ended = true })))
+  reads_as e wire.Fault = joins (Polls (Reads e.id wire.Fault)) (Fails moment key) (polls_in (Reads e.id wire.Fault)) spares_fails
+
+  reads_at : (o : Option Entry) → Spares_in (ReadsAt moment key o)
+  reads_at None = aside_in (aside_nothing key)
+  reads_at (Some e) = if_in (is_read e) (ReadsOpen moment key e) Nothing (λ l hs l' it. reads_as e it.0 l hs l' it.2) (aside_in (aside_nothing key))
+
+  pub spares_reads : Spares_in (ReadsOne moment key)
+  spares_reads l hs l' it = reads_at (l.entries key) l hs l' it
+
+  writes_as : (e : Entry) (offered : List ℕ) (answer : WireAnswer ℕ) → Spares_in (WritesAs moment key e offered answer)
   writes_as e offered (wire.Done n) =
-      left_joined other (Polls (Writes e.id offered (wire.Done n))) (Sets key (record e { taken = e.taken ++ take n offered })) (left_polls other (Writes e.id offered (wire.Done n))) (left_sets other key apart (record e { taken = e.taken ++ take n offered }))
-  writes_as e offered wire.Waiting = left_polls other (Writes e.id offered wire.Waiting)
-  writes_as e offered wire.End = left_joined other (Polls (Writes e.id offered wire.End)) (Fails moment key) (left_polls other (Writes e.id offered wire.End)) left_fails
-  writes_as e offered wire.Fault = left_joined other (Polls (Writes e.id offered wire.Fault)) (Fails moment key) (left_polls other (Writes e.id offered wire.Fault)) left_fails
+      joins (Polls (Writes e.id offered (wire.Done n))) (Sets key (record e { taken = e.taken ++ take n offered })) (polls_in (Writes e.id offered (wire.Done n))) (aside_in (aside_sets key (record e { taken = e.taken ++ take n offered })))
+  writes_as e offered wire.Waiting = polls_in (Writes e.id offered wire.Waiting)
+  writes_as e offered wire.End = joins (Polls (Writes e.id offered wire.End)) (Fails moment key) (polls_in (Writes e.id offered wire.End)) spares_fails
+  writes_as e offered wire.Fault = joins (Polls (Writes e.id offered wire.Fault)) (Fails moment key) (polls_in (Writes e.id offered wire.Fault)) spares_fails
 
-  writes_at : (o : Option Entry) → Leaves_it other (WritesAt moment key o)
-  writes_at None = left_nothing other
-  writes_at (Some e) = left_if other (nat_lt 0 (length (waiting e))) (WritesOpen moment key e) Nothing (λ l hs l' it. writes_as e it.0 it.2 l hs l' it.3) (left_nothing other)
+  writes_at : (o : Option Entry) → Spares_in (WritesAt moment key o)
+  writes_at None = aside_in (aside_nothing key)
+  writes_at (Some e) = if_in (nat_lt 0 (length (waiting e))) (WritesOpen moment key e) Nothing (λ l hs l' it. writes_as e it.0 it.2 l hs l' it.3) (aside_in (aside_nothing key))
 
-  pub left_writes : Leaves_it other (WritesOne moment key)
-  left_writes l hs l' it = writes_at (l.entries key) l hs l' it
+  pub spares_writes : Spares_in (WritesOne moment key)
+  spares_writes l hs l' it = writes_at (l.entries key) l hs l' it
 
-  closes_as : (e : Entry) → Leaves_it other (ClosesAs moment Drained key e)
+  closes_as : (e : Entry) → Spares_in (ClosesAs moment Drained key e)
   closes_as e =
-      left_joined other (Leaves Drained key e) (IsGone moment (device_of e.progress)) (λ l hs l' it. left_at other key None l l' (ap (λ (x : Ledger). x.entries) it.2) (aside other key apart)) (left_gone other moment (device_of e.progress))
+      joins (Leaves Drained key e) (IsGone moment (device_of e.progress)) (aside_in (λ l hs l' it. aside_with key None l hs l' (ap core_notes it.0) (ap (λ (x : Ledger). x.core) it.2) (ap (λ (x : Ledger). x.entries) it.2))) (spares_gone (device_of e.progress))
 
-  ends_at : (o : Option Entry) → Leaves_it other (EndsAt moment key o)
-  ends_at None = left_nothing other
-  ends_at (Some e) = left_if other (is_done e) (Then (ClosesAs moment Drained key e) (Settles moment)) Nothing (left_joined other (ClosesAs moment Drained key e) (Settles moment) (closes_as e) (left_settles other moment)) (left_nothing other)
+  ends_at : (o : Option Entry) → Spares_in (EndsAt moment key o)
+  ends_at None = aside_in (aside_nothing key)
+  ends_at (Some e) = if_in (is_done e) (Then (ClosesAs moment Drained key e) (Settles moment)) Nothing (joins (ClosesAs moment Drained key e) (Settles moment) (closes_as e) spares_settles) (aside_in (aside_nothing key))
 
-  pub left_ends : Leaves_it other (EndsOne moment key)
-  left_ends l hs l' it = ends_at (l.entries key) l hs l' it
+  spares_ends : Spares_in (EndsOne moment key)
+  spares_ends l hs l' it = ends_at (l.entries key) l hs l' it
 
 -- ---- none is broken afterwards
 
@@ -547,25 +783,34 @@ sound_of : (t : Bool) → (t ≡ true → ⊥) → t ≡ false
 sound_of true never = absurd (never refl)
 sound_of false never = refl
 
-spared : (x y : Option Entry) → (IsBroken x → ⊥) → (IsBroken y → ⊥) → Left x y → IsSpared x y
-spared None y sound after left = left.none refl
-spared (Some e) y sound after left = by (device_of e.progress) refl
+spared : (came : List Came) (hs : List Happening) (x y : Option Entry) → (IsBroken x → ⊥) → (IsBroken y → ⊥) → Left (IsOrder came) (IsCause came hs) x y → IsSpared came hs x y
+spared came hs None y sound after left = left.none refl
+spared came hs (Some e) y sound after left = by (device_of e.progress) refl
   where
     unbroken : e.broken ≡ false
     unbroken = sound_of e.broken sound
 
-    of_device : IsOut y ⊎ ((orders : List ℕ) × (y ≡ Some (owing orders e))) → (y ≡ None) ⊎ ((orders : List ℕ) × (y ≡ Some (owing orders e)))
-    of_device (inl (inl gone)) = inl gone
-    of_device (inl (inr (d, is, broken))) = absurd (no_break y d after is broken)
-    of_device (inr more) = inr more
+    of_device : (device : ℕ) → (IsOut y × IsCause came hs device e.id e.ended) ⊎ ((orders : List (List ℕ)) × All (IsOrder came device) orders × (y ≡ Some (owing (concat orders) e))) → ((y ≡ None) × IsCause came hs device e.id e.ended) ⊎ ((orders : List (List ℕ)) × All (IsOrder came device) orders × (y ≡ Some (owing (concat orders) e)))
+    of_device device (inl ((inl gone), cause)) = inl (gone, cause)
+    of_device device (inl ((inr (d, is, broken)), cause)) = absurd (no_break y d after is broken)
+    of_device device (inr more) = inr more
 
-    by : (o : Option ℕ) → device_of e.progress ≡ o → SparedAs o e y
+    by : (o : Option ℕ) → device_of e.progress ≡ o → SparedAs came hs o e y
     by None progress = left.client e refl unbroken progress
-    by (Some device) progress = of_device (left.device e device refl unbroken progress)
+    by (Some device) progress = of_device device (left.device e device refl unbroken progress)
+
+spares : (moment key : ℕ) (l : Ledger) (hs : List Happening) (l' : Ledger) → NoneBroken l → NoneBroken l' → Spared moment key l hs l' → Spares moment key l hs l'
+spares moment key l hs l' none after it = record {
+  came = it.came;
+  timed = it.timed;
+  run = it.run;
+  told = it.told;
+  each = λ other apart. spared it.came hs (l.entries other) (l'.entries other) (none other) (after other) (it.each other apart);
+}
 
 pub spares_all : (moment : ℕ) → SparesAll moment
 spares_all moment = record {
-  reads = λ key other l hs l' apart none it. spared (l.entries other) (l'.entries other) (none other) (settled_reads moment key l hs l' none it other) (left_reads other moment key apart l hs l' it);
-  writes = λ key other l hs l' apart none it. spared (l.entries other) (l'.entries other) (none other) (settled_writes moment key l hs l' none it other) (left_writes other moment key apart l hs l' it);
-  ends = λ key other l hs l' apart none it. spared (l.entries other) (l'.entries other) (none other) (settled_ends moment key l hs l' none it other) (left_ends other moment key apart l hs l' it);
+  reads = λ key l hs l' none it. spares moment key l hs l' none (settled_reads moment key l hs l' none it) (spares_reads moment key l hs l' it);
+  writes = λ key l hs l' none it. spares moment key l hs l' none (settled_writes moment key l hs l' none it) (spares_writes moment key l hs l' it);
+  ends = λ key l hs l' none it. spares moment key l hs l' none (settled_ends moment key l hs l' none it) (spares_ends moment key l hs l' it);
 }

@@ -1,27 +1,67 @@
 -- An action on one connection and the other connections.
-use Rattle.std.specs.Prelude.{ℕ, ◌≡◌, ◌≢◌, ◌⊎◌, List, Option, Some, None}
+use Rattle.std.specs.Prelude.{ℕ, ◌≡◌, ◌≢◌, ◌⊎◌, Bool, true, List, All, Contains, Option, Some, None}
+use Rattle.std.specs.List.{concat, flat_map}
+use Rattle.base_types.specs.declared.report.Report.TheVariants as report
+use Rattle.device_link.specs.Orders.{cancel_line}
+use Rattle.print_room.specs.declared.started.Started.{Started}
+use Rattle.print_room.specs.State.{State}
+use Rattle.events.specs.declared.event.Event.TheVariants as Is
+use Rattle.events.specs.declared.effects.Cancel.{Cancel}
+use Rattle.dispatcher.specs.declared.outcome.Outcome.{Outcome}
+use Rattle.dispatcher.specs.declared.listener.AllocationSite.TheVariants as At
+use Rattle.dispatcher.specs.Notes.{Refused}
 use Rattle.connections.specs.Entry.{Entry, device_of, owing}
-use Rattle.server.specs.Polls.{Happening}
-use Rattle.server.specs.Ledger.{Ledger}
+use Rattle.server.specs.Polls.{Happening, Told}
+use Rattle.server.specs.Ledger.{Ledger, job_bytes}
 use Rattle.server.specs.Rel.{Rel}
+use Rattle.server.specs.Law.{core_notes}
 use Rattle.server.specs.Closing.{NoneBroken}
 use Rattle.server.specs.Polling.{ReadsOne, WritesOne, EndsOne}
+use Rattle.promises.specs.Orders.{began, canceled}
+use Rattle.promises.specs.Heard.{Came, AreRun, ComeAt}
 
--- a client's connection is unchanged; on a device's connection more may be due, or it is closed
-abbrev pub SparedAs : Option ℕ → Entry → Option Entry → Type 0
-SparedAs None e now = now ≡ Some e
-SparedAs (Some device) e now = (now ≡ None) ⊎ ((orders : List ℕ) × (now ≡ Some (owing orders e)))
+-- the bytes of one order for a device: the line of a cancel that an event brought, or the line and the documents of a job that began by it
+abbrev pub IsOrderBy : ℕ → Outcome → State → List ℕ → Type 0
+IsOrderBy device outcome state bytes =
+    ((cancel : Cancel) × Contains (canceled outcome) cancel × (cancel.device ≡ device) × (bytes ≡ cancel_line cancel.job))
+    ⊎ ((start : Started) × Contains (began outcome state) start × (start.device ≡ device) × (bytes ≡ job_bytes state start.job))
 
-abbrev pub IsSpared : Option Entry → Option Entry → Type 0
-IsSpared None now = now ≡ None
-IsSpared (Some e) now = SparedAs (device_of e.progress) e now
+-- an order of one of these events
+abbrev pub IsOrder : List Came → ℕ → List ℕ → Type 0
+IsOrder came device bytes = (it : Came) × Contains came it × IsOrderBy device it.outcome it.state bytes
+
+-- the device gave its name on another connection
+abbrev pub ComesAgain : ℕ → List Came → Type 0
+ComesAgain device came = (it : Came) × Contains came it × (name : List ℕ) × (it.event ≡ Is.Report device (report.Hello name))
+
+-- why a device's connection of this number is closed: the listener was told that memory for its orders was refused; or its input had ended, and the device came again
+abbrev pub IsCause : List Came → List Happening → ℕ → ℕ → Bool → Type 0
+IsCause came hs device id ended = Contains hs (Told (Refused At.Enqueue (Some id))) ⊎ ((ended ≡ true) × ComesAgain device came)
+
+-- a client's connection is unchanged; on a device's connection orders become due, or it is closed for a cause
+abbrev pub SparedAs : List Came → List Happening → Option ℕ → Entry → Option Entry → Type 0
+SparedAs came hs None e now = now ≡ Some e
+SparedAs came hs (Some device) e now =
+    ((now ≡ None) × IsCause came hs device e.id e.ended) ⊎ ((orders : List (List ℕ)) × All (IsOrder came device) orders × (now ≡ Some (owing (concat orders) e)))
+
+abbrev pub IsSpared : List Came → List Happening → Option Entry → Option Entry → Type 0
+IsSpared came hs None now = now ≡ None
+IsSpared came hs (Some e) now = SparedAs came hs (device_of e.progress) e now
+
+-- The events of an action on the connection under a key are a run of the core, which tells the listener's notes. By these events every other connection is spared.
+pub record Spares (moment key : ℕ) (l : Ledger) (hs : List Happening) (l' : Ledger) : Type 0 where
+  pub came : List Came
+  pub timed : ComeAt true moment came
+  pub run : AreRun l.core came l'.core
+  pub told : core_notes hs ≡ flat_map (λ (it : Came). it.notes) came
+  pub each : (other : ℕ) → other ≢ key → IsSpared came hs (l.entries other) (l'.entries other)
 
 -- the part of a turn that is about the connection under a key spares the others, if none is broken before
-abbrev pub SparesOthers : (ℕ → Rel) → Type 0
-SparesOthers R = (key other : ℕ) (l : Ledger) (hs : List Happening) (l' : Ledger) → other ≢ key → NoneBroken l → R key l hs l' → IsSpared (l.entries other) (l'.entries other)
+abbrev pub SparesOthers : ℕ → (ℕ → Rel) → Type 0
+SparesOthers moment R = (key : ℕ) (l : Ledger) (hs : List Happening) (l' : Ledger) → NoneBroken l → R key l hs l' → Spares moment key l hs l'
 
 -- a read with all its results, a write, and a close that isn't immediate
 pub record SparesAll (moment : ℕ) : Type 0 where
-  pub reads : SparesOthers (ReadsOne moment)
-  pub writes : SparesOthers (WritesOne moment)
-  pub ends : SparesOthers (EndsOne moment)
+  pub reads : SparesOthers moment (ReadsOne moment)
+  pub writes : SparesOthers moment (WritesOne moment)
+  pub ends : SparesOthers moment (EndsOne moment)

@@ -66,9 +66,11 @@ pub fn due_was_carried()
     ensures { (opening : State) (trace : Trace) (ledger : Ledger) → Runs trace (opening_ledger opening) ledger → NumbersDiffer trace → IsCarried trace ledger }
 {}
 
-/// An action on one connection spares the others. A client's connection is unchanged. On a device's
-/// connection more may be due, as jobs begin and are canceled; or it is closed, if memory for that was
-/// refused or the device had another connection.
+/// A read on one connection with all its results, a write and a closing are each a run of the core, and spare
+/// the other connections. A client's connection is unchanged. On a device's connection only orders of the
+/// run's events become due: lines of cancels, and lines and documents of jobs that began. It is closed only
+/// for a cause: the listener was told that memory for its orders was refused, or its input had ended and the
+/// device gave its name again.
 pub fn others_are_spared()
     ensures { (moment : ℕ) → SparesAll moment }
 {}
