@@ -32,10 +32,10 @@ use Rattle.promises.proofs.Answers.{fixed_dropped, fixed_declines, same_answered
 
 -- ---- closings
 
-same_entry : (o : Option Entry) (e d : Entry) → o ≡ Some e → o ≡ Some d → e ≡ d
+pub same_entry : (o : Option Entry) (e d : Entry) → o ≡ Some e → o ≡ Some d → e ≡ d
 same_entry o e d p q = cc
 
-same_number : (n m : ℕ) → (n < m → ⊥) → (m < n → ⊥) → n ≡ m
+pub same_number : (n m : ℕ) → (n < m → ⊥) → (m < n → ⊥) → n ≡ m
 same_number zero zero a b = refl
 same_number zero (suc m) a b = absurd (a (omega arith))
 same_number (suc n) zero a b = absurd (b (omega arith))
@@ -44,7 +44,7 @@ same_number (suc n) (suc m) a b = ap suc (same_number n m (λ less. a (omega (ar
 fixed_leaves : (fate : Fate) (key : ℕ) (e : Entry) → Fixed (Leaves fate key e)
 fixed_leaves fate key e = record { one = λ l hs rest a ks more b same p q. (p.0 ∙ sym q.0, p.2 ∙ sym q.2) }
 
-broken_there : (l : Ledger) (key : ℕ) (e : Entry) → l.entries key ≡ Some e → e.broken ≡ true → IsBroken (l.entries key)
+pub broken_there : (l : Ledger) (key : ℕ) (e : Entry) → l.entries key ≡ Some e → e.broken ≡ true → IsBroken (l.entries key)
 broken_there l key e there is = subst (λ (o : Option Entry). IsBroken o) (sym there) is
 
 -- an event has the same content as itself

@@ -45,10 +45,10 @@ same_message one other id same =
     ∙ (ap (λ (attributes : List IppAttribute). reply_of other.status id (unsupported_of other.status attributes ++ one.groups)) same.unsupported
     ∙ ap (λ (groups : List IppGroup). reply_of other.status id (unsupported_of other.status other.unsupported ++ groups)) same.groups)
 
-same_bytes : (one other : IppResponse) (id : ℕ) (bytes said : List ℕ) → SameIppAnswer one other → IsReply one id bytes → IsReply other id said → bytes ≡ said
+pub same_bytes : (one other : IppResponse) (id : ℕ) (bytes said : List ℕ) → SameIppAnswer one other → IsReply one id bytes → IsReply other id said → bytes ≡ said
 same_bytes one other id bytes said same p q = p.spelt ∙ (ap spelling (same_message one other id same) ∙ sym q.spelt)
 
-same_text : (one other : QueueListing) → SameListing one other → queue_text one ≡ queue_text other
+pub same_text : (one other : QueueListing) → SameListing one other → queue_text one ≡ queue_text other
 same_text one other same =
     ap (λ (name : List ℕ). name ++ (codes " " ++ (printer_word one.state ++ (codes "\n" ++ lines_of one.form one.jobs.items)))) same.name
     ∙ (ap (λ (state : PrinterState). other.name ++ (codes " " ++ (printer_word state ++ (codes "\n" ++ lines_of one.form one.jobs.items)))) same.state

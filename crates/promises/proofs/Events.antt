@@ -88,7 +88,7 @@ planned_state now old plan started = record (beginning_all now started (marked_s
 
 module _ (steps : StepsOnce) where
   -- the results of events with the same content are the same, if neither is dropped and one list of happenings follows both
-  handled_one : (moment : ℕ) (event other : Event) (old : State) (outcome said : Outcome) (notes heard : List Note) (new after : State) (rest more : List Happening) → SameEvent event other → is_query event ≡ is_query other → IsKept outcome → IsKept said
+  pub handled_one : (moment : ℕ) (event other : Event) (old : State) (outcome said : Outcome) (notes heard : List Note) (new after : State) (rest more : List Happening) → SameEvent event other → is_query event ≡ is_query other → IsKept outcome → IsKept said
       → map Told notes ++ rest ≡ map Told heard ++ more → Handles moment event old outcome notes new → Handles moment other old said heard after → SameWay outcome notes new said heard after
   handled_one moment event other old Dropped said notes heard new after rest more same query kept enqueues e p q = absurd kept
   handled_one moment event other old (Queried reply) Dropped notes heard new after rest more same query kept enqueues e p q = absurd enqueues
@@ -180,7 +180,7 @@ module _ (steps : StepsOnce) where
   same_orders (Dispatched one) (Undispatched other) same = absurd same
   same_orders (Dispatched one) (Idle other) same = absurd same
 
-  same_undispatched : (one other : Outcome) (before : Bool) → SameOutcome one other → undispatched_after one before ≡ undispatched_after other before
+  pub same_undispatched : (one other : Outcome) (before : Bool) → SameOutcome one other → undispatched_after one before ≡ undispatched_after other before
   same_undispatched Dropped Dropped before same = refl
   same_undispatched (Queried one) (Queried other) before same = refl
   same_undispatched (Undispatched one) (Undispatched other) before same = refl
@@ -258,7 +258,7 @@ module _ (steps : StepsOnce) where
 
   -- ---- an event that takes no memory, and isn't dropped
 
-  light_kept : (moment : ℕ) (event : Event) (outcome : Outcome) (l : Ledger) (hs : List Happening) (a : Ledger) → TakesNoMemory event moment l.core → Happens moment event outcome l hs a → IsKept outcome
+  pub light_kept : (moment : ℕ) (event : Event) (outcome : Outcome) (l : Ledger) (hs : List Happening) (a : Ledger) → TakesNoMemory event moment l.core → Happens moment event outcome l hs a → IsKept outcome
   light_kept moment event Dropped l hs a light it = it.first.handles.2 light
   light_kept moment event (Queried reply) l hs a light it = tt
   light_kept moment event (Undispatched reply) l hs a light it = tt

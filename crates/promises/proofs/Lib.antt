@@ -27,3 +27,8 @@ pub mod Calms
 pub mod Devices
 pub mod Reporting
 pub mod Ending
+pub mod Same
+pub mod SameEvents
+pub mod SameActs
+pub mod SameParts
+pub mod SameTurns

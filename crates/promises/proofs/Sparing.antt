@@ -665,24 +665,24 @@ module _ (moment key : ℕ) where
   ends_at None = aside_in (aside_nothing key)
   ends_at (Some e) = if_in (is_done e) (Then (ClosesAs moment Drained key e) (Settles moment)) Nothing (joins (ClosesAs moment Drained key e) (Settles moment) (closes_as e) spares_settles) (aside_in (aside_nothing key))
 
-  spares_ends : Spares_in (EndsOne moment key)
+  pub spares_ends : Spares_in (EndsOne moment key)
   spares_ends l hs l' it = ends_at (l.entries key) l hs l' it
 
 -- ---- none is broken afterwards
 
-abbrev Settled : Rel → Type 0
+abbrev pub Settled : Rel → Type 0
 Settled R = (l : Ledger) (hs : List Happening) (l' : Ledger) → NoneBroken l → R l hs l' → NoneBroken l'
 
 settled_same : (l l' : Ledger) → l'.entries ≡ l.entries → NoneBroken l → NoneBroken l'
 settled_same l l' same none key is = none key (subst (λ (entries : ℕ → Option Entry). IsBroken (entries key)) same is)
 
-settled_nothing : Settled Nothing
+pub settled_nothing : Settled Nothing
 settled_nothing l hs l' none it = settled_same l l' (ap (λ (x : Ledger). x.entries) it.1) none
 
-settled_last : (R : Rel) (moment : ℕ) → Settled (Then R (Settles moment))
+pub settled_last : (R : Rel) (moment : ℕ) → Settled (Then R (Settles moment))
 settled_last R moment l hs l' none it = it.second.1
 
-settled_then : (R S : Rel) → Settled R → Settled S → Settled (Then R S)
+pub settled_then : (R S : Rel) → Settled R → Settled S → Settled (Then R S)
 settled_then R S r s l hs l' none it = s it.mid it.back l' (r l it.front it.mid none it.first) it.second
 
 settled_if : (t : Bool) (R S : Rel) → Settled R → Settled S → Settled (If t R S)
@@ -701,7 +701,7 @@ broken_if true x y p q is = p is
 broken_if false x y p q is = q is
 
 -- a connection that isn't broken changes
-settled_sets : (key : ℕ) (d e : Entry) (l : Ledger) (hs : List Happening) (l' : Ledger) → NoneBroken l → l.entries key ≡ Some d → e.broken ≡ d.broken → Sets key e l hs l' → NoneBroken l'
+pub settled_sets : (key : ℕ) (d e : Entry) (l : Ledger) (hs : List Happening) (l' : Ledger) → NoneBroken l → l.entries key ≡ Some d → e.broken ≡ d.broken → Sets key e l hs l' → NoneBroken l'
 settled_sets key d e l hs l' none there same it other is =
     broken_if (other == key) (Some e) (l.entries other) (λ broken. none key (subst IsBroken (sym there) (sym same ∙ broken))) (none other) (subst (λ (x : Ledger). IsBroken (x.entries other)) it.1 is)
 
@@ -746,7 +746,7 @@ settled_reads_at : (moment key : ℕ) (o : Option Entry) (l : Ledger) (hs : List
 settled_reads_at moment key None l hs l' none there it = settled_nothing l hs l' none it
 settled_reads_at moment key (Some e) l hs l' none there it = settled_reads_if (is_read e) moment key e l hs l' none there it
 
-settled_reads : (moment key : ℕ) → Settled (ReadsOne moment key)
+pub settled_reads : (moment key : ℕ) → Settled (ReadsOne moment key)
 settled_reads moment key l hs l' none it = settled_reads_at moment key (l.entries key) l hs l' none refl it
 
 settled_writes_as : (moment key : ℕ) (e : Entry) (offered : List ℕ) (answer : WireAnswer ℕ) (l : Ledger) (hs : List Happening) (l' : Ledger) → NoneBroken l → l.entries key ≡ Some e → WritesAs moment key e offered answer l hs l' → NoneBroken l'
@@ -763,14 +763,14 @@ settled_writes_at : (moment key : ℕ) (o : Option Entry) (l : Ledger) (hs : Lis
 settled_writes_at moment key None l hs l' none there it = settled_nothing l hs l' none it
 settled_writes_at moment key (Some e) l hs l' none there it = settled_writes_if (nat_lt 0 (length (waiting e))) moment key e l hs l' none there it
 
-settled_writes : (moment key : ℕ) → Settled (WritesOne moment key)
+pub settled_writes : (moment key : ℕ) → Settled (WritesOne moment key)
 settled_writes moment key l hs l' none it = settled_writes_at moment key (l.entries key) l hs l' none refl it
 
 settled_ends_at : (moment key : ℕ) (o : Option Entry) → Settled (EndsAt moment key o)
 settled_ends_at moment key None = settled_nothing
 settled_ends_at moment key (Some e) = settled_if (is_done e) (Then (ClosesAs moment Drained key e) (Settles moment)) Nothing (settled_last (ClosesAs moment Drained key e) moment) settled_nothing
 
-settled_ends : (moment key : ℕ) → Settled (EndsOne moment key)
+pub settled_ends : (moment key : ℕ) → Settled (EndsOne moment key)
 settled_ends moment key l hs l' none it = settled_ends_at moment key (l.entries key) l hs l' none it
 
 -- ---- the law

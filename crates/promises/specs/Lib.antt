@@ -8,3 +8,4 @@ pub mod Others
 pub mod Carried
 pub mod Dropped
 pub mod Heard
+pub mod Keyed

@@ -7,6 +7,7 @@ ghost use Rattle.promises.specs.Answers.{AreAnswered};
 ghost use Rattle.promises.specs.Calls.{Call, AreMade, IsAccounted};
 ghost use Rattle.promises.specs.Carried.{NumbersDiffer, IsCarried};
 ghost use Rattle.promises.specs.Heard.{AreHeard};
+ghost use Rattle.promises.specs.Keyed.{SeenLeadsToOne};
 ghost use Rattle.promises.specs.OneLedger.{LeadsToOne};
 ghost use Rattle.promises.specs.Orders.{AreSent};
 ghost use Rattle.promises.specs.Others.{SparesAll};
@@ -82,3 +83,21 @@ pub fn others_are_spared()
 pub fn due_after_calls<W: Wire, N: Listener>()
     ensures { (opening : State) (calls : List Call) (u v : W × N) (old new : EngineState) → StandsAt opening [] old → AreMade W.polled N.told calls u old v new → IsAccounted W.polled N.told opening calls u v new }
 {}
+
+/// Two traces of a server that starts lead to one ledger if the wire and the listener see them alike, the
+/// connections have the same keys, and no memory was refused in them. Hence the bytes due on each connection
+/// are then determined by the calls of the wire with their answers, the listener's notes (the plans among
+/// them), and the keys.
+pub fn one_seen_ledger()
+    ensures { SeenLeadsToOne }
+{
+    dispatcher::one_step();
+    dispatcher::same_needs();
+    connections::one_ask();
+    ipp_operations::one_asked();
+    http_front::some_saying();
+    http_front::given_first();
+    lpd::one_front();
+    lpd::one_saying();
+    device_link::one_front();
+}

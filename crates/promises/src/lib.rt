@@ -15,7 +15,7 @@ mod run;
 
 pub use bytes::{
     clients_are_answered, devices_are_heard, devices_are_sent_their_orders, due_after_calls,
-    due_was_carried, one_ledger, others_are_spared,
+    due_was_carried, one_ledger, one_seen_ledger, others_are_spared,
 };
 pub use exchanges::exchanges_are_answered;
 pub use plans::plan_is_its_text;
