@@ -1,5 +1,6 @@
 -- The heads of replies (RFC 9112, section 4; RFC 9110, section 15). A reply of 200 has a body. A refusal has no body and closes the connection.
-use Rattle.std.specs.Prelude.{ℕ, ◌==◌, ◌+◌, ◌/◌, ◌%◌, ◌++◌, ◌∷◌, if◌then◌else◌, Bool, true, false, List, [], codes, decimal}
+use Rattle.std.specs.Prelude.{ℕ, ◌≡◌, ◌==◌, ◌++◌, ◌⊎◌, if◌then◌else◌, Bool, true, false, List, [], codes, decimal, unwrap_or}
+use Rattle.http.specs.StatusCode.{code_digits, reason_phrase}
 use Rattle.http_front.specs.declared.refusal.HttpRejection.{HttpRejection}
 use Rattle.http_front.specs.declared.refusal.HttpRejection.TheVariants.{BadRequest, MethodNotAllowed, ContentTooLarge, UnsupportedMediaType, ExpectationFailed, HeadTooLarge, NotImplemented}
 
@@ -13,22 +14,13 @@ status_of ExpectationFailed = 417
 status_of HeadTooLarge = 431
 status_of NotImplemented = 501
 
--- the three digits of a status
-abbrev pub code_digits : ℕ → List ℕ
-code_digits status = (48 + status / 100) ∷ (48 + status / 10 % 10) ∷ (48 + status % 10) ∷ []
+-- the status is 200, or that of a refusal
+abbrev pub IsReplyStatus : ℕ → Type 0
+IsReplyStatus status = (status ≡ 200) ⊎ ((refusal : HttpRejection) × (status ≡ status_of refusal))
 
--- the reason phrase of a status (RFC 9110, section 15; RFC 6585, section 5)
+-- the reason phrase of a status: RFC 9110's for 413 (section 15.5.14), for which the library has an older one
 abbrev pub phrase : ℕ → List ℕ
-phrase status =
-    if status == 200 then codes "OK"
-    else if status == 400 then codes "Bad Request"
-    else if status == 405 then codes "Method Not Allowed"
-    else if status == 413 then codes "Content Too Large"
-    else if status == 415 then codes "Unsupported Media Type"
-    else if status == 417 then codes "Expectation Failed"
-    else if status == 431 then codes "Request Header Fields Too Large"
-    else if status == 501 then codes "Not Implemented"
-    else []
+phrase status = if status == 413 then codes "Content Too Large" else unwrap_or (reason_phrase status) []
 
 abbrev pub status_line : ℕ → List ℕ
 status_line status = codes "HTTP/1.1 " ++ (code_digits status ++ (codes " " ++ (phrase status ++ codes "\r\n")))

@@ -28,4 +28,4 @@ pub use law::{
 };
 pub use reader::HttpReader;
 pub use refusal::HttpRejection;
-pub use reply::{continue_head, write_head, write_refusal};
+pub use reply::{continue_head, write_head};

@@ -1,4 +1,8 @@
-//! The refusals of requests.
+//! The refusals of requests, with their statuses.
+ghost use Rattle.std.specs.Prelude.{◌≡◌};
+ghost use Rattle.http_front.specs.Reply.{status_of};
+
+use http::StatusCode;
 
 /// Why a request is refused, by the status of the reply (RFC 9110, sections 15.5 and 15.6).
 #[derive(Clone, Copy, Debug, PartialEq, Eq)]
@@ -17,4 +21,21 @@ pub enum HttpRejection {
     HeadTooLarge,
     /// 501: a transfer coding other than `chunked`.
     NotImplemented,
+}
+
+impl HttpRejection {
+    /// The status of the reply.
+    pub fn status(self) -> StatusCode
+        ensures { result ≡ status_of self }
+    {
+        match self {
+            HttpRejection::BadRequest => StatusCode::BAD_REQUEST,
+            HttpRejection::MethodNotAllowed => StatusCode::METHOD_NOT_ALLOWED,
+            HttpRejection::ContentTooLarge => StatusCode::PAYLOAD_TOO_LARGE,
+            HttpRejection::UnsupportedMediaType => StatusCode::UNSUPPORTED_MEDIA_TYPE,
+            HttpRejection::ExpectationFailed => StatusCode::EXPECTATION_FAILED,
+            HttpRejection::HeadTooLarge => StatusCode::REQUEST_HEADER_FIELDS_TOO_LARGE,
+            HttpRejection::NotImplemented => StatusCode::NOT_IMPLEMENTED,
+        }
+    }
 }

@@ -9,7 +9,8 @@ ghost use Rattle.send_queues.specs.SendQueue.{OffersFront, IsSome, joined};
 
 use base_types::{JobId, Needs};
 use device_link::{write_cancel, write_job};
-use http_front::{HttpRejection, write_head, write_refusal};
+use http::StatusCode;
+use http_front::{HttpRejection, write_head};
 use octets::{Document, Octets, Pages};
 use std::alloc::{AllocError, Global};
 use std::io::IoSlice;
@@ -346,7 +347,7 @@ fn append_reply(output: &mut Vec<u8>, closes: bool, bytes: &[u8]) -> Result<(), 
     ensures capacity { vec_capacity output.old ≤ vec_capacity output.new }
 {
     let before = output.len();
-    write_head(bytes.len(), closes, output)?;
+    write_head(StatusCode::OK, bytes.len(), closes, output)?;
     let appended = output.extend_from_slice(bytes);
     if appended.is_err() {
         output.truncate(before);
@@ -363,5 +364,5 @@ fn append_refusal(output: &mut Vec<u8>, refusal: HttpRejection) -> Result<(), Al
     ensures full { OnErr result (vec_capacity output.old < vec_len output.old + length (refusal_head refusal)) }
     ensures capacity { vec_capacity output.old ≤ vec_capacity output.new }
 {
-    write_refusal(refusal, output)
+    write_head(refusal.status(), 0, true, output)
 }

@@ -1,6 +1,4 @@
-pub mod Places
-pub mod Searching
-pub mod Standing
+pub mod Entries
 pub mod Finished
 pub mod Unfinished
 pub mod Sound

@@ -1,9 +1,11 @@
 -- The change of a job by each call leaves it sound.
-use Rattle.std.proofs.Common.{◌≡◌, ◌==◌, ◌||◌, ◌∙◌, ℕ, zero, suc, Bool, true, false, cond, eqb, List, [], ◌∷◌, Option, Some, None, refl, ap, subst, remove, All, IfSome, true≢false}
-use Rattle.std.specs.Prelude.{unwrap_or}
+use Rattle.std.proofs.Common.{◌≡◌, ◌==◌, ◌||◌, ◌∙◌, ℕ, zero, suc, Bool, true, false, cond, eqb, List, [], ◌∷◌, ◌++◌, Option, Some, None, refl, sym, ap, subst, remove, slice_get, All, IfSome, true≢false}
+use Rattle.std.specs.Prelude.{nat_eq, unwrap_or}
 use Rattle.std.specs.List.{list_any}
+use Rattle.std.specs.Map.{lookup, set_value}
 use Rattle.std.specs.Option.{option_map_or}
-use Rattle.std.proofs.lemmas.List.Elements.{All-cons, All-head, All-tail}
+use Rattle.std.proofs.lemmas.List.Elements.{All-cons, All-head, All-tail, All-push}
+use Rattle.indexmap.specs.IndexMap.{insert_entry, set_value_at}
 use Rattle.base_types.specs.declared.needs.Stranded.{Stranded}
 use Rattle.job_objects.specs.declared.job_state.JobState.{JobState}
 use Rattle.job_objects.specs.declared.job_state.JobState.TheVariants.{Pending, PendingHeld, Processing, Stopped, Canceled, Aborted, Completed}
@@ -14,10 +16,11 @@ use Rattle.job_objects.specs.JobStep.{waiting, moved, ended, changed_from, job_a
 use Rattle.octets.specs.Document.{DocumentRecord}
 use Rattle.spool.specs.Submission.{Submission, spooled_of}
 use Rattle.spool.specs.Spooled.{SpooledRecord, is_settled, settled, on_device_after, changed, let_go, told, attached, is_overdue, expired, marked}
-use Rattle.spool.specs.Jobs.{spooled_at, map_at}
+use Rattle.spool.specs.Jobs.{Keyed, jobs_of, spooled_at, with_job, map_at}
 use Rattle.spool.specs.Calls.{is_ready, marked_by}
 use Rattle.spool.specs.Sound.{FitsState, IsSound}
 use Rattle.spool.proofs.Ids.{either}
+use Rattle.spool.proofs.Entries.{set_job, jobs_at, jobs_remove, new_entry, jobs_push}
 
 -- a job that is sound is so after the change too
 abbrev pub KeepsSound : (SpooledRecord → SpooledRecord) → Type 0
@@ -139,16 +142,52 @@ new_sound new id incoming = new_fits incoming new.held
 
 -- ---- lists of jobs
 
-pub sound_map_at : (place : ℕ) (f : SpooledRecord → SpooledRecord) → KeepsSound f → (jobs : List SpooledRecord) → All IsSound jobs → All IsSound (map_at place f jobs)
+all_if : (b : Bool) (xs ys : List SpooledRecord) → All IsSound xs → All IsSound ys → All IsSound (cond b xs ys)
+all_if true xs ys of_xs of_ys = of_xs
+all_if false xs ys of_xs of_ys = of_ys
+
+sound_with : (id : ℕ) (f : SpooledRecord → SpooledRecord) → KeepsSound f → (jobs : List SpooledRecord) → All IsSound jobs → All IsSound (with_job id f jobs)
+sound_with id f keeps [] sound = sound
+sound_with id f keeps (s ∷ jobs) sound =
+    let first = All-head IsSound s jobs sound in
+    let rest = All-tail IsSound s jobs sound in
+    all_if (eqb id s.job.id) (f s ∷ jobs) (s ∷ with_job id f jobs) (All-cons IsSound (f s) jobs (keeps s first) rest) (All-cons IsSound s (with_job id f jobs) first (sound_with id f keeps jobs rest))
+
+sound_map_at : (place : ℕ) (f : SpooledRecord → SpooledRecord) → KeepsSound f → (jobs : List SpooledRecord) → All IsSound jobs → All IsSound (map_at place f jobs)
 sound_map_at place f keeps [] sound = sound
 sound_map_at zero f keeps (s ∷ jobs) sound = All-cons IsSound (f s) jobs (keeps s (All-head IsSound s jobs sound)) (All-tail IsSound s jobs sound)
 sound_map_at (suc place) f keeps (s ∷ jobs) sound = All-cons IsSound s (map_at place f jobs) (All-head IsSound s jobs sound) (sound_map_at place f keeps jobs (All-tail IsSound s jobs sound))
 
-pub sound_remove : (place : ℕ) (jobs : List SpooledRecord) → All IsSound jobs → All IsSound (remove jobs place)
+sound_remove : (place : ℕ) (jobs : List SpooledRecord) → All IsSound jobs → All IsSound (remove jobs place)
 sound_remove zero [] sound = sound
 sound_remove (suc place) [] sound = sound
 sound_remove zero (s ∷ jobs) sound = All-tail IsSound s jobs sound
 sound_remove (suc place) (s ∷ jobs) sound = All-cons IsSound s (remove jobs place) (All-head IsSound s jobs sound) (sound_remove place jobs (All-tail IsSound s jobs sound))
+
+-- ---- the entries of the map
+
+abbrev pub AreSound : List (ℕ × SpooledRecord) → Type 0
+AreSound es = All IsSound (jobs_of es)
+
+-- a value written at a key
+pub sound_set : (f : SpooledRecord → SpooledRecord) → KeepsSound f → (key next : ℕ) (es : List (ℕ × SpooledRecord)) (s w : SpooledRecord) → Keyed es 0 next → lookup (nat_eq key) es ≡ Some s → w ≡ f s → AreSound es → AreSound (set_value (nat_eq key) es w)
+sound_set f keeps key next es s w keyed is written sound =
+    rw (written, set_job key 0 next es s f keyed is) (sound_with key f keeps (jobs_of es) sound)
+
+-- a value written at a place
+pub sound_at : (f : SpooledRecord → SpooledRecord) → KeepsSound f → (place : ℕ) (es : List (ℕ × SpooledRecord)) (s w : SpooledRecord) → slice_get (jobs_of es) place ≡ Some s → w ≡ f s → AreSound es → AreSound (set_value_at es place w)
+sound_at f keeps place es s w is written sound =
+    rw (written, jobs_at place es s f is) (sound_map_at place f keeps (jobs_of es) sound)
+
+pub sound_removed : (place : ℕ) (es : List (ℕ × SpooledRecord)) → AreSound es → AreSound (remove es place)
+sound_removed place es sound = rw (jobs_remove place es) (sound_remove place (jobs_of es) sound)
+
+-- a new entry goes last
+pub sound_new : (number next : ℕ) (es fs : List (ℕ × SpooledRecord)) (s : SpooledRecord) → Keyed es 0 next → number ≡ next → fs ≡ insert_entry nat_eq es number s → IsSound s → AreSound es → AreSound fs
+sound_new number next es fs s keyed is entries new sound =
+    let before : Keyed es 0 number = subst (λ (n : ℕ). Keyed es 0 n) (sym is) keyed in
+    let jobs : jobs_of fs ≡ jobs_of es ++ s ∷ [] = ap jobs_of (entries ∙ new_entry 0 number es s before) ∙ jobs_push es number s in
+    rw jobs (All-push IsSound (jobs_of es) s sound new)
 
 -- the job of an id is sound
 pub sound_found : (id : ℕ) (jobs : List SpooledRecord) → All IsSound jobs → IfSome (spooled_at id jobs) IsSound

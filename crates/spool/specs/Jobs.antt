@@ -1,5 +1,5 @@
 -- The list of jobs, by rising id.
-use Rattle.std.specs.Prelude.{ℕ, zero, suc, ◌<◌, ◌==◌, if◌then◌else◌, List, [], ◌∷◌, find, Option, option_map}
+use Rattle.std.specs.Prelude.{ℕ, zero, suc, ◌≡◌, ◌<◌, ◌==◌, if◌then◌else◌, List, [], ◌∷◌, map, find, Option, option_map}
 use Rattle.std.specs.Option.{option_map_or}
 use Rattle.job_objects.specs.Job.{JobRecord}
 use Rattle.job_objects.specs.declared.job_change.JobChange.{JobChange}
@@ -32,7 +32,12 @@ map_at (suc place) change (spooled ∷ jobs) = spooled ∷ map_at place change j
 abbrev pub documents_told : ℕ → JobChange → List SpooledRecord → List DocumentRecord
 documents_told id change jobs = option_map_or (handed_out change) (spooled_at id jobs) []
 
--- the ids of the jobs rise, are above `low` and below `next`
-abbrev pub AreRising : List SpooledRecord → ℕ → ℕ → Type 0
-AreRising [] low next = Unit {0}
-AreRising (spooled ∷ jobs) low next = (low < spooled.job.id) × (spooled.job.id < next) × AreRising jobs spooled.job.id next
+-- ---- the jobs as the entries of a map
+
+-- each key is the id of its job, and the ids rise and are below the next id
+abbrev pub Keyed : List (ℕ × SpooledRecord) → ℕ → ℕ → Type 0
+Keyed [] low next = Unit {0}
+Keyed (e ∷ es) low next = (e.0 ≡ e.1.job.id) × (low < e.0) × (e.0 < next) × Keyed es e.0 next
+
+abbrev pub jobs_of : List (ℕ × SpooledRecord) → List SpooledRecord
+jobs_of entries = map (λ e. e.1) entries

@@ -1,7 +1,6 @@
 //! The spool and the changes of one job.
-ghost use Rattle.std.specs.Prelude.{◌≡◌, ◌≤◌, ◌<◌, ◌+◌, ◌∷◌, ◌++◌, [], Bool, List, suc, false, OnOk, OnErr, IfErr, IfSome, IfNone, length, map, remove, is_ok, position, ◌==◌};
+ghost use Rattle.std.specs.Prelude.{◌≡◌, ◌≤◌, ◌<◌, ◌+◌, ◌∷◌, ◌++◌, [], Bool, List, suc, false, OnOk, OnErr, IfErr, IfSome, IfNone, length, map, remove, is_ok};
 ghost use Rattle.std.specs.Option.{option_copied};
-ghost use Rattle.std.specs.List.Sorted.{IsPartitionPoint};
 ghost use Rattle.spool.specs.Spooled.{changed, told, attached, expired};
 ghost use Rattle.base_types.specs.declared.limits.TheConstants.Limits.{LAST_JOB_ID, UNFINISHED_JOBS, JOB_DOCUMENTS, JOB_OCTETS};
 ghost use Rattle.octets.specs.Document.{octets_of};
@@ -18,6 +17,7 @@ ghost use Rattle.job_objects.specs.JobStep.{ends_print};
 use crate::new_job::{NewJob, taken};
 use crate::spooled::SpooledJob;
 use base_types::{JobId, Moment, Stranded, Text};
+use indexmap::IndexMap;
 use job_objects::{JobChange, Printer, StateRefusal};
 use octets::Document;
 use std::alloc::Global;
@@ -26,7 +26,7 @@ use std::marker::Model;
 /// The jobs, by rising id. In clauses it is a record of their list and the next id.
 #[derive(Drop)]
 pub struct Spool {
-    jobs: Vec<SpooledJob>,
+    entries: IndexMap<u32, SpooledJob>,
     /// The number of jobs at the front that are known to be finished; a plan skips them.
     front: usize,
     next: u32,
@@ -37,16 +37,16 @@ impl Model for Spool {
     ghost use Rattle.std.specs.Prelude.{◌+◌, ◌≤◌};
     ghost use Rattle.base_types.specs.declared.limits.TheConstants.Limits.{LAST_JOB_ID, UNFINISHED_JOBS};
     ghost use Rattle.std.specs.Prelude.{All};
-    ghost use Rattle.spool.specs.Jobs.{SpoolRecord, AreRising};
+    ghost use Rattle.spool.specs.Jobs.{SpoolRecord, jobs_of, Keyed};
     ghost use Rattle.spool.specs.Calls.{unfinished_jobs};
     ghost use Rattle.spool.specs.Sound.{IsSound};
     ghost use Rattle.spool.specs.Front.{AllFinished};
 
     ghost Value = { SpoolRecord };
 
-    ghost view = { λ s. record { jobs = s.jobs.items; next = s.next } };
+    ghost view = { λ s. record { jobs = jobs_of s.entries.entries; next = s.next } };
 
-    ghost invariant = { λ s. AreRising s.jobs.items 0 s.next × (1 ≤ s.next) × (s.next ≤ LAST_JOB_ID + 1) × (unfinished_jobs s.jobs.items ≤ UNFINISHED_JOBS) × All IsSound s.jobs.items × AllFinished s.front s.jobs.items };
+    ghost invariant = { λ s. Keyed s.entries.entries 0 s.next × (1 ≤ s.next) × (s.next ≤ LAST_JOB_ID + 1) × (unfinished_jobs (jobs_of s.entries.entries) ≤ UNFINISHED_JOBS) × All IsSound (jobs_of s.entries.entries) × AllFinished s.front (jobs_of s.entries.entries) };
 }
 
 /// The number of known finished jobs at the front after the job at a place is removed.
@@ -63,7 +63,7 @@ impl Spool {
         ensures { result ≡ record { jobs = []; next = first } }
     {
         Spool {
-            jobs: Vec::new(alloc),
+            entries: IndexMap::new(alloc),
             front: 0,
             next: first.number(),
             alloc,
@@ -79,7 +79,7 @@ impl Spool {
     pub fn len(&self) -> usize
         ensures { result ≡ length self.now.jobs }
     {
-        self.jobs.len()
+        self.entries.len()
     }
 
     /// All jobs, by rising id, each with its documents. Each id is within its range, and at most
@@ -88,7 +88,7 @@ impl Spool {
         ensures value { result.now ≡ self.now.jobs }
         ensures kept { IsSpool self.now }
     {
-        &self.jobs
+        self.entries.values().as_slice()
     }
 
     /// The number of jobs at the front that are known to be finished.
@@ -138,30 +138,7 @@ impl Spool {
         ensures value { option_copied result ≡ spooled_at id self.now.jobs }
         ensures sound { IfSome (spooled_at id self.now.jobs) IsSound }
     {
-        let Some(place) = self.place_of(id) else {
-            return None;
-        };
-        Some(&self.jobs()[place])
-    }
-
-    /// The number of jobs whose ids are below an id. The jobs are searched by halves.
-    fn jobs_below(&self, id: JobId) -> usize
-        ensures { IsPartitionPoint (λ s. s.job.id < id) (λ s. id ≤ s.job.id) self.now.jobs result }
-    {
-        self.jobs().partition_point(|spooled| spooled.is_before(id))
-    }
-
-    /// The place of the job of an id.
-    fn place_of(&self, id: JobId) -> Option<usize>
-        ensures { result ≡ position (λ s. id == s.job.id) self.now.jobs }
-    {
-        let jobs = self.jobs();
-        let place = self.jobs_below(id);
-        if jobs.len() <= place {
-            return None;
-        }
-        let job = jobs[place].job();
-        if job.id == id { Some(place) } else { None }
+        self.entries.get(&id.number())
     }
 
     /// The id of the next job. `None` once all ids are used.
@@ -184,10 +161,10 @@ impl Spool {
         ensures kept { OnErr result (self.new ≡ self.old) }
         ensures stay { AllStay self.old.jobs self.new.jobs }
     {
-        let Some(place) = self.place_of(id) else {
+        let Some(spooled) = self.entries.get_mut(&id.number()) else {
             return Err(StateRefusal::NotPossible);
         };
-        self.jobs[place].change(change, now)
+        spooled.change(change, now)
     }
 
     /// Makes a change that a device reports of the job of an id, if there is one. Returns the documents that are
@@ -199,10 +176,10 @@ impl Spool {
         ensures stay { ends_print change ≡ false → AllStay self.old.jobs self.new.jobs }
     {
         let alloc = self.alloc;
-        let Some(place) = self.place_of(id) else {
+        let Some(spooled) = self.entries.get_mut(&id.number()) else {
             return Vec::new(alloc);
         };
-        self.jobs[place].tell(alloc, change, now)
+        spooled.tell(alloc, change, now)
     }
 
     /// Adds a document to the job of an id. If memory is refused, returns the document.
@@ -219,10 +196,10 @@ impl Spool {
         ensures back { IfErr result (λ back. back ≡ document) }
     {
         let alloc = self.alloc;
-        let Some(place) = self.place_of(id) else {
+        let Some(spooled) = self.entries.get_mut(&id.number()) else {
             return Err(document);
         };
-        self.jobs[place].attach(alloc, document, now)
+        spooled.attach(alloc, document, now)
     }
 
     /// Aborts the job at a place, if its documents stopped coming.
@@ -230,7 +207,10 @@ impl Spool {
         requires { place < length self.old.jobs }
         ensures { self.new ≡ record self.old { jobs = map_at place (expired now) self.old.jobs } }
     {
-        self.jobs[place].expire(now);
+        let Some(spooled) = self.entries.get_index_mut(place) else {
+            return;
+        };
+        spooled.expire(now);
     }
 
     /// Marks the job at a place as stranded or not, by the entries, if it is ready.
@@ -238,7 +218,10 @@ impl Spool {
         requires { place < length self.old.jobs }
         ensures { self.new ≡ record self.old { jobs = map_at place (marked_by printers.now stranded.now) self.old.jobs } }
     {
-        self.jobs[place].mark_by(printers, stranded);
+        let Some(spooled) = self.entries.get_index_mut(place) else {
+            return;
+        };
+        spooled.mark_by(printers, stranded);
     }
 
     /// Removes the job at a place.
@@ -246,9 +229,7 @@ impl Spool {
         ensures { self.new ≡ record self.old { jobs = remove self.old.jobs place } }
     {
         self.front = front_without(self.front, place);
-        if place < self.jobs.len() {
-            let _removed = self.jobs.remove(place);
-        }
+        let _removed = self.entries.shift_remove_index(place);
     }
 
     /// Appends a job under the next id, while one more unfinished job is within the limit. If memory is
@@ -270,11 +251,13 @@ impl Spool {
         ensures kept { OnErr result (self.new ≡ self.old) }
         ensures back { IfErr result (λ back. back ≡ new) }
     {
-        if self.jobs.reserve(1).is_err() {
+        if self.entries.reserve(1).is_err() {
             return Err(new);
         }
-        self.jobs.push_reserved(taken(new, id, formats, incoming));
-        self.next = id.number() + 1;
+        let number = id.number();
+        let spooled = taken(new, id, formats, incoming);
+        let _none = self.entries.insert(number, spooled).unwrap();
+        self.next = number + 1;
         Ok(())
     }
 }

@@ -1,9 +1,9 @@
 //! A job with its documents.
-ghost use Rattle.std.specs.Prelude.{◌≡◌, ◌≤◌, ◌<◌, ◌+◌, [], OnOk, OnErr, IfErr, length, is_ok, is_some, nat_lt, if◌then◌else◌};
+ghost use Rattle.std.specs.Prelude.{◌≡◌, ◌≤◌, ◌<◌, ◌+◌, [], OnOk, OnErr, IfErr, length, is_ok, is_some, if◌then◌else◌};
 ghost use Rattle.job_objects.specs.JobStep.{job_after};
 ghost use Rattle.spool.specs.Spooled.{changed, on_device_after, let_go, told, handed_out, settled, is_settled, counted, attached, expired, is_overdue, marked};
 
-use base_types::{JobId, Limits, Moment, Text};
+use base_types::{Limits, Moment, Text};
 use job_objects::{Job, JobChange, StateRefusal, estimated_impressions, job_step};
 use octets::Document;
 use std::alloc::{AllocError, Global};
@@ -43,13 +43,6 @@ impl SpooledJob {
         &self.job
     }
 
-    /// Returns whether the job's id is below an id.
-    pub(crate) fn is_before(&self, id: JobId) -> bool
-        ensures { result ≡ nat_lt self.now.job.id id }
-    {
-        self.job.id < id
-    }
-
     /// The documents, until they are handed out or dropped.
     pub fn documents(&self) -> &[Document]
         ensures { result.now ≡ self.now.documents }
@@ -74,6 +67,7 @@ impl SpooledJob {
     /// Drops the documents, if the job is finished and no device has it.
     fn settle(&mut self)
         ensures after { self.new ≡ settled self.old }
+        ensures same_job { self.new.job.id ≡ self.old.job.id }
     {
         let spooled = &*self;
         if spooled.is_settled() {
@@ -86,6 +80,7 @@ impl SpooledJob {
         ensures possible { is_ok result ≡ is_some (job_after change now self.old.job) }
         ensures after { self.new ≡ changed change now self.old }
         ensures kept { OnErr result (self.new ≡ self.old) }
+        ensures same_job { self.new.job.id ≡ self.old.job.id }
     {
         job_step(&mut self.job, change, now)?;
         self.on_device = on_device_after(change, self.on_device);
@@ -98,6 +93,7 @@ impl SpooledJob {
     pub(crate) fn tell(&mut self, alloc: Global, change: JobChange, now: Moment) -> Vec<Document>
         ensures documents { result.items ≡ handed_out change self.old }
         ensures after { self.new ≡ told change now self.old }
+        ensures same_job { self.new.job.id ≡ self.old.job.id }
     {
         if change.ends_print() {
             return self.let_go(alloc, change, now);
@@ -110,6 +106,7 @@ impl SpooledJob {
     fn let_go(&mut self, alloc: Global, change: JobChange, now: Moment) -> Vec<Document>
         ensures documents { result.items ≡ (if self.old.on_device then self.old.documents else []) }
         ensures after { self.new ≡ let_go change now self.old }
+        ensures same_job { self.new.job.id ≡ self.old.job.id }
     {
         let none = Vec::new(alloc);
         if !self.on_device {
@@ -123,6 +120,7 @@ impl SpooledJob {
     /// Marks the job as stranded or not.
     pub(crate) fn mark(&mut self, stranded: bool)
         ensures after { self.new ≡ marked stranded self.old }
+        ensures same_job { self.new.job.id ≡ self.old.job.id }
     {
         self.job.stranded = stranded;
     }
@@ -130,6 +128,7 @@ impl SpooledJob {
     /// Aborts the job, if documents are still to come and none came for [`Limits::INCOMING_JOB_TIME`].
     pub(crate) fn expire(&mut self, now: Moment)
         ensures after { self.new ≡ expired now self.old }
+        ensures same_job { self.new.job.id ≡ self.old.job.id }
     {
         let spooled = &*self;
         if spooled.is_overdue(now) {
@@ -157,6 +156,7 @@ impl SpooledJob {
         ensures ok { OnOk result (self.new ≡ attached document now self.old) }
         ensures kept { OnErr result (self.new ≡ self.old) }
         ensures back { IfErr result (λ back. back ≡ document) }
+        ensures same_job { self.new.job.id ≡ self.old.job.id }
     {
         let Ok(format) = document.format.copied(alloc) else {
             return Err(document);
@@ -190,6 +190,7 @@ fn count_document(job: &mut Job, format: Text, octets: usize) -> Result<(), Allo
     requires octets { job.old.octets + octets ≤ Limits.JOB_OCTETS }
     ensures ok { OnOk result (job.new ≡ counted format octets job.old) }
     ensures kept { OnErr result (job.new ≡ job.old) }
+    ensures same_job { job.new.id ≡ job.old.id }
 {
     job.needs.formats.push(format)?;
     job.documents += 1;

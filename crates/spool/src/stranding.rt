@@ -20,6 +20,7 @@ impl SpooledJob {
     /// Marks the job as stranded or not, by the entries, if it is ready.
     pub(crate) fn mark_by(&mut self, printers: &[Printer], stranded: &[Stranded])
         ensures after { self.new ≡ marked_by printers.now stranded.now self.old }
+        ensures same_job { self.new.job.id ≡ self.old.job.id }
     {
         let spooled = &*self;
         if spooled.is_ready(printers) {

@@ -1,12 +1,22 @@
+use Rattle.std.proofs.Common.{sym}
 use Rattle.spool.specs.Spooled.{expired}
-use Rattle.spool.proofs.Places.{changed_place}
-use Rattle.spool.proofs.Standing.{stands_set, expired_stands}
+use Rattle.spool.proofs.Entries.{changed_place, keyed_at}
+use Rattle.spool.proofs.Finished.{expired_keeps}
+use Rattle.spool.proofs.Unfinished.{few_at}
+use Rattle.spool.proofs.FinishedFirst.{first_at}
+use Rattle.spool.proofs.Sound.{expired_sound, sound_at}
 use Rattle.spool.proofs.spool.Spool.expire_at.Goals as goal
 
-pub invariant_of-self : goal.invariant_of-self
-invariant_of-self c =
-    stands_set (expired c.args.now) (expired_stands c.args.now) c.self.inside.front c.self.inside.next c.args.place c.self.inside.jobs.items c.index_mut.result.now c.expire.new.self c.index_mut.ensures.value c.expire.ensures.after c.self.invariant
+pub invariant_of-self-2 : goal.invariant_of-self-2
+invariant_of-self-2 c = (
+  keyed_at c.args.place 0 c.self.inside.next c.self.inside.entries.entries c.in-Some.spooled.now c.expire.new.self c.self.invariant.0 (sym (c.in-Some.ensures {u = tt}).value) c.expire.ensures.same_job,
+  c.self.invariant.1,
+  c.self.invariant.2,
+  few_at (expired c.args.now) (expired_keeps c.args.now) c.args.place c.self.inside.entries.entries c.in-Some.spooled.now c.expire.new.self (sym (c.in-Some.ensures {u = tt}).value) c.expire.ensures.after c.self.invariant.3,
+  sound_at (expired c.args.now) (expired_sound c.args.now) c.args.place c.self.inside.entries.entries c.in-Some.spooled.now c.expire.new.self (sym (c.in-Some.ensures {u = tt}).value) c.expire.ensures.after c.self.invariant.4,
+  first_at (expired c.args.now) (expired_keeps c.args.now) c.self.inside.front c.args.place c.self.inside.entries.entries c.in-Some.spooled.now c.expire.new.self (sym (c.in-Some.ensures {u = tt}).value) c.expire.ensures.after c.self.invariant.5,
+)
 
 pub returns : goal.returns
 returns c =
-    changed_place c.args.place c.self.inside.next c.self.inside.jobs.items c.args.self.now c.self.view_is c.index_mut.result.now c.index_mut.ensures.value (expired c.args.now) c.expire.new.self c.expire.ensures.after
+    changed_place c.args.place c.self.inside.next c.self.inside.entries.entries c.args.self.now c.in-Some.spooled.now c.expire.new.self (expired c.args.now) c.self.view_is (sym (c.in-Some.ensures {u = tt}).value) c.expire.ensures.after

@@ -1,15 +1,18 @@
-use Rattle.std.proofs.Common.{List, sym, subst, rules}
+use Rattle.std.proofs.Common.{◌∙◌, ap, List, remove}
 use Rattle.spool.specs.Spooled.{SpooledRecord}
-use Rattle.spool.proofs.Places.{remove_past}
-use Rattle.spool.proofs.Standing.{Stands, stands_removed}
+use Rattle.spool.specs.Jobs.{SpoolRecord}
+use Rattle.spool.proofs.Entries.{keyed_remove, jobs_remove}
+use Rattle.spool.proofs.Unfinished.{few_removed}
+use Rattle.spool.proofs.FinishedFirst.{first_removed}
+use Rattle.spool.proofs.Sound.{sound_removed}
 use Rattle.spool.proofs.spool.Spool.remove.Goals as goal
 
 pub invariant_of-self : goal.invariant_of-self
 invariant_of-self c =
-    subst (λ (js : List SpooledRecord). Stands c.front_without-self-inside.result c.self.inside.next js) (sym c.remove-removed.ensures.items)
-    (stands_removed c.self.inside.front c.front_without-self-inside.result c.self.inside.next c.args.place c.self.inside.jobs.items c.front_without-self-inside.ensures.among c.front_without-self-inside.ensures.behind c.self.invariant)
+    (rw c.shift_remove_index-removed.ensures.entries (keyed_remove c.args.place 0 c.self.inside.next c.self.inside.entries.entries c.self.invariant.0), c.self.invariant.1, c.self.invariant.2, rw c.shift_remove_index-removed.ensures.entries (few_removed c.args.place c.self.inside.entries.entries c.self.invariant.3), rw c.shift_remove_index-removed.ensures.entries (sound_removed c.args.place c.self.inside.entries.entries c.self.invariant.4), rw c.shift_remove_index-removed.ensures.entries (first_removed c.self.inside.front c.front_without-self-inside.result c.args.place c.self.inside.entries.entries c.front_without-self-inside.ensures.among c.front_without-self-inside.ensures.behind c.self.invariant.5))
 
-pub invariant_of-self-else-place-len : goal.invariant_of-self-else-place-len
-invariant_of-self-else-place-len c =
-    subst (λ (js : List SpooledRecord). Stands c.front_without-self-inside.result c.self.inside.next js) (remove_past c.args.place c.self.inside.jobs.items (search rules))
-    (stands_removed c.self.inside.front c.front_without-self-inside.result c.self.inside.next c.args.place c.self.inside.jobs.items c.front_without-self-inside.ensures.among c.front_without-self-inside.ensures.behind c.self.invariant)
+pub returns : goal.returns
+returns c =
+    rw c.shift_remove_index-removed.ensures.entries
+    (ap (λ (js : List SpooledRecord). record { jobs = js; next = c.self.inside.next }) (jobs_remove c.args.place c.self.inside.entries.entries)
+    ∙ ap (λ (s : SpoolRecord). record { jobs = remove s.jobs c.args.place; next = s.next }) c.self.view_is)
