@@ -25,7 +25,7 @@ pub struct Example {
     pub status: ExitStatus,
 }
 
-pub const EXAMPLES: [Example; 129] = [
+pub const EXAMPLES: [Example; 130] = [
     Example {
         input: "two_devices.trace",
         output: "two_devices.out",
@@ -461,6 +461,12 @@ pub const EXAMPLES: [Example; 129] = [
     Example {
         input: "jobs_shown.trace",
         output: "jobs_shown.out",
+        program: Program::Replay,
+        status: ExitStatus::Done,
+    },
+    Example {
+        input: "documents_in_pieces.trace",
+        output: "documents_in_pieces.out",
         program: Program::Replay,
         status: ExitStatus::Done,
     },
