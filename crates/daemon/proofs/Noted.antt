@@ -1,14 +1,13 @@
--- The calls of a turn are noted, where the wire notes each call; lines may follow.
-use Rattle.std.proofs.Common.{◌≡◌, ℕ, Bool, List, [], ◌∷◌, ◌++◌, ◌∙◌, refl, ap, subst, append_assoc, Option, Some, None, inl, inr}
+-- The calls of a turn are those of the wire, and each is noted; lines may follow.
+use Rattle.std.proofs.Common.{◌≡◌, ℕ, Bool, List, [], ◌∷◌, ◌++◌, ◌∙◌, refl, sym, ap, subst, append_assoc, append-nil, Option, Some, None, inl, inr}
 use Rattle.wires.specs.Poll.{Poll}
 use Rattle.dispatcher.specs.Notes.{Note}
 use Rattle.recordings.specs.Noting.{NoteState, Notes, with_note, end_of, EndsTurn}
 use Rattle.server.specs.Polls.{Choice, Happening, Polled, Told, Chosen, Leads}
-use Rattle.server.specs.State.{EngineState}
-use Rattle.server.specs.Refinement.{RefinesTurn}
-use Rattle.daemon.specs.Serving.{calls_in, AreNoted, TakesTurn, AddsLines}
+use Rattle.daemon.specs.Serving.{calls_in, AreNoted, AddsLines}
 
-are_noted : {S : Type 0} (moves : S → Happening → S → Type 0) (notes : S → NoteState)
+-- each call of these happenings is noted, where each poll is noted
+pub are_noted : {S : Type 0} (moves : S → Happening → S → Type 0) (notes : S → NoteState)
     → ((a : S) (poll : Poll) (b : S) → moves a (Polled poll) b → Notes poll (notes a) (notes b))
     → ((a : S) (note : Note) (b : S) → moves a (Told note) b → notes b ≡ notes a)
     → ((a : S) (choice : Choice) (b : S) → moves a (Chosen choice) b → ⊥)
@@ -18,21 +17,19 @@ are_noted moves notes polls tells none (Polled poll ∷ hs) u v (mid, moved, lat
 are_noted moves notes polls tells none (Told note ∷ hs) u v (mid, moved, later) = subst (λ (x : NoteState). AreNoted (calls_in hs) x (notes v)) (tells u note mid moved) (are_noted moves notes polls tells none hs mid v later)
 are_noted moves notes polls tells none (Chosen choice ∷ hs) u v (mid, moved, later) = absurd (none u choice mid moved)
 
--- a turn of the engine over a wire that notes each call
-pub takes_turn : {S : Type 0} (moves : S → Happening → S → Type 0) (moment : ℕ) (u : S) (a : EngineState) (v : S) (b : EngineState) → RefinesTurn moves moment u a v b → (notes : S → NoteState)
-    → ((x : S) (poll : Poll) (y : S) → moves x (Polled poll) y → Notes poll (notes x) (notes y))
-    → ((x : S) (note : Note) (y : S) → moves x (Told note) y → notes y ≡ notes x)
-    → ((x : S) (choice : Choice) (y : S) → moves x (Chosen choice) y → ⊥)
-    → TakesTurn moment a (notes u) b (notes v)
-takes_turn moves moment u a v b turn notes polls tells none = record {
-  happenings = turn.happenings;
-  stands = turn.stands;
-  calls = are_noted moves notes polls tells none turn.happenings u v turn.leads;
-}
-
--- equal values have equal notes
-pub same_of : {A : Type 0} (x y : A) → y ≡ x → (notes : A → NoteState) → notes y ≡ notes x
-same_of x y is notes = ap notes is
+-- the calls of these happenings follow the earlier calls, where each poll follows them
+pub are_called : {S : Type 0} (moves : S → Happening → S → Type 0) (calls : S → List Poll)
+    → ((a : S) (poll : Poll) (b : S) → moves a (Polled poll) b → calls b ≡ calls a ++ poll ∷ [])
+    → ((a : S) (note : Note) (b : S) → moves a (Told note) b → calls b ≡ calls a)
+    → ((a : S) (choice : Choice) (b : S) → moves a (Chosen choice) b → ⊥)
+    → (hs : List Happening) (u v : S) → Leads moves u hs v → calls v ≡ calls u ++ calls_in hs
+are_called moves calls polls tells none [] u v leads = ap calls leads ∙ sym (append-nil (calls u))
+are_called moves calls polls tells none (Polled poll ∷ hs) u v (mid, moved, later) =
+    are_called moves calls polls tells none hs mid v later
+    ∙ (ap (λ (polls : List Poll). polls ++ calls_in hs) (polls u poll mid moved) ∙ append_assoc (calls u) (poll ∷ []) (calls_in hs))
+are_called moves calls polls tells none (Told note ∷ hs) u v (mid, moved, later) =
+    are_called moves calls polls tells none hs mid v later ∙ ap (λ (polls : List Poll). polls ++ calls_in hs) (tells u note mid moved)
+are_called moves calls polls tells none (Chosen choice ∷ hs) u v (mid, moved, later) = absurd (none u choice mid moved)
 
 with_more : (one more : List ℕ) (noted : Option (List ℕ)) → with_note more (with_note one noted) ≡ with_note (one ++ more) noted
 with_more one more None = refl

@@ -4,9 +4,10 @@
 //! turns by the clock, waits while nothing happens, and writes the log and the [`Tape`] of a recording where
 //! there are such. A [`Chronicle`] makes the lines of a log, also for a recorded day that is played again.
 //!
-//! The engine stands at a trace, and the calls that a turn made of the sockets are the next turn of that
-//! trace. Each call is noted while the turns are recorded. The contracts of the sockets are in `sockets`, and
-//! those of an engine over any wire in `server`.
+//! A server starts at the empty trace. The calls that a turn made of the sockets are exactly those of the next
+//! turn of its trace, and nothing but a turn calls the sockets' wire ([`turns_are_one_trace`]). Each call is
+//! noted while the turns are recorded. The contracts of the sockets are in `sockets`, and those of an engine
+//! over any wire in `server`.
 //!
 //! Tests stand in `server_tests`.
 #![tactic(auto)]
@@ -15,16 +16,17 @@ mod chronicle;
 mod clock;
 mod ends;
 mod last_plan;
+mod law;
 mod log;
 mod log_writer;
 mod lookout;
 mod recorder;
 mod run;
 mod serving;
-mod traced;
 mod witness;
 
 pub use chronicle::Chronicle;
+pub use law::turns_are_one_trace;
 pub use recorder::Tape;
 pub use run::{Recording, serve};
 pub use serving::Server;

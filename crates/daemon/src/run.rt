@@ -1,5 +1,7 @@
 //! The loop of turns of a server.
+ghost use Rattle.std.specs.Prelude.{◌≡◌, ℕ, List, length, OnOk};
 ghost use Rattle.settings_file.specs.Settings.{MeetsLimits};
+ghost use Rattle.daemon.specs.Serving.{Idles, ServesTurn, ServesTurns};
 
 use crate::clock::moment_since;
 use crate::log_writer::LogWriter;
@@ -31,6 +33,9 @@ pub struct Recording<'a, T: Tape> {
 /// would wait, and the lines are dropped and counted. A failed tape doesn't stop the server either: it gets
 /// no more lines.
 ///
+/// The server starts at the empty trace and takes turns at some moments, so that
+/// [`crate::turns_are_one_trace`] speaks of it. Without an error these are as many as `turns`.
+///
 /// The error is the clock's or the system's, or out of memory.
 pub fn serve<W: Write, T: Tape>(
     alloc: Global,
@@ -55,7 +60,9 @@ fn run<W: Write, T: Tape>(
     turns: u64,
     log: Option<&mut W>,
     recording: Option<Recording<'_, T>>,
-) -> io::Result<()> {
+) -> io::Result<()>
+    ensures { (moments : List ℕ) × ServesTurns moments server.old server.new × OnOk result (length moments ≡ turns) }
+{
     let mut log = writer_of(alloc, log);
     let mut recorder = recorder_of(server, recording);
     take_turns(clock, server, turns, &mut log, &mut recorder)
@@ -73,7 +80,9 @@ fn writer_of<'a, W: Write>(alloc: Global, log: Option<&'a mut W>) -> Option<LogW
 fn recorder_of<'a, T: Tape>(
     server: &mut Server,
     recording: Option<Recording<'a, T>>,
-) -> Option<Recorder<'a, T>> {
+) -> Option<Recorder<'a, T>>
+    ensures { Idles server.old server.new }
+{
     let Some(recording) = recording else {
         return None;
     };
@@ -88,7 +97,9 @@ fn take_turns<W: Write, T: Tape>(
     turns: u64,
     log: &mut Option<LogWriter<'_, W>>,
     recorder: &mut Option<Recorder<'_, T>>,
-) -> io::Result<()> {
+) -> io::Result<()>
+    ensures { (moments : List ℕ) × ServesTurns moments server.old server.new × OnOk result (length moments ≡ turns) }
+{
     let start = Instant::now(clock)?;
     for _ in 0..turns {
         let moment = moment_since(clock, &start)?;
@@ -96,14 +107,14 @@ fn take_turns<W: Write, T: Tape>(
         let pause = heed(server, recorder, moment);
         server.rest(pause)?;
     }
-    if let Some(recorder) = recorder {
-        recorder.finish(server.notes());
-    }
+    finish(server, recorder);
     Ok(())
 }
 
 /// Takes a turn at a moment, and writes its lines of the log.
-fn take_turn<W: Write>(server: &mut Server, moment: Moment, log: &mut Option<LogWriter<'_, W>>) {
+fn take_turn<W: Write>(server: &mut Server, moment: Moment, log: &mut Option<LogWriter<'_, W>>)
+    ensures { ServesTurn moment server.old server.new }
+{
     match log {
         Some(log) => put_lines(server.turn_logged(moment), log),
         None => server.turn(moment),
@@ -112,17 +123,22 @@ fn take_turn<W: Write>(server: &mut Server, moment: Moment, log: &mut Option<Log
 
 /// Writes the notes of a turn at a moment to the recording, if they are due. Returns the ms for which the
 /// server may wait then at most.
-fn heed<T: Tape>(
-    server: &mut Server,
-    recorder: &mut Option<Recorder<'_, T>>,
-    moment: Moment,
-) -> u64 {
-    let Some(recorder) = recorder else {
-        return PAUSE;
-    };
-    let notes = server.notes();
-    recorder.heed(notes, moment);
-    recorder.time_left(notes, moment, PAUSE)
+fn heed<T: Tape>(server: &mut Server, recorder: &mut Option<Recorder<'_, T>>, moment: Moment) -> u64
+    ensures { Idles server.old server.new }
+{
+    match recorder {
+        Some(recorder) => server.pass_notes(recorder, moment, PAUSE),
+        None => PAUSE,
+    }
+}
+
+/// Writes the notes of the last turn to the recording, if there is one.
+fn finish<T: Tape>(server: &mut Server, recorder: &mut Option<Recorder<'_, T>>)
+    ensures { Idles server.old server.new }
+{
+    if let Some(recorder) = recorder {
+        server.pass_last_notes(recorder);
+    }
 }
 
 /// Writes the lines of a turn, or a line that says that memory for them was refused.

@@ -1,17 +1,20 @@
 //! A server over the system's sockets.
-ghost use Rattle.std.specs.Prelude.{◌≡◌};
+ghost use Rattle.std.specs.Prelude.{◌≡◌, [], IfOk, Some};
 ghost use Rattle.settings_file.specs.Settings.{MeetsLimits};
-ghost use Rattle.daemon.specs.Serving.{TakesTurn, ServesTurn, AddsLines};
+ghost use Rattle.print_room.specs.Opening.{opening};
+ghost use Rattle.server.specs.Refinement.{StandsAt};
+ghost use Rattle.daemon.specs.Serving.{calls_of, Idles, TakesTurn, ServesTurn, AddsLines};
 
 use crate::chronicle::Chronicle;
 use crate::lookout::Lookout;
-use crate::traced::TracedEngine;
+use crate::recorder::{Recorder, Tape};
 use crate::witness::Witness;
 use base_types::Moment;
 use dispatcher::{AllocationSite, DeviceRefusal, Dispatched, Listener};
 use events::Cancel;
-use recordings::{NoteText, Noted};
-use server::{NoteLog, TICK_TIME};
+use plan_solver::AugmentingPaths;
+use recordings::Noted;
+use server::{Engine, NoteLog, TICK_TIME};
 use settings_file::Settings;
 use sockets::{ConnectionEvent, ConnectionLog, Listening, Sockets};
 use std::alloc::{AllocError, Global};
@@ -24,7 +27,7 @@ use wires::WireId;
 #[derive(Drop)]
 pub struct Server {
     alloc: Global,
-    engine: TracedEngine,
+    engine: Engine<AugmentingPaths>,
     wire: Noted<Sockets>,
     chronicle: Chronicle,
     ticked: Option<Moment>,
@@ -43,12 +46,15 @@ fn all_of(
 }
 
 impl Server {
-    /// Creates a server over sockets that listen. The only error is out of memory.
+    /// Creates a server over sockets that listen. Its engine stands at the empty trace. The only error is out of
+    /// memory.
     pub fn new(alloc: Global, sockets: Sockets, settings: Settings) -> Result<Server, AllocError>
         requires { MeetsLimits settings }
+        ensures stands { IfOk result (λ server. StandsAt (opening settings 1) [] server.engine) }
+        ensures calls { IfOk result (λ server. calls_of server ≡ sockets.history.calls) }
     {
         let names = settings.device_names(alloc)?;
-        let engine = TracedEngine::new(alloc, settings)?;
+        let engine = Engine::new(alloc, settings, AugmentingPaths::new(alloc))?;
         Ok(Server {
             alloc,
             engine,
@@ -65,23 +71,40 @@ impl Server {
     }
 
     /// Starts noting each turn for a recording. The server has taken no turn yet.
-    pub(crate) fn record(&mut self, heads: bool) {
+    pub(crate) fn record(&mut self, heads: bool)
+        ensures idles { Idles self.old self.new }
+        ensures notes { self.new.wire.notes ≡ record { lines = Some []; heads = heads } }
+    {
         self.wire.notes.begin(heads);
     }
 
-    /// The notes of the server's turns.
-    pub(crate) fn notes(&mut self) -> &mut NoteText {
-        &mut self.wire.notes
+    /// Passes the notes to a recorder after a turn at a moment. Returns the ms for which the server may then
+    /// wait, at most `most`.
+    pub(crate) fn pass_notes<T: Tape>(
+        &mut self,
+        recorder: &mut Recorder<'_, T>,
+        moment: Moment,
+        most: u64,
+    ) -> u64
+        ensures { Idles self.old self.new }
+    {
+        recorder.heed(&mut self.wire.notes, moment);
+        recorder.time_left(&self.wire.notes, moment, most)
+    }
+
+    /// Passes the notes to a recorder after the last turn.
+    pub(crate) fn pass_last_notes<T: Tape>(&mut self, recorder: &mut Recorder<'_, T>)
+        ensures { Idles self.old self.new }
+    {
+        recorder.finish(&mut self.wire.notes);
     }
 
     /// Takes one turn of the engine. For each trace at which the engine stood, it now stands at that trace
-    /// with this turn behind it. The calls of the turn are those that the engine made of the sockets.
+    /// followed by this turn. The calls of the turn are exactly those that the engine made of the sockets.
     pub fn turn(&mut self, moment: Moment)
-        ensures { ServesTurn moment self.old.engine self.old.wire.notes self.new.engine self.new.wire.notes }
+        ensures { ServesTurn moment self.old self.new }
     {
-        if self.is_recorded() {
-            self.wire.wire.keep_visits(self.alloc);
-        }
+        self.log_visits();
         let seen = self.run_turn(moment, NoListener);
         let visits = self.visits();
         self.note_turn(moment, &visits, seen.told, seen.refused);
@@ -90,20 +113,19 @@ impl Server {
     /// Takes one turn of the engine, and returns the turn's lines of the log. The error is that memory for
     /// the lines was refused; the turn is taken nevertheless.
     pub fn turn_logged(&mut self, moment: Moment) -> Result<Vec<u8>, AllocError>
-        ensures { ServesTurn moment self.old.engine self.old.wire.notes self.new.engine self.new.wire.notes }
+        ensures { ServesTurn moment self.old self.new }
     {
         self.wire.wire.keep_visits(self.alloc);
         let mut seen = self.run_turn(moment, NoteLog::new(self.alloc));
         let visits = self.visits();
         self.note_turn(moment, &visits, seen.told, seen.refused);
         let heard = seen.listener.take()?;
-        self.chronicle
-            .lines(moment, &visits?, &heard, self.engine.engine())
+        self.chronicle.lines(moment, &visits?, &heard, &self.engine)
     }
 
     /// Takes one turn of the engine, which tells the listener its notes.
     fn run_turn<N: Listener>(&mut self, moment: Moment, listener: N) -> Witness<N>
-        ensures { TakesTurn moment self.old.engine self.old.wire.notes self.new.engine self.new.wire.notes }
+        ensures { TakesTurn moment self.old self.new }
     {
         let mut witness = Witness::new(listener);
         self.wire.wire.set_moment(moment);
@@ -111,9 +133,19 @@ impl Server {
         witness
     }
 
+    /// Starts a log of connections if the turns are noted.
+    fn log_visits(&mut self)
+        ensures idles { Idles self.old self.new }
+        ensures notes { self.new.wire.notes ≡ self.old.wire.notes }
+    {
+        if self.is_recorded() {
+            self.wire.wire.keep_visits(self.alloc);
+        }
+    }
+
     /// Takes the log of connections. The only error is out of memory.
     fn visits(&mut self) -> Result<Vec<ConnectionEvent>, AllocError>
-        ensures engine { self.new.engine ≡ self.old.engine }
+        ensures idles { Idles self.old self.new }
         ensures notes { self.new.wire.notes ≡ self.old.wire.notes }
     {
         all_of(self.alloc, self.wire.wire.take_visits())
@@ -141,7 +173,7 @@ impl Server {
         told: bool,
         refused: bool,
     )
-        ensures engine { self.new.engine ≡ self.old.engine }
+        ensures idles { Idles self.old self.new }
         ensures notes { AddsLines self.old.wire.notes self.new.wire.notes }
     {
         let ticks = self.ticks_at(moment);
@@ -155,7 +187,7 @@ impl Server {
 
     /// Notes the connections that came and went, as comments. If memory is refused, no comment is noted.
     fn note_visits(&mut self, visits: &Result<Vec<ConnectionEvent>, AllocError>)
-        ensures engine { self.new.engine ≡ self.old.engine }
+        ensures idles { Idles self.old self.new }
         ensures notes { AddsLines self.old.wire.notes self.new.wire.notes }
     {
         let Ok(visits) = visits else {
@@ -172,7 +204,9 @@ impl Server {
     /// Waits until the poll reports an event, a peer has been silent for too long, or `most` ms have passed.
     /// It doesn't wait if the turns since the last call had work to do. Then the system is asked for events,
     /// but while bytes are left to read, only once in a ms.
-    pub fn rest(&mut self, most: u64) -> io::Result<()> {
+    pub fn rest(&mut self, most: u64) -> io::Result<()>
+        ensures { Idles self.old self.new }
+    {
         let sockets = &mut self.wire.wire;
         if sockets.take_worked() {
             self.lookout.works();

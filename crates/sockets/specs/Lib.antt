@@ -1,2 +1,3 @@
 pub mod Allowance
+pub mod Call
 pub mod Patience

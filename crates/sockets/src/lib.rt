@@ -3,12 +3,15 @@
 //! [`Sockets`] is a [`wires::Wire`] of the system's sockets. Its calls never block. A client that is silent
 //! for a minute counts as ended. The network behind the sockets is the system's, and isn't proved. The
 //! contracts are those of every wire: a call moves at most as many bytes as it may, and a fault is counted.
+//! Each call of the wire is added with its answer to the [`CallHistory`] of the sockets, and nothing else
+//! changes that.
 //!
 //! Tests stand in `server_tests`.
 #![tactic(auto)]
 
 mod ahead;
 mod allowance;
+mod call_history;
 mod connection_log;
 mod entrance;
 mod keepalive;
@@ -17,6 +20,7 @@ mod link;
 mod patience;
 mod sockets;
 
+pub use call_history::CallHistory;
 pub use connection_log::{CloseReason, ConnectionEvent, ConnectionLog};
 pub use entrance::Listening;
 pub use sockets::Sockets;

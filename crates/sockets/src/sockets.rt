@@ -1,7 +1,9 @@
 //! The system's sockets as a wire.
-ghost use Rattle.std.specs.Prelude.{◌≡◌, ◌+◌, ℕ, false, if◌then◌else◌};
+ghost use Rattle.std.specs.Prelude.{◌≡◌, ◌+◌, ℕ, false, if◌then◌else◌, [], ◌∷◌, ◌++◌, length, IfOk};
+ghost use Rattle.std.specs.Io.Slices.{io_slices_bytes};
 ghost use Rattle.wires.specs.Poll.{HasCause, IsCount};
 
+use crate::call_history::{Call, CallHistory};
 use crate::connection_log::{CloseReason, ConnectionEvent, ConnectionLog};
 use crate::entrance::{Entrance, Entrances, Listening};
 use crate::keepalive::probe;
@@ -53,6 +55,8 @@ pub struct Sockets {
     waited: Moment,
     /// The log of connections, if it is kept.
     visits: Option<ConnectionLog>,
+    /// The calls of the wire so far.
+    pub history: CallHistory,
 }
 
 /// Hands each socket the events that a wait reported for it.
@@ -83,7 +87,9 @@ fn rest(links: &mut Slab<Link>) {
 
 impl Sockets {
     /// Creates sockets without a listener. The error is the system's, or out of memory.
-    pub fn new(alloc: Global, net: &impl Net) -> io::Result<Sockets> {
+    pub fn new(alloc: Global, net: &impl Net) -> io::Result<Sockets>
+        ensures { IfOk result (λ sockets. sockets.history.calls ≡ []) }
+    {
         Ok(Sockets {
             alloc,
             entrances: Entrances::new(alloc),
@@ -97,12 +103,15 @@ impl Sockets {
             moment: Moment::start(),
             waited: Moment::start(),
             visits: None,
+            history: CallHistory::new(),
         })
     }
 
     /// Listens at one more address. The error is the system's (a port in use, an address that isn't the
     /// machine's, a port that needs a right), or out of memory.
-    pub fn listen(&mut self, net: &impl Net, listening: Listening) -> io::Result<()> {
+    pub fn listen(&mut self, net: &impl Net, listening: Listening) -> io::Result<()>
+        ensures { self.new.history ≡ self.old.history }
+    {
         let token = Token(FIRST_LISTENER - self.entrances.count());
         let entrance = Entrance::open(net, &self.poll, listening, token)?;
         self.entrances.push(entrance)
@@ -114,23 +123,30 @@ impl Sockets {
     }
 
     /// Sets the moment by which silence is measured.
-    pub fn set_moment(&mut self, moment: Moment) {
+    pub fn set_moment(&mut self, moment: Moment)
+        ensures { self.new.history ≡ self.old.history }
+    {
         self.moment = moment;
     }
 
     /// Starts a log of connections, which is kept until it is taken.
-    pub fn keep_visits(&mut self, alloc: Global) {
+    pub fn keep_visits(&mut self, alloc: Global)
+        ensures { self.new.history ≡ self.old.history }
+    {
         self.visits = Some(ConnectionLog::new(alloc));
     }
 
     /// Takes the log of connections, if there is one. No log is kept from then on.
-    pub fn take_visits(&mut self) -> Option<ConnectionLog> {
+    pub fn take_visits(&mut self) -> Option<ConnectionLog>
+        ensures { self.new.history ≡ self.old.history }
+    {
         mem::replace(&mut self.visits, None)
     }
 
     /// Appends an event to the log of connections, if one is kept.
     fn note(&mut self, visit: ConnectionEvent)
-        ensures { self.new.failures ≡ self.old.failures }
+        ensures failures { self.new.failures ≡ self.old.failures }
+        ensures calls { self.new.history ≡ self.old.history }
     {
         if let Some(visits) = &mut self.visits {
             visits.keep(visit);
@@ -141,7 +157,9 @@ impl Sockets {
     /// nothing happened, the sockets free the memory that only a rush needs.
     ///
     /// Each change is reported once, and remembered until a call finds that it would have to wait.
-    pub fn wait(&mut self, most: Duration) -> io::Result<()> {
+    pub fn wait(&mut self, most: Duration) -> io::Result<()>
+        ensures { self.new.history ≡ self.old.history }
+    {
         self.waited = self.moment;
         self.poll.poll(&mut self.events, Some(most))?;
         if self.events.is_empty() && !most.is_zero() {
@@ -161,7 +179,9 @@ impl Sockets {
     /// there was an event.
     ///
     /// A peer that answers at once needs less time than the system needs to wake a server that waits.
-    pub fn look(&mut self) -> io::Result<bool> {
+    pub fn look(&mut self) -> io::Result<bool>
+        ensures { self.new.history ≡ self.old.history }
+    {
         for _ in 0..LOOKS {
             self.wait(Duration::ZERO)?;
             if !self.events.is_empty() {
@@ -193,6 +213,7 @@ impl Sockets {
     pub fn take_worked(&mut self) -> bool
         ensures was { result ≡ self.old.worked }
         ensures left { self.new.worked ≡ false }
+        ensures calls { self.new.history ≡ self.old.history }
     {
         let worked = self.worked;
         self.worked = false;
@@ -201,14 +222,17 @@ impl Sockets {
 
     /// Returns whether a read since the last call of `take_more` filled its buffer, so that more bytes may be
     /// there.
-    pub fn take_more(&mut self) -> bool {
+    pub fn take_more(&mut self) -> bool
+        ensures { self.new.history ≡ self.old.history }
+    {
         mem::replace(&mut self.more, false)
     }
 
     /// Accepts the next connection of a door, and registers it at the poll under the next free number. Bytes
     /// that are written to it go out at once, and a silent device is probed.
     fn accept(&mut self, door: Door) -> io::Result<(Link, SocketAddr)>
-        ensures { self.new.failures ≡ self.old.failures }
+        ensures failures { self.new.failures ≡ self.old.failures }
+        ensures calls { self.new.history ≡ self.old.history }
     {
         let (mut stream, peer) = self.entrances.accept(door)?;
         stream.set_nodelay(true)?;
@@ -225,7 +249,8 @@ impl Sockets {
 
     /// Logs that no connection could be accepted at a door. Of consecutive failures the first is logged.
     fn miss(&mut self, door: Door)
-        ensures { self.new.failures ≡ self.old.failures }
+        ensures failures { self.new.failures ≡ self.old.failures }
+        ensures calls { self.new.history ≡ self.old.history }
     {
         if self.entrances.failed(door) {
             self.note(ConnectionEvent::Missed(door));
@@ -234,7 +259,8 @@ impl Sockets {
 
     /// Records that the peer of a number has no time left.
     fn falls_silent(&mut self, id: WireId)
-        ensures { self.new.failures ≡ self.old.failures }
+        ensures failures { self.new.failures ≡ self.old.failures }
+        ensures calls { self.new.history ≡ self.old.history }
     {
         if let Some(link) = self.links.get_mut(id as usize) {
             link.leaves(CloseReason::Silent);
@@ -244,7 +270,8 @@ impl Sockets {
 
     /// Records that the connection of a number is broken.
     fn breaks(&mut self, id: WireId)
-        ensures { self.new.failures ≡ self.old.failures }
+        ensures failures { self.new.failures ≡ self.old.failures }
+        ensures calls { self.new.history ≡ self.old.history }
     {
         if let Some(link) = self.links.get_mut(id as usize) {
             link.leaves(CloseReason::Broken);
@@ -254,7 +281,8 @@ impl Sockets {
 
     /// Gives a connection up. A connection whose peer may still send is read for a while.
     fn lets_go(&mut self, link: Link)
-        ensures { self.new.failures ≡ self.old.failures }
+        ensures failures { self.new.failures ≡ self.old.failures }
+        ensures calls { self.new.history ≡ self.old.history }
     {
         if link.leave() == CloseReason::Served {
             let stream = link.into_stream();
@@ -267,6 +295,7 @@ impl Sockets {
     fn failed(&mut self, id: WireId, error: io::Error, over: bool) -> Progress<usize>
         ensures count { (room : ℕ) → IsCount result room }
         ensures cause { HasCause self.old.failures self.new.failures result }
+        ensures calls { self.new.history ≡ self.old.history }
     {
         if self.counts_fault(error) {
             self.breaks(id);
@@ -282,7 +311,8 @@ impl Sockets {
     /// Counts a failed call, unless it only would have had to wait or the count is full. Returns whether it
     /// was counted.
     fn counts_fault(&mut self, error: io::Error) -> bool
-        ensures { self.new.failures ≡ (if result then self.old.failures + 1 else self.old.failures) }
+        ensures failures { self.new.failures ≡ (if result then self.old.failures + 1 else self.old.failures) }
+        ensures calls { self.new.history ≡ self.old.history }
     {
         match error.kind() {
             ErrorKind::WouldBlock | ErrorKind::Interrupted => false,
@@ -293,16 +323,13 @@ impl Sockets {
             }
         }
     }
-}
-
-impl Wire for Sockets {
-    ghost polled = { λ old poll new. Unit {0} };
-
-    ghost faults = { λ sockets. sockets.failures };
 
     /// Accepts a connection. A failed accept doesn't count as work: if the system has no descriptor left, the
     /// next accept is tried after a wait.
-    fn poll_accept(&mut self, door: Door) -> Progress<WireId> {
+    fn try_accept(&mut self, door: Door) -> Progress<WireId>
+        ensures cause { HasCause self.old.failures self.new.failures result }
+        ensures calls { self.new.history ≡ self.old.history }
+    {
         if !self.entrances.may_have(door) {
             return Progress::Waiting;
         }
@@ -328,7 +355,12 @@ impl Wire for Sockets {
         Progress::Done(id)
     }
 
-    fn poll_read(&mut self, id: WireId, buffer: &mut [u8]) -> Progress<usize> {
+    /// Reads bytes of a connection into the front of the buffer.
+    fn try_read(&mut self, id: WireId, buffer: &mut [u8]) -> Progress<usize>
+        ensures count { IsCount result (length buffer.old) }
+        ensures cause { HasCause self.old.failures self.new.failures result }
+        ensures calls { self.new.history ≡ self.old.history }
+    {
         if buffer.is_empty() {
             return Progress::Waiting;
         }
@@ -355,7 +387,12 @@ impl Wire for Sockets {
         }
     }
 
-    fn poll_write(&mut self, id: WireId, bytes: &[IoSlice<'_>]) -> Progress<usize> {
+    /// Writes a front of the bytes, which lie in parts.
+    fn try_write(&mut self, id: WireId, bytes: &[IoSlice<'_>]) -> Progress<usize>
+        ensures count { IsCount result (length (io_slices_bytes bytes.now)) }
+        ensures cause { HasCause self.old.failures self.new.failures result }
+        ensures calls { self.new.history ≡ self.old.history }
+    {
         let moment = self.moment;
         let Some(link) = self.links.get_mut(id as usize) else {
             return Progress::End;
@@ -371,7 +408,10 @@ impl Wire for Sockets {
         }
     }
 
-    fn close(&mut self, id: WireId) {
+    /// Removes the connection of a number, if there is one.
+    fn remove(&mut self, id: WireId)
+        ensures { self.new.history ≡ self.old.history }
+    {
         if let Some(link) = self.links.try_remove(id as usize) {
             self.note(ConnectionEvent::Went {
                 id,
@@ -380,6 +420,35 @@ impl Wire for Sockets {
             self.lets_go(link);
         }
         self.worked = true;
+    }
+}
+
+impl Wire for Sockets {
+    ghost polled = { λ old poll new. new.history.calls ≡ old.history.calls ++ poll ∷ [] };
+
+    ghost faults = { λ sockets. sockets.failures };
+
+    fn poll_accept(&mut self, door: Door) -> Progress<WireId> {
+        let answer = self.try_accept(door);
+        self.history.push(&Call::Accept(door, answer));
+        answer
+    }
+
+    fn poll_read(&mut self, id: WireId, buffer: &mut [u8]) -> Progress<usize> {
+        let answer = self.try_read(id, buffer);
+        self.history.push(&Call::Read(id, answer, buffer));
+        answer
+    }
+
+    fn poll_write(&mut self, id: WireId, bytes: &[IoSlice<'_>]) -> Progress<usize> {
+        let answer = self.try_write(id, bytes);
+        self.history.push(&Call::Write(id, bytes, answer));
+        answer
+    }
+
+    fn close(&mut self, id: WireId) {
+        self.remove(id);
+        self.history.push(&Call::Close(id));
     }
 
     fn failures(&self) -> u64 {
