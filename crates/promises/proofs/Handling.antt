@@ -21,45 +21,27 @@ use Rattle.events.specs.declared.event.Event.TheVariants as Is
 use Rattle.events.specs.declared.effects.Cancel.{Cancel}
 use Rattle.dispatcher.specs.declared.outcome.Outcome.{Outcome}
 use Rattle.dispatcher.specs.declared.outcome.Outcome.TheVariants.{Dropped, Queried, Undispatched, Idle, Dispatched}
+use Rattle.dispatcher.specs.declared.listener.AllocationSite.{AllocationSite}
 use Rattle.dispatcher.specs.declared.listener.AllocationSite.TheVariants as At
-use Rattle.dispatcher.specs.Notes.{Note, Planned, Canceled, Refused}
-use Rattle.dispatcher.specs.Run.{cancels_told, Handles}
+use Rattle.dispatcher.specs.Notes.{Note, Refused}
+use Rattle.dispatcher.specs.Run.{Handles}
 use Rattle.connections.specs.Entry.{PeerRecord, Entry, opening_peer, device_of}
 use Rattle.server.specs.Polls.{Happening, Told}
 use Rattle.server.specs.Ledger.{Ledger, at_key, job_bytes, Fate}
+use Rattle.server.specs.Rel.{Tells}
 use Rattle.server.specs.Enqueuing.{IsDevice}
 use Rattle.server.specs.Happening.{Happens, found_by}
-use Rattle.server.specs.Law.{core_notes}
-use Rattle.promises.specs.Answers.{Act, ClientTalk, AreActs, IsStateOf, is_asked, asked_by, IsAnswered, IsLast, BrokeAfter, IsCutOff}
-use Rattle.promises.specs.Orders.{Handled, AreHandled, AreAt, cancel_for, start_for, orders_of, names, due_by}
-use Rattle.promises.proofs.Sending.{Counts, due_at, IsFresh, counts_device, same_key, not_key, Ordered, Calm, Good, good_sent, notes_append, sent_by, orders, Stays, IsLost, BreaksAs, lost_device}
+use Rattle.promises.specs.Answers.{Act, ClientTalk, AreActs, IsFrontOf, IsStateOf, is_asked, asked_by, IsAnswered, IsLast, BrokeAfter, IsCutOff}
+use Rattle.promises.specs.Orders.{EventComes, MemoryRefused, Handled, AreHandled, AreAt, run_note, run_notes, cancel_for, start_for, orders_of, names, due_by}
+use Rattle.promises.proofs.Noting.{told_all}
+use Rattle.promises.proofs.Sending.{Counts, due_at, IsFresh, counts_device, same_key, not_key, Ordered, Calm, Good, good_sent, notes_append, sent_by, orders, Stays, IsLost, BreaksAs, lost_device, ReadsOn, reads_same, reads_then}
 
 -- ---- the notes of an event
 
-told_cancels : (cancels : List Cancel) → core_notes (map Told (map Canceled cancels)) ≡ map Canceled cancels
-told_cancels [] = refl
-told_cancels (cancel ∷ cancels) = ap (λ (ns : List Note). Canceled cancel ∷ ns) (told_cancels cancels)
+told_notes : (moment : ℕ) (event : Event) (old : State) (outcome : Outcome) (notes : List Note) (new : State) → Handles moment event old outcome notes new → run_notes (map Told notes) ≡ notes
+told_notes moment event old outcome notes new it = told_all run_note (λ cancel. refl) (λ plan started. refl) refl moment event old outcome notes new it
 
-map_told : (notes more : List Note) → map Told (notes ++ more) ≡ map Told notes ++ map Told more
-map_told [] more = refl
-map_told (note ∷ notes) more = ap (λ (hs : List Happening). Told note ∷ hs) (map_told notes more)
-
-told_then : (cancels : List Cancel) (last : List Note) → core_notes (map Told last) ≡ last → core_notes (map Told (map Canceled cancels ++ last)) ≡ map Canceled cancels ++ last
-told_then cancels last is =
-    ap core_notes (map_told (map Canceled cancels) last) ∙ (notes_append (map Told (map Canceled cancels)) (map Told last) ∙ (ap (λ (ns : List Note). ns ++ core_notes (map Told last)) (told_cancels cancels) ∙ ap (λ (ns : List Note). map Canceled cancels ++ ns) is))
-
-told_as : (notes said : List Note) → notes ≡ said → core_notes (map Told said) ≡ said → core_notes (map Told notes) ≡ notes
-told_as notes said same is = subst (λ (ns : List Note). core_notes (map Told ns) ≡ ns) (sym same) is
-
-pub told_notes : (moment : ℕ) (event : Event) (old : State) (outcome : Outcome) (notes : List Note) (new : State) → Handles moment event old outcome notes new → core_notes (map Told notes) ≡ notes
-told_notes moment event old Dropped notes new it = told_as notes [] it.1 refl
-told_notes moment event old (Queried reply) notes new it = told_as notes (cancels_told reply) it.2 (told_cancels reply.cancels.items)
-told_notes moment event old (Undispatched reply) notes new it = told_as notes (cancels_told reply ++ Refused At.Dispatch None ∷ []) it.3 (told_then reply.cancels.items (Refused At.Dispatch None ∷ []) refl)
-told_notes moment event old (Idle reply) notes new (asks, mid, step, rest, same) = told_as notes (cancels_told reply ++ Planned None [] ∷ []) same (told_then reply.cancels.items (Planned None [] ∷ []) refl)
-told_notes moment event old (Dispatched reply) notes new (asks, mid, step, plan, rest, same) =
-    told_as notes (cancels_told reply ++ Planned (Some plan) new.begun ∷ []) same (told_then reply.cancels.items (Planned (Some plan) new.begun ∷ []) refl)
-
-pub found_silent : (outcome : Outcome) → core_notes (found_by outcome) ≡ []
+found_silent : (outcome : Outcome) → run_notes (found_by outcome) ≡ []
 found_silent Dropped = refl
 found_silent (Queried reply) = refl
 found_silent (Undispatched reply) = refl
@@ -70,7 +52,7 @@ found_silent (Dispatched reply) = refl
 
 -- one event came to the core, and its orders were sent
 pub record Handles_one (moment : ℕ) (event : Event) (outcome : Outcome) (l : Ledger) (hs : List Happening) (l' : Ledger) : Type 0 where
-  pub handles : Handles moment event l.core outcome (core_notes hs) l'.core
+  pub handles : Handles moment event l.core outcome (run_notes hs) l'.core
   pub each : (key : ℕ) → Ordered (sent_by outcome l'.core) (l.entries key) (l'.entries key)
   pub closed : l'.closed ≡ l.closed
 
@@ -81,11 +63,11 @@ happened moment event outcome l hs l' good it =
     let core : it.mid.core ≡ d.state = ap (λ (x : Ledger). x.core) d.after in
     let good_mid : Good it.mid = subst Good (sym d.after) (record { one = good.one; fresh = good.fresh }) in
     let s = orders outcome it.mid it.back l' good_mid it.second in
-    let told : core_notes it.front ≡ d.notes =
-    ap core_notes d.told ∙ (notes_append (found_by outcome) (map Told d.notes) ∙ (ap (λ (ns : List Note). ns ++ core_notes (map Told d.notes)) (found_silent outcome) ∙ told_notes moment event l.core outcome d.notes d.state d.handles)) in
-    let all : core_notes hs ≡ d.notes = ap core_notes it.whole ∙ (notes_append it.front it.back ∙ (ap (λ (ns : List Note). core_notes it.front ++ ns) s.notes ∙ (append-nil (core_notes it.front) ∙ told))) in
+    let told : run_notes it.front ≡ d.notes =
+    ap run_notes d.told ∙ (notes_append (found_by outcome) (map Told d.notes) ∙ (ap (λ (ns : List Note). ns ++ run_notes (map Told d.notes)) (found_silent outcome) ∙ told_notes moment event l.core outcome d.notes d.state d.handles)) in
+    let all : run_notes hs ≡ d.notes = ap run_notes it.whole ∙ (notes_append it.front it.back ∙ (ap (λ (ns : List Note). run_notes it.front ++ ns) s.notes ∙ (append-nil (run_notes it.front) ∙ told))) in
     record {
-      handles = subst (λ (c : State). Handles moment event l.core outcome (core_notes hs) c) (sym (s.core ∙ core)) (subst (λ (ns : List Note). Handles moment event l.core outcome ns d.state) (sym all) d.handles);
+      handles = subst (λ (c : State). Handles moment event l.core outcome (run_notes hs) c) (sym (s.core ∙ core)) (subst (λ (ns : List Note). Handles moment event l.core outcome ns d.state) (sym all) d.handles);
       each = λ key.
           subst (λ (c : State). Ordered (sent_by outcome c) (l.entries key) (l'.entries key)) (sym s.core)
           (subst (λ (entries : ℕ → Option Entry). Ordered (sent_by outcome it.mid.core) (entries key) (l'.entries key)) entries (s.each key));
@@ -137,8 +119,10 @@ pub record Went (core : State) (key : ℕ) (handled : List Handled) (x : Option 
   pub there : x ≡ Some before
   pub client : ClientTalk before.progress
   pub sound : before.broken ≡ false
+  pub reads : ReadsOn before e
   pub acts : List Act
-  pub are : AreActs before.progress acts e.progress
+  pub are : AreActs e.id before.progress acts e.progress
+  pub fronts : All (λ (a : Act). IsFrontOf a.read e.read) acts
   pub states : All (λ (a : Act). IsStateOf a.state core handled) acts
   pub asked : asked_by key handled ≡ flat_map (λ (a : Act). a.asked) acts
   pub due : e.due ≡ before.due ++ flat_map (λ (a : Act). a.bytes) acts
@@ -147,9 +131,22 @@ pub record Went (core : State) (key : ℕ) (handled : List Handled) (x : Option 
 abbrev pub TalkedAs : State → ℕ → List Handled → Option Entry → Entry → Type 0
 TalkedAs core key handled x e = Went core key handled x e ⊎ IsAnswered core key handled e
 
-acts_append : (before mid after : PeerRecord) (acts more : List Act) → AreActs before acts mid → AreActs mid more after → AreActs before (acts ++ more) after
-acts_append before mid after [] more same are = subst (λ (t : PeerRecord). AreActs t more after) same are
-acts_append before mid after (a ∷ acts) more (is, act, rest) are = (is, act, acts_append a.after mid after acts more rest are)
+acts_append : (id : ℕ) (before mid after : PeerRecord) (acts more : List Act) → AreActs id before acts mid → AreActs id mid more after → AreActs id before (acts ++ more) after
+acts_append id before mid after [] more same are = subst (λ (t : PeerRecord). AreActs id t more after) same are
+acts_append id before mid after (a ∷ acts) more (is, act, rest) are = (is, act, acts_append id a.after mid after acts more rest are)
+
+-- acts on a connection are acts on it once more was read
+pub acts_on : (d e : Entry) (before after : PeerRecord) (acts : List Act) → ReadsOn d e → AreActs d.id before acts after → AreActs e.id before acts after
+acts_on d e before after acts reads are = subst (λ (id : ℕ). AreActs id before acts after) (sym reads.same) are
+
+front_more : (d e : Entry) (read : List ℕ) → ReadsOn d e → IsFrontOf read d.read → IsFrontOf read e.read
+front_more d e read reads (rest, is) = (rest ++ reads.more, reads.grown ∙ (ap (λ (bytes : List ℕ). bytes ++ reads.more) is ∙ append_assoc read rest reads.more))
+
+fronts_more : (d e : Entry) (acts : List Act) → ReadsOn d e → All (λ (a : Act). IsFrontOf a.read d.read) acts → All (λ (a : Act). IsFrontOf a.read e.read) acts
+fronts_more d e acts reads all = All-weaker (λ (a : Act). IsFrontOf a.read d.read) (λ (a : Act). IsFrontOf a.read e.read) (λ a is. front_more d e a.read reads is) acts all
+
+fronts_joined : (d e : Entry) (acts more : List Act) → ReadsOn d e → All (λ (a : Act). IsFrontOf a.read d.read) acts → All (λ (a : Act). IsFrontOf a.read e.read) more → All (λ (a : Act). IsFrontOf a.read e.read) (acts ++ more)
+fronts_joined d e acts more reads first later = All-append (λ (a : Act). IsFrontOf a.read e.read) acts more (fronts_more d e acts reads first) later
 
 asked_append : (key : ℕ) (first later : List Handled) → asked_by key (first ++ later) ≡ asked_by key first ++ asked_by key later
 asked_append key [] later = refl
@@ -189,6 +186,7 @@ progressed_then core mid key first later x y e run (inr a) before = inr (record 
   door = a.door;
   acts = a.acts;
   are = a.are;
+  fronts = a.fronts;
   states = states_behind core mid first later a.acts run a.states;
   asked = a.asked;
   due = a.due;
@@ -201,8 +199,10 @@ progressed_then core mid key first later x y e run (inl w) before = by (before w
       there = v.there;
       client = v.client;
       sound = v.sound;
+      reads = reads_then v.before w.before e v.reads w.reads;
       acts = v.acts ++ w.acts;
-      are = acts_append v.before.progress w.before.progress e.progress v.acts w.acts v.are w.are;
+      are = acts_append e.id v.before.progress w.before.progress e.progress v.acts w.acts (acts_on w.before e v.before.progress w.before.progress v.acts w.reads v.are) w.are;
+      fronts = fronts_joined w.before e v.acts w.acts w.reads v.fronts w.fronts;
       states = All-append (λ (a : Act). IsStateOf a.state core (first ++ later)) v.acts w.acts (states_more core first later v.acts v.states) (states_behind core mid first later w.acts run w.states);
       asked = asked_joined key first later v.acts w.acts v.asked w.asked;
       due = due_joined v.before.due w.before.due e.due v.acts w.acts v.due w.due;
@@ -213,7 +213,8 @@ progressed_then core mid key first later x y e run (inl w) before = by (before w
       whole = ap (λ (its : List Handled). its ++ later) b.whole ∙ append_assoc b.earlier b.since later;
       door = b.door;
       acts = b.acts ++ w.acts;
-      are = acts_append (opening_peer b.door) w.before.progress e.progress b.acts w.acts b.are w.are;
+      are = acts_append e.id (opening_peer b.door) w.before.progress e.progress b.acts w.acts (acts_on w.before e (opening_peer b.door) w.before.progress b.acts w.reads b.are) w.are;
+      fronts = fronts_joined w.before e b.acts w.acts w.reads b.fronts w.fronts;
       states = All-append (λ (a : Act). IsStateOf a.state core (first ++ later)) b.acts w.acts (states_more core first later b.acts b.states) (states_behind core mid first later w.acts run w.states);
       asked = asked_joined key b.since later b.acts w.acts b.asked w.asked;
       due = due_joined [] w.before.due e.due b.acts w.acts b.due w.due;
@@ -224,38 +225,40 @@ progressed_then core mid key first later x y e run (inl w) before = by (before w
 -- the connection had broken before; or it went on, and broke; or it was accepted since, and broke
 abbrev pub StopsAs : State → ℕ → List Handled → Option Entry → Entry → Type 0
 StopsAs core key handled x e =
-    ((d : Entry) × (x ≡ Some d) × (d.broken ≡ true) × (d.progress ≡ e.progress) × (d.due ≡ e.due) × (asked_by key handled ≡ []))
-    ⊎ (((d : Entry) × (x ≡ Some d) × ClientTalk d.progress × (d.broken ≡ false) × BrokeAfter core key handled handled d.progress d.due e) ⊎ IsCutOff core key handled e)
+    ((d : Entry) × (x ≡ Some d) × (d.broken ≡ true) × (d.progress ≡ e.progress) × (d.due ≡ e.due) × (asked_by key handled ≡ []) × ReadsOn d e)
+    ⊎ (((d : Entry) × (x ≡ Some d) × ClientTalk d.progress × (d.broken ≡ false) × BrokeAfter core key handled handled d.progress d.due e × ReadsOn d e) ⊎ IsCutOff core key handled e)
 
-last_more : (core : State) (first later : List Handled) (after progress : PeerRecord) → IsLast core first after progress → IsLast core (first ++ later) after progress
-last_more core first later after progress (inl is) = inl is
-last_more core first later after progress (inr (state, what, of, next)) = inr (state, what, state_more state core first later of, next)
+last_more : (core : State) (first later : List Handled) (d e : Entry) (after progress : PeerRecord) → ReadsOn d e → IsLast core first d.read after progress → IsLast core (first ++ later) e.read after progress
+last_more core first later d e after progress reads (inl is) = inl is
+last_more core first later d e after progress reads (inr (state, read, what, of, front, next)) = inr (state, read, what, state_more state core first later of, front_more d e read reads front, next)
 
-last_behind : (core mid : State) (first later : List Handled) (after progress : PeerRecord) → AreHandled core first mid → IsLast mid later after progress → IsLast core (first ++ later) after progress
-last_behind core mid first later after progress run (inl is) = inl is
-last_behind core mid first later after progress run (inr (state, what, of, next)) = inr (state, what, state_behind state core mid first later run of, next)
+last_behind : (core mid : State) (first later : List Handled) (whole : List ℕ) (after progress : PeerRecord) → AreHandled core first mid → IsLast mid later whole after progress → IsLast core (first ++ later) whole after progress
+last_behind core mid first later whole after progress run (inl is) = inl is
+last_behind core mid first later whole after progress run (inr (state, read, what, of, front, next)) = inr (state, read, what, state_behind state core mid first later run of, front, next)
 
 -- more comes, which it doesn't ask for
-broke_more : (core : State) (key : ℕ) (first later since : List Handled) (before : PeerRecord) (base : List ℕ) (d e : Entry) → BrokeAfter core key first since before base d → d.progress ≡ e.progress → d.due ≡ e.due → asked_by key later ≡ [] → BrokeAfter core key (first ++ later) (since ++ later) before base e
-broke_more core key first later since before base d e b progress due none = record {
+broke_more : (core : State) (key : ℕ) (first later since : List Handled) (before : PeerRecord) (base : List ℕ) (d e : Entry) → BrokeAfter core key first since before base d → d.progress ≡ e.progress → d.due ≡ e.due → asked_by key later ≡ [] → ReadsOn d e → BrokeAfter core key (first ++ later) (since ++ later) before base e
+broke_more core key first later since before base d e b progress due none reads = record {
   acts = b.acts;
   after = b.after;
-  are = b.are;
+  are = acts_on d e before b.after b.acts reads b.are;
+  fronts = fronts_more d e b.acts reads b.fronts;
   states = states_more core first later b.acts b.states;
   unanswered = b.unanswered;
   one = b.one;
   asked = asked_append key since later ∙ (ap (λ (its : List Handled). asked_by key since ++ its) none ∙ (append-nil (asked_by key since) ∙ b.asked));
-  last = subst (λ (t : PeerRecord). IsLast core (first ++ later) b.after t) progress (last_more core first later b.after d.progress b.last);
+  last = subst (λ (t : PeerRecord). IsLast core (first ++ later) e.read b.after t) progress (last_more core first later d e b.after d.progress reads b.last);
   due = sym due ∙ b.due;
 }
 
 -- the connection had gone on by other acts before
-broke_behind : (core mid : State) (key : ℕ) (first later since : List Handled) (before : PeerRecord) (base : List ℕ) (d e : Entry) (acts : List Act) → AreHandled core first mid → AreActs before acts d.progress → All (λ (a : Act). IsStateOf a.state core first) acts → asked_by key since ≡ flat_map (λ (a : Act). a.asked) acts
-    → d.due ≡ base ++ flat_map (λ (a : Act). a.bytes) acts → BrokeAfter mid key later later d.progress d.due e → BrokeAfter core key (first ++ later) (since ++ later) before base e
-broke_behind core mid key first later since before base d e acts run are states asked due b = record {
+broke_behind : (core mid : State) (key : ℕ) (first later since : List Handled) (before : PeerRecord) (base : List ℕ) (d e : Entry) (acts : List Act) → AreHandled core first mid → AreActs d.id before acts d.progress → All (λ (a : Act). IsFrontOf a.read d.read) acts → All (λ (a : Act). IsStateOf a.state core first) acts → asked_by key since ≡ flat_map (λ (a : Act). a.asked) acts
+    → d.due ≡ base ++ flat_map (λ (a : Act). a.bytes) acts → BrokeAfter mid key later later d.progress d.due e → ReadsOn d e → BrokeAfter core key (first ++ later) (since ++ later) before base e
+broke_behind core mid key first later since before base d e acts run are fronts states asked due b reads = record {
   acts = acts ++ b.acts;
   after = b.after;
-  are = acts_append before d.progress b.after acts b.acts are b.are;
+  are = acts_append e.id before d.progress b.after acts b.acts (acts_on d e before d.progress acts reads are) b.are;
+  fronts = fronts_joined d e acts b.acts reads fronts b.fronts;
   states = All-append (λ (a : Act). IsStateOf a.state core (first ++ later)) acts b.acts (states_more core first later acts states) (states_behind core mid first later b.acts run b.states);
   unanswered = b.unanswered;
   one = b.one;
@@ -263,34 +266,34 @@ broke_behind core mid key first later since before base d e acts run are states 
       ∙ (ap (λ (its : List Handled). its ++ asked_by key later) asked
       ∙ (ap (λ (its : List Handled). flat_map (λ (a : Act). a.asked) acts ++ its) b.asked
       ∙ (sym (append_assoc (flat_map (λ (a : Act). a.asked) acts) (flat_map (λ (a : Act). a.asked) b.acts) b.unanswered) ∙ ap (λ (its : List Handled). its ++ b.unanswered) (sym (flat_map-append (λ (a : Act). a.asked) acts b.acts)))));
-  last = last_behind core mid first later b.after e.progress run b.last;
+  last = last_behind core mid first later e.read b.after e.progress run b.last;
   due = due_joined base d.due e.due acts b.acts due b.due;
 }
 
 pub stops_then : (core mid : State) (key : ℕ) (first later : List Handled) (x y : Option Entry) (e : Entry) → AreHandled core first mid → ClientTalk e.progress → StopsAs mid key later y e → ((d : Entry) → y ≡ Some d → ClientTalk d.progress → d.broken ≡ false → TalkedAs core key first x d)
     → ((d : Entry) → y ≡ Some d → ClientTalk d.progress → d.broken ≡ true → StopsAs core key first x d) → StopsAs core key (first ++ later) x e
-stops_then core mid key first later x y e run client (inl (d, there, broken, progress, due, none)) progressed stopped = by (stopped d there (subst ClientTalk (sym progress) client) broken)
+stops_then core mid key first later x y e run client (inl (d, there, broken, progress, due, none, reads)) progressed stopped = by (stopped d there (subst ClientTalk (sym progress) client) broken)
   where
     by : StopsAs core key first x d → StopsAs core key (first ++ later) x e
-    by (inl (f, is, was, same, more, silent)) = inl (f, is, was, same ∙ progress, more ∙ due, asked_append key first later ∙ (ap (λ (its : List Handled). its ++ asked_by key later) silent ∙ none))
-    by (inr (inl (f, is, of, sound, b))) = inr (inl (f, is, of, sound, broke_more core key first later first f.progress f.due d e b progress due none))
+    by (inl (f, is, was, same, more, silent, read)) = inl (f, is, was, same ∙ progress, more ∙ due, asked_append key first later ∙ (ap (λ (its : List Handled). its ++ asked_by key later) silent ∙ none), reads_then f d e read reads)
+    by (inr (inl (f, is, of, sound, b, read))) = inr (inl (f, is, of, sound, broke_more core key first later first f.progress f.due d e b progress due none reads, reads_then f d e read reads))
     by (inr (inr c)) = inr (inr (record {
       earlier = c.earlier;
       since = c.since ++ later;
       whole = ap (λ (its : List Handled). its ++ later) c.whole ∙ append_assoc c.earlier c.since later;
       door = c.door;
-      until = broke_more core key first later c.since (opening_peer c.door) [] d e c.until progress due none;
+      until = broke_more core key first later c.since (opening_peer c.door) [] d e c.until progress due none reads;
     }))
-stops_then core mid key first later x y e run client (inr (inl (d, there, of, sound, b))) progressed stopped = by (progressed d there of sound)
+stops_then core mid key first later x y e run client (inr (inl (d, there, of, sound, b, reads))) progressed stopped = by (progressed d there of sound)
   where
     by : TalkedAs core key first x d → StopsAs core key (first ++ later) x e
-    by (inl v) = inr (inl (v.before, v.there, v.client, v.sound, broke_behind core mid key first later first v.before.progress v.before.due d e v.acts run v.are v.states v.asked v.due b))
+    by (inl v) = inr (inl (v.before, v.there, v.client, v.sound, broke_behind core mid key first later first v.before.progress v.before.due d e v.acts run v.are v.fronts v.states v.asked v.due b reads, reads_then v.before d e v.reads reads))
     by (inr a) = inr (inr (record {
       earlier = a.earlier;
       since = a.since ++ later;
       whole = ap (λ (its : List Handled). its ++ later) a.whole ∙ append_assoc a.earlier a.since later;
       door = a.door;
-      until = broke_behind core mid key first later a.since (opening_peer a.door) [] d e a.acts run a.are a.states a.asked a.due b;
+      until = broke_behind core mid key first later a.since (opening_peer a.door) [] d e a.acts run a.are a.fronts a.states a.asked a.due b reads;
     }))
 stops_then core mid key first later x y e run client (inr (inr c)) progressed stopped = inr (inr (record {
   earlier = first ++ c.earlier;
@@ -301,11 +304,12 @@ stops_then core mid key first later x y e run client (inr (inr c)) progressed st
     acts = c.until.acts;
     after = c.until.after;
     are = c.until.are;
+    fronts = c.until.fronts;
     states = states_behind core mid first later c.until.acts run c.until.states;
     unanswered = c.until.unanswered;
     one = c.until.one;
     asked = c.until.asked;
-    last = last_behind core mid first later c.until.after e.progress run c.until.last;
+    last = last_behind core mid first later e.read c.until.after e.progress run c.until.last;
     due = c.until.due;
   };
 }))
@@ -314,11 +318,11 @@ stops_then core mid key first later x y e run client (inr (inr c)) progressed st
 pub stops_still : (core : State) (key : ℕ) (handled : List Handled) (x y : Option Entry) → Stays x y → asked_by key handled ≡ [] → (e : Entry) → y ≡ Some e → ClientTalk e.progress → e.broken ≡ true → StopsAs core key handled x e
 stops_still core key handled x y stays none e is client broken =
     let d = stays e is client in
-    by d.0 d.1 d.2 d.4 d.0.broken refl
+    by d.0 d.1 d.2 d.4 d.5 d.0.broken refl
   where
-    by : (d : Entry) → x ≡ Some d → d.progress ≡ e.progress → d.due ≡ e.due → (t : Bool) → d.broken ≡ t → StopsAs core key handled x e
-    by d there progress due true was = inl (d, there, was, progress, due, none)
-    by d there progress due false was = inr (inl (
+    by : (d : Entry) → x ≡ Some d → d.progress ≡ e.progress → d.due ≡ e.due → ReadsOn d e → (t : Bool) → d.broken ≡ t → StopsAs core key handled x e
+    by d there progress due reads true was = inl (d, there, was, progress, due, none, reads)
+    by d there progress due reads false was = inr (inl (
       d,
       there,
       subst ClientTalk (sym progress) client,
@@ -327,13 +331,15 @@ stops_still core key handled x y stays none e is client broken =
         acts = [];
         after = d.progress;
         are = refl;
+        fronts = All-nil (λ (a : Act). IsFrontOf a.read e.read);
         states = All-nil (λ (a : Act). IsStateOf a.state core handled);
         unanswered = [];
-        one = inl refl;
+        one = tt;
         asked = none;
         last = inl progress;
         due = sym due ∙ sym (append-nil d.due);
       },
+      reads,
     ))
 
 -- the connection is unchanged if these events weren't asked on it
@@ -345,8 +351,10 @@ progressed_still core key handled x y stays none e is client sound =
       there = d.1;
       client = subst ClientTalk (sym d.2) client;
       sound = d.3 sound;
+      reads = d.5;
       acts = [];
       are = sym d.2;
+      fronts = All-nil (λ (a : Act). IsFrontOf a.read e.read);
       states = All-nil (λ (a : Act). IsStateOf a.state core handled);
       asked = none;
       due = sym d.4 ∙ sym (append-nil d.0.due);
@@ -380,7 +388,7 @@ pub record Goes (moment : ℕ) (l : Ledger) (hs : List Happening) (l' : Ledger) 
   pub good : Good l'
   pub run : AreHandled l.core handled l'.core
   pub timed : AreAt moment handled
-  pub told : core_notes hs ≡ flat_map (λ (it : Handled). it.notes) handled
+  pub told : run_notes hs ≡ flat_map (λ (it : Handled). it.notes) handled
   pub came : (key device : ℕ) → Counts device (l'.entries key) → CameAs device handled (l.entries key) (l'.entries key)
   pub lost : (key device : ℕ) → IsLost device (l'.entries key) → LostAs device handled (l.entries key) (l'.entries key)
   pub progresses : (key : ℕ) (e : Entry) → l'.entries key ≡ Some e → ClientTalk e.progress → e.broken ≡ false → TalkedAs l.core key handled (l.entries key) e
@@ -499,7 +507,7 @@ goes_then moment l front mid back l' hs whole p q = record {
   good = q.good;
   run = handled_append l.core mid.core l'.core p.handled q.handled p.run q.run;
   timed = All-append (λ (it : Handled). it.moment ≡ moment) p.handled q.handled p.timed q.timed;
-  told = ap core_notes whole ∙ (notes_append front back ∙ (ap (λ (ns : List Note). ns ++ core_notes back) p.told ∙ (ap (λ (ns : List Note). flat_map (λ (it : Handled). it.notes) p.handled ++ ns) q.told ∙ sym (flat_map-append (λ (it : Handled). it.notes) p.handled q.handled))));
+  told = ap run_notes whole ∙ (notes_append front back ∙ (ap (λ (ns : List Note). ns ++ run_notes back) p.told ∙ (ap (λ (ns : List Note). flat_map (λ (it : Handled). it.notes) p.handled ++ ns) q.told ∙ sym (flat_map-append (λ (it : Handled). it.notes) p.handled q.handled))));
   came = λ key device counts. came_then device p.handled q.handled (l.entries key) (mid.entries key) (l'.entries key) (q.came key device counts) (p.came key device);
   lost = λ key device is. lost_then device p.handled q.handled (l.entries key) (mid.entries key) (l'.entries key) (q.lost key device is) (p.lost key device) (p.came key device);
   progresses = λ key e is client sound. progressed_then l.core mid.core key p.handled q.handled (l.entries key) (mid.entries key) e p.run (q.progresses key e is client sound) (λ d there of unbroken. p.progresses key d there of unbroken);
@@ -537,7 +545,7 @@ plain_at key o entries here other =
     by_test (other == key) (entries other) o (entries other) (λ is. subst (λ (k : ℕ). Plain (entries k) o) (sym (same_key other key is)) here) (λ is. record { counts = λ device counts. (counts, refl); lost = λ device lost. (lost, refl); device = λ device named. named; fresh = λ fresh. fresh })
 
 -- a connection came, or was closed
-pub goes_plain : (moment key : ℕ) (o : Option Entry) (l : Ledger) (hs : List Happening) (l' : Ledger) → Good l → core_notes hs ≡ [] → l'.core ≡ l.core → l'.entries ≡ at_key key o l.entries → Plain (l.entries key) o
+pub goes_plain : (moment key : ℕ) (o : Option Entry) (l : Ledger) (hs : List Happening) (l' : Ledger) → Good l → run_notes hs ≡ [] → l'.core ≡ l.core → l'.entries ≡ at_key key o l.entries → Plain (l.entries key) o
     → ((e : Entry) → o ≡ Some e → ClientTalk e.progress → e.broken ≡ false → TalkedAs l.core key [] (l.entries key) e) → ((e : Entry) → o ≡ Some e → e.broken ≡ true → ⊥) → AllClosed l [] l' → Goes moment l hs l'
 goes_plain moment key o l hs l' good silent core after here progresses unbroken closed = record {
   handled = [];
@@ -557,18 +565,18 @@ goes_plain moment key o l hs l' good silent core after here progresses unbroken 
   where
     progressed : (k : ℕ) (e : Entry) (t : Bool) → (k == key) ≡ t → (if t then o else l.entries k) ≡ Some e → ClientTalk e.progress → e.broken ≡ false → TalkedAs l.core k [] (l.entries k) e
     progressed k e true same is client sound = subst (λ (j : ℕ). TalkedAs l.core j [] (l.entries j) e) (sym (same_key k key same)) (progresses e is client sound)
-    progressed k e false same is client sound = progressed_still l.core k [] (l.entries k) (l.entries k) (λ f there of. (f, there, refl, λ still. still, refl)) refl e is client sound
+    progressed k e false same is client sound = progressed_still l.core k [] (l.entries k) (l.entries k) (λ f there of. (f, there, refl, λ still. still, refl, reads_same f)) refl e is client sound
 
     stopped : (k : ℕ) (e : Entry) (t : Bool) → (k == key) ≡ t → (if t then o else l.entries k) ≡ Some e → ClientTalk e.progress → e.broken ≡ true → StopsAs l.core k [] (l.entries k) e
     stopped k e true same is client broken = absurd (unbroken e is broken)
-    stopped k e false same is client broken = stops_still l.core k [] (l.entries k) (l.entries k) (λ f there of. (f, there, refl, λ still. still, refl)) refl e is client broken
+    stopped k e false same is client broken = stops_still l.core k [] (l.entries k) (l.entries k) (λ f there of. (f, there, refl, λ still. still, refl, reads_same f)) refl e is client broken
 
     each : (k : ℕ) → Plain (l.entries k) (l'.entries k)
     each k = subst (λ (entries : ℕ → Option Entry). Plain (l.entries k) (entries k)) (sym after) (plain_at key o l.entries here k)
 
 -- one event, as the core has it
 abbrev pub one_handled : (moment : ℕ) (event : Event) (outcome : Outcome) (hs : List Happening) (l' : Ledger) (named asked : Option ℕ) → Handled
-one_handled moment event outcome hs l' named asked = record { moment = moment; event = event; outcome = outcome; notes = core_notes hs; state = l'.core; named = named; asked = asked }
+one_handled moment event outcome hs l' named asked = record { moment = moment; what = EventComes event outcome; notes = run_notes hs; state = l'.core; named = named; asked = asked }
 
 good_one : (moment : ℕ) (event : Event) (outcome : Outcome) (l : Ledger) (hs : List Happening) (l' : Ledger) → Good l → Handles_one moment event outcome l hs l' → Good l'
 good_one moment event outcome l hs l' good it = record {
@@ -582,13 +590,31 @@ goes_event moment event outcome l hs l' good it = record {
   good = good_one moment event outcome l hs l' good it;
   run = (tt, it.handles, refl);
   timed = All-cons (λ (h : Handled). h.moment ≡ moment) (one_handled moment event outcome hs l' None None) [] refl (All-nil (λ (h : Handled). h.moment ≡ moment));
-  told = sym (append-nil (core_notes hs));
+  told = sym (append-nil (run_notes hs));
   came = λ key device counts. inl ((it.each key).counts device counts);
   lost = λ key device is. lost_by device (one_handled moment event outcome hs l' None None ∷ []) (sent_by outcome l'.core) (l.entries key) (l'.entries key) refl ((it.each key).breaks device is);
   progresses = λ key. progressed_still l.core key (one_handled moment event outcome hs l' None None ∷ []) (l.entries key) (l'.entries key) (it.each key).stays refl;
   stops = λ key. stops_still l.core key (one_handled moment event outcome hs l' None None ∷ []) (l.entries key) (l'.entries key) (it.each key).stays refl;
   closed = none_closed l (one_handled moment event outcome hs l' None None ∷ []) l' it.closed;
 }
+
+-- memory is refused, and the listener is told so
+pub goes_refused : (moment : ℕ) (place : AllocationSite) (id : Option ℕ) (l : Ledger) (hs : List Happening) (l' : Ledger) → Good l → run_notes (Told (Refused place id) ∷ []) ≡ Refused place id ∷ [] → Tells (Refused place id) l hs l' → Goes moment l hs l'
+goes_refused moment place id l hs l' good tells it = subst (λ (x : Ledger). Goes moment l hs x) (sym it.1) (record {
+  handled = one ∷ [];
+  good = good;
+  run = (tt, (refl, refl), refl);
+  timed = All-cons (λ (h : Handled). h.moment ≡ moment) one [] refl (All-nil (λ (h : Handled). h.moment ≡ moment));
+  told = ap run_notes it.0 ∙ tells;
+  came = λ key device counts. inl (counts, sym (append-nil (due_at (l.entries key))));
+  lost = λ key device is. inl (is, refl);
+  progresses = λ key. progressed_still l.core key (one ∷ []) (l.entries key) (l.entries key) (λ f there of. (f, there, refl, λ still. still, refl, reads_same f)) refl;
+  stops = λ key. stops_still l.core key (one ∷ []) (l.entries key) (l.entries key) (λ f there of. (f, there, refl, λ still. still, refl, reads_same f)) refl;
+  closed = none_closed l (one ∷ []) l refl;
+})
+  where
+    one : Handled
+    one = record { moment = moment; what = MemoryRefused place id; notes = Refused place id ∷ []; state = l.core; named = None; asked = None }
 
 -- ---- a device's name
 
@@ -598,7 +624,7 @@ pub record Awaits (moment device key : ℕ) (l : Ledger) (hs : List Happening) (
   pub good : Good l'
   pub run : AreHandled l.core handled l'.core
   pub timed : AreAt moment handled
-  pub told : core_notes hs ≡ flat_map (λ (it : Handled). it.notes) handled
+  pub told : run_notes hs ≡ flat_map (λ (it : Handled). it.notes) handled
   pub only : (other : ℕ) → IsDevice device (l'.entries other) → other ≡ key
   pub due : Counts device (l'.entries key) → due_at (l'.entries key) ≡ []
   pub lost_due : IsLost device (l'.entries key) → due_at (l'.entries key) ≡ []
@@ -627,7 +653,7 @@ awaits_event moment device key event outcome l front mid back l' hs whole p it n
       good = q.good;
       run = handled_append l.core mid.core l'.core p.handled q.handled p.run q.run;
       timed = All-append (λ (h : Handled). h.moment ≡ moment) p.handled q.handled p.timed q.timed;
-      told = ap core_notes whole ∙ (notes_append front back ∙ (ap (λ (ns : List Note). ns ++ core_notes back) p.told ∙ (ap (λ (ns : List Note). flat_map (λ (h : Handled). h.notes) p.handled ++ ns) q.told ∙ sym (flat_map-append (λ (h : Handled). h.notes) p.handled q.handled))));
+      told = ap run_notes whole ∙ (notes_append front back ∙ (ap (λ (ns : List Note). ns ++ run_notes back) p.told ∙ (ap (λ (ns : List Note). flat_map (λ (h : Handled). h.notes) p.handled ++ ns) q.told ∙ sym (flat_map-append (λ (h : Handled). h.notes) p.handled q.handled))));
       only = λ other is. p.only other ((it.each other).device device is);
       due = λ counts.
           let was = (it.each key).counts device counts in
@@ -646,9 +672,9 @@ pub awaits_named : (moment device key : ℕ) (name : List ℕ) (outcome : Outcom
 awaits_named moment device key name outcome l front mid back l' hs whole p it = record {
   handled = p.handled ++ last ∷ [];
   good = good_one moment (Is.Report device (report.Hello name)) outcome mid back l' p.good it;
-  run = handled_append l.core mid.core l'.core p.handled (last ∷ []) p.run ((name, refl), it.handles, refl);
+  run = handled_append l.core mid.core l'.core p.handled (last ∷ []) p.run ((name, outcome, refl), it.handles, refl);
   timed = All-append (λ (h : Handled). h.moment ≡ moment) p.handled (last ∷ []) p.timed (All-cons (λ (h : Handled). h.moment ≡ moment) last [] refl (All-nil (λ (h : Handled). h.moment ≡ moment)));
-  told = ap core_notes whole ∙ (notes_append front back ∙ (ap (λ (ns : List Note). ns ++ core_notes back) p.told ∙ (ap (λ (ns : List Note). flat_map (λ (h : Handled). h.notes) p.handled ++ ns) (sym (append-nil (core_notes back))) ∙ sym (flat_map-append (λ (h : Handled). h.notes) p.handled (last ∷ [])))));
+  told = ap run_notes whole ∙ (notes_append front back ∙ (ap (λ (ns : List Note). ns ++ run_notes back) p.told ∙ (ap (λ (ns : List Note). flat_map (λ (h : Handled). h.notes) p.handled ++ ns) (sym (append-nil (run_notes back))) ∙ sym (flat_map-append (λ (h : Handled). h.notes) p.handled (last ∷ [])))));
   came = λ other of counts. by other of counts (device == of) refl;
   lost = λ other of is. lost_at other of (device == of) refl ((it.each other).breaks of is);
   progresses = λ other e is client sound.

@@ -30,12 +30,12 @@ use Rattle.server.specs.Closing.{ClosesAs, Settles}
 use Rattle.server.specs.Polling.{Opens, AcceptsAs, AcceptsOne, AcceptsAt, FedWhole, FeedsAt, FeedsOne, Fails, ReadsAs, ReadsOpen, ReadsAt, is_read, ReadsOne, WritesAs, WritesOpen, WritesAt, WritesOne, is_done, EndsAt, EndsOne}
 use Rattle.server.specs.Turn as Between
 use Rattle.server.specs.Turn.{Ticks, Notes, is_tick_due, TicksIfDue, Covers, Round, Turn, BodyAsks, BodyComes, Action, Turned, Served_body, Reported, Ticked, Trace, DoesAction, Runs}
-use Rattle.server.specs.Law.{core_notes, moment_of, happenings_of, happenings_in}
-use Rattle.promises.specs.Orders.{Handled, AreHandled, AreOf, due_by, AreSent, WasSent, IsFrontSent, WasHalted}
-use Rattle.promises.specs.Answers.{Act, ClientTalk, IsStateOf, IsAnswered, WasAnswered, AreAnswered, IsCutOff, WasCutOff}
-use Rattle.promises.proofs.Sending.{Counts, due_at, Ordered, ordered_still, ordered_keeps, Calm, notes_append, calm_still, calm_sets, breaking, Good, one_entry, IsLost, no_true}
-use Rattle.promises.proofs.Handling.{Plain, goes_plain, CameAs, Goes, handled_append, came_then, goes_then, goes_calm, TalkedAs, progressed_then, progressed_still, ClosedAs, AllClosed, none_closed, all_closed_then, LostAs, lost_then, CameWith, StopsAs, stops_still, stops_then}
-use Rattle.promises.proofs.Giving.{Calms, calms_nothing, calms_chooses, calms_refusal, calms_breaks}
+use Rattle.server.specs.Law.{moment_of, happenings_of, happenings_in}
+use Rattle.promises.specs.Orders.{Handled, AreHandled, AreOf, run_notes, due_by, AreSent, WasSent, IsFrontSent, WasHalted}
+use Rattle.promises.specs.Answers.{Act, ClientTalk, IsFrontOf, IsStateOf, IsAnswered, WasAnswered, AreAnswered, IsCutOff, WasCutOff}
+use Rattle.promises.proofs.Sending.{Counts, due_at, Ordered, ordered_still, ordered_keeps, Calm, notes_append, calm_still, calm_sets, breaking, Good, one_entry, IsLost, no_true, ReadsOn, reads_still, reads_same}
+use Rattle.promises.proofs.Handling.{Plain, goes_plain, CameAs, Goes, handled_append, came_then, goes_then, goes_calm, TalkedAs, progressed_then, progressed_still, ClosedAs, AllClosed, none_closed, all_closed_then, goes_refused, LostAs, lost_then, CameWith, StopsAs, stops_still, stops_then}
+use Rattle.promises.proofs.Giving.{Calms, calms_nothing, calms_chooses, calms_breaks}
 use Rattle.promises.proofs.Moving.{Moves, moves_calm, moves_then, moves_if, moves_each, moves_happens, moves_unanswered, closes_at, moves_settles}
 use Rattle.promises.proofs.Coming.{moves_serves}
 
@@ -43,24 +43,24 @@ use Rattle.promises.proofs.Coming.{moves_serves}
 
 -- a connection changes in parts that no device notices
 abbrev pub Keeping : Entry → Entry → Type 0
-Keeping d e = (e.progress ≡ d.progress) × (e.broken ≡ d.broken) × (e.due ≡ d.due)
+Keeping d e = (e.progress ≡ d.progress) × (e.broken ≡ d.broken) × (e.due ≡ d.due) × ReadsOn d e
 
 pub moves_sets : (moment key : ℕ) (d e : Entry) (l : Ledger) (hs : List Happening) (l' : Ledger) → Good l → l.entries key ≡ Some d → Keeping d e → Sets key e l hs l' → Goes moment l hs l'
-moves_sets moment key d e l hs l' good there keeps it = goes_calm moment l hs l' good (calm_sets key d e l hs l' there (ordered_keeps d e keeps.0 keeps.1 keeps.2) (ap core_notes it.0) it.1)
+moves_sets moment key d e l hs l' good there keeps it = goes_calm moment l hs l' good (calm_sets key d e l hs l' there (ordered_keeps d e keeps.0 keeps.1 keeps.2 keeps.3) (ap run_notes it.0) it.1)
 
 pub moves_drops : (moment key : ℕ) (e : Entry) (l : Ledger) (hs : List Happening) (l' : Ledger) → Good l → l.entries key ≡ Some e → Drops At.Feed key e l hs l' → Goes moment l hs l'
-moves_drops moment key e l hs l' good there it = goes_calm moment l hs l' good (calm_sets key e (broken e) l hs l' there (breaking e) (ap core_notes it.0) it.1)
+moves_drops moment key e l hs l' good there it = goes_calm moment l hs l' good (calm_sets key e (broken e) l hs l' there (breaking e) (ap run_notes it.0) it.1)
 
 pub fed_whole : (moment key : ℕ) (e : Entry) (bytes : List ℕ) (l : Ledger) (hs : List Happening) (l' : Ledger) → Good l → l.entries key ≡ Some e → FedWhole moment key e bytes l hs l' → Goes moment l hs l'
 fed_whole moment key e bytes l hs l' good there (inl it) =
-    let first = moves_sets moment key e (reading bytes e) l it.front it.mid good there (refl, refl, refl) it.first in
+    let first = moves_sets moment key e (reading bytes e) l it.front it.mid good there (refl, refl, refl, record { same = refl; more = bytes; grown = refl }) it.first in
     goes_then moment l it.front it.mid it.back l' hs it.whole first (moves_serves moment key it.mid it.back l' first.good it.second)
 fed_whole moment key e bytes l hs l' good there (inr it) =
     let first = moves_drops moment key e l it.front it.mid good there it.first in
     goes_then moment l it.front it.mid it.back l' hs it.whole first (moves_settles moment it.mid it.back l' first.good it.second)
 
 pub fed_open : (t : Bool) (moment key : ℕ) (e : Entry) (bytes : List ℕ) (l : Ledger) (hs : List Happening) (l' : Ledger) → Good l → l.entries key ≡ Some e → If t (Sets key e) (FedWhole moment key e bytes) l hs l' → Goes moment l hs l'
-fed_open true moment key e bytes l hs l' good there it = moves_sets moment key e e l hs l' good there (refl, refl, refl) it
+fed_open true moment key e bytes l hs l' good there it = moves_sets moment key e e l hs l' good there (refl, refl, refl, reads_same e) it
 fed_open false moment key e bytes l hs l' good there it = fed_whole moment key e bytes l hs l' good there it
 
 pub feeds_at : (moment key : ℕ) (bytes : List ℕ) (o : Option Entry) (l : Ledger) (hs : List Happening) (l' : Ledger) → Good l → l.entries key ≡ o → FeedsAt moment key bytes o l hs l' → Goes moment l hs l'
@@ -73,22 +73,22 @@ moves_feeds moment key bytes l hs l' good it = feeds_at moment key bytes (l.entr
 pub moves_fails : (moment key : ℕ) → Moves moment (Fails moment key)
 moves_fails moment key = moves_then moment (Breaks key) (Settles moment) (moves_calm moment (Breaks key) (calms_breaks key)) (moves_settles moment)
 
-pub calms_poll : (R : Rel) → ((l : Ledger) (hs : List Happening) (l' : Ledger) → R l hs l' → (core_notes hs ≡ []) × (l' ≡ l)) → Calms R
+pub calms_poll : (R : Rel) → ((l : Ledger) (hs : List Happening) (l' : Ledger) → R l hs l' → (run_notes hs ≡ []) × (l' ≡ l)) → Calms R
 calms_poll R is l hs l' it = let same = is l hs l' it in calm_still l hs l' same.0 same.1
 
 pub polled_then : (moment : ℕ) (R : Rel) (l : Ledger) (hs : List Happening) (l' : Ledger) → Good l → (poll : Poll) → (it : Then (Polls poll) R l hs l') → ((mid : Ledger) → mid ≡ l → R mid it.back l' → Goes moment mid it.back l') → Goes moment l hs l'
 polled_then moment R l hs l' good poll it goes =
-    goes_then moment l it.front it.mid it.back l' hs it.whole (goes_calm moment l it.front it.mid good (calm_still l it.front it.mid (ap core_notes it.first.0) it.first.1)) (goes it.mid it.first.1 it.second)
+    goes_then moment l it.front it.mid it.back l' hs it.whole (goes_calm moment l it.front it.mid good (calm_still l it.front it.mid (ap run_notes it.first.0) it.first.1)) (goes it.mid it.first.1 it.second)
 
 pub good_at : (l mid : Ledger) → mid ≡ l → Good l → Good mid
 good_at l mid same good = subst Good (sym same) good
 
 pub reads_as : (moment key : ℕ) (e : Entry) (answer : WireAnswer (List ℕ)) (l : Ledger) (hs : List Happening) (l' : Ledger) → Good l → l.entries key ≡ Some e → ReadsAs moment key e answer l hs l' → Goes moment l hs l'
 reads_as moment key e (wire.Done bytes) l hs l' good there it = polled_then moment (FeedsOne moment key bytes) l hs l' good (Reads e.id (wire.Done bytes)) it (λ mid same more. moves_feeds moment key bytes mid it.back l' (good_at l mid same good) more)
-reads_as moment key e wire.Waiting l hs l' good there it = goes_calm moment l hs l' good (calm_still l hs l' (ap core_notes it.0) it.1)
+reads_as moment key e wire.Waiting l hs l' good there it = goes_calm moment l hs l' good (calm_still l hs l' (ap run_notes it.0) it.1)
 reads_as moment key e wire.End l hs l' good there it =
     polled_then moment (Sets key (record e { ended = true })) l hs l' good (Reads e.id wire.End) it
-    (λ mid same more. moves_sets moment key e (record e { ended = true }) mid it.back l' (good_at l mid same good) (ap (λ (x : Ledger). x.entries key) same ∙ there) (refl, refl, refl) more)
+    (λ mid same more. moves_sets moment key e (record e { ended = true }) mid it.back l' (good_at l mid same good) (ap (λ (x : Ledger). x.entries key) same ∙ there) (refl, refl, refl, reads_still e (record e { ended = true }) refl refl) more)
 reads_as moment key e wire.Fault l hs l' good there it = polled_then moment (Fails moment key) l hs l' good (Reads e.id wire.Fault) it (λ mid same more. moves_fails moment key mid it.back l' (good_at l mid same good) more)
 
 pub reads_if : (t : Bool) (moment key : ℕ) (e : Entry) (l : Ledger) (hs : List Happening) (l' : Ledger) → Good l → l.entries key ≡ Some e → If t (ReadsOpen moment key e) Nothing l hs l' → Goes moment l hs l'
@@ -107,8 +107,8 @@ moves_reads moment key l hs l' good it = reads_at moment key (l.entries key) l h
 pub writes_as : (moment key : ℕ) (e : Entry) (offered : List ℕ) (answer : WireAnswer ℕ) (l : Ledger) (hs : List Happening) (l' : Ledger) → Good l → l.entries key ≡ Some e → WritesAs moment key e offered answer l hs l' → Goes moment l hs l'
 writes_as moment key e offered (wire.Done n) l hs l' good there it =
     polled_then moment (Sets key (record e { taken = e.taken ++ take n offered })) l hs l' good (Writes e.id offered (wire.Done n)) it
-    (λ mid same more. moves_sets moment key e (record e { taken = e.taken ++ take n offered }) mid it.back l' (good_at l mid same good) (ap (λ (x : Ledger). x.entries key) same ∙ there) (refl, refl, refl) more)
-writes_as moment key e offered wire.Waiting l hs l' good there it = goes_calm moment l hs l' good (calm_still l hs l' (ap core_notes it.0) it.1)
+    (λ mid same more. moves_sets moment key e (record e { taken = e.taken ++ take n offered }) mid it.back l' (good_at l mid same good) (ap (λ (x : Ledger). x.entries key) same ∙ there) (refl, refl, refl, reads_still e (record e { taken = e.taken ++ take n offered }) refl refl) more)
+writes_as moment key e offered wire.Waiting l hs l' good there it = goes_calm moment l hs l' good (calm_still l hs l' (ap run_notes it.0) it.1)
 writes_as moment key e offered wire.End l hs l' good there it = polled_then moment (Fails moment key) l hs l' good (Writes e.id offered wire.End) it (λ mid same more. moves_fails moment key mid it.back l' (good_at l mid same good) more)
 writes_as moment key e offered wire.Fault l hs l' good there it = polled_then moment (Fails moment key) l hs l' good (Writes e.id offered wire.Fault) it (λ mid same more. moves_fails moment key mid it.back l' (good_at l mid same good) more)
 
@@ -154,6 +154,7 @@ opening_progresses core door id key x e is of sound =
       door = door;
       acts = [];
       are = ap (λ (y : Entry). y.progress) (sym this);
+      fronts = All-nil (λ (a : Act). IsFrontOf a.read e.read);
       states = All-nil (λ (a : Act). IsStateOf a.state core []);
       asked = refl;
       due = ap (λ (y : Entry). y.due) (sym this);
@@ -165,15 +166,15 @@ opening_sound door id e is broken = no_true e.broken broken (ap (λ (x : Entry).
 
 pub moves_opens : (moment : ℕ) (door : Door) (id : ℕ) → Moves moment (Opens door id)
 moves_opens moment door id l hs l' good (inl (key, free, is, after)) =
-    goes_plain moment key (Some (opening_entry door id)) l hs l' good (ap core_notes is) (ap (λ (x : Ledger). x.core) after) (ap (λ (x : Ledger). x.entries) after) (opening_plain door id (l.entries key) free) (opening_progresses l.core door id key (l.entries key)) (opening_sound door id) (none_closed l [] l' (ap (λ (x : Ledger). x.closed) after))
-moves_opens moment door id l hs l' good (inr it) = goes_calm moment l hs l' good (calm_still l hs l' (ap core_notes it.0) it.1)
+    goes_plain moment key (Some (opening_entry door id)) l hs l' good (ap run_notes is) (ap (λ (x : Ledger). x.core) after) (ap (λ (x : Ledger). x.entries) after) (opening_plain door id (l.entries key) free) (opening_progresses l.core door id key (l.entries key)) (opening_sound door id) (none_closed l [] l' (ap (λ (x : Ledger). x.closed) after))
+moves_opens moment door id l hs l' good (inr it) = goes_calm moment l hs l' good (calm_still l hs l' (ap run_notes it.0) it.1)
 
 pub accepts_as : (moment : ℕ) (door : Door) (answer : WireAnswer ℕ) → Moves moment (AcceptsAs door answer)
 accepts_as moment door (wire.Done id) l hs l' good it =
     polled_then moment (Opens door id) l hs l' good (Accepts door (wire.Done id)) it (λ mid same more. moves_opens moment door id mid it.back l' (good_at l mid same good) more)
-accepts_as moment door wire.Waiting l hs l' good it = goes_calm moment l hs l' good (calm_still l hs l' (ap core_notes it.0) it.1)
-accepts_as moment door wire.End l hs l' good it = goes_calm moment l hs l' good (calm_still l hs l' (ap core_notes it.0) it.1)
-accepts_as moment door wire.Fault l hs l' good it = goes_calm moment l hs l' good (calm_still l hs l' (ap core_notes it.0) it.1)
+accepts_as moment door wire.Waiting l hs l' good it = goes_calm moment l hs l' good (calm_still l hs l' (ap run_notes it.0) it.1)
+accepts_as moment door wire.End l hs l' good it = goes_calm moment l hs l' good (calm_still l hs l' (ap run_notes it.0) it.1)
+accepts_as moment door wire.Fault l hs l' good it = goes_calm moment l hs l' good (calm_still l hs l' (ap run_notes it.0) it.1)
 
 pub moves_accepts : (moment : ℕ) (door : Door) → Moves moment (AcceptsAt door)
 moves_accepts moment door l hs l' good it =
@@ -185,7 +186,7 @@ pub notes_good : (now : ℕ) (l : Ledger) (hs : List Happening) (l' : Ledger) �
 notes_good now l hs l' it = record {
   core = ap (λ (x : Ledger). x.core) it.1;
   closed = ap (λ (x : Ledger). x.closed) it.1;
-  notes = ap core_notes it.0;
+  notes = ap run_notes it.0;
   each = λ key. subst (λ (x : Ledger). Ordered (λ d. []) (l.entries key) (x.entries key)) (sym it.1) (ordered_still (l.entries key));
 }
 
@@ -212,22 +213,22 @@ moves_turn moment =
     (moves_then moment (AcceptsAt Ipp) (Then (AcceptsAt Lpd) (Then (AcceptsAt Devices) (Round moment))) (moves_accepts moment Ipp)
     (moves_then moment (AcceptsAt Lpd) (Then (AcceptsAt Devices) (Round moment)) (moves_accepts moment Lpd) (moves_then moment (AcceptsAt Devices) (Round moment) (moves_accepts moment Devices) (moves_round moment)))))
 
-pub between_answers : (request : ℕ) (reply : Option Effects) (bytes : List ℕ) → Calms (Between.Answers request reply bytes)
-between_answers request (Some reply) bytes l hs l' (inl (are, it)) = calms_chooses Found l hs l' it
-between_answers request (Some reply) bytes l hs l' (inr it) = calms_refusal At.Reply None refl l hs l' it
-between_answers request None bytes l hs l' it = calms_refusal At.Event None refl l hs l' it
+pub between_answers : (moment request : ℕ) (reply : Option Effects) (bytes : List ℕ) → Moves moment (Between.Answers request reply bytes)
+between_answers moment request (Some reply) bytes l hs l' good (inl (are, it)) = goes_calm moment l hs l' good (calms_chooses Found l hs l' it)
+between_answers moment request (Some reply) bytes l hs l' good (inr it) = goes_refused moment At.Reply None l hs l' good refl it
+between_answers moment request None bytes l hs l' good it = goes_refused moment At.Event None l hs l' good refl it
 
 pub body_asks : (moment : ℕ) (it : ParsedRequest) (served : Between.Outcome) → Moves moment (BodyAsks moment it served)
 body_asks moment asked.TooShort served l hs l' good it = goes_calm moment l hs l' good (calms_nothing l hs l' it.1)
 body_asks moment (asked.Refused status request) served l hs l' good (is, inl it) = goes_calm moment l hs l' good (calms_chooses Found l hs l' it)
-body_asks moment (asked.Refused status request) served l hs l' good (is, inr it) = goes_calm moment l hs l' good (calms_refusal At.Reply None refl l hs l' it)
+body_asks moment (asked.Refused status request) served l hs l' good (is, inr it) = goes_refused moment At.Reply None l hs l' good refl it
 body_asks moment (asked.Event request event) served l hs l' good (bytes, is, (outcome, it)) =
-    moves_then moment (Happens moment event outcome) (Between.Answers request (reply_of outcome) bytes) (moves_happens moment event outcome) (moves_calm moment (Between.Answers request (reply_of outcome) bytes) (between_answers request (reply_of outcome) bytes)) l hs l' good it
+    moves_then moment (Happens moment event outcome) (Between.Answers request (reply_of outcome) bytes) (moves_happens moment event outcome) (between_answers moment request (reply_of outcome) bytes) l hs l' good it
 
 pub body_comes : (moment : ℕ) (body : List ℕ) (served : Between.Outcome) → Moves moment (BodyComes moment body served)
 body_comes moment body served l hs l' good (inl (it, asks, comes)) =
     moves_then moment (Chooses Found) (BodyAsks moment it served) (moves_calm moment (Chooses Found) (calms_chooses Found)) (body_asks moment it served) l hs l' good comes
-body_comes moment body served l hs l' good (inr it) = goes_calm moment l hs l' good (calms_refusal At.Event None refl l hs l' it)
+body_comes moment body served l hs l' good (inr it) = goes_refused moment At.Event None l hs l' good refl it
 
 pub moves_action : (action : Action) (l l' : Ledger) → Good l → DoesAction action l l' → Goes (moment_of action) l (happenings_of action) l'
 moves_action (Turned moment hs) l l' good it = moves_turn moment l hs l' good it
@@ -242,7 +243,7 @@ pub record GoesOn_in (trace : Trace) (l l' : Ledger) : Type 0 where
   pub good : Good l'
   pub timed : AreOf trace handled
   pub run : AreHandled l.core handled l'.core
-  pub told : core_notes (happenings_in trace) ≡ flat_map (λ (it : Handled). it.notes) handled
+  pub told : run_notes (happenings_in trace) ≡ flat_map (λ (it : Handled). it.notes) handled
   pub came : (key device : ℕ) → Counts device (l'.entries key) → CameAs device handled (l.entries key) (l'.entries key)
   pub lost : (key device : ℕ) → IsLost device (l'.entries key) → LostAs device handled (l.entries key) (l'.entries key)
   pub progresses : (key : ℕ) (e : Entry) → l'.entries key ≡ Some e → ClientTalk e.progress → e.broken ≡ false → TalkedAs l.core key handled (l.entries key) e
@@ -258,8 +259,8 @@ goes_on [] l l' good same = record {
   told = refl;
   came = λ key device counts. inl (subst (λ (x : Ledger). Counts device (x.entries key)) same counts, ap (λ (x : Ledger). due_at (x.entries key)) same);
   lost = λ key device is. inl (subst (λ (x : Ledger). IsLost device (x.entries key)) same is, ap (λ (x : Ledger). due_at (x.entries key)) same);
-  progresses = λ key. progressed_still l.core key [] (l.entries key) (l'.entries key) (λ f is of. (f, subst (λ (x : Ledger). x.entries key ≡ Some f) same is, refl, λ sound. sound, refl)) refl;
-  stops = λ key. stops_still l.core key [] (l.entries key) (l'.entries key) (λ f is of. (f, subst (λ (x : Ledger). x.entries key ≡ Some f) same is, refl, λ sound. sound, refl)) refl;
+  progresses = λ key. progressed_still l.core key [] (l.entries key) (l'.entries key) (λ f is of. (f, subst (λ (x : Ledger). x.entries key ≡ Some f) same is, refl, λ sound. sound, refl, reads_same f)) refl;
+  stops = λ key. stops_still l.core key [] (l.entries key) (l'.entries key) (λ f is of. (f, subst (λ (x : Ledger). x.entries key ≡ Some f) same is, refl, λ sound. sound, refl, reads_same f)) refl;
   closed = none_closed l [] l' (ap (λ (x : Ledger). x.closed) same);
 }
 goes_on (action ∷ actions) l l' good (mid, does, runs) =
@@ -271,7 +272,7 @@ goes_on (action ∷ actions) l l' good (mid, does, runs) =
       timed = (first.handled, later.handled, refl, first.timed, later.timed);
       run = handled_append l.core mid.core l'.core first.handled later.handled first.run later.run;
       told = notes_append (happenings_of action) (happenings_in actions)
-          ∙ (ap (λ (ns : List Note). ns ++ core_notes (happenings_in actions)) first.told ∙ (ap (λ (ns : List Note). flat_map (λ (it : Handled). it.notes) first.handled ++ ns) later.told ∙ sym (flat_map-append (λ (it : Handled). it.notes) first.handled later.handled)));
+          ∙ (ap (λ (ns : List Note). ns ++ run_notes (happenings_in actions)) first.told ∙ (ap (λ (ns : List Note). flat_map (λ (it : Handled). it.notes) first.handled ++ ns) later.told ∙ sym (flat_map-append (λ (it : Handled). it.notes) first.handled later.handled)));
       came = λ key device counts. came_then device first.handled later.handled (l.entries key) (mid.entries key) (l'.entries key) (later.came key device counts) (first.came key device);
       lost = λ key device is. lost_then device first.handled later.handled (l.entries key) (mid.entries key) (l'.entries key) (later.lost key device is) (first.lost key device) (first.came key device);
       progresses = λ key e is of sound. progressed_then l.core mid.core key first.handled later.handled (l.entries key) (mid.entries key) e first.run (later.progresses key e is of sound) (λ d there client unbroken. first.progresses key d there client unbroken);
@@ -312,8 +313,8 @@ module _ (opening : State) (trace : Trace) (l : Ledger) (runs : Runs trace (open
   front_more handled before behind device due whole (first, later, same, rest, is) = (first, later ++ behind, whole ∙ (ap (λ (its : List Handled). its ++ behind) same ∙ append_assoc first later behind), rest, is)
 
   cut_since : (x : Option Entry) (key : ℕ) (handled : List Handled) (e : Entry) → x ≡ None → StopsAs opening key handled x e → IsCutOff opening key handled e
-  cut_since x key handled e none (inl (d, there, broken, progress, due, silent)) = absurd (no_entry x d none there)
-  cut_since x key handled e none (inr (inl (d, there, client, sound, until))) = absurd (no_entry x d none there)
+  cut_since x key handled e none (inl (d, there, broken, progress, due, silent, reads)) = absurd (no_entry x d none there)
+  cut_since x key handled e none (inr (inl (d, there, client, sound, until, reads))) = absurd (no_entry x d none there)
   cut_since x key handled e none (inr (inr cut)) = cut
 
   pub are_sent : AreSent opening trace l

@@ -11,8 +11,8 @@ use Rattle.server.specs.Ledger.{Ledger, Fate, Broken}
 use Rattle.server.specs.Rel.{Rel, Nothing, Then, If, Or, Times, Many, Each}
 use Rattle.server.specs.Happening.{Happens, Unanswered}
 use Rattle.server.specs.Closing.{Leaves, IsGone, ClosesAs, ClosesFirst, Settles}
-use Rattle.server.specs.Law.{core_notes}
-use Rattle.promises.proofs.Sending.{Counts, due_at, Good, IsLost}
+use Rattle.promises.specs.Orders.{run_notes}
+use Rattle.promises.proofs.Sending.{Counts, due_at, Good, IsLost, reads_same}
 use Rattle.promises.proofs.Handling.{goes_plain, happened, Goes, goes_then, goes_calm, goes_event, progressed_still, ClosedAs, stops_still}
 use Rattle.promises.proofs.Giving.{Calms, calms_nothing}
 
@@ -58,7 +58,7 @@ moves_unanswered moment event l hs l' good (outcome, it) = moves_happens moment 
 
 pub leaves_at : (moment : ℕ) (fate : Fate) (key : ℕ) (e : Entry) (l : Ledger) (hs : List Happening) (l' : Ledger) → Good l → l.entries key ≡ Some e → Leaves fate key e l hs l' → Goes moment l hs l'
 leaves_at moment fate key e l hs l' good there it =
-    goes_plain moment key None l hs l' good (ap core_notes it.0) (ap (λ (x : Ledger). x.core) it.2) (ap (λ (x : Ledger). x.entries) it.2)
+    goes_plain moment key None l hs l' good (ap run_notes it.0) (ap (λ (x : Ledger). x.core) it.2) (ap (λ (x : Ledger). x.entries) it.2)
     (record { counts = λ device is. absurd is; lost = λ device is. absurd is; device = λ device is. absurd is; fresh = λ is. tt }) (λ f is. cc) (λ f is. cc)
     (record { more = (e, fate) ∷ []; closed = ap (λ (x : Ledger). x.closed) it.2; each = All-cons (λ (x : Entry × Fate). ClosedAs l [] x.0) (e, fate) [] gone (All-nil (λ (x : Entry × Fate). ClosedAs l [] x.0)) })
   where
@@ -70,8 +70,8 @@ leaves_at moment fate key e l hs l' good there it =
       whole = refl;
       came = λ device named sound. inl (subst (λ (o : Option Entry). Counts device o) (sym there) (named, sound), sym (ap due_at there));
       lost = λ device named is. inl (subst (λ (o : Option Entry). IsLost device o) (sym there) (named, is), sym (ap due_at there));
-      progresses = λ client sound. progressed_still l.core key [] (l.entries key) (l.entries key) (λ f is of. (f, is, refl, λ unbroken. unbroken, refl)) refl e there client sound;
-      stops = λ client broken. stops_still l.core key [] (l.entries key) (l.entries key) (λ f is of. (f, is, refl, λ unbroken. unbroken, refl)) refl e there client broken;
+      progresses = λ client sound. progressed_still l.core key [] (l.entries key) (l.entries key) (λ f is of. (f, is, refl, λ unbroken. unbroken, refl, reads_same f)) refl e there client sound;
+      stops = λ client broken. stops_still l.core key [] (l.entries key) (l.entries key) (λ f is of. (f, is, refl, λ unbroken. unbroken, refl, reads_same f)) refl e there client broken;
     }
 
 pub moves_gone : (moment : ℕ) (device : Option ℕ) → Moves moment (IsGone moment device)

@@ -31,6 +31,7 @@ use Rattle.server.specs.Rel.{Tells}
 use Rattle.server.specs.Acting.{place_of, place_of_part, ActsOn}
 use Rattle.server.specs.Law.{core_notes}
 use Rattle.promises.proofs.Typing.{EventOf, asks_ipp, submits_job, commands}
+use Rattle.promises.specs.Orders.{run_notes}
 use Rattle.promises.specs.Answers.{ClientTalk}
 use Rattle.promises.proofs.Sending.{FreshTalk, Ordered, ordered_broken, calm_still, Good, one_entry}
 use Rattle.promises.proofs.Handling.{Goes, goes_calm}
@@ -71,12 +72,21 @@ pub silent_part : (it : Part) (id : ℕ) → core_notes (Told (Refused (place_of
 silent_part part.File id = refl
 silent_part part.Job id = refl
 
-pub calms_device_refused : (id : ℕ) (note : Note) → core_notes (Told note ∷ []) ≡ [] → Calms (Tells note)
-calms_device_refused id note silent l hs l' it = calm_still l hs l' (ap core_notes it.0 ∙ silent) it.1
+-- as notes of a run
+pub silent_run : (it : Growth) (id : ℕ) → run_notes (Told (Refused (place_of it) (Some id)) ∷ []) ≡ []
+silent_run growth.Input id = refl
+silent_run growth.Output id = refl
+
+pub tells_part : (it : Part) (id : ℕ) → run_notes (Told (Refused (place_of_part it) (Some id)) ∷ []) ≡ Refused (place_of_part it) (Some id) ∷ []
+tells_part part.File id = refl
+tells_part part.Job id = refl
+
+pub calms_device_refused : (id : ℕ) (note : Note) → run_notes (Told note ∷ []) ≡ [] → Calms (Tells note)
+calms_device_refused id note silent l hs l' it = calm_still l hs l' (ap run_notes it.0 ∙ silent) it.1
 
 pub device_does : (moment key id : ℕ) (what : Ask) (l : Ledger) (hs : List Happening) (l' : Ledger) → IsDeviceAsk what → Good l → ActsOn moment key id what l hs l' → Goes moment l hs l'
 device_does moment key id ask.Nothing l hs l' is good it = absurd is
-device_does moment key id (ask.Broke growth) l hs l' is good it = goes_calm moment l hs l' good (calms_refusal (place_of growth) (Some id) (silent_growth growth id) l hs l' it)
+device_does moment key id (ask.Broke growth) l hs l' is good it = goes_calm moment l hs l' good (calms_refusal (place_of growth) (Some id) (silent_run growth id) l hs l' it)
 device_does moment key id (ask.Event who event) l hs l' is good it = absurd is
 device_does moment key id (ask.Unread request) l hs l' is good it = absurd is
 device_does moment key id (ask.Lost part) l hs l' is good it = absurd is
