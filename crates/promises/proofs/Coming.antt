@@ -240,8 +240,8 @@ acted_by moment key id (step.Breaks asked) m new what l hs l' fine (is, after) c
 pub next_of : (settings : ServerSettings) (progress : PeerRecord) (e : Entry) (comes : Step) (mid : Entry) → ClientTalk progress → e.progress ≡ progress → IsClientStep comes → ItemComes settings progress e comes mid → (mid.due ≡ e.due) × (((comes ≡ no_memory) × (mid.progress ≡ progress)) ⊎ IsNext settings e.read progress comes mid.progress) × ReadsOn e mid
 next_of settings (Http said closes body) e comes mid client is fine next = (ap (λ (x : Entry). x.due) next.after, inr (record { item = next.item; part = next.part; first = next.next; comes = next.comes; is = ap (λ (x : Entry). x.progress) next.after }), reads_still e mid (ap (λ (x : Entry). x.id) next.after) (ap (λ (x : Entry). x.read) next.after))
 next_of settings (Queue items session) e comes mid client is fine (inl next) =
-    (ap (λ (x : Entry). x.due) next.after, inr (inl (record { said = next.said; session_after = next.session_after; comes = next.comes; is = ap (λ (x : Entry). x.progress) next.after })), reads_still e mid (ap (λ (x : Entry). x.id) next.after) (ap (λ (x : Entry). x.read) next.after))
-next_of settings (Queue items session) e comes mid client is fine (inr (inl next)) = (ap (λ (x : Entry). x.due) next.after, inr (inr (next.comes, ap (λ (x : Entry). x.progress) next.after ∙ is)), reads_still e mid (ap (λ (x : Entry). x.id) next.after) (ap (λ (x : Entry). x.read) next.after))
+    (ap (λ (x : Entry). x.due) next.after, inr (inl (record { said = next.said; session_after = next.session_after; first = next.next; comes = next.comes; is = ap (λ (x : Entry). x.progress) next.after })), reads_still e mid (ap (λ (x : Entry). x.id) next.after) (ap (λ (x : Entry). x.read) next.after))
+next_of settings (Queue items session) e comes mid client is fine (inr (inl next)) = (ap (λ (x : Entry). x.due) next.after, inr (inr (record { fault = next.fault; says = next.is; comes = next.comes; is = ap (λ (x : Entry). x.progress) next.after ∙ is })), reads_still e mid (ap (λ (x : Entry). x.id) next.after) (ap (λ (x : Entry). x.read) next.after))
 next_of settings (Queue items session) e comes mid client is fine (inr (inr next)) = (ap (λ (x : Entry). x.due) next.1, inl (next.0, ap (λ (x : Entry). x.progress) next.1 ∙ is), reads_still e mid (ap (λ (x : Entry). x.id) next.1) (ap (λ (x : Entry). x.read) next.1))
 next_of settings (Link reports device) e comes mid client is fine next = absurd client
 

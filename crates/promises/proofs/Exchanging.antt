@@ -26,7 +26,7 @@ use Rattle.server.specs.Ledger.{Ledger, Fate}
 use Rattle.server.specs.Turn.{Trace}
 use Rattle.promises.specs.Orders.{Handled}
 use Rattle.promises.specs.Answers.{Act, NextIpp, IsNext, IsOwed, AreActs, IsAnswered, IsLast, IsCutOff, ClientTalk, AreAnswered, WasAnswered, WasCutOff}
-use Rattle.promises.specs.Exchanges.{Exchange, says_begun, says_exchange, IsAnswerTo, IsExchange, invitation, due_in, Front, Nothing, Begun, says_front, due_front, says_refusal, due_refusal, AreExchanges, ActsAreExchanges, ByExchanges, IsOneMore, UntilBroken, IsByExchanges, WasByExchanges, IsFirst, AreByExchanges}
+use Rattle.promises.specs.Exchanges.{Exchange, says_begun, says_exchange, IsAnswerTo, IsExchange, invitation, due_in, Front, Nothing, Begun, says_front, due_front, says_refusal, due_refusal, AreExchanges, ActsAreExchanges, ByExchanges, IsOneMore, UntilBroken, IsByExchanges, WasByExchanges, AreByExchanges}
 
 no_false : false ≡ true → ⊥
 no_false is = cc
@@ -402,7 +402,7 @@ module _ (ordered : ElementsInOrder) (some : SomeParse) (stays : FirstStays) whe
   -- the acts of an LPD client, and of a device, lead to no progress of an IPP client
   no_lpd : (settings : ServerSettings) (read : List ℕ) (items : List ItemRecord) (session : Option SessionState) (what : Step) (after : PeerRecord) → IsNext settings read (Queue items session) what after → (items' : List ItemRecord) × (session' : Option SessionState) × (after ≡ Queue items' session')
   no_lpd settings read items session what after (inl next) = (items ++ next.said ∷ [], next.session_after, next.is)
-  no_lpd settings read items session what after (inr is) = (items, session, is.1)
+  no_lpd settings read items session what after (inr next) = (items, session, next.is)
 
   no_queue : (said : List HttpElement) (closes : Bool) (body : List ℕ) (items : List ItemRecord) (session : Option SessionState) → Http said closes body ≡ Queue items session → ⊥
   no_queue said closes body items session is = cc
@@ -486,15 +486,15 @@ module _ (ordered : ElementsInOrder) (some : SomeParse) (stays : FirstStays) whe
       (was_so opening handled one.0 one.0.progress refl one.0.broken refl (All-head (λ (it : Entry × Fate). WasAnswered opening handled it.0) one closed answered) (All-head (λ (it : Entry × Fate). WasCutOff opening handled it.0) one closed cut))
       (all_so opening handled closed (All-tail (λ (it : Entry × Fate). WasAnswered opening handled it.0) one closed answered) (All-tail (λ (it : Entry × Fate). WasCutOff opening handled it.0) one closed cut))
 
-  pub by_exchanges : (opening : State) (trace : Trace) (l : Ledger) → AreAnswered opening trace l → ((key : ℕ) (e : Entry) → l.entries key ≡ Some e → IsFirst e.read e.progress) → All (λ (it : Entry × Fate). IsFirst it.0.read it.0.progress) l.closed → AreByExchanges opening trace l
-  by_exchanges opening trace l all first gone = record {
+  pub by_exchanges : (opening : State) (trace : Trace) (l : Ledger) → AreAnswered opening trace l → AreByExchanges opening trace l
+  by_exchanges opening trace l all = record {
     handled = all.handled;
     timed = all.timed;
     run = all.run;
     told = all.told;
     each = λ key e there. so opening key all.handled e e.progress refl (all.answered key e there) (all.cut_off key e there);
     closed = all_so opening all.handled l.closed all.closed all.closed_cut_off;
-    first = first;
-    closed_first = gone;
+    first = all.first;
+    closed_first = all.closed_first;
     heard = all.heard;
   }

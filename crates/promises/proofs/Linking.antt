@@ -32,7 +32,7 @@ use Rattle.server.specs.Turn as Between
 use Rattle.server.specs.Turn.{Ticks, Notes, is_tick_due, TicksIfDue, Covers, Round, Turn, BodyAsks, BodyComes, Action, Turned, Served_body, Reported, Ticked, Trace, DoesAction, Runs}
 use Rattle.server.specs.Law.{moment_of, happenings_of, happenings_in}
 use Rattle.promises.specs.Orders.{Handled, AreHandled, AreOf, run_notes, due_by, AreSent, WasSent, IsFrontSent, WasHalted}
-use Rattle.promises.specs.Answers.{Act, ClientTalk, IsFrontOf, IsStateOf, IsAnswered, WasAnswered, AreAnswered, IsCutOff, WasCutOff}
+use Rattle.promises.specs.Answers.{Act, ClientTalk, IsFrontOf, IsStateOf, IsAnswered, WasAnswered, IsFirst, AreAnswered, IsCutOff, WasCutOff}
 use Rattle.promises.proofs.Sending.{Counts, due_at, Ordered, ordered_still, ordered_keeps, Calm, notes_append, calm_still, calm_sets, breaking, Good, one_entry, IsLost, no_true, ReadsOn, reads_still, reads_same}
 use Rattle.promises.proofs.Handling.{Plain, goes_plain, CameAs, Goes, handled_append, came_then, goes_then, goes_calm, TalkedAs, progressed_then, progressed_still, ClosedAs, AllClosed, none_closed, all_closed_then, goes_refused, LostAs, lost_then, CameWith, StopsAs, stops_still, stops_then}
 use Rattle.promises.proofs.Giving.{Calms, calms_nothing, calms_chooses, calms_breaks}
@@ -336,13 +336,15 @@ module _ (opening : State) (trace : Trace) (l : Ledger) (runs : Runs trace (open
         (λ it c device named is. front_more all.handled c.before c.behind device it.0.due c.whole (halted_since None (Some it.0) c.before device refl (c.lost device named is))) all.closed.more all.closed.each);
   }
 
-  pub are_answered : ((key : ℕ) (e : Entry) → l.entries key ≡ Some e → IsHeard e) → AreAnswered opening trace l
-  are_answered heard = record {
+  pub are_answered : ((key : ℕ) (e : Entry) → l.entries key ≡ Some e → IsHeard e) → ((key : ℕ) (e : Entry) → l.entries key ≡ Some e → IsFirst e.read e.progress) → All (λ (it : Entry × Fate). IsFirst it.0.read it.0.progress) l.closed → AreAnswered opening trace l
+  are_answered heard first gone = record {
     handled = all.handled;
     timed = all.timed;
     run = all.run;
     told = all.told;
     answered = λ key e there client sound. answered_since None key all.handled e refl (all.progresses key e there client sound);
+    first = first;
+    closed_first = gone;
     heard = heard;
     closed = subst (λ (closed : List (Entry × Fate)). All (λ (it : Entry × Fate). WasAnswered opening all.handled it.0) closed) (sym all.closed.closed)
         (All-weaker (λ (it : Entry × Fate). ClosedAs (opening_ledger opening) all.handled it.0) (λ (it : Entry × Fate). WasAnswered opening all.handled it.0)

@@ -4,7 +4,10 @@ use Rattle.std.specs.List.{flat_map}
 use Rattle.settings_file.specs.Settings.{ServerSettings}
 use Rattle.http_front.specs.declared.item.HttpItem.{HttpItem}
 use Rattle.http_front.specs.Stream.{HttpElement, elements_of, ParsesFirst}
+use Rattle.lpd.specs.declared.fault.LpdFault.{LpdFault}
 use Rattle.lpd.specs.Items.{ItemRecord}
+use Rattle.lpd.specs.Stream.{LpdItems, Faulty}
+use Rattle.lpd.specs.Stream as Lpd
 use Rattle.lpd.specs.Session.{SessionState}
 use Rattle.wires.specs.declared.wire.Door.{Door}
 use Rattle.print_room.specs.State.{State}
@@ -58,17 +61,25 @@ pub record NextIpp (read : List ℕ) (said : List HttpElement) (closes : Bool) (
   pub comes : StepsIpp item closes body what
   pub is : after ≡ Http (said ++ elements_of item part) (closes_after item closes) (body_after item what part body)
 
--- the next item of an LPD client
-pub record NextLpd (queues : List ℕ → Bool) (items : List ItemRecord) (session : Option SessionState) (what : Step) (after : PeerRecord) : Type 0 where
+-- the next item of an LPD client, by the bytes that were read
+pub record NextLpd (queues : List ℕ → Bool) (read : List ℕ) (items : List ItemRecord) (session : Option SessionState) (what : Step) (after : PeerRecord) : Type 0 where
   pub said : ItemRecord
   pub session_after : Option SessionState
+  pub first : Lpd.ParsesFirst read (items ++ said ∷ [])
   pub comes : StepsLpd queues session said what session_after
   pub is : after ≡ Queue (items ++ said ∷ []) session_after
 
--- the next item, or a fault in the stream, which is refused, and the connection drains
+-- the bytes that were read of an LPD client have a fault behind its items: the fault is refused, and the connection drains
+pub record FaultLpd (read : List ℕ) (items : List ItemRecord) (session : Option SessionState) (what : Step) (after : PeerRecord) : Type 0 where
+  pub fault : LpdFault
+  pub says : LpdItems read items (Faulty fault)
+  pub comes : what ≡ refused
+  pub is : after ≡ Queue items session
+
+-- the next item by the bytes that were read, or a fault
 abbrev pub IsNext : ServerSettings → List ℕ → PeerRecord → Step → PeerRecord → Type 0
 IsNext settings read (Http said closes body) what after = NextIpp read said closes body what after
-IsNext settings read (Queue items session) what after = NextLpd (is_queue settings) items session what after ⊎ ((what ≡ refused) × (after ≡ Queue items session))
+IsNext settings read (Queue items session) what after = NextLpd (is_queue settings) read items session what after ⊎ FaultLpd read items session what after
 IsNext settings read (Link reports device) what after = ⊥
 
 -- ---- the bytes of an act
@@ -220,13 +231,21 @@ WasAnswered opening handled e = ClientTalk e.progress → e.broken ≡ false →
 abbrev pub WasCutOff : State → List Handled → Entry → Type 0
 WasCutOff opening handled e = ClientTalk e.progress → e.broken ≡ true → (key : ℕ) × (before : List Handled) × (behind : List Handled) × (handled ≡ before ++ behind) × IsCutOff opening key before e
 
--- The events of a trace are one run of the core, whose parts tell the listener's notes. Each open connection of a client that isn't broken is answered by the run, and so was each that was closed without having broken. A broken one was answered until it broke. On each open connection all that was read was acted on, unless it is draining or broken.
+-- the items acted on are a front of those that the bytes read say, by HTTP or by RFC 1179
+abbrev pub IsFirst : List ℕ → PeerRecord → Type 0
+IsFirst read (Http said closes body) = ParsesFirst read said
+IsFirst read (Queue items session) = Lpd.ParsesFirst read items
+IsFirst read (Link reports device) = Unit {0}
+
+-- The events of a trace are one run of the core, whose parts tell the listener's notes. Each open connection of a client that isn't broken is answered by the run, and so was each that was closed without having broken. A broken one was answered until it broke. On each connection, open or closed, the items acted on are a front of those that its bytes say. On an open connection they are all of these, unless the connection is draining or broken.
 pub record AreAnswered (opening : State) (trace : Trace) (l : Ledger) : Type 0 where
   pub handled : List Handled
   pub timed : AreOf trace handled
   pub run : AreHandled opening handled l.core
   pub told : run_notes (happenings_in trace) ≡ flat_map (λ (it : Handled). it.notes) handled
   pub answered : (key : ℕ) (e : Entry) → l.entries key ≡ Some e → ClientTalk e.progress → e.broken ≡ false → IsAnswered opening key handled e
+  pub first : (key : ℕ) (e : Entry) → l.entries key ≡ Some e → IsFirst e.read e.progress
+  pub closed_first : All (λ (it : Entry × Fate). IsFirst it.0.read it.0.progress) l.closed
   pub heard : (key : ℕ) (e : Entry) → l.entries key ≡ Some e → IsHeard e
   pub closed : All (λ (it : Entry × Fate). WasAnswered opening handled it.0) l.closed
   pub cut_off : (key : ℕ) (e : Entry) → l.entries key ≡ Some e → ClientTalk e.progress → e.broken ≡ true → IsCutOff opening key handled e

@@ -6,7 +6,7 @@ use Rattle.http_front.specs.declared.refusal.HttpRejection.{HttpRejection}
 use Rattle.http_front.specs.declared.refusal.HttpRejection.TheVariants.{BadRequest}
 use Rattle.http_front.specs.declared.item.HttpItem.{HttpItem}
 use Rattle.http_front.specs.Reply.{continue_head}
-use Rattle.http_front.specs.Stream.{HttpElement, HasHead, Invites, HasByte, EndsBody, IsRefused, elements_of, ParsesFirst}
+use Rattle.http_front.specs.Stream.{HttpElement, HasHead, Invites, HasByte, EndsBody, IsRefused, elements_of}
 use Rattle.http_front.specs.Order.{Between, in_order}
 use Rattle.events.specs.declared.status.Status.TheVariants.{TemporaryError}
 use Rattle.dispatcher.specs.declared.listener.AllocationSite.TheVariants as At
@@ -23,7 +23,7 @@ use Rattle.server.specs.Turn.{Trace}
 use Rattle.server.specs.Law.{happenings_in}
 use Rattle.wires.specs.declared.wire.Door.TheVariants.{Ipp}
 use Rattle.promises.specs.Orders.{Handled, AreHandled, AreOf, run_notes}
-use Rattle.promises.specs.Answers.{Act, AreActs, IsRefusal, IsGivenTo, asked_by, IsOneAtMost}
+use Rattle.promises.specs.Answers.{Act, AreActs, IsRefusal, IsGivenTo, asked_by, IsOneAtMost, IsFirst}
 
 -- ---- one exchange
 
@@ -139,11 +139,6 @@ IsByExchanges key handled progress e = Unit {0}
 -- a connection that was closed has this property, by the events before
 abbrev pub WasByExchanges : List Handled → Entry → Type 0
 WasByExchanges handled e = (key : ℕ) × (before : List Handled) × (behind : List Handled) × (handled ≡ before ++ behind) × IsByExchanges key before e.progress e
-
--- the items acted on are a front of those that the bytes read say by HTTP
-abbrev pub IsFirst : List ℕ → PeerRecord → Type 0
-IsFirst read (Http said closes body) = ParsesFirst read said
-IsFirst read progress = Unit {0}
 
 -- The events of a trace are one run of the core, whose parts tell the listener's notes, and by which each IPP client is answered exchange by exchange, even if its connection was closed. On each connection the exchanges are a front of the exchanges that its bytes say. On an open connection they are all of these, unless the connection is draining or broken.
 pub record AreByExchanges (opening : State) (trace : Trace) (l : Ledger) : Type 0 where
