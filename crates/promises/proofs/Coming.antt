@@ -6,6 +6,7 @@ use Rattle.std.proofs.lemmas.List.Elements.{All-cons, All-nil}
 use Rattle.settings_file.specs.Settings.{ServerSettings}
 use Rattle.print_room.specs.State.{State}
 use Rattle.events.specs.declared.event.Event.{Event}
+use Rattle.events.specs.declared.event.Event.TheVariants as Is
 use Rattle.events.specs.Event.{is_query}
 use Rattle.dispatcher.specs.declared.listener.AllocationSite.{AllocationSite}
 use Rattle.dispatcher.specs.declared.listener.AllocationSite.TheVariants as At
@@ -14,6 +15,7 @@ use Rattle.dispatcher.specs.Run.{reply_of}
 use Rattle.connections.specs.declared.ask.Ask.{Ask}
 use Rattle.connections.specs.declared.ask.Ask.TheVariants as ask
 use Rattle.connections.specs.declared.ask.Client.{Client}
+use Rattle.connections.specs.declared.ask.Client.TheVariants as client
 use Rattle.connections.specs.declared.ask.Growth.TheVariants as growth
 use Rattle.connections.specs.declared.step.Step.{Step}
 use Rattle.connections.specs.declared.step.Step.TheVariants as step
@@ -28,10 +30,10 @@ use Rattle.server.specs.Closing.{Settles}
 use Rattle.server.specs.Answering as Ans
 use Rattle.server.specs.Acting.{place_of, place_of_part, Asks, ActsOn, ActsNext}
 use Rattle.server.specs.Polling.{Acts, Serves}
-use Rattle.promises.specs.Orders.{MemoryRefused, Handled, AreHandled, AreAt, run_notes, due_by}
+use Rattle.promises.specs.Orders.{MemoryRefused, Handled, AreHandled, named_by, IsAt, AreAt, run_notes, due_by}
 use Rattle.promises.proofs.Typing.{EventOf, typed}
 use Rattle.promises.specs.Answers.{Act, ClientTalk, IsFrontOf, IsNext, IsOwed, IsStateOf, asked_by, IsLast, BrokeAfter, IsOneAtMost}
-use Rattle.promises.proofs.Sending.{Counts, due_at, IsFresh, IsClient, same_key, other_key, is_key, Ordered, notes_append, calm_sets, Good, one_entry, not_key, client_none, client_fresh, no_true, counts_device, ordered_then, sent_by, IsLost, lost_device, breaks_same, ReadsOn, reads_still, reads_then}
+use Rattle.promises.proofs.Sending.{Counts, due_at, FreshTalk, IsFresh, IsClient, same_key, other_key, is_key, Ordered, notes_append, calm_sets, Good, one_entry, not_key, client_none, client_fresh, no_true, counts_device, ordered_then, sent_by, IsLost, lost_device, breaks_same, ReadsOn, reads_still, reads_then}
 use Rattle.promises.proofs.Handling.{happened, CameAs, Goes, goes_then, goes_calm, TalkedAs, Went, progressed_still, one_handled, none_closed, LostAs, lost_by, StopsAs, stops_still, acts_on}
 use Rattle.promises.proofs.Giving.{calms_chooses, Gave, gave_still, gives_nothing, at_aside, at_here, Just_these, Loose, told_of, refusal_at, one_refusal, given, No_memory, gives_dropped, gives_declines, gives_answers}
 use Rattle.promises.proofs.Moving.{Moves, moves_calm, moves_then, moves_many, moves_settles}
@@ -53,7 +55,7 @@ pub record Acted (moment key : ℕ) (comes : Step) (new : Entry) (base : List �
   pub handled : List Handled
   pub sent : ℕ → List ℕ
   pub run : AreHandled l.core handled l'.core
-  pub timed : AreAt moment handled
+  pub timed : AreAt true moment handled
   pub told : run_notes hs ≡ flat_map (λ (it : Handled). it.notes) handled
   pub sends : (device : ℕ) (before : List ℕ) → due_by device before handled ≡ before ++ sent device
   pub others : (k : ℕ) → k ≢ key → Ordered sent (l.entries k) (l'.entries k)
@@ -71,12 +73,12 @@ halts_due comes new d e base asked same (inr (bytes, owed, is)) = inr (bytes, ow
 -- the core handles no event, and memory may be refused
 pub refusal_run : (moment id key : ℕ) (lost : Option AllocationSite) (old new : State) → new ≡ old → AreHandled old (refusal_at moment id key new lost) new
 refusal_run moment id key None old new same = same
-refusal_run moment id key (Some place) old new same = (tt, (refl, same), refl)
+refusal_run moment id key (Some place) old new same = ((refl, same), refl)
 
-pub refusal_timed : (moment id key : ℕ) (lost : Option AllocationSite) (core : State) → AreAt moment (refusal_at moment id key core lost)
-refusal_timed moment id key None core = All-nil (λ (it : Handled). it.moment ≡ moment)
+pub refusal_timed : (moment id key : ℕ) (lost : Option AllocationSite) (core : State) → AreAt true moment (refusal_at moment id key core lost)
+refusal_timed moment id key None core = All-nil (IsAt true moment)
 refusal_timed moment id key (Some place) core =
-    All-cons (λ (it : Handled). it.moment ≡ moment) (record { moment = moment; what = MemoryRefused place (Some id); notes = Refused place (Some id) ∷ []; state = core; named = None; asked = Some key }) [] refl (All-nil (λ (it : Handled). it.moment ≡ moment))
+    All-cons (IsAt true moment) (record { moment = moment; what = MemoryRefused place (Some id); notes = Refused place (Some id) ∷ []; state = core; named = None; asked = Some key }) [] (refl, refl) (All-nil (IsAt true moment))
 
 pub refusal_told : (moment id key : ℕ) (lost : Option AllocationSite) (core : State) → told_of id lost ≡ flat_map (λ (it : Handled). it.notes) (refusal_at moment id key core lost)
 refusal_told moment id key None core = refl
@@ -132,6 +134,13 @@ acted_calm moment key lost comes new base Q l hs l' there client owed halted g =
       );
 }
 
+-- a client's event gives no device's name
+own_nameless : (turn : Bool) (who : Client) (event : Event) → EventOf who event → named_by turn event ≡ None
+own_nameless turn (client.Ipp request) (Is.Report device said) own = absurd own
+own_nameless turn client.LpdJob (Is.Report device said) own = absurd own
+own_nameless turn client.LpdCommand (Is.Report device said) own = absurd own
+own_nameless turn who event own = refl
+
 -- the core handles the client's event
 pub acted_event : (moment key : ℕ) (who : Client) (event : Event) (last : Bool) (new : Entry) (l : Ledger) (hs : List Happening) (l' : Ledger) → EventOf who event → Good l → l.entries key ≡ Some new → ClientTalk new.progress → Ans.IsAnswered moment key new.id who event l hs l'
     → Acted moment key (step.Asks (ask.Event who event) last) new new.due l hs l'
@@ -163,8 +172,8 @@ acted_event moment key who event last new l hs l' own good there client (outcome
         record {
           handled = h ∷ refusal_at moment new.id key l'.core lost;
           sent = sent_by outcome it.mid.core;
-          run = (tt, one.handles, refusal_run moment new.id key lost it.mid.core l'.core g.core);
-          timed = All-cons (λ (x : Handled). x.moment ≡ moment) h (refusal_at moment new.id key l'.core lost) refl (refusal_timed moment new.id key lost l'.core);
+          run = (one.handles, refusal_run moment new.id key lost it.mid.core l'.core g.core);
+          timed = All-cons (IsAt true moment) h (refusal_at moment new.id key l'.core lost) (refl, sym (own_nameless true who event own)) (refusal_timed moment new.id key lost l'.core);
           told = ap run_notes it.whole ∙ (notes_append it.front it.back ∙ ap (λ (ns : List Note). run_notes it.front ++ ns) (g.notes ∙ refusal_told moment new.id key lost l'.core));
           sends = λ device before. refusal_sends moment new.id key lost l'.core device (before ++ sent_by outcome it.mid.core device);
           others = λ k apart. more k (ordered_then (sent_by outcome it.mid.core) (λ device. []) (l.entries k) (it.mid.entries k) (l'.entries k) (one.each k) (g.others k apart));
@@ -266,7 +275,7 @@ same_state core [] = refl
 same_state core (it ∷ later) = inl refl
 
 pub client_acts : (moment key id : ℕ) (what : Ask) (l : Ledger) (front : List Happening) (mid : Ledger) (back : List Happening) (l' : Ledger) (hs : List Happening) → hs ≡ front ++ back → Good l
-    → (a : Asks key id what l front mid) → ClientTalk a.entry.progress → ActsOn moment key id what mid back l' → Goes moment l hs l'
+    → (a : Asks key id what l front mid) → ClientTalk a.entry.progress → ActsOn moment key id what mid back l' → Goes true moment l hs l'
 client_acts moment key id what l front mid back l' hs whole good a client does = record {
   handled = acted.handled;
   good = record { one = λ device k other p q. one device k other (k == key) refl (other == key) refl p q; fresh = λ k. fresh k (k == key) refl };
@@ -436,10 +445,10 @@ client_acts moment key id what l front mid back l' hs whole good a client does =
     progresses k e false same is of sound = progressed_still l.core k acted.handled (l.entries k) (l'.entries k) (ordered k (other_key k key same)).stays (acted.aside k (other_key k key same)) e is of sound
 
 pub device_acts : (moment key id : ℕ) (what : Ask) (l : Ledger) (front : List Happening) (mid : Ledger) (back : List Happening) (l' : Ledger) (hs : List Happening) → hs ≡ front ++ back → Good l
-    → (a : Asks key id what l front mid) → DeviceAsks what a.entry a.new → ActsOn moment key id what mid back l' → Goes moment l hs l'
+    → (a : Asks key id what l front mid) → DeviceAsks what a.entry a.new → ActsOn moment key id what mid back l' → Goes true moment l hs l'
 device_acts moment key id what l front mid back l' hs whole good a (inl (is, sent)) does =
-    let first = goes_calm moment l front mid good (calm_sets key a.entry a.new l front mid a.there sent (ap run_notes a.chosen) a.after) in
-    goes_then moment l front mid back l' hs whole first (device_does moment key id what mid back l' is first.good does)
+    let first = goes_calm true moment l front mid good (calm_sets key a.entry a.new l front mid a.there sent (ap run_notes a.chosen) a.after) in
+    goes_then true moment l front mid back l' hs whole first (device_does moment key id what mid back l' is first.good does)
 device_acts moment key id what l front mid back l' hs whole good a (inr names) does =
     let sound : a.entry.broken ≡ false = not_broken a.entry.draining a.entry.broken a.asks.counts in
     let none : a.entry.due ≡ [] = names.fresh (subst IsFresh a.there (good.fresh key)) sound in
@@ -448,18 +457,18 @@ device_acts moment key id what l front mid back l' hs whole good a (inr names) d
     greets moment key id names.device names.name a.entry a.new l front mid back l' hs whole just (subst (λ (it : Ask). ActsOn moment key id it mid back l') names.asks does)
 
 pub acts_by : (moment key id : ℕ) (what : Ask) (l : Ledger) (front : List Happening) (mid : Ledger) (back : List Happening) (l' : Ledger) (hs : List Happening) → hs ≡ front ++ back → Good l
-    → (a : Asks key id what l front mid) → (progress : PeerRecord) → a.entry.progress ≡ progress → ActsOn moment key id what mid back l' → Goes moment l hs l'
+    → (a : Asks key id what l front mid) → (progress : PeerRecord) → a.entry.progress ≡ progress → ActsOn moment key id what mid back l' → Goes true moment l hs l'
 acts_by moment key id what l front mid back l' hs whole good a (Http said closes body) is does = client_acts moment key id what l front mid back l' hs whole good a (subst ClientTalk (sym is) tt) does
 acts_by moment key id what l front mid back l' hs whole good a (Queue items session) is does = client_acts moment key id what l front mid back l' hs whole good a (subst ClientTalk (sym is) tt) does
 acts_by moment key id what l front mid back l' hs whole good a (Link reports device) is does =
     device_acts moment key id what l front mid back l' hs whole good a
-    (device_hears l.core.settings reports device a.entry a.asks.comes a.asks.mid what a.new is (subst (λ (t : PeerRecord). ItemComes l.core.settings t a.entry a.asks.comes a.asks.mid) is a.asks.hears) a.asks.steps) does
+    (device_hears l.core.settings reports device a.entry a.asks.comes a.asks.mid what a.new is (subst (λ (t : PeerRecord). FreshTalk t a.entry) is (subst IsFresh a.there (good.fresh key))) (not_broken a.entry.draining a.entry.broken a.asks.counts) (subst (λ (t : PeerRecord). ItemComes l.core.settings t a.entry a.asks.comes a.asks.mid) is a.asks.hears) a.asks.steps) does
 
-pub moves_acts_next : (moment key : ℕ) → Moves moment (ActsNext moment key)
+pub moves_acts_next : (moment key : ℕ) → Moves true moment (ActsNext moment key)
 moves_acts_next moment key l hs l' good (id, what, it) = acts_by moment key id what l it.front it.mid it.back l' hs it.whole good it.first it.first.entry.progress refl it.second
 
-pub moves_acts : (moment key : ℕ) → Moves moment (Acts moment key)
-moves_acts moment key = moves_then moment (ActsNext moment key) (Settles moment) (moves_acts_next moment key) (moves_settles moment)
+pub moves_acts : (moment key : ℕ) → Moves true moment (Acts moment key)
+moves_acts moment key = moves_then true moment (ActsNext moment key) (Settles moment) (moves_acts_next moment key) (moves_settles moment)
 
-pub moves_serves : (moment key : ℕ) → Moves moment (Serves moment key)
-moves_serves moment key l hs l' good it = moves_then moment (Many (Acts moment key)) (Chooses Rested) (moves_many moment (Acts moment key) (moves_acts moment key)) (moves_calm moment (Chooses Rested) (calms_chooses Rested)) l hs l' good it.0
+pub moves_serves : (moment key : ℕ) → Moves true moment (Serves moment key)
+moves_serves moment key l hs l' good it = moves_then true moment (Many (Acts moment key)) (Chooses Rested) (moves_many true moment (Acts moment key) (moves_acts moment key)) (moves_calm true moment (Chooses Rested) (calms_chooses Rested)) l hs l' good it.0

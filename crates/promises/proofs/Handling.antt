@@ -32,7 +32,7 @@ use Rattle.server.specs.Rel.{Tells}
 use Rattle.server.specs.Enqueuing.{IsDevice}
 use Rattle.server.specs.Happening.{Happens, found_by}
 use Rattle.promises.specs.Answers.{Act, ClientTalk, AreActs, IsFrontOf, IsStateOf, is_asked, asked_by, IsAnswered, IsLast, BrokeAfter, IsCutOff}
-use Rattle.promises.specs.Orders.{EventComes, MemoryRefused, Handled, AreHandled, AreAt, run_note, run_notes, cancel_for, start_for, orders_of, names, due_by}
+use Rattle.promises.specs.Orders.{EventComes, MemoryRefused, Handled, AreHandled, named_by, IsAt, AreAt, run_note, run_notes, cancel_for, start_for, orders_of, names, due_by}
 use Rattle.promises.proofs.Noting.{told_all}
 use Rattle.promises.proofs.Sending.{Counts, due_at, IsFresh, counts_device, same_key, not_key, Ordered, Calm, Good, good_sent, notes_append, sent_by, orders, Stays, IsLost, BreaksAs, lost_device, ReadsOn, reads_same, reads_then}
 
@@ -162,7 +162,7 @@ state_more state core (it ∷ first) later (inr is) = inr (state_more state it.s
 
 state_behind : (state core mid : State) (first later : List Handled) → AreHandled core first mid → IsStateOf state mid later → IsStateOf state core (first ++ later)
 state_behind state core mid [] later same is = subst (λ (s : State). IsStateOf state s later) same is
-state_behind state core mid (it ∷ first) later (naming, handles, run) is = inr (state_behind state it.state mid first later run is)
+state_behind state core mid (it ∷ first) later (handles, run) is = inr (state_behind state it.state mid first later run is)
 
 states_more : (core : State) (first later : List Handled) (acts : List Act) → All (λ (a : Act). IsStateOf a.state core first) acts → All (λ (a : Act). IsStateOf a.state core (first ++ later)) acts
 states_more core first later acts all = All-weaker (λ (a : Act). IsStateOf a.state core first) (λ (a : Act). IsStateOf a.state core (first ++ later)) (λ a is. state_more a.state core first later is) acts all
@@ -382,12 +382,12 @@ pub record AllClosed (l : Ledger) (handled : List Handled) (l' : Ledger) : Type 
 pub none_closed : (l : Ledger) (handled : List Handled) (l' : Ledger) → l'.closed ≡ l.closed → AllClosed l handled l'
 none_closed l handled l' same = record { more = []; closed = same ∙ sym (append-nil l.closed); each = All-nil (λ (it : Entry × Fate). ClosedAs l handled it.0) }
 
--- the core handled these, at one moment
-pub record Goes (moment : ℕ) (l : Ledger) (hs : List Happening) (l' : Ledger) : Type 0 where
+-- the core handled these, at one moment, in a turn or not
+pub record Goes (turn : Bool) (moment : ℕ) (l : Ledger) (hs : List Happening) (l' : Ledger) : Type 0 where
   pub handled : List Handled
   pub good : Good l'
   pub run : AreHandled l.core handled l'.core
-  pub timed : AreAt moment handled
+  pub timed : AreAt turn moment handled
   pub told : run_notes hs ≡ flat_map (λ (it : Handled). it.notes) handled
   pub came : (key device : ℕ) → Counts device (l'.entries key) → CameAs device handled (l.entries key) (l'.entries key)
   pub lost : (key device : ℕ) → IsLost device (l'.entries key) → LostAs device handled (l.entries key) (l'.entries key)
@@ -459,7 +459,7 @@ lost_then device first later x y z (inl (is, same)) lost came = by (lost is)
 
 pub handled_append : (old mid new : State) (first later : List Handled) → AreHandled old first mid → AreHandled mid later new → AreHandled old (first ++ later) new
 handled_append old mid new [] later same rest = subst (λ (s : State). AreHandled s later new) same rest
-handled_append old mid new (it ∷ first) later (naming, handles, more) rest = (naming, handles, handled_append it.state mid new first later more rest)
+handled_append old mid new (it ∷ first) later (handles, more) rest = (handles, handled_append it.state mid new first later more rest)
 
 -- closed before more comes, or after this
 closed_more : (l : Ledger) (first later : List Handled) (e : Entry) → ClosedAs l first e → ClosedAs l (first ++ later) e
@@ -501,12 +501,12 @@ all_closed_then l mid l' first later run came lost progresses stops p q = record
       (All-weaker (λ (it : Entry × Fate). ClosedAs mid later it.0) (λ (it : Entry × Fate). ClosedAs l (first ++ later) it.0) (λ it c. closed_behind l mid first later it.0 run came lost progresses stops c) q.more q.each);
 }
 
-pub goes_then : (moment : ℕ) (l : Ledger) (front : List Happening) (mid : Ledger) (back : List Happening) (l' : Ledger) (hs : List Happening) → hs ≡ front ++ back → Goes moment l front mid → Goes moment mid back l' → Goes moment l hs l'
-goes_then moment l front mid back l' hs whole p q = record {
+pub goes_then : (turn : Bool) (moment : ℕ) (l : Ledger) (front : List Happening) (mid : Ledger) (back : List Happening) (l' : Ledger) (hs : List Happening) → hs ≡ front ++ back → Goes turn moment l front mid → Goes turn moment mid back l' → Goes turn moment l hs l'
+goes_then turn moment l front mid back l' hs whole p q = record {
   handled = p.handled ++ q.handled;
   good = q.good;
   run = handled_append l.core mid.core l'.core p.handled q.handled p.run q.run;
-  timed = All-append (λ (it : Handled). it.moment ≡ moment) p.handled q.handled p.timed q.timed;
+  timed = All-append (IsAt turn moment) p.handled q.handled p.timed q.timed;
   told = ap run_notes whole ∙ (notes_append front back ∙ (ap (λ (ns : List Note). ns ++ run_notes back) p.told ∙ (ap (λ (ns : List Note). flat_map (λ (it : Handled). it.notes) p.handled ++ ns) q.told ∙ sym (flat_map-append (λ (it : Handled). it.notes) p.handled q.handled))));
   came = λ key device counts. came_then device p.handled q.handled (l.entries key) (mid.entries key) (l'.entries key) (q.came key device counts) (p.came key device);
   lost = λ key device is. lost_then device p.handled q.handled (l.entries key) (mid.entries key) (l'.entries key) (q.lost key device is) (p.lost key device) (p.came key device);
@@ -515,12 +515,12 @@ goes_then moment l front mid back l' hs whole p q = record {
   closed = all_closed_then l mid l' p.handled q.handled p.run p.came p.lost p.progresses p.stops p.closed q.closed;
 }
 
-pub goes_calm : (moment : ℕ) (l : Ledger) (hs : List Happening) (l' : Ledger) → Good l → Calm l hs l' → Goes moment l hs l'
-goes_calm moment l hs l' good calm = record {
+pub goes_calm : (turn : Bool) (moment : ℕ) (l : Ledger) (hs : List Happening) (l' : Ledger) → Good l → Calm l hs l' → Goes turn moment l hs l'
+goes_calm turn moment l hs l' good calm = record {
   handled = [];
   good = good_sent (λ device. []) l hs l' calm good;
   run = calm.core;
-  timed = All-nil (λ (it : Handled). it.moment ≡ moment);
+  timed = All-nil (IsAt turn moment);
   told = calm.notes;
   came = λ key device counts. let it = (calm.each key).counts device counts in inl (it.0, it.1 ∙ append-nil (due_at (l.entries key)));
   lost = λ key device is. lost_by device [] (λ d. []) (l.entries key) (l'.entries key) (sym (append-nil (due_at (l.entries key)))) ((calm.each key).breaks device is);
@@ -545,16 +545,16 @@ plain_at key o entries here other =
     by_test (other == key) (entries other) o (entries other) (λ is. subst (λ (k : ℕ). Plain (entries k) o) (sym (same_key other key is)) here) (λ is. record { counts = λ device counts. (counts, refl); lost = λ device lost. (lost, refl); device = λ device named. named; fresh = λ fresh. fresh })
 
 -- a connection came, or was closed
-pub goes_plain : (moment key : ℕ) (o : Option Entry) (l : Ledger) (hs : List Happening) (l' : Ledger) → Good l → run_notes hs ≡ [] → l'.core ≡ l.core → l'.entries ≡ at_key key o l.entries → Plain (l.entries key) o
-    → ((e : Entry) → o ≡ Some e → ClientTalk e.progress → e.broken ≡ false → TalkedAs l.core key [] (l.entries key) e) → ((e : Entry) → o ≡ Some e → e.broken ≡ true → ⊥) → AllClosed l [] l' → Goes moment l hs l'
-goes_plain moment key o l hs l' good silent core after here progresses unbroken closed = record {
+pub goes_plain : (turn : Bool) (moment key : ℕ) (o : Option Entry) (l : Ledger) (hs : List Happening) (l' : Ledger) → Good l → run_notes hs ≡ [] → l'.core ≡ l.core → l'.entries ≡ at_key key o l.entries → Plain (l.entries key) o
+    → ((e : Entry) → o ≡ Some e → ClientTalk e.progress → e.broken ≡ false → TalkedAs l.core key [] (l.entries key) e) → ((e : Entry) → o ≡ Some e → e.broken ≡ true → ⊥) → AllClosed l [] l' → Goes turn moment l hs l'
+goes_plain turn moment key o l hs l' good silent core after here progresses unbroken closed = record {
   handled = [];
   good = record {
     one = λ device k other p q. good.one device k other ((each k).device device p) ((each other).device device q);
     fresh = λ k. (each k).fresh (good.fresh k);
   };
   run = core;
-  timed = All-nil (λ (it : Handled). it.moment ≡ moment);
+  timed = All-nil (IsAt turn moment);
   told = silent;
   came = λ k device counts. inl ((each k).counts device counts);
   lost = λ k device is. inl ((each k).lost device is);
@@ -584,12 +584,12 @@ good_one moment event outcome l hs l' good it = record {
   fresh = λ key. (it.each key).fresh (good.fresh key);
 }
 
-pub goes_event : (moment : ℕ) (event : Event) (outcome : Outcome) (l : Ledger) (hs : List Happening) (l' : Ledger) → Good l → Handles_one moment event outcome l hs l' → Goes moment l hs l'
-goes_event moment event outcome l hs l' good it = record {
+pub goes_event : (turn : Bool) (moment : ℕ) (event : Event) (outcome : Outcome) (l : Ledger) (hs : List Happening) (l' : Ledger) → Good l → None ≡ named_by turn event → Handles_one moment event outcome l hs l' → Goes turn moment l hs l'
+goes_event turn moment event outcome l hs l' good nameless it = record {
   handled = one_handled moment event outcome hs l' None None ∷ [];
   good = good_one moment event outcome l hs l' good it;
-  run = (tt, it.handles, refl);
-  timed = All-cons (λ (h : Handled). h.moment ≡ moment) (one_handled moment event outcome hs l' None None) [] refl (All-nil (λ (h : Handled). h.moment ≡ moment));
+  run = (it.handles, refl);
+  timed = All-cons (IsAt turn moment) (one_handled moment event outcome hs l' None None) [] (refl, nameless) (All-nil (IsAt turn moment));
   told = sym (append-nil (run_notes hs));
   came = λ key device counts. inl ((it.each key).counts device counts);
   lost = λ key device is. lost_by device (one_handled moment event outcome hs l' None None ∷ []) (sent_by outcome l'.core) (l.entries key) (l'.entries key) refl ((it.each key).breaks device is);
@@ -599,12 +599,12 @@ goes_event moment event outcome l hs l' good it = record {
 }
 
 -- memory is refused, and the listener is told so
-pub goes_refused : (moment : ℕ) (place : AllocationSite) (id : Option ℕ) (l : Ledger) (hs : List Happening) (l' : Ledger) → Good l → run_notes (Told (Refused place id) ∷ []) ≡ Refused place id ∷ [] → Tells (Refused place id) l hs l' → Goes moment l hs l'
-goes_refused moment place id l hs l' good tells it = subst (λ (x : Ledger). Goes moment l hs x) (sym it.1) (record {
+pub goes_refused : (turn : Bool) (moment : ℕ) (place : AllocationSite) (id : Option ℕ) (l : Ledger) (hs : List Happening) (l' : Ledger) → Good l → run_notes (Told (Refused place id) ∷ []) ≡ Refused place id ∷ [] → Tells (Refused place id) l hs l' → Goes turn moment l hs l'
+goes_refused turn moment place id l hs l' good tells it = subst (λ (x : Ledger). Goes turn moment l hs x) (sym it.1) (record {
   handled = one ∷ [];
   good = good;
-  run = (tt, (refl, refl), refl);
-  timed = All-cons (λ (h : Handled). h.moment ≡ moment) one [] refl (All-nil (λ (h : Handled). h.moment ≡ moment));
+  run = ((refl, refl), refl);
+  timed = All-cons (IsAt turn moment) one [] (refl, refl) (All-nil (IsAt turn moment));
   told = ap run_notes it.0 ∙ tells;
   came = λ key device counts. inl (counts, sym (append-nil (due_at (l.entries key))));
   lost = λ key device is. inl (is, refl);
@@ -623,7 +623,7 @@ pub record Awaits (moment device key : ℕ) (l : Ledger) (hs : List Happening) (
   pub handled : List Handled
   pub good : Good l'
   pub run : AreHandled l.core handled l'.core
-  pub timed : AreAt moment handled
+  pub timed : AreAt true moment handled
   pub told : run_notes hs ≡ flat_map (λ (it : Handled). it.notes) handled
   pub only : (other : ℕ) → IsDevice device (l'.entries other) → other ≡ key
   pub due : Counts device (l'.entries key) → due_at (l'.entries key) ≡ []
@@ -645,14 +645,14 @@ lost_none sent device x y lost due none (inr (counts, rest, is)) = front_nil (du
 
 -- an event that sends nothing to it
 pub awaits_event : (moment device key : ℕ) (event : Event) (outcome : Outcome) (l : Ledger) (front : List Happening) (mid : Ledger) (back : List Happening) (l' : Ledger) (hs : List Happening) → hs ≡ front ++ back
-    → Awaits moment device key l front mid → Handles_one moment event outcome mid back l' → sent_by outcome l'.core device ≡ [] → Awaits moment device key l hs l'
-awaits_event moment device key event outcome l front mid back l' hs whole p it none =
-    let q = goes_event moment event outcome mid back l' p.good it in
+    → Awaits moment device key l front mid → Handles_one moment event outcome mid back l' → sent_by outcome l'.core device ≡ [] → None ≡ named_by true event → Awaits moment device key l hs l'
+awaits_event moment device key event outcome l front mid back l' hs whole p it none nameless =
+    let q = goes_event true moment event outcome mid back l' p.good nameless it in
     record {
       handled = p.handled ++ q.handled;
       good = q.good;
       run = handled_append l.core mid.core l'.core p.handled q.handled p.run q.run;
-      timed = All-append (λ (h : Handled). h.moment ≡ moment) p.handled q.handled p.timed q.timed;
+      timed = All-append (IsAt true moment) p.handled q.handled p.timed q.timed;
       told = ap run_notes whole ∙ (notes_append front back ∙ (ap (λ (ns : List Note). ns ++ run_notes back) p.told ∙ (ap (λ (ns : List Note). flat_map (λ (h : Handled). h.notes) p.handled ++ ns) q.told ∙ sym (flat_map-append (λ (h : Handled). h.notes) p.handled q.handled))));
       only = λ other is. p.only other ((it.each other).device device is);
       due = λ counts.
@@ -668,12 +668,12 @@ awaits_event moment device key event outcome l front mid back l' hs whole p it n
 
 -- the device gives its name
 pub awaits_named : (moment device key : ℕ) (name : List ℕ) (outcome : Outcome) (l : Ledger) (front : List Happening) (mid : Ledger) (back : List Happening) (l' : Ledger) (hs : List Happening) → hs ≡ front ++ back
-    → Awaits moment device key l front mid → Handles_one moment (Is.Report device (report.Hello name)) outcome mid back l' → Goes moment l hs l'
+    → Awaits moment device key l front mid → Handles_one moment (Is.Report device (report.Hello name)) outcome mid back l' → Goes true moment l hs l'
 awaits_named moment device key name outcome l front mid back l' hs whole p it = record {
   handled = p.handled ++ last ∷ [];
   good = good_one moment (Is.Report device (report.Hello name)) outcome mid back l' p.good it;
-  run = handled_append l.core mid.core l'.core p.handled (last ∷ []) p.run ((name, outcome, refl), it.handles, refl);
-  timed = All-append (λ (h : Handled). h.moment ≡ moment) p.handled (last ∷ []) p.timed (All-cons (λ (h : Handled). h.moment ≡ moment) last [] refl (All-nil (λ (h : Handled). h.moment ≡ moment)));
+  run = handled_append l.core mid.core l'.core p.handled (last ∷ []) p.run (it.handles, refl);
+  timed = All-append (IsAt true moment) p.handled (last ∷ []) p.timed (All-cons (IsAt true moment) last [] (refl, refl) (All-nil (IsAt true moment)));
   told = ap run_notes whole ∙ (notes_append front back ∙ (ap (λ (ns : List Note). ns ++ run_notes back) p.told ∙ (ap (λ (ns : List Note). flat_map (λ (h : Handled). h.notes) p.handled ++ ns) (sym (append-nil (run_notes back))) ∙ sym (flat_map-append (λ (h : Handled). h.notes) p.handled (last ∷ [])))));
   came = λ other of counts. by other of counts (device == of) refl;
   lost = λ other of is. lost_at other of (device == of) refl ((it.each other).breaks of is);

@@ -11,7 +11,7 @@ use Rattle.server.specs.Polls.{Happening}
 use Rattle.server.specs.Ledger.{Ledger, at_key, with_entry}
 use Rattle.server.specs.Enqueuing.{IsDevice}
 use Rattle.server.specs.Greeting.{IsDeviceAs, IsAlone, GivesWayAt, Greets}
-use Rattle.promises.specs.Orders.{Handled, run_notes}
+use Rattle.promises.specs.Orders.{Handled, IsAt, run_notes}
 use Rattle.promises.specs.Answers.{ClientTalk}
 use Rattle.promises.proofs.Sending.{Counts, due_at, FreshTalk, IsFresh, same_key, other_key, Ordered, ordered_still, ordered_broken, ordered_given_up, notes_append, Good, one_entry, client_none, IsLost}
 use Rattle.promises.proofs.Handling.{happened, CameAs, Goes, goes_calm, Awaits, awaits_event, awaits_named, gone_sends_none, TalkedAs, progressed_still, LostAs, lost_by, StopsAs, stops_still}
@@ -41,7 +41,7 @@ awaits moment device key e new l hs l' good silent named fresh due alone = recor
   handled = [];
   good = record { one = λ d k o p q. one d k o p q (alone.each k) (alone.each o); fresh = λ k. fresh_at k (alone.each k) };
   run = alone.core;
-  timed = All-nil (λ (it : Handled). it.moment ≡ moment);
+  timed = All-nil (IsAt true moment);
   told = silent;
   only = λ other is. only other is (alone.each other);
   due = λ counts. due_here (alone.each key);
@@ -181,7 +181,7 @@ pub record Just (key device : ℕ) (name : List ℕ) (e new : Entry) (l : Ledger
   pub link : ClientTalk e.progress → ⊥
 
 pub greets : (moment key id device : ℕ) (name : List ℕ) (e new : Entry) (l : Ledger) (front : List Happening) (mid : Ledger) (back : List Happening) (l' : Ledger) (hs : List Happening) → hs ≡ front ++ back
-    → Just key device name e new l front mid → Greets moment key id device name mid back l' → Goes moment l hs l'
+    → Just key device name e new l front mid → Greets moment key id device name mid back l' → Goes true moment l hs l'
 greets moment key id device name e new l front mid back l' hs whole just (inl (alone, (outcome, it))) =
     let waits = awaits moment device key e new l front mid just.good just.silent just.named just.fresh just.due (alone_now device key new l mid just.after alone) in
     awaits_named moment device key name outcome l front mid back l' hs whole waits (happened moment (Is.Report device (report.Hello name)) outcome mid back l' waits.good it)
@@ -199,7 +199,7 @@ greets moment key id device name e new l front mid back l' hs whole just (inr (i
     let ends = draining.second in
     let gone = happened moment (Is.Report device report.Gone) ends.first.0 draining.mid ends.front ends.mid waits.good ends.first.1 in
     let none = gone_sends_none moment device draining.mid.core ends.first.0 (run_notes ends.front) ends.mid.core gone.handles in
-    let still = awaits_event moment device key (Is.Report device report.Gone) ends.first.0 l (front ++ (it.front ++ draining.front)) draining.mid ends.front ends.mid ((front ++ (it.front ++ draining.front)) ++ ends.front) refl waits gone none in
+    let still = awaits_event moment device key (Is.Report device report.Gone) ends.first.0 l (front ++ (it.front ++ draining.front)) draining.mid ends.front ends.mid ((front ++ (it.front ++ draining.front)) ++ ends.front) refl waits gone none refl in
     let last = happened moment (Is.Report device (report.Hello name)) ends.second.0 ends.mid ends.back l' still.good ends.second.1 in
     awaits_named moment device key name ends.second.0 l ((front ++ (it.front ++ draining.front)) ++ ends.front) ends.mid ends.back l' hs (whole ∙ joined it.front draining.front ends.front ends.back back it.back draining.back it.whole draining.whole ends.whole) still last
   where
@@ -213,7 +213,7 @@ greets moment key id device name e new l front mid back l' hs whole just (inr (i
     let ended : l' ≡ with_entry key (given_up new) mid = it.second.1 ∙ way.1 in
     let quiet : run_notes back ≡ [] = ap run_notes it.whole ∙ (notes_append it.front it.back ∙ (ap (λ (ns : List Note). ns ++ run_notes it.back) (ap run_notes way.0) ∙ ap run_notes it.second.0)) in
     let silent_all : run_notes hs ≡ [] = ap run_notes whole ∙ (notes_append front back ∙ (ap (λ (ns : List Note). ns ++ run_notes back) just.silent ∙ quiet)) in
-    goes_calm moment l hs l' just.good (record {
+    goes_calm true moment l hs l' just.good (record {
       core = ap (λ (x : Ledger). x.core) ended ∙ ap (λ (x : Ledger). x.core) just.after;
       closed = ap (λ (x : Ledger). x.closed) ended ∙ ap (λ (x : Ledger). x.closed) just.after;
       notes = silent_all;

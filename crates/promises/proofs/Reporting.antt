@@ -45,7 +45,8 @@ use Rattle.server.specs.Turn as Between
 use Rattle.server.specs.Turn.{Ticks, Notes, is_tick_due, TicksIfDue, Covers, Round, Turn, BodyAsks, BodyComes, Action, Turned, Served_body, Reported, Ticked, Trace, DoesAction, Runs}
 use Rattle.server.specs.Law.{core_notes, moment_of, happenings_of, happenings_in}
 use Rattle.promises.specs.Answers.{ClientTalk}
-use Rattle.promises.specs.Heard.{Came, AreRun, is_turn, ComeAt, ComeOf, report_in, report_by, reports_by, said_on, IsReported, IsStateIn, IsNameIn, IsGreeted, IsRead, AreHeard}
+use Rattle.promises.specs.Orders.{is_turn}
+use Rattle.promises.specs.Heard.{Came, AreRun, ComeAt, ComeOf, report_in, report_by, reports_by, said_on, IsReported, IsStateIn, IsNameIn, IsGreeted, IsRead, AreHeard}
 use Rattle.promises.proofs.Typing.{EventOf}
 use Rattle.promises.proofs.Sending.{no_true, one_entry}
 use Rattle.promises.proofs.Stepping.{silent_growth, silent_part, client_hears}

@@ -4,6 +4,7 @@ use Rattle.std.specs.Prelude.{◌==◌, ◌⊎◌, if◌then◌else◌}
 use Rattle.std.specs.List.{flat_map}
 use Rattle.std.proofs.lemmas.Grind.{flat_map-append}
 use Rattle.std.proofs.lemmas.Bool.Decides.{nat_tests}
+use Rattle.base_types.specs.Report.{ReportRecord}
 use Rattle.device_link.specs.Orders.{cancel_line}
 use Rattle.print_room.specs.declared.started.Started.{Started}
 use Rattle.print_room.specs.State.{State}
@@ -36,12 +37,17 @@ abbrev pub due_at : Option Entry → List ℕ
 due_at None = []
 due_at (Some e) = e.due
 
--- before a device says its name nothing is due
+-- the name is among the reports
+abbrev pub HasReport : List ReportRecord → Type 0
+HasReport [] = ⊥
+HasReport (said ∷ reports) = Unit {0}
+
+-- before a device says its name nothing is due, and the name is a report
 abbrev pub FreshTalk : PeerRecord → Entry → Type 0
 FreshTalk (Http said closes body) e = Unit {0}
 FreshTalk (Queue items session) e = Unit {0}
 FreshTalk (Link reports None) e = e.broken ≡ false → e.due ≡ []
-FreshTalk (Link reports (Some device)) e = Unit {0}
+FreshTalk (Link reports (Some device)) e = e.broken ≡ false → HasReport reports
 
 abbrev pub IsFresh : Option Entry → Type 0
 IsFresh None = Unit {0}
@@ -176,7 +182,7 @@ broken_fresh : (progress : PeerRecord) (e : Entry) → e.broken ≡ true → Fre
 broken_fresh (Http said closes body) e is = tt
 broken_fresh (Queue items session) e is = tt
 broken_fresh (Link reports None) e is = λ not_broken. absurd (no_true e.broken is not_broken)
-broken_fresh (Link reports (Some device)) e is = tt
+broken_fresh (Link reports (Some device)) e is = λ not_broken. absurd (no_true e.broken is not_broken)
 
 -- a connection that is broken now, of the same peer, on which the same is due
 pub ordered_broken : (sent : ℕ → List ℕ) (d e : Entry) → e.broken ≡ true → ((device : ℕ) → device_of e.progress ≡ Some device → (device_of d.progress ≡ Some device) × (e.due ≡ d.due)) → (ClientTalk d.progress → ClientTalk e.progress) → (ClientTalk e.progress → (d.progress ≡ e.progress) × (d.due ≡ e.due) × ReadsOn d e) → Ordered sent (Some d) (Some e)
@@ -200,7 +206,7 @@ still_fresh : (progress : PeerRecord) (d e : Entry) → e.broken ≡ d.broken �
 still_fresh (Http said closes body) d e same due fresh = tt
 still_fresh (Queue items session) d e same due fresh = tt
 still_fresh (Link reports None) d e same due fresh = λ is. due ∙ fresh (sym same ∙ is)
-still_fresh (Link reports (Some device)) d e same due fresh = tt
+still_fresh (Link reports (Some device)) d e same due fresh = λ is. fresh (sym same ∙ is)
 
 -- a connection that changed in parts that no device notices
 pub ordered_keeps : (d e : Entry) → e.progress ≡ d.progress → e.broken ≡ d.broken → e.due ≡ d.due → ReadsOn d e → Ordered (λ device. []) (Some d) (Some e)
@@ -321,7 +327,7 @@ breaking e = ordered_broken (λ device. []) e (broken e) refl (λ device is. (is
 
 -- ---- bytes that are enqueued on a device's connection
 
--- two open connections are two devices', and none has anything due before its name
+-- two open connections are two devices', none has anything due before its name, and the name is a report
 pub record Good (l : Ledger) : Type 0 where
   pub one : (device key other : ℕ) → IsDevice device (l.entries key) → IsDevice device (l.entries other) → key ≡ other
   pub fresh : (key : ℕ) → IsFresh (l.entries key)
@@ -355,16 +361,16 @@ owing_to device bytes e is unbroken = record {
   breaks = λ other lost. absurd (no_true e.broken lost.1 unbroken);
   counts = λ other counts. (counts, ap (λ (more : List ℕ). e.due ++ more) (to_this device other bytes (one_device (device_of e.progress) device other is counts.0)));
   device = λ other named. named;
-  fresh = λ fresh. named_fresh e.progress (owing bytes e) is;
+  fresh = λ fresh. named_fresh e.progress is fresh;
   client = λ client. client;
   stays = λ f same client. absurd (client_none e.progress device (subst ClientTalk (sym (ap (λ (x : Entry). x.progress) (one_entry (owing bytes e) f same))) client) is);
 }
   where
-    named_fresh : (progress : PeerRecord) (it : Entry) → device_of progress ≡ Some device → FreshTalk progress it
-    named_fresh (Http said closes body) it named = tt
-    named_fresh (Queue items session) it named = tt
-    named_fresh (Link reports None) it named = cc
-    named_fresh (Link reports (Some other)) it named = tt
+    named_fresh : (progress : PeerRecord) → device_of progress ≡ Some device → FreshTalk progress e → FreshTalk progress (owing bytes e)
+    named_fresh (Http said closes body) named fresh = tt
+    named_fresh (Queue items session) named fresh = tt
+    named_fresh (Link reports None) named fresh = cc
+    named_fresh (Link reports (Some other)) named fresh = fresh
 
 broken_unsent : (sent : ℕ → List ℕ) (e : Entry) → e.broken ≡ true → Unsent sent (Some e)
 broken_unsent sent e is device counts = absurd (no_true e.broken is counts.1)

@@ -1,6 +1,7 @@
 -- The bytes that a device is sent: the line of each cancel for it, and the line and the documents of each job that begins on it, by the core's run.
 use Rattle.std.specs.Prelude.{ℕ, ◌≡◌, ◌==◌, Bool, true, false, if◌then◌else◌, List, [], ◌∷◌, ◌++◌, All, Option, Some, None}
 use Rattle.std.specs.List.{flat_map}
+use Rattle.base_types.specs.declared.report.Report.{Report}
 use Rattle.base_types.specs.declared.report.Report.TheVariants as report
 use Rattle.device_link.specs.Orders.{cancel_line}
 use Rattle.print_room.specs.declared.started.Started.{Started}
@@ -17,7 +18,7 @@ use Rattle.dispatcher.specs.Run.{Handles}
 use Rattle.connections.specs.Entry.{Entry, device_of}
 use Rattle.server.specs.Polls.{Happening, Polled, Told, Chosen}
 use Rattle.server.specs.Ledger.{Ledger, Fate, job_bytes}
-use Rattle.server.specs.Turn.{Trace}
+use Rattle.server.specs.Turn.{Action, Turned, Served_body, Reported, Ticked, Trace}
 use Rattle.server.specs.Law.{moment_of, happenings_in}
 
 -- ---- the run
@@ -27,7 +28,7 @@ pub data Happened : Type 0 where
   EventComes : (event : Event) (outcome : Outcome) → Happened
   MemoryRefused : (place : AllocationSite) (id : Option ℕ) → Happened
 
--- A part of the run: what happened, the listener's notes of it, and the state of the core after it. A device may have given its name on its connection by an event, which is a HELLO then. A client's event, or the memory that was refused for it, was asked on the connection under a key.
+-- A part of the run: what happened, the listener's notes of it, and the state of the core after it. By a HELLO in a turn a device gave its name on its connection. A client's event, or the memory that was refused for it, was asked on the connection under a key.
 pub record Handled : Type 0 where
   pub moment : ℕ
   pub what : Happened
@@ -35,11 +36,6 @@ pub record Handled : Type 0 where
   pub state : State
   pub named : Option ℕ
   pub asked : Option ℕ
-
--- only a HELLO of the device names a connection
-abbrev pub IsNaming : Option ℕ → Happened → Type 0
-IsNaming None what = Unit {0}
-IsNaming (Some device) what = (name : List ℕ) × (outcome : Outcome) × (what ≡ EventComes (Is.Report device (report.Hello name)) outcome)
 
 -- the core handles an event; if memory was refused, the listener is told so, and the core is unchanged
 abbrev pub IsHandled : ℕ → Happened → State → List Note → State → Type 0
@@ -50,16 +46,39 @@ IsHandled moment (MemoryRefused place id) old notes new = (notes ≡ Refused pla
 abbrev pub AreHandled : State → List Handled → State → Type 0
 AreHandled old [] new = new ≡ old
 AreHandled old (it ∷ later) new =
-    IsNaming it.named it.what × IsHandled it.moment it.what old it.notes it.state × AreHandled it.state later new
+    IsHandled it.moment it.what old it.notes it.state × AreHandled it.state later new
 
--- each part is at this moment
-abbrev pub AreAt : ℕ → List Handled → Type 0
-AreAt moment handled = All (λ (it : Handled). it.moment ≡ moment) handled
+-- the device of a HELLO that comes in a turn
+abbrev pub hello_in : Bool → ℕ → Report → Option ℕ
+hello_in turn device (report.Hello name) = if turn then Some device else None
+hello_in turn device _ = None
 
--- the parts of the first action, each at its moment, then those of the next, and so on
+-- the device that gives its name on its connection by an event: each HELLO in a turn gives the name, and none between turns
+abbrev pub named_by : Bool → Event → Option ℕ
+named_by turn (Is.Report device said) = hello_in turn device said
+named_by turn _ = None
+
+abbrev pub naming : Bool → Happened → Option ℕ
+naming turn (EventComes event outcome) = named_by turn event
+naming turn (MemoryRefused place id) = None
+
+abbrev pub is_turn : Action → Bool
+is_turn (Turned moment hs) = true
+is_turn (Served_body moment body answer hs) = false
+is_turn (Reported moment device said hs) = false
+is_turn (Ticked moment hs) = false
+
+-- the part is at this moment, in a turn or not
+abbrev pub IsAt : Bool → ℕ → Handled → Type 0
+IsAt turn moment it = (it.moment ≡ moment) × (it.named ≡ naming turn it.what)
+
+abbrev pub AreAt : Bool → ℕ → List Handled → Type 0
+AreAt turn moment handled = All (λ (it : Handled). IsAt turn moment it) handled
+
+-- the parts of the first action, at its moment, then those of the next, and so on
 abbrev pub AreOf : Trace → List Handled → Type 0
 AreOf [] handled = handled ≡ []
-AreOf (action ∷ actions) handled = (first : List Handled) × (later : List Handled) × (handled ≡ first ++ later) × AreAt (moment_of action) first × AreOf actions later
+AreOf (action ∷ actions) handled = (first : List Handled) × (later : List Handled) × (handled ≡ first ++ later) × AreAt (is_turn action) (moment_of action) first × AreOf actions later
 
 -- the note of memory that was refused, if the note is one of the run: for an event, a dispatch, a reply or a file
 abbrev pub run_refusal : AllocationSite → Option ℕ → List Note
