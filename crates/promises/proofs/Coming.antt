@@ -32,7 +32,7 @@ use Rattle.server.specs.Acting.{place_of, place_of_part, Asks, ActsOn, ActsNext}
 use Rattle.server.specs.Polling.{Acts, Serves}
 use Rattle.promises.specs.Orders.{MemoryRefused, Handled, AreHandled, named_by, IsAt, AreAt, run_notes, due_by}
 use Rattle.promises.proofs.Typing.{EventOf, typed}
-use Rattle.promises.specs.Answers.{Act, ClientTalk, IsFrontOf, IsNext, IsOwed, IsStateOf, asked_by, IsLast, BrokeAfter, IsOneAtMost}
+use Rattle.promises.specs.Answers.{Act, ClientTalk, drains, IsFrontOf, IsNext, IsOwed, IsStateOf, asked_by, IsLast, BrokeAfter, IsOneAtMost}
 use Rattle.promises.proofs.Sending.{Counts, due_at, FreshTalk, IsFresh, IsClient, same_key, other_key, is_key, Ordered, notes_append, calm_sets, Good, one_entry, not_key, client_none, client_fresh, no_true, counts_device, ordered_then, sent_by, IsLost, lost_device, breaks_same, ReadsOn, reads_still, reads_then}
 use Rattle.promises.proofs.Handling.{happened, CameAs, Goes, goes_then, goes_calm, TalkedAs, Went, progressed_still, one_handled, none_closed, LostAs, lost_by, StopsAs, stops_still, acts_on}
 use Rattle.promises.proofs.Giving.{calms_chooses, Gave, gave_still, gives_nothing, at_aside, at_here, Just_these, Loose, told_of, refusal_at, one_refusal, given, No_memory, gives_dropped, gives_declines, gives_answers}
@@ -41,6 +41,10 @@ use Rattle.promises.proofs.Stepping.{IsClientAsk, silent_run, tells_part, device
 use Rattle.promises.proofs.Naming.{Just, greets}
 
 -- ---- the asks come about
+
+pub not_draining : (draining is : Bool) → (draining || is) ≡ false → draining ≡ false
+not_draining true is none = none
+not_draining false is none = refl
 
 pub not_broken : (draining is : Bool) → (draining || is) ≡ false → is ≡ false
 not_broken true is none = cc
@@ -118,16 +122,14 @@ acted_calm moment key lost comes new base Q l hs l' there client owed halted g =
   here = λ e is of sound.
       let it = g.here e is of sound in
       let this : new ≡ it.0 = one_entry new it.0 (sym there ∙ it.1) in
-      let given = owed it.4.0 (ap (λ (x : Entry). x.broken) this ∙ it.3) (subst (λ (x : Entry). Q (closes_of x.progress) it.4.0) (sym this) it.4.1) in
-      (
+      let given = owed it.4.0 (ap (λ (x : Entry). x.broken) this ∙ it.3) (subst (λ (x : Entry). Q (closes_of x.progress) it.4.0) (sym this) it.4.1) in (
         sym it.2 ∙ ap (λ (x : Entry). x.progress) (sym this),
         (given.0, subst (λ (its : List Handled). IsOwed new.id (closes_of new.progress) comes its given.0) (sym (refusal_asked moment new.id key lost l'.core)) given.1, it.4.2 ∙ (ap (λ (x : Entry). x.due ++ it.4.0) (sym this) ∙ given.2)),
         subst (λ (x : Entry). ReadsOn x e) (sym this) it.5,
       );
   halts = λ e is of broken.
       let it = g.halts e is of broken in
-      let this : new ≡ it.0 = one_entry new it.0 (sym there ∙ it.1) in
-      (
+      let this : new ≡ it.0 = one_entry new it.0 (sym there ∙ it.1) in (
         sym it.2 ∙ ap (λ (x : Entry). x.progress) (sym this),
         subst (λ (its : List Handled). HaltsAs comes new base its e) (sym (refusal_asked moment new.id key lost l'.core)) (halts_due comes new new e base (refusal_at moment new.id key l'.core lost) (ap (λ (x : Entry). x.due) this ∙ it.3) halted),
         subst (λ (x : Entry). ReadsOn x e) (sym this) it.4,
@@ -247,11 +249,11 @@ acted_by moment key id (step.Breaks asked) m new what l hs l' fine (is, after) c
 
 -- the next of a client's stream, as an act has it
 pub next_of : (settings : ServerSettings) (progress : PeerRecord) (e : Entry) (comes : Step) (mid : Entry) → ClientTalk progress → e.progress ≡ progress → IsClientStep comes → ItemComes settings progress e comes mid → (mid.due ≡ e.due) × (((comes ≡ no_memory) × (mid.progress ≡ progress)) ⊎ IsNext settings e.read progress comes mid.progress) × ReadsOn e mid
-next_of settings (Http said closes body) e comes mid client is fine next = (ap (λ (x : Entry). x.due) next.after, inr (record { item = next.item; part = next.part; first = next.next; comes = next.comes; is = ap (λ (x : Entry). x.progress) next.after }), reads_still e mid (ap (λ (x : Entry). x.id) next.after) (ap (λ (x : Entry). x.read) next.after))
+next_of settings (Http said closes body) e comes mid client is fine next = (ap (λ (x : Entry). x.due) next.after, inr (record { item = next.item; part = next.part; first = next.next; comes = next.comes; is = ap (λ (x : Entry). x.progress) next.after }), reads_still e mid (ap (λ (x : Entry). x.id) next.after) (ap (λ (x : Entry). x.read) next.after) (ap (λ (x : Entry). x.draining) next.after))
 next_of settings (Queue items session) e comes mid client is fine (inl next) =
-    (ap (λ (x : Entry). x.due) next.after, inr (inl (record { said = next.said; session_after = next.session_after; first = next.next; comes = next.comes; is = ap (λ (x : Entry). x.progress) next.after })), reads_still e mid (ap (λ (x : Entry). x.id) next.after) (ap (λ (x : Entry). x.read) next.after))
-next_of settings (Queue items session) e comes mid client is fine (inr (inl next)) = (ap (λ (x : Entry). x.due) next.after, inr (inr (record { fault = next.fault; says = next.is; comes = next.comes; is = ap (λ (x : Entry). x.progress) next.after ∙ is })), reads_still e mid (ap (λ (x : Entry). x.id) next.after) (ap (λ (x : Entry). x.read) next.after))
-next_of settings (Queue items session) e comes mid client is fine (inr (inr next)) = (ap (λ (x : Entry). x.due) next.1, inl (next.0, ap (λ (x : Entry). x.progress) next.1 ∙ is), reads_still e mid (ap (λ (x : Entry). x.id) next.1) (ap (λ (x : Entry). x.read) next.1))
+    (ap (λ (x : Entry). x.due) next.after, inr (inl (record { said = next.said; session_after = next.session_after; first = next.next; comes = next.comes; is = ap (λ (x : Entry). x.progress) next.after })), reads_still e mid (ap (λ (x : Entry). x.id) next.after) (ap (λ (x : Entry). x.read) next.after) (ap (λ (x : Entry). x.draining) next.after))
+next_of settings (Queue items session) e comes mid client is fine (inr (inl next)) = (ap (λ (x : Entry). x.due) next.after, inr (inr (record { fault = next.fault; says = next.is; comes = next.comes; is = ap (λ (x : Entry). x.progress) next.after ∙ is })), reads_still e mid (ap (λ (x : Entry). x.id) next.after) (ap (λ (x : Entry). x.read) next.after) (ap (λ (x : Entry). x.draining) next.after))
+next_of settings (Queue items session) e comes mid client is fine (inr (inr next)) = (ap (λ (x : Entry). x.due) next.1, inl (next.0, ap (λ (x : Entry). x.progress) next.1 ∙ is), reads_still e mid (ap (λ (x : Entry). x.id) next.1) (ap (λ (x : Entry). x.read) next.1) (ap (λ (x : Entry). x.draining) next.1))
 next_of settings (Link reports device) e comes mid client is fine next = absurd client
 
 pub steps_progress : (comes : Step) (mid new : Entry) (what : Ask) → StepsTo comes mid what new → new.progress ≡ mid.progress
@@ -261,11 +263,11 @@ steps_progress (step.Asks it last) mid new what is = ap (λ (x : Entry). x.progr
 steps_progress (step.Breaks it) mid new what is = ap (λ (x : Entry). x.progress) is.1
 
 -- a step leaves the number and the bytes read
-pub steps_read : (comes : Step) (mid new : Entry) (what : Ask) → StepsTo comes mid what new → ReadsOn mid new
-steps_read (step.Due due last) mid new what (inl is) = reads_still mid new (ap (λ (x : Entry). x.id) is.1) (ap (λ (x : Entry). x.read) is.1)
-steps_read (step.Due due last) mid new what (inr is) = reads_still mid new (ap (λ (x : Entry). x.id) is.2) (ap (λ (x : Entry). x.read) is.2)
-steps_read (step.Asks it last) mid new what is = reads_still mid new (ap (λ (x : Entry). x.id) is.1) (ap (λ (x : Entry). x.read) is.1)
-steps_read (step.Breaks it) mid new what is = reads_still mid new (ap (λ (x : Entry). x.id) is.1) (ap (λ (x : Entry). x.read) is.1)
+pub steps_read : (comes : Step) (mid new : Entry) (what : Ask) → StepsTo comes mid what new → (new.id ≡ mid.id) × (new.read ≡ mid.read) × (drains comes ≡ true → new.draining ≡ true)
+steps_read (step.Due due last) mid new what (inl is) = (ap (λ (x : Entry). x.id) is.1, ap (λ (x : Entry). x.read) is.1, λ ends. ap (λ (x : Entry). x.draining) is.1 ∙ ends)
+steps_read (step.Due due last) mid new what (inr is) = (ap (λ (x : Entry). x.id) is.2, ap (λ (x : Entry). x.read) is.2, λ ends. ap (λ (x : Entry). x.draining) is.2 ∙ ends)
+steps_read (step.Asks it last) mid new what is = (ap (λ (x : Entry). x.id) is.1, ap (λ (x : Entry). x.read) is.1, λ ends. ap (λ (x : Entry). x.draining) is.1 ∙ ends)
+steps_read (step.Breaks it) mid new what is = (ap (λ (x : Entry). x.id) is.1, ap (λ (x : Entry). x.read) is.1, λ ends. cc)
 
 pub not_given : (id : ℕ) (closes : Bool) (asked : List Handled) (bytes : List ℕ) (comes : Step) → comes ≡ no_memory → IsOwed id closes comes asked bytes → ⊥
 not_given id closes asked bytes comes is owed = subst (λ (s : Step). IsOwed id closes s asked bytes) is owed
@@ -299,7 +301,10 @@ client_acts moment key id what l front mid back l' hs whole good a client does =
     new_progress = steps_progress a.asks.comes a.asks.mid a.new what a.asks.steps
 
     read_on : ReadsOn a.entry a.new
-    read_on = reads_then a.entry a.asks.mid a.new (next_of l.core.settings a.entry.progress a.entry a.asks.comes a.asks.mid client refl heard_so.0 a.asks.hears).2 (steps_read a.asks.comes a.asks.mid a.new what a.asks.steps)
+    read_on =
+        let next = (next_of l.core.settings a.entry.progress a.entry a.asks.comes a.asks.mid client refl heard_so.0 a.asks.hears).2 in
+        let step = steps_read a.asks.comes a.asks.mid a.new what a.asks.steps in
+        record { same = step.0 ∙ next.same; more = next.more; grown = step.1 ∙ next.grown; drains = λ is. absurd (no_true a.entry.draining is (not_draining a.entry.draining a.entry.broken a.asks.counts)) }
 
     set : mid.entries key ≡ Some a.new
     set = ap (λ (x : Ledger). x.entries key) a.after ∙ at_here key a.new l.entries
@@ -371,6 +376,10 @@ client_acts moment key id what l front mid back l' hs whole good a client does =
     lost k device true is broke = absurd (no_name device (l'.entries k) (last k is) (lost_device device (l'.entries k) broke))
     lost k device false is broke = lost_by device acted.handled acted.sent (l.entries k) (l'.entries k) (acted.sends device (due_at (l.entries k))) ((ordered k (other_key k key is)).breaks device broke)
 
+    or_false : (t : Bool) → t || false ≡ true → t ≡ true
+    or_false true is = refl
+    or_false false is = is
+
     front_on : (e : Entry) → ReadsOn a.new e → IsFrontOf a.entry.read e.read
     front_on e later = let reads = reads_then a.entry a.new e read_on later in (reads.more, reads.grown)
 
@@ -386,8 +395,10 @@ client_acts moment key id what l front mid back l' hs whole good a client does =
           sound = not_broken a.entry.draining a.entry.broken a.asks.counts;
           reads = reads_then a.entry a.new e read_on it.2;
           acts = act ∷ [];
-          are = acts_on a.new e a.entry.progress e.progress (act ∷ []) it.2 (refl, record { next = subst (λ (t : PeerRecord). IsNext l.core.settings a.entry.read a.entry.progress a.asks.comes t) (sym new_progress) next; owed = it.1.1 }, it.0);
+          are = acts_on a.new e a.entry.progress e.progress (act ∷ []) it.2 (refl, record { next = subst (λ (t : PeerRecord). IsNext l.core.settings a.entry.read a.entry.progress a.asks.comes t) (sym new_progress) next; owed = it.1.1 }, λ last. refl, it.0);
           fronts = All-cons (λ (x : Act). IsFrontOf x.read e.read) act [] (front_on e it.2) (All-nil (λ (x : Act). IsFrontOf x.read e.read));
+          quiet = λ is. absurd (no_true a.entry.draining is (not_draining a.entry.draining a.entry.broken a.asks.counts));
+          over = λ last. it.2.drains ((steps_read a.asks.comes a.asks.mid a.new what a.asks.steps).2 (or_false (drains a.asks.comes) last));
           states = All-cons (λ (x : Act). IsStateOf x.state l.core acted.handled) act [] (same_state l.core acted.handled) (All-nil (λ (x : Act). IsStateOf x.state l.core acted.handled));
           asked = sym (append-nil (asked_by key acted.handled));
           due = it.1.2 ∙ (ap (λ (bytes : List ℕ). bytes ++ it.1.0) due ∙ ap (λ (bytes : List ℕ). a.entry.due ++ bytes) (sym (append-nil it.1.0)));
@@ -409,6 +420,7 @@ client_acts moment key id what l front mid back l' hs whole good a client does =
       one = acted.one;
       asked = refl;
       last = by next;
+      over = λ is. cc;
       due = is ∙ (due ∙ sym (append-nil a.entry.due));
     }
       where
@@ -421,13 +433,14 @@ client_acts moment key id what l front mid back l' hs whole good a client does =
         record {
           acts = act ∷ [];
           after = a.new.progress;
-          are = acts_on a.new e a.entry.progress a.new.progress (act ∷ []) reads (refl, record { next = subst (λ (t : PeerRecord). IsNext l.core.settings a.entry.read a.entry.progress a.asks.comes t) (sym new_progress) next; owed = owed }, refl);
+          are = acts_on a.new e a.entry.progress a.new.progress (act ∷ []) reads (refl, record { next = subst (λ (t : PeerRecord). IsNext l.core.settings a.entry.read a.entry.progress a.asks.comes t) (sym new_progress) next; owed = owed }, λ last. refl, refl);
           fronts = All-cons (λ (x : Act). IsFrontOf x.read e.read) act [] (front_on e reads) (All-nil (λ (x : Act). IsFrontOf x.read e.read));
           states = All-cons (λ (x : Act). IsStateOf x.state l.core acted.handled) act [] (same_state l.core acted.handled) (All-nil (λ (x : Act). IsStateOf x.state l.core acted.handled));
           unanswered = [];
           one = tt;
           asked = sym (append-nil (asked_by key acted.handled)) ∙ sym (append-nil (asked_by key acted.handled ++ []));
           last = inl (sym progress);
+          over = λ last. (progress, refl);
           due = is ∙ (ap (λ (more : List ℕ). more ++ bytes) due ∙ ap (λ (more : List ℕ). a.entry.due ++ more) (sym (append-nil bytes)));
         }
 
@@ -435,7 +448,7 @@ client_acts moment key id what l front mid back l' hs whole good a client does =
     stops k e true same is of broken =
         let at : k ≡ key = same_key k key same in
         let it = acted.halts e (subst (λ (j : ℕ). l'.entries j ≡ Some e) at is) of broken in
-        subst (λ (j : ℕ). StopsAs l.core j acted.handled (l.entries j) e) (sym at) (inr (inl (a.entry, a.there, client, not_broken a.entry.draining a.entry.broken a.asks.counts, broke e it.0 it.2 heard_next.1 heard_next.0 it.1, reads_then a.entry a.new e read_on it.2)))
+        subst (λ (j : ℕ). StopsAs l.core j acted.handled (l.entries j) e) (sym at) (inr (inl (a.entry, a.there, client, not_broken a.entry.draining a.entry.broken a.asks.counts, broke e it.0 it.2 heard_next.1 heard_next.0 it.1, reads_then a.entry a.new e read_on it.2, λ is. absurd (no_true a.entry.draining is (not_draining a.entry.draining a.entry.broken a.asks.counts)))))
     stops k e false same is of broken = stops_still l.core k acted.handled (l.entries k) (l'.entries k) (ordered k (other_key k key same)).stays (acted.aside k (other_key k key same)) e is of broken
 
     progresses : (k : ℕ) (e : Entry) (t : Bool) → (k == key) ≡ t → l'.entries k ≡ Some e → ClientTalk e.progress → e.broken ≡ false → TalkedAs l.core k acted.handled (l.entries k) e

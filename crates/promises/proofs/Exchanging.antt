@@ -372,7 +372,7 @@ same_said heard said ends closes left body is = cc
 module _ (ordered : ElementsInOrder) (some : SomeParse) (stays : FirstStays) where
   walk : (id : ℕ) (acts : List Act) (mode : Mode) (said : List HttpElement) (closes : Bool) (body : List ℕ) (heard : List HttpElement) (ends : Bool) (left : List ℕ) → Leads mode said → Fits mode closes body → in_order Between said ≡ true → AreActs id (Http said closes body) acts (Http heard ends left) → Walked id mode said acts heard
   walk id [] mode said closes body heard ends left leads fits order are = walked_none id mode said heard (same_said heard said ends closes left body are) order
-  walk id (a ∷ acts) mode said closes body heard ends left leads fits now (before, is, later) =
+  walk id (a ∷ acts) mode said closes body heard ends left leads fits now (before, is, none, later) =
       let next : NextIpp a.read said closes body a.what a.after = subst (λ (t : PeerRecord). IsNext a.state.settings a.read t a.what a.after) before is.next in
       let more : List HttpElement = elements_of next.item next.part in
       let owed : IsOwed id (closes_after next.item closes) a.what a.asked a.bytes = subst (λ (t : PeerRecord). IsOwed id (closes_of t) a.what a.asked a.bytes) next.is is.owed in
@@ -412,13 +412,13 @@ module _ (ordered : ElementsInOrder) (some : SomeParse) (stays : FirstStays) whe
 
   lpd_acts : (id : ℕ) (acts : List Act) (items : List ItemRecord) (session : Option SessionState) (said : List HttpElement) (closes : Bool) (body : List ℕ) → AreActs id (Queue items session) acts (Http said closes body) → ⊥
   lpd_acts id [] items session said closes body are = no_queue said closes body items session are
-  lpd_acts id (a ∷ acts) items session said closes body (before, is, later) =
+  lpd_acts id (a ∷ acts) items session said closes body (before, is, none, later) =
       let next = no_lpd a.state.settings a.read items session a.what a.after (subst (λ (t : PeerRecord). IsNext a.state.settings a.read t a.what a.after) before is.next) in
       lpd_acts id acts next.0 next.1 said closes body (subst (λ (t : PeerRecord). AreActs id t acts (Http said closes body)) next.2 later)
 
   device_acts : (id : ℕ) (acts : List Act) (said : List HttpElement) (closes : Bool) (body : List ℕ) → AreActs id (opening_peer Devices) acts (Http said closes body) → ⊥
   device_acts id [] said closes body are = no_link said closes body (opening_peer Devices) are refl
-  device_acts id (a ∷ acts) said closes body (before, is, later) = subst (λ (t : PeerRecord). IsNext a.state.settings a.read t a.what a.after) before is.next
+  device_acts id (a ∷ acts) said closes body (before, is, none, later) = subst (λ (t : PeerRecord). IsNext a.state.settings a.read t a.what a.after) before is.next
 
   by_door : (id : ℕ) (door : Door) (acts : List Act) (said : List HttpElement) (closes : Bool) (body : List ℕ) → AreActs id (opening_peer door) acts (Http said closes body) → AreExchanges id said (flat_map (λ (a : Act). a.asked) acts) (flat_map (λ (a : Act). a.bytes) acts)
   by_door id Ipp acts said closes body are = acts_are_exchanges id acts said closes body are

@@ -154,7 +154,7 @@ gives_breaks_at key Q None l hs l' there it = record {
   where
     nothing : {e : Entry} → (o : Option Entry) → o ≡ None → o ≡ Some e → ⊥
     nothing o p q = cc
-gives_breaks_at key Q (Some d) l hs l' there it = gave_sets key Q d (broken d) l hs l' there refl (reads_still d (broken d) refl refl) (λ sound. absurd (no_true true refl sound)) (λ is. refl) (ap run_notes it.0) it.1
+gives_breaks_at key Q (Some d) l hs l' there it = gave_sets key Q d (broken d) l hs l' there refl (reads_still d (broken d) refl refl refl) (λ sound. absurd (no_true true refl sound)) (λ is. refl) (ap run_notes it.0) it.1
 
 pub gives_breaks : (key : ℕ) (Q : Bool → List ℕ → Type 0) → Gives key Q (Breaks key)
 gives_breaks key Q l hs l' it = gives_breaks_at key Q (l.entries key) l hs l' refl it
@@ -164,11 +164,11 @@ abbrev pub Just_these : List ℕ → Bool → List ℕ → Type 0
 Just_these bytes closes given = given ≡ bytes
 
 pub gives_open : (refusable : Bool) (key : ℕ) (bytes : List ℕ) (d : Entry) (l : Ledger) (hs : List Happening) (l' : Ledger) → l.entries key ≡ Some d → d.broken ≡ false → EnqueuesOpen refusable key bytes d l hs l' → Gave [] key (Just_these bytes) l hs l'
-gives_open false key bytes d l hs l' there sound it = gave_sets key (Just_these bytes) d (owing bytes d) l hs l' there refl (reads_still d (owing bytes d) refl refl) (λ unbroken. (sound, (bytes, refl, refl))) (λ is. absurd (no_true d.broken is sound)) (ap run_notes it.0) it.1
+gives_open false key bytes d l hs l' there sound it = gave_sets key (Just_these bytes) d (owing bytes d) l hs l' there refl (reads_still d (owing bytes d) refl refl refl) (λ unbroken. (sound, (bytes, refl, refl))) (λ is. absurd (no_true d.broken is sound)) (ap run_notes it.0) it.1
 gives_open true key bytes d l hs l' there sound (inl it) =
-    gave_sets key (Just_these bytes) d (owing bytes d) l hs l' there refl (reads_still d (owing bytes d) refl refl) (λ unbroken. (sound, (bytes, refl, refl))) (λ is. absurd (no_true d.broken is sound))
+    gave_sets key (Just_these bytes) d (owing bytes d) l hs l' there refl (reads_still d (owing bytes d) refl refl refl) (λ unbroken. (sound, (bytes, refl, refl))) (λ is. absurd (no_true d.broken is sound))
     (ap run_notes it.whole ∙ (notes_append it.front it.back ∙ (ap (λ (ns : List Note). ns ++ run_notes it.back) (ap run_notes it.first.0) ∙ ap run_notes it.second.0))) (it.second.1 ∙ ap (λ (x : Ledger). with_entry key (owing bytes d) x) it.first.1)
-gives_open true key bytes d l hs l' there sound (inr it) = gave_sets key (Just_these bytes) d (broken d) l hs l' there refl (reads_still d (broken d) refl refl) (λ unbroken. absurd (no_true true refl unbroken)) (λ is. refl) (ap run_notes it.0) it.1
+gives_open true key bytes d l hs l' there sound (inr it) = gave_sets key (Just_these bytes) d (broken d) l hs l' there refl (reads_still d (broken d) refl refl refl) (λ unbroken. absurd (no_true true refl unbroken)) (λ is. refl) (ap run_notes it.0) it.1
 
 pub gives_if : (t refusable : Bool) (key : ℕ) (bytes : List ℕ) (d : Entry) (l : Ledger) (hs : List Happening) (l' : Ledger) → d.broken ≡ t → l.entries key ≡ Some d → If t Nothing (EnqueuesOpen refusable key bytes d) l hs l' → Gave [] key (Just_these bytes) l hs l'
 gives_if false refusable key bytes d l hs l' is there it = gives_open refusable key bytes d l hs l' there is it

@@ -22,7 +22,6 @@ use Rattle.events.specs.declared.effects.Cancel.{Cancel}
 use Rattle.dispatcher.specs.declared.outcome.Outcome.{Outcome}
 use Rattle.dispatcher.specs.declared.outcome.Outcome.TheVariants.{Dropped, Queried, Undispatched, Idle, Dispatched}
 use Rattle.dispatcher.specs.declared.listener.AllocationSite.{AllocationSite}
-use Rattle.dispatcher.specs.declared.listener.AllocationSite.TheVariants as At
 use Rattle.dispatcher.specs.Notes.{Note, Refused}
 use Rattle.dispatcher.specs.Run.{Handles}
 use Rattle.connections.specs.Entry.{PeerRecord, Entry, opening_peer, device_of}
@@ -31,7 +30,7 @@ use Rattle.server.specs.Ledger.{Ledger, at_key, job_bytes, Fate}
 use Rattle.server.specs.Rel.{Tells}
 use Rattle.server.specs.Enqueuing.{IsDevice}
 use Rattle.server.specs.Happening.{Happens, found_by}
-use Rattle.promises.specs.Answers.{Act, ClientTalk, AreActs, IsFrontOf, IsStateOf, is_asked, asked_by, IsAnswered, IsLast, BrokeAfter, IsCutOff}
+use Rattle.promises.specs.Answers.{Act, ClientTalk, drains, drained, AreActs, IsFrontOf, IsStateOf, is_asked, asked_by, IsAnswered, IsLast, BrokeAfter, IsCutOff}
 use Rattle.promises.specs.Orders.{EventComes, MemoryRefused, Handled, AreHandled, named_by, IsAt, AreAt, run_note, run_notes, cancel_for, start_for, orders_of, names, due_by}
 use Rattle.promises.proofs.Noting.{told_all}
 use Rattle.promises.proofs.Sending.{Counts, due_at, IsFresh, counts_device, same_key, not_key, Ordered, Calm, Good, good_sent, notes_append, sent_by, orders, Stays, IsLost, BreaksAs, lost_device, ReadsOn, reads_same, reads_then}
@@ -123,6 +122,8 @@ pub record Went (core : State) (key : ℕ) (handled : List Handled) (x : Option 
   pub acts : List Act
   pub are : AreActs e.id before.progress acts e.progress
   pub fronts : All (λ (a : Act). IsFrontOf a.read e.read) acts
+  pub quiet : before.draining ≡ true → acts ≡ []
+  pub over : drained acts ≡ true → e.draining ≡ true
   pub states : All (λ (a : Act). IsStateOf a.state core handled) acts
   pub asked : asked_by key handled ≡ flat_map (λ (a : Act). a.asked) acts
   pub due : e.due ≡ before.due ++ flat_map (λ (a : Act). a.bytes) acts
@@ -131,9 +132,40 @@ pub record Went (core : State) (key : ℕ) (handled : List Handled) (x : Option 
 abbrev pub TalkedAs : State → ℕ → List Handled → Option Entry → Entry → Type 0
 TalkedAs core key handled x e = Went core key handled x e ⊎ IsAnswered core key handled e
 
-acts_append : (id : ℕ) (before mid after : PeerRecord) (acts more : List Act) → AreActs id before acts mid → AreActs id mid more after → AreActs id before (acts ++ more) after
-acts_append id before mid after [] more same are = subst (λ (t : PeerRecord). AreActs id t more after) same are
-acts_append id before mid after (a ∷ acts) more (is, act, rest) are = (is, act, acts_append id a.after mid after acts more rest are)
+or_right : (x y : Bool) → y ≡ true → x || y ≡ true
+or_right true y is = refl
+or_right false y is = is
+
+or_left : (x y : Bool) → x ≡ true → x || y ≡ true
+or_left true y is = refl
+or_left false y is = cc
+
+or_either : (x y : Bool) → x || y ≡ true → (x ≡ true) ⊎ (y ≡ true)
+or_either true y is = inl refl
+or_either false y is = inr is
+
+drained_append : (acts more : List Act) → drained (acts ++ more) ≡ drained acts || drained more
+drained_append [] more = refl
+drained_append (a ∷ acts) more = ap (λ (t : Bool). drains a.what || t) (drained_append acts more) ∙ or_assoc (drains a.what) (drained acts) (drained more)
+  where
+    or_assoc : (x y z : Bool) → x || (y || z) ≡ (x || y) || z
+    or_assoc true y z = refl
+    or_assoc false y z = refl
+
+drained_either : (acts more : List Act) → drained (acts ++ more) ≡ true → (drained acts ≡ true) ⊎ (drained more ≡ true)
+drained_either acts more is = or_either (drained acts) (drained more) (sym (drained_append acts more) ∙ is)
+
+both_none : {A : Type 0} (xs ys : List A) → xs ≡ [] → ys ≡ [] → xs ++ ys ≡ []
+both_none xs ys p q = ap (λ zs. zs ++ ys) p ∙ q
+
+acts_append : (id : ℕ) (before mid after : PeerRecord) (acts more : List Act) → AreActs id before acts mid → (drained acts ≡ true → more ≡ []) → AreActs id mid more after → AreActs id before (acts ++ more) after
+acts_append id before mid after [] more same over are = subst (λ (t : PeerRecord). AreActs id t more after) same are
+acts_append id before mid after (a ∷ acts) more (is, act, none, rest) over are =
+    (is, act, λ last. both_none acts more (none last) (over (or_left (drains a.what) (drained acts) last)), acts_append id a.after mid after acts more rest (λ last. over (or_right (drains a.what) (drained acts) last)) are)
+
+-- without acts the peer stays
+acts_none : (id : ℕ) (before after : PeerRecord) (acts : List Act) → acts ≡ [] → AreActs id before acts after → after ≡ before
+acts_none id before after acts none are = subst (λ (its : List Act). AreActs id before its after) none are
 
 -- acts on a connection are acts on it once more was read
 pub acts_on : (d e : Entry) (before after : PeerRecord) (acts : List Act) → ReadsOn d e → AreActs d.id before acts after → AreActs e.id before acts after
@@ -187,12 +219,17 @@ progressed_then core mid key first later x y e run (inr a) before = inr (record 
   acts = a.acts;
   are = a.are;
   fronts = a.fronts;
+  over = a.over;
   states = states_behind core mid first later a.acts run a.states;
   asked = a.asked;
   due = a.due;
 })
 progressed_then core mid key first later x y e run (inl w) before = by (before w.before w.there w.client w.sound)
   where
+    over_joined : (acts : List Act) → (drained acts ≡ true) ⊎ (drained w.acts ≡ true) → (drained acts ≡ true → w.before.draining ≡ true) → e.draining ≡ true
+    over_joined acts (inl last) over = w.reads.drains (over last)
+    over_joined acts (inr last) over = w.over last
+
     by : TalkedAs core key first x w.before → TalkedAs core key (first ++ later) x e
     by (inl v) = inl (record {
       before = v.before;
@@ -201,8 +238,10 @@ progressed_then core mid key first later x y e run (inl w) before = by (before w
       sound = v.sound;
       reads = reads_then v.before w.before e v.reads w.reads;
       acts = v.acts ++ w.acts;
-      are = acts_append e.id v.before.progress w.before.progress e.progress v.acts w.acts (acts_on w.before e v.before.progress w.before.progress v.acts w.reads v.are) w.are;
+      are = acts_append e.id v.before.progress w.before.progress e.progress v.acts w.acts (acts_on w.before e v.before.progress w.before.progress v.acts w.reads v.are) (λ last. w.quiet (v.over last)) w.are;
       fronts = fronts_joined w.before e v.acts w.acts w.reads v.fronts w.fronts;
+      quiet = λ is. both_none v.acts w.acts (v.quiet is) (w.quiet (v.reads.drains is));
+      over = λ last. over_joined v.acts (drained_either v.acts w.acts last) v.over;
       states = All-append (λ (a : Act). IsStateOf a.state core (first ++ later)) v.acts w.acts (states_more core first later v.acts v.states) (states_behind core mid first later w.acts run w.states);
       asked = asked_joined key first later v.acts w.acts v.asked w.asked;
       due = due_joined v.before.due w.before.due e.due v.acts w.acts v.due w.due;
@@ -213,8 +252,9 @@ progressed_then core mid key first later x y e run (inl w) before = by (before w
       whole = ap (λ (its : List Handled). its ++ later) b.whole ∙ append_assoc b.earlier b.since later;
       door = b.door;
       acts = b.acts ++ w.acts;
-      are = acts_append e.id (opening_peer b.door) w.before.progress e.progress b.acts w.acts (acts_on w.before e (opening_peer b.door) w.before.progress b.acts w.reads b.are) w.are;
+      are = acts_append e.id (opening_peer b.door) w.before.progress e.progress b.acts w.acts (acts_on w.before e (opening_peer b.door) w.before.progress b.acts w.reads b.are) (λ last. w.quiet (b.over last)) w.are;
       fronts = fronts_joined w.before e b.acts w.acts w.reads b.fronts w.fronts;
+      over = λ last. over_joined b.acts (drained_either b.acts w.acts last) b.over;
       states = All-append (λ (a : Act). IsStateOf a.state core (first ++ later)) b.acts w.acts (states_more core first later b.acts b.states) (states_behind core mid first later w.acts run w.states);
       asked = asked_joined key b.since later b.acts w.acts b.asked w.asked;
       due = due_joined [] w.before.due e.due b.acts w.acts b.due w.due;
@@ -222,11 +262,15 @@ progressed_then core mid key first later x y e run (inl w) before = by (before w
 
 -- ---- where it broke
 
+-- if the connection drained before, it took no acts and asked nothing until it broke
+abbrev pub QuietFrom : Bool → List Act → List Handled → PeerRecord → PeerRecord → Type 0
+QuietFrom draining acts unanswered before after = draining ≡ true → (acts ≡ []) × (unanswered ≡ []) × (after ≡ before)
+
 -- the connection had broken before; or it went on, and broke; or it was accepted since, and broke
 abbrev pub StopsAs : State → ℕ → List Handled → Option Entry → Entry → Type 0
 StopsAs core key handled x e =
     ((d : Entry) × (x ≡ Some d) × (d.broken ≡ true) × (d.progress ≡ e.progress) × (d.due ≡ e.due) × (asked_by key handled ≡ []) × ReadsOn d e)
-    ⊎ (((d : Entry) × (x ≡ Some d) × ClientTalk d.progress × (d.broken ≡ false) × BrokeAfter core key handled handled d.progress d.due e × ReadsOn d e) ⊎ IsCutOff core key handled e)
+    ⊎ (((d : Entry) × (x ≡ Some d) × ClientTalk d.progress × (d.broken ≡ false) × (until : BrokeAfter core key handled handled d.progress d.due e) × ReadsOn d e × QuietFrom d.draining until.acts until.unanswered d.progress e.progress) ⊎ IsCutOff core key handled e)
 
 last_more : (core : State) (first later : List Handled) (d e : Entry) (after progress : PeerRecord) → ReadsOn d e → IsLast core first d.read after progress → IsLast core (first ++ later) e.read after progress
 last_more core first later d e after progress reads (inl is) = inl is
@@ -237,7 +281,7 @@ last_behind core mid first later whole after progress run (inl is) = inl is
 last_behind core mid first later whole after progress run (inr (state, read, what, of, front, next)) = inr (state, read, what, state_behind state core mid first later run of, front, next)
 
 -- more comes, which it doesn't ask for
-broke_more : (core : State) (key : ℕ) (first later since : List Handled) (before : PeerRecord) (base : List ℕ) (d e : Entry) → BrokeAfter core key first since before base d → d.progress ≡ e.progress → d.due ≡ e.due → asked_by key later ≡ [] → ReadsOn d e → BrokeAfter core key (first ++ later) (since ++ later) before base e
+abbrev broke_more : (core : State) (key : ℕ) (first later since : List Handled) (before : PeerRecord) (base : List ℕ) (d e : Entry) → BrokeAfter core key first since before base d → d.progress ≡ e.progress → d.due ≡ e.due → asked_by key later ≡ [] → ReadsOn d e → BrokeAfter core key (first ++ later) (since ++ later) before base e
 broke_more core key first later since before base d e b progress due none reads = record {
   acts = b.acts;
   after = b.after;
@@ -248,16 +292,22 @@ broke_more core key first later since before base d e b progress due none reads 
   one = b.one;
   asked = asked_append key since later ∙ (ap (λ (its : List Handled). asked_by key since ++ its) none ∙ (append-nil (asked_by key since) ∙ b.asked));
   last = subst (λ (t : PeerRecord). IsLast core (first ++ later) e.read b.after t) progress (last_more core first later d e b.after d.progress reads b.last);
+  over = λ last. let it = b.over last in (sym progress ∙ it.0, it.1);
   due = sym due ∙ b.due;
 }
 
+broke_ended : (mid : State) (key : ℕ) (later : List Handled) (d e : Entry) (acts : List Act) (b : BrokeAfter mid key later later d.progress d.due e) → (drained acts ≡ true → d.draining ≡ true) → QuietFrom d.draining b.acts b.unanswered d.progress e.progress
+    → (drained acts ≡ true) ⊎ (drained b.acts ≡ true) → (e.progress ≡ b.after) × (b.unanswered ≡ [])
+broke_ended mid key later d e acts b over quiet (inl last) = let it = quiet (over last) in (it.2 ∙ sym (acts_none e.id d.progress b.after b.acts it.0 b.are), it.1)
+broke_ended mid key later d e acts b over quiet (inr last) = b.over last
+
 -- the connection had gone on by other acts before
-broke_behind : (core mid : State) (key : ℕ) (first later since : List Handled) (before : PeerRecord) (base : List ℕ) (d e : Entry) (acts : List Act) → AreHandled core first mid → AreActs d.id before acts d.progress → All (λ (a : Act). IsFrontOf a.read d.read) acts → All (λ (a : Act). IsStateOf a.state core first) acts → asked_by key since ≡ flat_map (λ (a : Act). a.asked) acts
-    → d.due ≡ base ++ flat_map (λ (a : Act). a.bytes) acts → BrokeAfter mid key later later d.progress d.due e → ReadsOn d e → BrokeAfter core key (first ++ later) (since ++ later) before base e
-broke_behind core mid key first later since before base d e acts run are fronts states asked due b reads = record {
+abbrev broke_behind : (core mid : State) (key : ℕ) (first later since : List Handled) (before : PeerRecord) (base : List ℕ) (d e : Entry) (acts : List Act) → AreHandled core first mid → AreActs d.id before acts d.progress → (drained acts ≡ true → d.draining ≡ true) → All (λ (a : Act). IsFrontOf a.read d.read) acts → All (λ (a : Act). IsStateOf a.state core first) acts → asked_by key since ≡ flat_map (λ (a : Act). a.asked) acts
+    → d.due ≡ base ++ flat_map (λ (a : Act). a.bytes) acts → (b : BrokeAfter mid key later later d.progress d.due e) → ReadsOn d e → QuietFrom d.draining b.acts b.unanswered d.progress e.progress → BrokeAfter core key (first ++ later) (since ++ later) before base e
+broke_behind core mid key first later since before base d e acts run are over fronts states asked due b reads quiet = record {
   acts = acts ++ b.acts;
   after = b.after;
-  are = acts_append e.id before d.progress b.after acts b.acts (acts_on d e before d.progress acts reads are) b.are;
+  are = acts_append e.id before d.progress b.after acts b.acts (acts_on d e before d.progress acts reads are) (λ last. (quiet (over last)).0) b.are;
   fronts = fronts_joined d e acts b.acts reads fronts b.fronts;
   states = All-append (λ (a : Act). IsStateOf a.state core (first ++ later)) acts b.acts (states_more core first later acts states) (states_behind core mid first later b.acts run b.states);
   unanswered = b.unanswered;
@@ -267,6 +317,7 @@ broke_behind core mid key first later since before base d e acts run are fronts 
       ∙ (ap (λ (its : List Handled). flat_map (λ (a : Act). a.asked) acts ++ its) b.asked
       ∙ (sym (append_assoc (flat_map (λ (a : Act). a.asked) acts) (flat_map (λ (a : Act). a.asked) b.acts) b.unanswered) ∙ ap (λ (its : List Handled). its ++ b.unanswered) (sym (flat_map-append (λ (a : Act). a.asked) acts b.acts)))));
   last = last_behind core mid first later e.read b.after e.progress run b.last;
+  over = λ last. broke_ended mid key later d e acts b over quiet (drained_either acts b.acts last);
   due = due_joined base d.due e.due acts b.acts due b.due;
 }
 
@@ -276,7 +327,8 @@ stops_then core mid key first later x y e run client (inl (d, there, broken, pro
   where
     by : StopsAs core key first x d → StopsAs core key (first ++ later) x e
     by (inl (f, is, was, same, more, silent, read)) = inl (f, is, was, same ∙ progress, more ∙ due, asked_append key first later ∙ (ap (λ (its : List Handled). its ++ asked_by key later) silent ∙ none), reads_then f d e read reads)
-    by (inr (inl (f, is, of, sound, b, read))) = inr (inl (f, is, of, sound, broke_more core key first later first f.progress f.due d e b progress due none reads, reads_then f d e read reads))
+    by (inr (inl (f, is, of, sound, b, read, quiet))) =
+        inr (inl (f, is, of, sound, broke_more core key first later first f.progress f.due d e b progress due none reads, reads_then f d e read reads, λ drains. let it = quiet drains in (it.0, it.1, sym progress ∙ it.2)))
     by (inr (inr c)) = inr (inr (record {
       earlier = c.earlier;
       since = c.since ++ later;
@@ -284,16 +336,27 @@ stops_then core mid key first later x y e run client (inl (d, there, broken, pro
       door = c.door;
       until = broke_more core key first later c.since (opening_peer c.door) [] d e c.until progress due none reads;
     }))
-stops_then core mid key first later x y e run client (inr (inl (d, there, of, sound, b, reads))) progressed stopped = by (progressed d there of sound)
+stops_then core mid key first later x y e run client (inr (inl (d, there, of, sound, b, reads, quiet))) progressed stopped = by (progressed d there of sound)
   where
     by : TalkedAs core key first x d → StopsAs core key (first ++ later) x e
-    by (inl v) = inr (inl (v.before, v.there, v.client, v.sound, broke_behind core mid key first later first v.before.progress v.before.due d e v.acts run v.are v.fronts v.states v.asked v.due b reads, reads_then v.before d e v.reads reads))
+    by (inl v) = inr (inl (
+      v.before,
+      v.there,
+      v.client,
+      v.sound,
+      broke_behind core mid key first later first v.before.progress v.before.due d e v.acts run v.are v.over v.fronts v.states v.asked v.due b reads quiet,
+      reads_then v.before d e v.reads reads,
+      λ drains.
+          let none = v.quiet drains in
+          let it = quiet (v.reads.drains drains) in
+          (both_none v.acts b.acts none it.0, it.1, it.2 ∙ acts_none d.id v.before.progress d.progress v.acts none v.are),
+    ))
     by (inr a) = inr (inr (record {
       earlier = a.earlier;
       since = a.since ++ later;
       whole = ap (λ (its : List Handled). its ++ later) a.whole ∙ append_assoc a.earlier a.since later;
       door = a.door;
-      until = broke_behind core mid key first later a.since (opening_peer a.door) [] d e a.acts run a.are a.fronts a.states a.asked a.due b reads;
+      until = broke_behind core mid key first later a.since (opening_peer a.door) [] d e a.acts run a.are a.over a.fronts a.states a.asked a.due b reads quiet;
     }))
 stops_then core mid key first later x y e run client (inr (inr c)) progressed stopped = inr (inr (record {
   earlier = first ++ c.earlier;
@@ -310,6 +373,7 @@ stops_then core mid key first later x y e run client (inr (inr c)) progressed st
     one = c.until.one;
     asked = c.until.asked;
     last = last_behind core mid first later e.read c.until.after e.progress run c.until.last;
+    over = c.until.over;
     due = c.until.due;
   };
 }))
@@ -337,9 +401,11 @@ stops_still core key handled x y stays none e is client broken =
         one = tt;
         asked = none;
         last = inl progress;
+        over = λ is. cc;
         due = sym due ∙ sym (append-nil d.due);
       },
       reads,
+      λ drains. (refl, refl, sym progress),
     ))
 
 -- the connection is unchanged if these events weren't asked on it
@@ -355,6 +421,8 @@ progressed_still core key handled x y stays none e is client sound =
       acts = [];
       are = sym d.2;
       fronts = All-nil (λ (a : Act). IsFrontOf a.read e.read);
+      quiet = λ is. refl;
+      over = λ is. cc;
       states = All-nil (λ (a : Act). IsStateOf a.state core handled);
       asked = none;
       due = sym d.4 ∙ sym (append-nil d.0.due);
@@ -415,14 +483,6 @@ due_named device before other (it ∷ later) is = by_name (names device it.named
     by_name : (t : Bool) → (has_named device later ≡ true → due_by device (before ++ orders_of device it) later ≡ due_by device (other ++ orders_of device it) later) → t || has_named device later ≡ true → due_by device ((if t then [] else before) ++ orders_of device it) later ≡ due_by device ((if t then [] else other) ++ orders_of device it) later
     by_name true rest is = refl
     by_name false rest is = rest is
-
-or_right : (x y : Bool) → y ≡ true → x || y ≡ true
-or_right true y is = refl
-or_right false y is = is
-
-or_left : (x y : Bool) → x ≡ true → x || y ≡ true
-or_left true y is = refl
-or_left false y is = cc
 
 pub came_with : (device : ℕ) (first later : List Handled) (x y : Option Entry) (all : List ℕ) → CameWith device later y all → (Counts device y → CameAs device first x y) → CameWith device (first ++ later) x all
 came_with device first later x y all (inr (named, due)) before =

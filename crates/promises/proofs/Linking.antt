@@ -56,7 +56,7 @@ moves_drops moment key e l hs l' good there it = goes_calm true moment l hs l' g
 
 pub fed_whole : (moment key : ℕ) (e : Entry) (bytes : List ℕ) (l : Ledger) (hs : List Happening) (l' : Ledger) → Good l → l.entries key ≡ Some e → FedWhole moment key e bytes l hs l' → Goes true moment l hs l'
 fed_whole moment key e bytes l hs l' good there (inl it) =
-    let first = moves_sets moment key e (reading bytes e) l it.front it.mid good there (refl, refl, refl, record { same = refl; more = bytes; grown = refl }) it.first in
+    let first = moves_sets moment key e (reading bytes e) l it.front it.mid good there (refl, refl, refl, record { same = refl; more = bytes; grown = refl; drains = λ is. is }) it.first in
     goes_then true moment l it.front it.mid it.back l' hs it.whole first (moves_serves moment key it.mid it.back l' first.good it.second)
 fed_whole moment key e bytes l hs l' good there (inr it) =
     let first = moves_drops moment key e l it.front it.mid good there it.first in
@@ -91,7 +91,7 @@ reads_as moment key e (wire.Done bytes) l hs l' good there it = polled_then mome
 reads_as moment key e wire.Waiting l hs l' good there it = goes_calm true moment l hs l' good (calm_still l hs l' (ap run_notes it.0) it.1)
 reads_as moment key e wire.End l hs l' good there it =
     polled_then moment (Sets key (record e { ended = true })) l hs l' good (Reads e.id wire.End) it
-    (λ mid same more. moves_sets moment key e (record e { ended = true }) mid it.back l' (good_at l mid same good) (ap (λ (x : Ledger). x.entries key) same ∙ there) (refl, refl, refl, reads_still e (record e { ended = true }) refl refl) more)
+    (λ mid same more. moves_sets moment key e (record e { ended = true }) mid it.back l' (good_at l mid same good) (ap (λ (x : Ledger). x.entries key) same ∙ there) (refl, refl, refl, reads_still e (record e { ended = true }) refl refl refl) more)
 reads_as moment key e wire.Fault l hs l' good there it = polled_then moment (Fails moment key) l hs l' good (Reads e.id wire.Fault) it (λ mid same more. moves_fails moment key mid it.back l' (good_at l mid same good) more)
 
 pub reads_if : (t : Bool) (moment key : ℕ) (e : Entry) (l : Ledger) (hs : List Happening) (l' : Ledger) → Good l → l.entries key ≡ Some e → If t (ReadsOpen moment key e) Nothing l hs l' → Goes true moment l hs l'
@@ -110,7 +110,7 @@ moves_reads moment key l hs l' good it = reads_at moment key (l.entries key) l h
 pub writes_as : (moment key : ℕ) (e : Entry) (offered : List ℕ) (answer : WireAnswer ℕ) (l : Ledger) (hs : List Happening) (l' : Ledger) → Good l → l.entries key ≡ Some e → WritesAs moment key e offered answer l hs l' → Goes true moment l hs l'
 writes_as moment key e offered (wire.Done n) l hs l' good there it =
     polled_then moment (Sets key (record e { taken = e.taken ++ take n offered })) l hs l' good (Writes e.id offered (wire.Done n)) it
-    (λ mid same more. moves_sets moment key e (record e { taken = e.taken ++ take n offered }) mid it.back l' (good_at l mid same good) (ap (λ (x : Ledger). x.entries key) same ∙ there) (refl, refl, refl, reads_still e (record e { taken = e.taken ++ take n offered }) refl refl) more)
+    (λ mid same more. moves_sets moment key e (record e { taken = e.taken ++ take n offered }) mid it.back l' (good_at l mid same good) (ap (λ (x : Ledger). x.entries key) same ∙ there) (refl, refl, refl, reads_still e (record e { taken = e.taken ++ take n offered }) refl refl refl) more)
 writes_as moment key e offered wire.Waiting l hs l' good there it = goes_calm true moment l hs l' good (calm_still l hs l' (ap run_notes it.0) it.1)
 writes_as moment key e offered wire.End l hs l' good there it = polled_then moment (Fails moment key) l hs l' good (Writes e.id offered wire.End) it (λ mid same more. moves_fails moment key mid it.back l' (good_at l mid same good) more)
 writes_as moment key e offered wire.Fault l hs l' good there it = polled_then moment (Fails moment key) l hs l' good (Writes e.id offered wire.Fault) it (λ mid same more. moves_fails moment key mid it.back l' (good_at l mid same good) more)
@@ -158,6 +158,7 @@ opening_progresses core door id key x e is of sound =
       acts = [];
       are = ap (λ (y : Entry). y.progress) (sym this);
       fronts = All-nil (λ (a : Act). IsFrontOf a.read e.read);
+      over = λ is. cc;
       states = All-nil (λ (a : Act). IsStateOf a.state core []);
       asked = refl;
       due = ap (λ (y : Entry). y.due) (sym this);
@@ -326,7 +327,7 @@ module _ (opening : State) (trace : Trace) (l : Ledger) (runs : Runs trace (open
 
   cut_since : (x : Option Entry) (key : ℕ) (handled : List Handled) (e : Entry) → x ≡ None → StopsAs opening key handled x e → IsCutOff opening key handled e
   cut_since x key handled e none (inl (d, there, broken, progress, due, silent, reads)) = absurd (no_entry x d none there)
-  cut_since x key handled e none (inr (inl (d, there, client, sound, until, reads))) = absurd (no_entry x d none there)
+  cut_since x key handled e none (inr (inl (d, there, client, sound, until, reads, quiet))) = absurd (no_entry x d none there)
   cut_since x key handled e none (inr (inr cut)) = cut
 
   pub are_sent : AreSent opening trace l

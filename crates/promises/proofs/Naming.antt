@@ -11,7 +11,7 @@ use Rattle.server.specs.Polls.{Happening}
 use Rattle.server.specs.Ledger.{Ledger, at_key, with_entry}
 use Rattle.server.specs.Enqueuing.{IsDevice}
 use Rattle.server.specs.Greeting.{IsDeviceAs, IsAlone, GivesWayAt, Greets}
-use Rattle.promises.specs.Orders.{Handled, IsAt, run_notes}
+use Rattle.promises.specs.Orders.{IsAt, run_notes}
 use Rattle.promises.specs.Answers.{ClientTalk}
 use Rattle.promises.proofs.Sending.{Counts, due_at, FreshTalk, IsFresh, same_key, other_key, Ordered, ordered_still, ordered_broken, ordered_given_up, notes_append, Good, one_entry, client_none, IsLost}
 use Rattle.promises.proofs.Handling.{happened, CameAs, Goes, goes_calm, Awaits, awaits_event, awaits_named, gone_sends_none, TalkedAs, progressed_still, LostAs, lost_by, StopsAs, stops_still}

@@ -80,20 +80,21 @@ not_key k key apart = grind (arith, nat_tests, apart)
 pub no_bytes : ℕ → List ℕ
 no_bytes device = []
 
--- the connection has the same number, and more bytes may have been read on it
+-- the connection has the same number, more bytes may have been read on it, and it still drains if it did
 pub record ReadsOn (d e : Entry) : Type 0 where
   pub same : e.id ≡ d.id
   pub more : List ℕ
   pub grown : e.read ≡ d.read ++ more
+  pub drains : d.draining ≡ true → e.draining ≡ true
 
-pub reads_still : (d e : Entry) → e.id ≡ d.id → e.read ≡ d.read → ReadsOn d e
-reads_still d e same read = record { same = same; more = []; grown = read ∙ sym (append-nil d.read) }
+pub reads_still : (d e : Entry) → e.id ≡ d.id → e.read ≡ d.read → e.draining ≡ d.draining → ReadsOn d e
+reads_still d e same read drains = record { same = same; more = []; grown = read ∙ sym (append-nil d.read); drains = λ is. drains ∙ is }
 
 pub reads_same : (e : Entry) → ReadsOn e e
-reads_same e = reads_still e e refl refl
+reads_same e = reads_still e e refl refl refl
 
 pub reads_then : (d m e : Entry) → ReadsOn d m → ReadsOn m e → ReadsOn d e
-reads_then d m e p q = record { same = q.same ∙ p.same; more = p.more ++ q.more; grown = q.grown ∙ (ap (λ (bytes : List ℕ). bytes ++ q.more) p.grown ∙ append_assoc d.read p.more q.more) }
+reads_then d m e p q = record { same = q.same ∙ p.same; more = p.more ++ q.more; grown = q.grown ∙ (ap (λ (bytes : List ℕ). bytes ++ q.more) p.grown ∙ append_assoc d.read p.more q.more); drains = λ is. q.drains (p.drains is) }
 
 -- a client's connection is unchanged, except that bytes may have been read or taken and that it may have broken
 abbrev pub Stays : Option Entry → Option Entry → Type 0
@@ -235,7 +236,7 @@ unnamed_progress (Queue items session) client = refl
 unnamed_progress (Link reports device) client = absurd client
 
 pub ordered_given_up : (e : Entry) → Ordered (λ device. []) (Some e) (Some (given_up e))
-ordered_given_up e = ordered_broken (λ device. []) e (given_up e) refl (λ device named. (unnamed_none e.progress device named, refl)) (unnamed_client e.progress) (λ client. (unnamed_progress e.progress client, refl, reads_still e (given_up e) refl refl))
+ordered_given_up e = ordered_broken (λ device. []) e (given_up e) refl (λ device named. (unnamed_none e.progress device named, refl)) (unnamed_client e.progress) (λ client. (unnamed_progress e.progress client, refl, reads_still e (given_up e) refl refl refl))
 
 -- ---- ledgers
 
@@ -323,7 +324,7 @@ pub calm_sets : (key : ℕ) (d e : Entry) (l : Ledger) (hs : List Happening) (l'
 calm_sets key d e l hs l' there here silent after = sent_sets (λ device. []) key d e l hs l' there here (λ other apart device is. refl) silent after
 
 pub breaking : (e : Entry) → Ordered (λ device. []) (Some e) (Some (broken e))
-breaking e = ordered_broken (λ device. []) e (broken e) refl (λ device is. (is, refl)) (λ client. client) (λ client. (refl, refl, reads_still e (broken e) refl refl))
+breaking e = ordered_broken (λ device. []) e (broken e) refl (λ device is. (is, refl)) (λ client. client) (λ client. (refl, refl, reads_still e (broken e) refl refl refl))
 
 -- ---- bytes that are enqueued on a device's connection
 
@@ -384,7 +385,7 @@ enqueues_open true device key bytes e l hs l' unbroken there is others (inl it) 
     sent_sets (to_device device bytes) key e (owing bytes e) l hs l' there (owing_to device bytes e is unbroken) (λ other apart. unsent_to device bytes (l.entries other) (others other apart))
     (no_notes hs it.front it.back it.whole (ap run_notes it.first.0) (ap run_notes it.second.0)) (it.second.1 ∙ ap (λ (x : Ledger). with_entry key (owing bytes e) x) started)
 enqueues_open true device key bytes e l hs l' unbroken there is others (inr it) =
-    sent_sets (to_device device bytes) key e (broken e) l hs l' there (ordered_broken (to_device device bytes) e (broken e) refl (λ other named. (named, refl)) (λ client. client) (λ client. (refl, refl, reads_still e (broken e) refl refl))) (λ other apart. unsent_to device bytes (l.entries other) (others other apart))
+    sent_sets (to_device device bytes) key e (broken e) l hs l' there (ordered_broken (to_device device bytes) e (broken e) refl (λ other named. (named, refl)) (λ client. client) (λ client. (refl, refl, reads_still e (broken e) refl refl refl))) (λ other apart. unsent_to device bytes (l.entries other) (others other apart))
     (ap run_notes it.0) it.1
 
 enqueues_if : (t grows : Bool) (device key : ℕ) (bytes : List ℕ) (e : Entry) (l : Ledger) (hs : List Happening) (l' : Ledger) → e.broken ≡ t → l.entries key ≡ Some e → device_of e.progress ≡ Some device → ((other : ℕ) → other ≢ key → IsDevice device (l.entries other) → ⊥) → If t Nothing (EnqueuesOpen grows key bytes e) l hs l' → Sent (to_device device bytes) l hs l'

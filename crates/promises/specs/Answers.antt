@@ -1,5 +1,5 @@
 -- The answers to a client: for each item of its stream the bytes that become due, with the reply that the core's run gave if the item is a request to the core.
-use Rattle.std.specs.Prelude.{ℕ, ◌≡◌, ◌⊎◌, ◌==◌, Bool, true, false, if◌then◌else◌, List, [], ◌∷◌, ◌++◌, All, Option, Some, None}
+use Rattle.std.specs.Prelude.{ℕ, ◌≡◌, ◌⊎◌, ◌==◌, ◌||◌, Bool, true, false, if◌then◌else◌, List, [], ◌∷◌, ◌++◌, All, Option, Some, None}
 use Rattle.std.specs.List.{flat_map}
 use Rattle.settings_file.specs.Settings.{ServerSettings}
 use Rattle.http_front.specs.declared.item.HttpItem.{HttpItem}
@@ -140,10 +140,21 @@ pub record IsAct (id : ℕ) (a : Act) : Type 0 where
   pub next : IsNext a.state.settings a.read a.before a.what a.after
   pub owed : IsOwed id (closes_of a.after) a.what a.asked a.bytes
 
--- acts, one after the other
+-- the connection drains after the step
+abbrev pub drains : Step → Bool
+drains (step.Due due last) = last
+drains (step.Asks what last) = last
+drains (step.Breaks what) = false
+
+-- acts, one after the other; no act follows one after which the connection drains
 abbrev pub AreActs : ℕ → PeerRecord → List Act → PeerRecord → Type 0
 AreActs id before [] after = after ≡ before
-AreActs id before (a ∷ acts) after = (a.before ≡ before) × IsAct id a × AreActs id a.after acts after
+AreActs id before (a ∷ acts) after = (a.before ≡ before) × IsAct id a × (drains a.what ≡ true → acts ≡ []) × AreActs id a.after acts after
+
+-- the connection drains after one of these acts
+abbrev pub drained : List Act → Bool
+drained [] = false
+drained (a ∷ acts) = drains a.what || drained acts
 
 abbrev pub IsFrontOf : List ℕ → List ℕ → Type 0
 IsFrontOf front whole = (rest : List ℕ) × (whole ≡ front ++ rest)
@@ -175,6 +186,7 @@ pub record IsAnswered (opening : State) (key : ℕ) (handled : List Handled) (e 
   pub acts : List Act
   pub are : AreActs e.id (opening_peer door) acts e.progress
   pub fronts : All (λ (a : Act). IsFrontOf a.read e.read) acts
+  pub over : drained acts ≡ true → e.draining ≡ true
   pub states : All (λ (a : Act). IsStateOf a.state opening handled) acts
   pub asked : asked_by key since ≡ flat_map (λ (a : Act). a.asked) acts
   pub due : e.due ≡ flat_map (λ (a : Act). a.bytes) acts
@@ -196,7 +208,7 @@ IsOneAtMost (it ∷ []) = Unit {0}
 IsOneAtMost (it ∷ lost ∷ []) = IsEvent it.what × (IsEvent lost.what → ⊥)
 IsOneAtMost (it ∷ lost ∷ more) = ⊥
 
--- A connection took these acts and then broke. Its events and refusals of memory are those of these acts, and at most one more event, which was handled and has no answer, and one more refusal.
+-- A connection took these acts and then broke. Its events and refusals of memory are those of these acts, and at most one more event, which was handled and has no answer, and one more refusal; none if the connection drained before it broke.
 pub record BrokeAfter (opening : State) (key : ℕ) (handled since : List Handled) (before : PeerRecord) (base : List ℕ) (e : Entry) : Type 0 where
   pub acts : List Act
   pub after : PeerRecord
@@ -207,6 +219,7 @@ pub record BrokeAfter (opening : State) (key : ℕ) (handled since : List Handle
   pub one : IsOneAtMost unanswered
   pub asked : asked_by key since ≡ flat_map (λ (a : Act). a.asked) acts ++ unanswered
   pub last : IsLast opening handled e.read after e.progress
+  pub over : drained acts ≡ true → (e.progress ≡ after) × (unanswered ≡ [])
   pub due : e.due ≡ base ++ flat_map (λ (a : Act). a.bytes) acts
 
 -- The bytes due on a client's connection that broke are those of its acts before.

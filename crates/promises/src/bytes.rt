@@ -55,10 +55,10 @@ pub fn devices_are_heard()
 /// run gave to an event that the connection asked for. The status 0x0505, and the byte 01 for a file or a job
 /// that can't be kept, each need a note that memory was refused on the connection of that number: for the
 /// event, for the reply to a query, or for the file. The byte 01 for a fault needs a fault in the bytes read.
-/// The events that the connection asked for, and these notes, are exactly those of its acts, in order. On a
-/// connection that broke, the same holds for the acts before. On each connection, open or closed, the items
-/// acted on are a front of those that its bytes say: on an open one all of these, unless the connection is
-/// draining or broken.
+/// The events that the connection asked for, and these notes, are exactly those of its acts, in order. No act
+/// follows one after which the connection drains. On a connection that broke, the same holds for the acts
+/// before. On each connection, open or closed, the items acted on are a front of those that its bytes say: on
+/// an open one all of these, unless the connection is draining or broken.
 pub fn clients_are_answered()
     ensures { (opening : State) (trace : Trace) (ledger : Ledger) → Runs trace (opening_ledger opening) ledger → AreAnswered opening trace ledger }
 {}
