@@ -282,7 +282,7 @@ goes_on (action ∷ actions) l l' good (mid, does, runs) =
     record {
       handled = first.handled ++ later.handled;
       good = later.good;
-      timed = (first.handled, later.handled, refl, first.timed, later.timed);
+      timed = (first.handled, later.handled, refl, first.timed, first.told, later.timed);
       run = handled_append l.core mid.core l'.core first.handled later.handled first.run later.run;
       told = notes_append (happenings_of action) (happenings_in actions)
           ∙ (ap (λ (ns : List Note). ns ++ run_notes (happenings_in actions)) first.told ∙ (ap (λ (ns : List Note). flat_map (λ (it : Handled). it.notes) first.handled ++ ns) later.told ∙ sym (flat_map-append (λ (it : Handled). it.notes) first.handled later.handled)));

@@ -19,7 +19,7 @@ use Rattle.connections.specs.Entry.{Entry, device_of}
 use Rattle.server.specs.Polls.{Happening, Polled, Told, Chosen}
 use Rattle.server.specs.Ledger.{Ledger, Fate, job_bytes}
 use Rattle.server.specs.Turn.{Action, Turned, Served_body, Reported, Ticked, Trace}
-use Rattle.server.specs.Law.{moment_of, happenings_in}
+use Rattle.server.specs.Law.{moment_of, happenings_of, happenings_in}
 
 -- ---- the run
 
@@ -75,11 +75,6 @@ IsAt turn moment it = (it.moment ≡ moment) × (it.named ≡ naming turn it.wha
 abbrev pub AreAt : Bool → ℕ → List Handled → Type 0
 AreAt turn moment handled = All (λ (it : Handled). IsAt turn moment it) handled
 
--- the parts of the first action, at its moment, then those of the next, and so on
-abbrev pub AreOf : Trace → List Handled → Type 0
-AreOf [] handled = handled ≡ []
-AreOf (action ∷ actions) handled = (first : List Handled) × (later : List Handled) × (handled ≡ first ++ later) × AreAt (is_turn action) (moment_of action) first × AreOf actions later
-
 -- the note of memory that was refused, if the note is one of the run: for an event, a dispatch, a reply or a file
 abbrev pub run_refusal : AllocationSite → Option ℕ → List Note
 run_refusal At.Accept id = []
@@ -102,6 +97,13 @@ run_note (Chosen choice) = []
 -- the notes of the run in these happenings, in order
 abbrev pub run_notes : List Happening → List Note
 run_notes hs = flat_map run_note hs
+
+-- the parts of the first action, at its moment, which tell the notes of its happenings; then those of the next, and so on
+abbrev pub AreOf : Trace → List Handled → Type 0
+AreOf [] handled = handled ≡ []
+AreOf (action ∷ actions) handled =
+    (first : List Handled) × (later : List Handled) × (handled ≡ first ++ later) × AreAt (is_turn action) (moment_of action) first
+    × (run_notes (happenings_of action) ≡ flat_map (λ (it : Handled). it.notes) first) × AreOf actions later
 
 -- ---- the orders of a device
 
