@@ -1,5 +1,6 @@
 -- Parts of an action that bring no event, and the state of each connection after an event.
 use Rattle.std.proofs.Common.{◌≡◌, ℕ, Bool, true, false, List, [], ◌∷◌, ◌++◌, map, refl, sym, ◌∙◌, ap, subst, append-nil, Option, Some, None, inl, inr}
+use Rattle.std.proofs.lemmas.Grind.{flat_map-append}
 use Rattle.device_link.specs.Orders.{cancel_line}
 use Rattle.print_room.specs.declared.started.Started.{Started}
 use Rattle.print_room.specs.State.{State}
@@ -33,10 +34,24 @@ use Rattle.server.specs.Happening.{found_by, Sends, SendsAll, Starts, StartsAll,
 use Rattle.server.specs.Answering as Ans
 use Rattle.server.specs.Turn as Between
 use Rattle.server.specs.Turn.{Turn}
-use Rattle.server.specs.Law.{core_notes}
-use Rattle.promises.proofs.Sending.{notes_append}
-use Rattle.promises.proofs.Handling.{told_notes, found_silent}
+use Rattle.server.specs.Law.{core_note, core_notes}
+use Rattle.promises.proofs.Noting.{told_all}
 use Rattle.promises.proofs.Speaking.{Grows, grows_as, Kept, kept_same, kept_then, here, aside, by_key, KeptAll}
+
+-- ---- the notes of the core
+
+pub notes_append : (hs ks : List Happening) → core_notes (hs ++ ks) ≡ core_notes hs ++ core_notes ks
+notes_append hs ks = flat_map-append core_note hs ks
+
+told_notes : (moment : ℕ) (event : Event) (old : State) (outcome : Outcome) (notes : List Note) (new : State) → Handles moment event old outcome notes new → core_notes (map Told notes) ≡ notes
+told_notes moment event old outcome notes new it = told_all core_note (λ cancel. refl) (λ plan started. refl) refl moment event old outcome notes new it
+
+found_silent : (outcome : Outcome) → core_notes (found_by outcome) ≡ []
+found_silent Dropped = refl
+found_silent (Queried reply) = refl
+found_silent (Undispatched reply) = refl
+found_silent (Idle reply) = refl
+found_silent (Dispatched reply) = refl
 
 -- ---- parts that bring no event and no report
 

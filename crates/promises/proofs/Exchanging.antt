@@ -26,7 +26,7 @@ use Rattle.server.specs.Ledger.{Ledger, Fate}
 use Rattle.server.specs.Turn.{Trace}
 use Rattle.promises.specs.Orders.{Handled}
 use Rattle.promises.specs.Answers.{Act, NextIpp, IsNext, IsOwed, AreActs, IsAnswered, IsLast, IsCutOff, ClientTalk, AreAnswered, WasAnswered, WasCutOff}
-use Rattle.promises.specs.Exchanges.{Exchange, says_begun, says_exchange, IsAnswerTo, IsExchange, invitation, due_in, Front, Nothing, Begun, says_front, due_front, says_refusal, due_refusal, AreExchanges, ActsAreExchanges, ByExchanges, IsOneMore, UntilBroken, IsByExchanges, WasByExchanges, IsFirst, AreByExchanges}
+use Rattle.promises.specs.Exchanges.{Exchange, says_begun, says_exchange, IsAnswerTo, IsExchange, invitation, due_in, Front, Nothing, Begun, says_front, due_front, says_refusal, due_refusal, AreExchanges, ActsAreExchanges, ByExchanges, IsOneMore, UntilBroken, IsByExchanges, WasByExchanges, AreByExchanges}
 
 no_false : false ≡ true → ⊥
 no_false is = cc
@@ -117,41 +117,41 @@ record Grows (mode now : Mode) (more : List HttpElement) (asked : List Handled) 
   none : asked ≡ []
 
 -- the exchange becomes whole
-record Completes (mode now : Mode) (more : List HttpElement) (asked : List Handled) (bytes : List ℕ) : Type 0 where
+record Completes (id : ℕ) (mode now : Mode) (more : List HttpElement) (asked : List Handled) (bytes : List ℕ) : Type 0 where
   whole : Exchange
-  is : IsExchange whole
+  is : IsExchange id whole
   says : says_mode mode ++ more ≡ says_exchange whole
   due : due_mode mode ++ bytes ≡ due_in whole
   its : asked ≡ whole.asked
   says_none : says_mode now ≡ []
   due_none : due_mode now ≡ []
 
-record Stepped (mode : Mode) (said more : List HttpElement) (closes : Bool) (body : List ℕ) (asked : List Handled) (bytes : List ℕ) : Type 0 where
+record Stepped (id : ℕ) (mode : Mode) (said more : List HttpElement) (closes : Bool) (body : List ℕ) (asked : List Handled) (bytes : List ℕ) : Type 0 where
   now : Mode
   leads : Leads now (said ++ more)
   fits : Fits now closes body
-  comes : Grows mode now more asked bytes ⊎ Completes mode now more asked bytes
+  comes : Grows mode now more asked bytes ⊎ Completes id mode now more asked bytes
 
 -- a head
-head_comes : (mode : Mode) (said : List HttpElement) (next : Bool) (asked : List Handled) (bytes : List ℕ) → Leads mode said → goes mode (HasHead next ∷ []) ≡ true → asked ≡ [] → bytes ≡ [] → Stepped mode said (HasHead next ∷ []) next [] asked bytes
-head_comes (Goes Nothing) said next asked bytes leads ok none quiet = record {
+head_comes : (id : ℕ) (mode : Mode) (said : List HttpElement) (next : Bool) (asked : List Handled) (bytes : List ℕ) → Leads mode said → goes mode (HasHead next ∷ []) ≡ true → asked ≡ [] → bytes ≡ [] → Stepped id mode said (HasHead next ∷ []) next [] asked bytes
+head_comes id (Goes Nothing) said next asked bytes leads ok none quiet = record {
   now = Goes (Begun next false []);
   leads = leads_on (Goes Nothing) (Goes (Begun next false [])) said (HasHead next ∷ []) leads (λ later. refl);
   fits = (refl, refl);
   comes = inl (record { says = refl; due = quiet; none = none });
 }
-head_comes (Goes (Begun closes true body)) said next asked bytes leads ok none quiet = absurd (no_false ok)
-head_comes (Goes (Begun closes false [])) said next asked bytes leads ok none quiet = absurd (no_false ok)
-head_comes (Goes (Begun closes false (byte ∷ body))) said next asked bytes leads ok none quiet = absurd (no_false ok)
-head_comes (Over front refusal) said next asked bytes leads ok none quiet = absurd (no_false ok)
+head_comes id (Goes (Begun closes true body)) said next asked bytes leads ok none quiet = absurd (no_false ok)
+head_comes id (Goes (Begun closes false [])) said next asked bytes leads ok none quiet = absurd (no_false ok)
+head_comes id (Goes (Begun closes false (byte ∷ body))) said next asked bytes leads ok none quiet = absurd (no_false ok)
+head_comes id (Over front refusal) said next asked bytes leads ok none quiet = absurd (no_false ok)
 
 -- an invitation
-invitation_comes : (mode : Mode) (said : List HttpElement) (closes : Bool) (body : List ℕ) (asked : List Handled) (bytes : List ℕ) → Leads mode said → Fits mode closes body → goes mode (Invites ∷ []) ≡ true → asked ≡ [] → bytes ≡ continue_head → Stepped mode said (Invites ∷ []) closes body asked bytes
-invitation_comes (Goes Nothing) said closes body asked bytes leads fits ok none is = absurd (no_false ok)
-invitation_comes (Goes (Begun also true octets)) said closes body asked bytes leads fits ok none is = absurd (no_false ok)
-invitation_comes (Goes (Begun also false (byte ∷ octets))) said closes body asked bytes leads fits ok none is = absurd (no_false ok)
-invitation_comes (Over front refusal) said closes body asked bytes leads fits ok none is = absurd (no_false ok)
-invitation_comes (Goes (Begun also false [])) said closes body asked bytes leads fits ok none is = record {
+invitation_comes : (id : ℕ) (mode : Mode) (said : List HttpElement) (closes : Bool) (body : List ℕ) (asked : List Handled) (bytes : List ℕ) → Leads mode said → Fits mode closes body → goes mode (Invites ∷ []) ≡ true → asked ≡ [] → bytes ≡ continue_head → Stepped id mode said (Invites ∷ []) closes body asked bytes
+invitation_comes id (Goes Nothing) said closes body asked bytes leads fits ok none is = absurd (no_false ok)
+invitation_comes id (Goes (Begun also true octets)) said closes body asked bytes leads fits ok none is = absurd (no_false ok)
+invitation_comes id (Goes (Begun also false (byte ∷ octets))) said closes body asked bytes leads fits ok none is = absurd (no_false ok)
+invitation_comes id (Over front refusal) said closes body asked bytes leads fits ok none is = absurd (no_false ok)
+invitation_comes id (Goes (Begun also false [])) said closes body asked bytes leads fits ok none is = record {
   now = Goes (Begun also true []);
   leads = leads_on (Goes (Begun also false [])) (Goes (Begun also true [])) said (Invites ∷ []) leads (λ later. refl);
   fits = fits;
@@ -176,15 +176,15 @@ says_more closes front body part =
     ∙ sym (append-nil (HasHead closes ∷ (front ++ map HasByte (body ++ part)))))
 
 -- a part of a body, which may be empty
-part_comes : (mode : Mode) (part : List ℕ) (said : List HttpElement) (closes : Bool) (body after : List ℕ) (asked : List Handled) (bytes : List ℕ) → Leads mode said → Fits mode closes body → goes mode (map HasByte part) ≡ true → after ≡ body ++ part → asked ≡ [] → bytes ≡ [] → Stepped mode said (map HasByte part) closes after asked bytes
-part_comes (Goes Nothing) [] said closes body after asked bytes leads fits ok grows none quiet = record {
+part_comes : (id : ℕ) (mode : Mode) (part : List ℕ) (said : List HttpElement) (closes : Bool) (body after : List ℕ) (asked : List Handled) (bytes : List ℕ) → Leads mode said → Fits mode closes body → goes mode (map HasByte part) ≡ true → after ≡ body ++ part → asked ≡ [] → bytes ≡ [] → Stepped id mode said (map HasByte part) closes after asked bytes
+part_comes id (Goes Nothing) [] said closes body after asked bytes leads fits ok grows none quiet = record {
   now = Goes Nothing;
   leads = leads_on (Goes Nothing) (Goes Nothing) said [] leads (λ later. refl);
   fits = tt;
   comes = inl (record { says = refl; due = quiet; none = none });
 }
-part_comes (Goes Nothing) (byte ∷ part) said closes body after asked bytes leads fits ok grows none quiet = absurd (no_false ok)
-part_comes (Goes (Begun also invites octets)) part said closes body after asked bytes leads fits ok grows none quiet = record {
+part_comes id (Goes Nothing) (byte ∷ part) said closes body after asked bytes leads fits ok grows none quiet = absurd (no_false ok)
+part_comes id (Goes (Begun also invites octets)) part said closes body after asked bytes leads fits ok grows none quiet = record {
   now = Goes (Begun also invites (octets ++ part));
   leads = leads_on (Goes (Begun also invites octets)) (Goes (Begun also invites (octets ++ part))) said (map HasByte part) leads (bytes_on part also invites octets);
   fits = (fits.0, grows ∙ ap (λ (xs : List ℕ). xs ++ part) fits.1);
@@ -194,7 +194,7 @@ part_comes (Goes (Begun also invites octets)) part said closes body after asked 
     none = none;
   });
 }
-part_comes (Over front refusal) [] said closes body after asked bytes leads fits ok grows none quiet = record {
+part_comes id (Over front refusal) [] said closes body after asked bytes leads fits ok grows none quiet = record {
   now = Over front refusal;
   leads = leads_on (Over front refusal) (Over front refusal) said [] leads (λ later. refl);
   fits = tt;
@@ -204,24 +204,24 @@ part_comes (Over front refusal) [] said closes body after asked bytes leads fits
     none = none;
   });
 }
-part_comes (Over front refusal) (byte ∷ part) said closes body after asked bytes leads fits ok grows none quiet = absurd (no_false ok)
+part_comes id (Over front refusal) (byte ∷ part) said closes body after asked bytes leads fits ok grows none quiet = absurd (no_false ok)
 
 -- the end of a body
-answered_by : (closes : Bool) (it : ParsedRequest) (asked : List Handled) (bytes : List ℕ) → IsOwed closes (asked_step closes it) asked bytes → IsAnswerTo closes it asked bytes
-answered_by closes asks.TooShort asked bytes owed = owed
-answered_by closes (asks.Refused status request) asked bytes owed = owed
-answered_by closes (asks.Event request event) asked bytes owed = owed
+answered_by : (id : ℕ) (closes : Bool) (it : ParsedRequest) (asked : List Handled) (bytes : List ℕ) → IsOwed id closes (asked_step closes it) asked bytes → IsAnswerTo id closes it asked bytes
+answered_by id closes asks.TooShort asked bytes owed = owed
+answered_by id closes (asks.Refused status request) asked bytes owed = owed
+answered_by id closes (asks.Event request event) asked bytes owed = owed
 
-is_exchange : (closes invites : Bool) (body : List ℕ) (what : Step) (asked : List Handled) (bytes : List ℕ) → Ends closes body what → IsOwed closes what asked bytes → IsExchange (record { closes = closes; invites = invites; body = body; asked = asked; answer = bytes })
-is_exchange closes invites body what asked bytes (inl (it, asks, is)) owed = inl (it, asks, answered_by closes it asked bytes (subst (λ (s : Step). IsOwed closes s asked bytes) is owed))
-is_exchange closes invites body what asked bytes (inr (request, has, is)) owed = (let it = subst (λ (s : Step). IsOwed closes s asked bytes) is owed in inr (request, has, it.0, it.1))
+is_exchange : (id : ℕ) (closes invites : Bool) (body : List ℕ) (what : Step) (asked : List Handled) (bytes : List ℕ) → Ends closes body what → IsOwed id closes what asked bytes → IsExchange id (record { closes = closes; invites = invites; body = body; asked = asked; answer = bytes })
+is_exchange id closes invites body what asked bytes (inl (it, asks, is)) owed = inl (it, asks, answered_by id closes it asked bytes (subst (λ (s : Step). IsOwed id closes s asked bytes) is owed))
+is_exchange id closes invites body what asked bytes (inr (request, has, is)) owed = (let it = subst (λ (s : Step). IsOwed id closes s asked bytes) is owed in inr (request, has, it.0, it.1))
 
 ends_on : (closes invites : Bool) (body : List ℕ) (later : List HttpElement) → in_order (place_of (Begun closes invites body)) (EndsBody ∷ later) ≡ (if is_last closes (length body) then is_none later else in_order Between later)
 ends_on closes true body later = refl
 ends_on closes false [] later = refl
 ends_on closes false (byte ∷ body) later = refl
 
-module _ (also invites : Bool) (octets : List ℕ) (said : List HttpElement) (closes : Bool) (body : List ℕ) (asked : List Handled) (bytes : List ℕ) where
+module _ (id : ℕ) (also invites : Bool) (octets : List ℕ) (said : List HttpElement) (closes : Bool) (body : List ℕ) (asked : List Handled) (bytes : List ℕ) where
   whole : Exchange
   whole = record { closes = also; invites = invites; body = octets; asked = asked; answer = bytes }
 
@@ -231,7 +231,7 @@ module _ (also invites : Bool) (octets : List ℕ) (said : List HttpElement) (cl
   end_due : (due_front (Begun also invites octets) ++ due_refusal None) ++ bytes ≡ invitation invites ++ bytes
   end_due = ap (λ (xs : List ℕ). xs ++ bytes) (append-nil (invitation invites))
 
-  end_comes : IsExchange (record { closes = also; invites = invites; body = octets; asked = asked; answer = bytes }) → Leads (Goes (Begun also invites octets)) said → (t : Bool) → is_last also (length octets) ≡ t → Stepped (Goes (Begun also invites octets)) said (EndsBody ∷ []) closes body asked bytes
+  end_comes : IsExchange id (record { closes = also; invites = invites; body = octets; asked = asked; answer = bytes }) → Leads (Goes (Begun also invites octets)) said → (t : Bool) → is_last also (length octets) ≡ t → Stepped id (Goes (Begun also invites octets)) said (EndsBody ∷ []) closes body asked bytes
   end_comes is leads true last = record {
     now = Over Nothing None;
     leads = leads_on (Goes (Begun also invites octets)) (Over Nothing None) said (EndsBody ∷ []) leads
@@ -247,12 +247,12 @@ module _ (also invites : Bool) (octets : List ℕ) (said : List HttpElement) (cl
     comes = inr (record { whole = record { closes = also; invites = invites; body = octets; asked = asked; answer = bytes }; is = is; says = end_says; due = end_due; its = refl; says_none = refl; due_none = refl });
   }
 
-body_ends : (mode : Mode) (said : List HttpElement) (closes : Bool) (body : List ℕ) (what : Step) (asked : List Handled) (bytes : List ℕ) → Leads mode said → Fits mode closes body → goes mode (EndsBody ∷ []) ≡ true → Ends closes body what → IsOwed closes what asked bytes → Stepped mode said (EndsBody ∷ []) closes [] asked bytes
-body_ends (Goes Nothing) said closes body what asked bytes leads fits ok ends owed = absurd (no_false ok)
-body_ends (Goes (Begun also invites octets)) said closes body what asked bytes leads fits ok ends owed =
-    end_comes also invites octets said closes [] asked bytes
-    (is_exchange also invites octets what asked bytes (subst (λ (xs : List ℕ). Ends also xs what) fits.1 (subst (λ (t : Bool). Ends t body what) fits.0 ends)) (subst (λ (t : Bool). IsOwed t what asked bytes) fits.0 owed)) leads (is_last also (length octets)) refl
-body_ends (Over front refusal) said closes body what asked bytes leads fits ok ends owed = absurd (no_false ok)
+body_ends : (id : ℕ) (mode : Mode) (said : List HttpElement) (closes : Bool) (body : List ℕ) (what : Step) (asked : List Handled) (bytes : List ℕ) → Leads mode said → Fits mode closes body → goes mode (EndsBody ∷ []) ≡ true → Ends closes body what → IsOwed id closes what asked bytes → Stepped id mode said (EndsBody ∷ []) closes [] asked bytes
+body_ends id (Goes Nothing) said closes body what asked bytes leads fits ok ends owed = absurd (no_false ok)
+body_ends id (Goes (Begun also invites octets)) said closes body what asked bytes leads fits ok ends owed =
+    end_comes id also invites octets said closes [] asked bytes
+    (is_exchange id also invites octets what asked bytes (subst (λ (xs : List ℕ). Ends also xs what) fits.1 (subst (λ (t : Bool). Ends t body what) fits.0 ends)) (subst (λ (t : Bool). IsOwed id t what asked bytes) fits.0 owed)) leads (is_last also (length octets)) refl
+body_ends id (Over front refusal) said closes body what asked bytes leads fits ok ends owed = absurd (no_false ok)
 
 -- a refusal
 refused_on : (place : Place) (refusal : HttpRejection) (later : List HttpElement) → in_order place (IsRefused refusal ∷ later) ≡ is_none later
@@ -260,8 +260,8 @@ refused_on Between refusal later = refl
 refused_on (Headed closes) refusal later = refl
 refused_on (Within closes count) refusal later = refl
 
-refusal_comes : (mode : Mode) (said : List HttpElement) (refusal : HttpRejection) (closes : Bool) (body : List ℕ) (asked : List Handled) (bytes : List ℕ) → Leads mode said → goes mode (IsRefused refusal ∷ []) ≡ true → asked ≡ [] → bytes ≡ refusal_head refusal → Stepped mode said (IsRefused refusal ∷ []) closes body asked bytes
-refusal_comes (Goes front) said refusal closes body asked bytes leads ok none is = record {
+refusal_comes : (id : ℕ) (mode : Mode) (said : List HttpElement) (refusal : HttpRejection) (closes : Bool) (body : List ℕ) (asked : List Handled) (bytes : List ℕ) → Leads mode said → goes mode (IsRefused refusal ∷ []) ≡ true → asked ≡ [] → bytes ≡ refusal_head refusal → Stepped id mode said (IsRefused refusal ∷ []) closes body asked bytes
+refusal_comes id (Goes front) said refusal closes body asked bytes leads ok none is = record {
   now = Over front (Some refusal);
   leads = leads_on (Goes front) (Over front (Some refusal)) said (IsRefused refusal ∷ []) leads (λ later. refused_on (place_of front) refusal later);
   fits = tt;
@@ -271,28 +271,28 @@ refusal_comes (Goes front) said refusal closes body asked bytes leads ok none is
     none = none;
   });
 }
-refusal_comes (Over front other) said refusal closes body asked bytes leads ok none is = absurd (no_false ok)
+refusal_comes id (Over front other) said refusal closes body asked bytes leads ok none is = absurd (no_false ok)
 
 -- any
-stepped : (what_item : HttpItem) (part : List ℕ) (mode : Mode) (said : List HttpElement) (closes : Bool) (body : List ℕ) (what : Step) (asked : List Handled) (bytes : List ℕ) → Leads mode said → Fits mode closes body → goes mode (elements_of what_item part) ≡ true → StepsIpp what_item closes body what
-    → IsOwed (closes_after what_item closes) what asked bytes → Stepped mode said (elements_of what_item part) (closes_after what_item closes) (body_after what_item what part body) asked bytes
-stepped (item.Head next) part mode said closes body what asked bytes leads fits ok comes owed =
-    let it = subst (λ (s : Step). IsOwed next s asked bytes) comes owed in head_comes mode said next asked bytes leads ok it.0 it.1
-stepped item.Continue part mode said closes body what asked bytes leads fits ok comes owed =
-    let it = subst (λ (s : Step). IsOwed closes s asked bytes) comes owed in invitation_comes mode said closes body asked bytes leads fits ok it.0 it.1
-stepped item.BodyPart part mode said closes body what asked bytes leads fits ok (inl comes) owed =
-    let it = subst (λ (s : Step). IsOwed closes s asked bytes) comes owed in
-    part_comes mode part said closes body (grown what part body) asked bytes leads fits ok (ap (λ (s : Step). grown s part body) comes) it.0 it.1
-stepped item.BodyPart part mode said closes body what asked bytes leads fits ok (inr comes) owed = absurd (subst (λ (s : Step). IsOwed closes s asked bytes) comes owed)
-stepped item.BodyEnd part mode said closes body what asked bytes leads fits ok comes owed = body_ends mode said closes body what asked bytes leads fits ok comes owed
-stepped (item.Refuse refusal) part mode said closes body what asked bytes leads fits ok comes owed =
-    let it = subst (λ (s : Step). IsOwed closes s asked bytes) comes owed in refusal_comes mode said refusal closes body asked bytes leads ok it.0 it.1
+stepped : (id : ℕ) (what_item : HttpItem) (part : List ℕ) (mode : Mode) (said : List HttpElement) (closes : Bool) (body : List ℕ) (what : Step) (asked : List Handled) (bytes : List ℕ) → Leads mode said → Fits mode closes body → goes mode (elements_of what_item part) ≡ true → StepsIpp what_item closes body what
+    → IsOwed id (closes_after what_item closes) what asked bytes → Stepped id mode said (elements_of what_item part) (closes_after what_item closes) (body_after what_item what part body) asked bytes
+stepped id (item.Head next) part mode said closes body what asked bytes leads fits ok comes owed =
+    let it = subst (λ (s : Step). IsOwed id next s asked bytes) comes owed in head_comes id mode said next asked bytes leads ok it.0 it.1
+stepped id item.Continue part mode said closes body what asked bytes leads fits ok comes owed =
+    let it = subst (λ (s : Step). IsOwed id closes s asked bytes) comes owed in invitation_comes id mode said closes body asked bytes leads fits ok it.0 it.1
+stepped id item.BodyPart part mode said closes body what asked bytes leads fits ok (inl comes) owed =
+    let it = subst (λ (s : Step). IsOwed id closes s asked bytes) comes owed in
+    part_comes id mode part said closes body (grown what part body) asked bytes leads fits ok (ap (λ (s : Step). grown s part body) comes) it.0 it.1
+stepped id item.BodyPart part mode said closes body what asked bytes leads fits ok (inr comes) owed = absurd (subst (λ (s : Step). IsOwed id closes s asked bytes) comes owed)
+stepped id item.BodyEnd part mode said closes body what asked bytes leads fits ok comes owed = body_ends id mode said closes body what asked bytes leads fits ok comes owed
+stepped id (item.Refuse refusal) part mode said closes body what asked bytes leads fits ok comes owed =
+    let it = subst (λ (s : Step). IsOwed id closes s asked bytes) comes owed in refusal_comes id mode said refusal closes body asked bytes leads ok it.0 it.1
 
 -- ---- all of them
 
-record Walked (mode : Mode) (said : List HttpElement) (acts : List Act) (heard : List HttpElement) : Type 0 where
+record Walked (id : ℕ) (mode : Mode) (said : List HttpElement) (acts : List Act) (heard : List HttpElement) : Type 0 where
   exchanges : List Exchange
-  each : All (λ (x : Exchange). IsExchange x) exchanges
+  each : All (λ (x : Exchange). IsExchange id x) exchanges
   front : Front
   refusal : Option HttpRejection
   more : List HttpElement
@@ -302,10 +302,10 @@ record Walked (mode : Mode) (said : List HttpElement) (acts : List Act) (heard :
   due : due_mode mode ++ flat_map (λ (a : Act). a.bytes) acts ≡ flat_map due_in exchanges ++ (due_front front ++ due_refusal refusal)
   ordered : in_order Between heard ≡ true
 
-walked_none : (mode : Mode) (said heard : List HttpElement) → heard ≡ said → in_order Between said ≡ true → Walked mode said [] heard
-walked_none (Goes front) said heard same order = record {
+walked_none : (id : ℕ) (mode : Mode) (said heard : List HttpElement) → heard ≡ said → in_order Between said ≡ true → Walked id mode said [] heard
+walked_none id (Goes front) said heard same order = record {
   exchanges = [];
-  each = All-nil (λ (x : Exchange). IsExchange x);
+  each = All-nil (λ (x : Exchange). IsExchange id x);
   front = front;
   refusal = None;
   more = [];
@@ -315,9 +315,9 @@ walked_none (Goes front) said heard same order = record {
   due = append-nil (due_front front ++ due_refusal None);
   ordered = ap (λ (xs : List HttpElement). in_order Between xs) same ∙ order;
 }
-walked_none (Over front refusal) said heard same order = record {
+walked_none id (Over front refusal) said heard same order = record {
   exchanges = [];
-  each = All-nil (λ (x : Exchange). IsExchange x);
+  each = All-nil (λ (x : Exchange). IsExchange id x);
   front = front;
   refusal = refusal;
   more = [];
@@ -337,10 +337,10 @@ parted : {A : Type 0} (old more later now one all rest : List A) → old ++ more
 parted old more later now one all rest is none two =
     joined old more later one ((one ++ all) ++ rest) is (ap (λ xs. one ++ xs) (ap (λ xs. xs ++ later) (sym none) ∙ two) ∙ sym (append_assoc one all rest))
 
-walked_more : (mode : Mode) (said more : List HttpElement) (closes : Bool) (body : List ℕ) (a : Act) (acts : List Act) (heard : List HttpElement) (s : Stepped mode said more closes body a.asked a.bytes) → Walked s.now (said ++ more) acts heard → Walked mode said (a ∷ acts) heard
-walked_more mode said more closes body a acts heard s w = by s.comes
+walked_more : (id : ℕ) (mode : Mode) (said more : List HttpElement) (closes : Bool) (body : List ℕ) (a : Act) (acts : List Act) (heard : List HttpElement) (s : Stepped id mode said more closes body a.asked a.bytes) → Walked id s.now (said ++ more) acts heard → Walked id mode said (a ∷ acts) heard
+walked_more id mode said more closes body a acts heard s w = by s.comes
   where
-    by : Grows mode s.now more a.asked a.bytes ⊎ Completes mode s.now more a.asked a.bytes → Walked mode said (a ∷ acts) heard
+    by : Grows mode s.now more a.asked a.bytes ⊎ Completes id mode s.now more a.asked a.bytes → Walked id mode said (a ∷ acts) heard
     by (inl g) = record {
       exchanges = w.exchanges;
       each = w.each;
@@ -355,7 +355,7 @@ walked_more mode said more closes body a acts heard s w = by s.comes
     }
     by (inr c) = record {
       exchanges = c.whole ∷ w.exchanges;
-      each = All-cons (λ (x : Exchange). IsExchange x) c.whole w.exchanges c.is w.each;
+      each = All-cons (λ (x : Exchange). IsExchange id x) c.whole w.exchanges c.is w.each;
       front = w.front;
       refusal = w.refusal;
       more = more ++ w.more;
@@ -370,22 +370,22 @@ same_said : (heard said : List HttpElement) (ends closes : Bool) (left body : Li
 same_said heard said ends closes left body is = cc
 
 module _ (ordered : ElementsInOrder) (some : SomeParse) (stays : FirstStays) where
-  walk : (acts : List Act) (mode : Mode) (said : List HttpElement) (closes : Bool) (body : List ℕ) (heard : List HttpElement) (ends : Bool) (left : List ℕ) → Leads mode said → Fits mode closes body → in_order Between said ≡ true → AreActs (Http said closes body) acts (Http heard ends left) → Walked mode said acts heard
-  walk [] mode said closes body heard ends left leads fits order are = walked_none mode said heard (same_said heard said ends closes left body are) order
-  walk (a ∷ acts) mode said closes body heard ends left leads fits now (before, is, later) =
-      let next : NextIpp said closes body a.what a.after = subst (λ (t : PeerRecord). IsNext a.state.settings t a.what a.after) before is.next in
+  walk : (id : ℕ) (acts : List Act) (mode : Mode) (said : List HttpElement) (closes : Bool) (body : List ℕ) (heard : List HttpElement) (ends : Bool) (left : List ℕ) → Leads mode said → Fits mode closes body → in_order Between said ≡ true → AreActs id (Http said closes body) acts (Http heard ends left) → Walked id mode said acts heard
+  walk id [] mode said closes body heard ends left leads fits order are = walked_none id mode said heard (same_said heard said ends closes left body are) order
+  walk id (a ∷ acts) mode said closes body heard ends left leads fits now (before, is, none, later) =
+      let next : NextIpp a.read said closes body a.what a.after = subst (λ (t : PeerRecord). IsNext a.state.settings a.read t a.what a.after) before is.next in
       let more : List HttpElement = elements_of next.item next.part in
-      let owed : IsOwed (closes_after next.item closes) a.what a.asked a.bytes = subst (λ (t : PeerRecord). IsOwed (closes_of t) a.what a.asked a.bytes) next.is is.owed in
-      let order : in_order Between (said ++ elements_of next.item next.part) ≡ true = first_ordered ordered some stays next.read (said ++ elements_of next.item next.part) next.first in
-      let s : Stepped mode said (elements_of next.item next.part) (closes_after next.item closes) (body_after next.item a.what next.part body) a.asked a.bytes =
-      stepped next.item next.part mode said closes body a.what a.asked a.bytes leads fits (sym (leads (elements_of next.item next.part)) ∙ order) next.comes owed in
-      walked_more mode said (elements_of next.item next.part) (closes_after next.item closes) (body_after next.item a.what next.part body) a acts heard s
-      (walk acts s.now (said ++ elements_of next.item next.part) (closes_after next.item closes) (body_after next.item a.what next.part body) heard ends left s.leads s.fits
-      order (subst (λ (t : PeerRecord). AreActs t acts (Http heard ends left)) next.is later))
+      let owed : IsOwed id (closes_after next.item closes) a.what a.asked a.bytes = subst (λ (t : PeerRecord). IsOwed id (closes_of t) a.what a.asked a.bytes) next.is is.owed in
+      let order : in_order Between (said ++ elements_of next.item next.part) ≡ true = first_ordered ordered some stays a.read (said ++ elements_of next.item next.part) next.first in
+      let s : Stepped id mode said (elements_of next.item next.part) (closes_after next.item closes) (body_after next.item a.what next.part body) a.asked a.bytes =
+      stepped id next.item next.part mode said closes body a.what a.asked a.bytes leads fits (sym (leads (elements_of next.item next.part)) ∙ order) next.comes owed in
+      walked_more id mode said (elements_of next.item next.part) (closes_after next.item closes) (body_after next.item a.what next.part body) a acts heard s
+      (walk id acts s.now (said ++ elements_of next.item next.part) (closes_after next.item closes) (body_after next.item a.what next.part body) heard ends left s.leads s.fits
+      order (subst (λ (t : PeerRecord). AreActs id t acts (Http heard ends left)) next.is later))
 
   pub acts_are_exchanges : ActsAreExchanges
-  acts_are_exchanges acts said closes body are =
-      let w = walk acts (Goes Nothing) [] false [] said closes body (λ later. refl) tt refl are in
+  acts_are_exchanges id acts said closes body are =
+      let w = walk id acts (Goes Nothing) [] false [] said closes body (λ later. refl) tt refl are in
       record {
         order = w.ordered;
         exchanges = w.exchanges;
@@ -400,9 +400,9 @@ module _ (ordered : ElementsInOrder) (some : SomeParse) (stays : FirstStays) whe
   -- ---- the connections of a trace
 
   -- the acts of an LPD client, and of a device, lead to no progress of an IPP client
-  no_lpd : (settings : ServerSettings) (items : List ItemRecord) (session : Option SessionState) (what : Step) (after : PeerRecord) → IsNext settings (Queue items session) what after → (items' : List ItemRecord) × (session' : Option SessionState) × (after ≡ Queue items' session')
-  no_lpd settings items session what after (inl next) = (items ++ next.said ∷ [], next.session_after, next.is)
-  no_lpd settings items session what after (inr is) = (items, session, is.1)
+  no_lpd : (settings : ServerSettings) (read : List ℕ) (items : List ItemRecord) (session : Option SessionState) (what : Step) (after : PeerRecord) → IsNext settings read (Queue items session) what after → (items' : List ItemRecord) × (session' : Option SessionState) × (after ≡ Queue items' session')
+  no_lpd settings read items session what after (inl next) = (items ++ next.said ∷ [], next.session_after, next.is)
+  no_lpd settings read items session what after (inr next) = (items, session, next.is)
 
   no_queue : (said : List HttpElement) (closes : Bool) (body : List ℕ) (items : List ItemRecord) (session : Option SessionState) → Http said closes body ≡ Queue items session → ⊥
   no_queue said closes body items session is = cc
@@ -410,46 +410,46 @@ module _ (ordered : ElementsInOrder) (some : SomeParse) (stays : FirstStays) whe
   no_link : (said : List HttpElement) (closes : Bool) (body : List ℕ) (progress : PeerRecord) → Http said closes body ≡ progress → progress ≡ opening_peer Devices → ⊥
   no_link said closes body progress is its = cc
 
-  lpd_acts : (acts : List Act) (items : List ItemRecord) (session : Option SessionState) (said : List HttpElement) (closes : Bool) (body : List ℕ) → AreActs (Queue items session) acts (Http said closes body) → ⊥
-  lpd_acts [] items session said closes body are = no_queue said closes body items session are
-  lpd_acts (a ∷ acts) items session said closes body (before, is, later) =
-      let next = no_lpd a.state.settings items session a.what a.after (subst (λ (t : PeerRecord). IsNext a.state.settings t a.what a.after) before is.next) in
-      lpd_acts acts next.0 next.1 said closes body (subst (λ (t : PeerRecord). AreActs t acts (Http said closes body)) next.2 later)
+  lpd_acts : (id : ℕ) (acts : List Act) (items : List ItemRecord) (session : Option SessionState) (said : List HttpElement) (closes : Bool) (body : List ℕ) → AreActs id (Queue items session) acts (Http said closes body) → ⊥
+  lpd_acts id [] items session said closes body are = no_queue said closes body items session are
+  lpd_acts id (a ∷ acts) items session said closes body (before, is, none, later) =
+      let next = no_lpd a.state.settings a.read items session a.what a.after (subst (λ (t : PeerRecord). IsNext a.state.settings a.read t a.what a.after) before is.next) in
+      lpd_acts id acts next.0 next.1 said closes body (subst (λ (t : PeerRecord). AreActs id t acts (Http said closes body)) next.2 later)
 
-  device_acts : (acts : List Act) (said : List HttpElement) (closes : Bool) (body : List ℕ) → AreActs (opening_peer Devices) acts (Http said closes body) → ⊥
-  device_acts [] said closes body are = no_link said closes body (opening_peer Devices) are refl
-  device_acts (a ∷ acts) said closes body (before, is, later) = subst (λ (t : PeerRecord). IsNext a.state.settings t a.what a.after) before is.next
+  device_acts : (id : ℕ) (acts : List Act) (said : List HttpElement) (closes : Bool) (body : List ℕ) → AreActs id (opening_peer Devices) acts (Http said closes body) → ⊥
+  device_acts id [] said closes body are = no_link said closes body (opening_peer Devices) are refl
+  device_acts id (a ∷ acts) said closes body (before, is, none, later) = subst (λ (t : PeerRecord). IsNext a.state.settings a.read t a.what a.after) before is.next
 
-  by_door : (door : Door) (acts : List Act) (said : List HttpElement) (closes : Bool) (body : List ℕ) → AreActs (opening_peer door) acts (Http said closes body) → AreExchanges said (flat_map (λ (a : Act). a.asked) acts) (flat_map (λ (a : Act). a.bytes) acts)
-  by_door Ipp acts said closes body are = acts_are_exchanges acts said closes body are
-  by_door Lpd acts said closes body are = absurd (lpd_acts acts [] None said closes body are)
-  by_door Devices acts said closes body are = absurd (device_acts acts said closes body are)
+  by_door : (id : ℕ) (door : Door) (acts : List Act) (said : List HttpElement) (closes : Bool) (body : List ℕ) → AreActs id (opening_peer door) acts (Http said closes body) → AreExchanges id said (flat_map (λ (a : Act). a.asked) acts) (flat_map (λ (a : Act). a.bytes) acts)
+  by_door id Ipp acts said closes body are = acts_are_exchanges id acts said closes body are
+  by_door id Lpd acts said closes body are = absurd (lpd_acts id acts [] None said closes body are)
+  by_door id Devices acts said closes body are = absurd (device_acts id acts said closes body are)
 
   answered_so : (opening : State) (key : ℕ) (handled : List Handled) (e : Entry) (said : List HttpElement) (closes : Bool) (body : List ℕ) → e.progress ≡ Http said closes body → IsAnswered opening key handled e → ByExchanges key handled said e
   answered_so opening key handled e said closes body is a =
-      let are = by_door a.door a.acts said closes body (subst (λ (t : PeerRecord). AreActs (opening_peer a.door) a.acts t) is a.are) in
+      let are = by_door e.id a.door a.acts said closes body (subst (λ (t : PeerRecord). AreActs e.id (opening_peer a.door) a.acts t) is a.are) in
       record {
         earlier = a.earlier;
         since = a.since;
         whole = a.whole;
-        are = subst (λ (its : List Handled). AreExchanges said its e.due) (sym a.asked) (subst (λ (bytes : List ℕ). AreExchanges said (flat_map (λ (x : Act). x.asked) a.acts) bytes) (sym a.due) are);
+        are = subst (λ (its : List Handled). AreExchanges e.id said its e.due) (sym a.asked) (subst (λ (bytes : List ℕ). AreExchanges e.id said (flat_map (λ (x : Act). x.asked) a.acts) bytes) (sym a.due) are);
       }
 
   -- the result of an IPP client's acts before its connection broke
-  last_http : (opening : State) (handled : List Handled) (after : PeerRecord) (said : List HttpElement) (closes : Bool) (body : List ℕ) → IsLast opening handled after (Http said closes body) → (until : List HttpElement) × (last : Bool) × (left : List ℕ) × (after ≡ Http until last left) × IsOneMore until said
-  last_http opening handled (Http until last left) said closes body (inl is) = (until, last, left, refl, inl (sym (same_said until said last closes left body is)))
-  last_http opening handled (Http until last left) said closes body (inr (state, what, of, next)) =
+  last_http : (opening : State) (handled : List Handled) (whole : List ℕ) (after : PeerRecord) (said : List HttpElement) (closes : Bool) (body : List ℕ) → IsLast opening handled whole after (Http said closes body) → (until : List HttpElement) × (last : Bool) × (left : List ℕ) × (after ≡ Http until last left) × IsOneMore until said
+  last_http opening handled whole (Http until last left) said closes body (inl is) = (until, last, left, refl, inl (sym (same_said until said last closes left body is)))
+  last_http opening handled whole (Http until last left) said closes body (inr (state, read, what, of, front, next)) =
       (until, last, left, refl, inr (next.item, next.part, same_said said (until ++ elements_of next.item next.part) closes (closes_after next.item last) body (body_after next.item what next.part left) next.is))
-  last_http opening handled (Queue items session) said closes body (inl is) = absurd (no_queue said closes body items session (sym is))
-  last_http opening handled (Queue items session) said closes body (inr (state, what, of, next)) =
-      let it = no_lpd state.settings items session what (Http said closes body) next in absurd (no_queue said closes body it.0 it.1 it.2)
-  last_http opening handled (Link reports device) said closes body (inl is) = cc
-  last_http opening handled (Link reports device) said closes body (inr (state, what, of, next)) = absurd next
+  last_http opening handled whole (Queue items session) said closes body (inl is) = absurd (no_queue said closes body items session (sym is))
+  last_http opening handled whole (Queue items session) said closes body (inr (state, read, what, of, front, next)) =
+      let it = no_lpd state.settings read items session what (Http said closes body) next in absurd (no_queue said closes body it.0 it.1 it.2)
+  last_http opening handled whole (Link reports device) said closes body (inl is) = cc
+  last_http opening handled whole (Link reports device) said closes body (inr (state, read, what, of, front, next)) = absurd next
 
   cut_so : (opening : State) (key : ℕ) (handled : List Handled) (e : Entry) (said : List HttpElement) (closes : Bool) (body : List ℕ) → e.progress ≡ Http said closes body → IsCutOff opening key handled e → UntilBroken key handled said e
   cut_so opening key handled e said closes body is cut =
       let b = cut.until in
-      let it = last_http opening handled b.after said closes body (subst (λ (t : PeerRecord). IsLast opening handled b.after t) is b.last) in
+      let it = last_http opening handled e.read b.after said closes body (subst (λ (t : PeerRecord). IsLast opening handled e.read b.after t) is b.last) in
       record {
         earlier = cut.earlier;
         since = cut.since;
@@ -460,7 +460,7 @@ module _ (ordered : ElementsInOrder) (some : SomeParse) (stays : FirstStays) whe
         unanswered = b.unanswered;
         asked = b.asked;
         one = b.one;
-        are = subst (λ (bytes : List ℕ). AreExchanges it.0 (flat_map (λ (x : Act). x.asked) b.acts) bytes) (sym b.due) (by_door cut.door b.acts it.0 it.1 it.2 (subst (λ (t : PeerRecord). AreActs (opening_peer cut.door) b.acts t) it.3 b.are));
+        are = subst (λ (bytes : List ℕ). AreExchanges e.id it.0 (flat_map (λ (x : Act). x.asked) b.acts) bytes) (sym b.due) (by_door e.id cut.door b.acts it.0 it.1 it.2 (subst (λ (t : PeerRecord). AreActs e.id (opening_peer cut.door) b.acts t) it.3 b.are));
       }
 
   so : (opening : State) (key : ℕ) (handled : List Handled) (e : Entry) (progress : PeerRecord) → e.progress ≡ progress → (ClientTalk progress → e.broken ≡ false → IsAnswered opening key handled e) → (ClientTalk progress → e.broken ≡ true → IsCutOff opening key handled e) → IsByExchanges key handled progress e
@@ -486,14 +486,15 @@ module _ (ordered : ElementsInOrder) (some : SomeParse) (stays : FirstStays) whe
       (was_so opening handled one.0 one.0.progress refl one.0.broken refl (All-head (λ (it : Entry × Fate). WasAnswered opening handled it.0) one closed answered) (All-head (λ (it : Entry × Fate). WasCutOff opening handled it.0) one closed cut))
       (all_so opening handled closed (All-tail (λ (it : Entry × Fate). WasAnswered opening handled it.0) one closed answered) (All-tail (λ (it : Entry × Fate). WasCutOff opening handled it.0) one closed cut))
 
-  pub by_exchanges : (opening : State) (trace : Trace) (l : Ledger) → AreAnswered opening trace l → ((key : ℕ) (e : Entry) → l.entries key ≡ Some e → IsFirst e.read e.progress) → All (λ (it : Entry × Fate). IsFirst it.0.read it.0.progress) l.closed → AreByExchanges opening trace l
-  by_exchanges opening trace l all first gone = record {
+  pub by_exchanges : (opening : State) (trace : Trace) (l : Ledger) → AreAnswered opening trace l → AreByExchanges opening trace l
+  by_exchanges opening trace l all = record {
     handled = all.handled;
     timed = all.timed;
     run = all.run;
+    told = all.told;
     each = λ key e there. so opening key all.handled e e.progress refl (all.answered key e there) (all.cut_off key e there);
     closed = all_so opening all.handled l.closed all.closed all.closed_cut_off;
-    first = first;
-    closed_first = gone;
+    first = all.first;
+    closed_first = all.closed_first;
     heard = all.heard;
   }

@@ -21,45 +21,26 @@ use Rattle.events.specs.declared.event.Event.TheVariants as Is
 use Rattle.events.specs.declared.effects.Cancel.{Cancel}
 use Rattle.dispatcher.specs.declared.outcome.Outcome.{Outcome}
 use Rattle.dispatcher.specs.declared.outcome.Outcome.TheVariants.{Dropped, Queried, Undispatched, Idle, Dispatched}
-use Rattle.dispatcher.specs.declared.listener.AllocationSite.TheVariants as At
-use Rattle.dispatcher.specs.Notes.{Note, Planned, Canceled, Refused}
-use Rattle.dispatcher.specs.Run.{cancels_told, Handles}
+use Rattle.dispatcher.specs.declared.listener.AllocationSite.{AllocationSite}
+use Rattle.dispatcher.specs.Notes.{Note, Refused}
+use Rattle.dispatcher.specs.Run.{Handles}
 use Rattle.connections.specs.Entry.{PeerRecord, Entry, opening_peer, device_of}
 use Rattle.server.specs.Polls.{Happening, Told}
 use Rattle.server.specs.Ledger.{Ledger, at_key, job_bytes, Fate}
+use Rattle.server.specs.Rel.{Tells}
 use Rattle.server.specs.Enqueuing.{IsDevice}
 use Rattle.server.specs.Happening.{Happens, found_by}
-use Rattle.server.specs.Law.{core_notes}
-use Rattle.promises.specs.Answers.{Act, ClientTalk, AreActs, IsStateOf, is_asked, asked_by, IsAnswered, IsLast, BrokeAfter, IsCutOff}
-use Rattle.promises.specs.Orders.{Handled, AreHandled, AreAt, cancel_for, start_for, orders_of, names, due_by}
-use Rattle.promises.proofs.Sending.{Counts, due_at, IsFresh, counts_device, same_key, not_key, Ordered, Calm, Good, good_sent, notes_append, sent_by, orders, Stays, IsLost, BreaksAs, lost_device}
+use Rattle.promises.specs.Answers.{Act, ClientTalk, drains, drained, AreActs, IsFrontOf, IsStateOf, is_asked, asked_by, IsAnswered, IsLast, BrokeAfter, IsCutOff}
+use Rattle.promises.specs.Orders.{EventComes, MemoryRefused, Handled, AreHandled, named_by, IsAt, AreAt, run_note, run_notes, cancel_for, start_for, orders_of, names, due_by}
+use Rattle.promises.proofs.Noting.{told_all}
+use Rattle.promises.proofs.Sending.{Counts, due_at, IsFresh, counts_device, same_key, not_key, Ordered, Calm, Good, good_sent, notes_append, sent_by, orders, Stays, IsLost, BreaksAs, lost_device, ReadsOn, reads_same, reads_then}
 
 -- ---- the notes of an event
 
-told_cancels : (cancels : List Cancel) → core_notes (map Told (map Canceled cancels)) ≡ map Canceled cancels
-told_cancels [] = refl
-told_cancels (cancel ∷ cancels) = ap (λ (ns : List Note). Canceled cancel ∷ ns) (told_cancels cancels)
+told_notes : (moment : ℕ) (event : Event) (old : State) (outcome : Outcome) (notes : List Note) (new : State) → Handles moment event old outcome notes new → run_notes (map Told notes) ≡ notes
+told_notes moment event old outcome notes new it = told_all run_note (λ cancel. refl) (λ plan started. refl) refl moment event old outcome notes new it
 
-map_told : (notes more : List Note) → map Told (notes ++ more) ≡ map Told notes ++ map Told more
-map_told [] more = refl
-map_told (note ∷ notes) more = ap (λ (hs : List Happening). Told note ∷ hs) (map_told notes more)
-
-told_then : (cancels : List Cancel) (last : List Note) → core_notes (map Told last) ≡ last → core_notes (map Told (map Canceled cancels ++ last)) ≡ map Canceled cancels ++ last
-told_then cancels last is =
-    ap core_notes (map_told (map Canceled cancels) last) ∙ (notes_append (map Told (map Canceled cancels)) (map Told last) ∙ (ap (λ (ns : List Note). ns ++ core_notes (map Told last)) (told_cancels cancels) ∙ ap (λ (ns : List Note). map Canceled cancels ++ ns) is))
-
-told_as : (notes said : List Note) → notes ≡ said → core_notes (map Told said) ≡ said → core_notes (map Told notes) ≡ notes
-told_as notes said same is = subst (λ (ns : List Note). core_notes (map Told ns) ≡ ns) (sym same) is
-
-pub told_notes : (moment : ℕ) (event : Event) (old : State) (outcome : Outcome) (notes : List Note) (new : State) → Handles moment event old outcome notes new → core_notes (map Told notes) ≡ notes
-told_notes moment event old Dropped notes new it = told_as notes [] it.1 refl
-told_notes moment event old (Queried reply) notes new it = told_as notes (cancels_told reply) it.2 (told_cancels reply.cancels.items)
-told_notes moment event old (Undispatched reply) notes new it = told_as notes (cancels_told reply ++ Refused At.Dispatch None ∷ []) it.3 (told_then reply.cancels.items (Refused At.Dispatch None ∷ []) refl)
-told_notes moment event old (Idle reply) notes new (asks, mid, step, rest, same) = told_as notes (cancels_told reply ++ Planned None [] ∷ []) same (told_then reply.cancels.items (Planned None [] ∷ []) refl)
-told_notes moment event old (Dispatched reply) notes new (asks, mid, step, plan, rest, same) =
-    told_as notes (cancels_told reply ++ Planned (Some plan) new.begun ∷ []) same (told_then reply.cancels.items (Planned (Some plan) new.begun ∷ []) refl)
-
-pub found_silent : (outcome : Outcome) → core_notes (found_by outcome) ≡ []
+found_silent : (outcome : Outcome) → run_notes (found_by outcome) ≡ []
 found_silent Dropped = refl
 found_silent (Queried reply) = refl
 found_silent (Undispatched reply) = refl
@@ -70,7 +51,7 @@ found_silent (Dispatched reply) = refl
 
 -- one event came to the core, and its orders were sent
 pub record Handles_one (moment : ℕ) (event : Event) (outcome : Outcome) (l : Ledger) (hs : List Happening) (l' : Ledger) : Type 0 where
-  pub handles : Handles moment event l.core outcome (core_notes hs) l'.core
+  pub handles : Handles moment event l.core outcome (run_notes hs) l'.core
   pub each : (key : ℕ) → Ordered (sent_by outcome l'.core) (l.entries key) (l'.entries key)
   pub closed : l'.closed ≡ l.closed
 
@@ -81,11 +62,11 @@ happened moment event outcome l hs l' good it =
     let core : it.mid.core ≡ d.state = ap (λ (x : Ledger). x.core) d.after in
     let good_mid : Good it.mid = subst Good (sym d.after) (record { one = good.one; fresh = good.fresh }) in
     let s = orders outcome it.mid it.back l' good_mid it.second in
-    let told : core_notes it.front ≡ d.notes =
-    ap core_notes d.told ∙ (notes_append (found_by outcome) (map Told d.notes) ∙ (ap (λ (ns : List Note). ns ++ core_notes (map Told d.notes)) (found_silent outcome) ∙ told_notes moment event l.core outcome d.notes d.state d.handles)) in
-    let all : core_notes hs ≡ d.notes = ap core_notes it.whole ∙ (notes_append it.front it.back ∙ (ap (λ (ns : List Note). core_notes it.front ++ ns) s.notes ∙ (append-nil (core_notes it.front) ∙ told))) in
+    let told : run_notes it.front ≡ d.notes =
+    ap run_notes d.told ∙ (notes_append (found_by outcome) (map Told d.notes) ∙ (ap (λ (ns : List Note). ns ++ run_notes (map Told d.notes)) (found_silent outcome) ∙ told_notes moment event l.core outcome d.notes d.state d.handles)) in
+    let all : run_notes hs ≡ d.notes = ap run_notes it.whole ∙ (notes_append it.front it.back ∙ (ap (λ (ns : List Note). run_notes it.front ++ ns) s.notes ∙ (append-nil (run_notes it.front) ∙ told))) in
     record {
-      handles = subst (λ (c : State). Handles moment event l.core outcome (core_notes hs) c) (sym (s.core ∙ core)) (subst (λ (ns : List Note). Handles moment event l.core outcome ns d.state) (sym all) d.handles);
+      handles = subst (λ (c : State). Handles moment event l.core outcome (run_notes hs) c) (sym (s.core ∙ core)) (subst (λ (ns : List Note). Handles moment event l.core outcome ns d.state) (sym all) d.handles);
       each = λ key.
           subst (λ (c : State). Ordered (sent_by outcome c) (l.entries key) (l'.entries key)) (sym s.core)
           (subst (λ (entries : ℕ → Option Entry). Ordered (sent_by outcome it.mid.core) (entries key) (l'.entries key)) entries (s.each key));
@@ -137,8 +118,12 @@ pub record Went (core : State) (key : ℕ) (handled : List Handled) (x : Option 
   pub there : x ≡ Some before
   pub client : ClientTalk before.progress
   pub sound : before.broken ≡ false
+  pub reads : ReadsOn before e
   pub acts : List Act
-  pub are : AreActs before.progress acts e.progress
+  pub are : AreActs e.id before.progress acts e.progress
+  pub fronts : All (λ (a : Act). IsFrontOf a.read e.read) acts
+  pub quiet : before.draining ≡ true → acts ≡ []
+  pub over : drained acts ≡ true → e.draining ≡ true
   pub states : All (λ (a : Act). IsStateOf a.state core handled) acts
   pub asked : asked_by key handled ≡ flat_map (λ (a : Act). a.asked) acts
   pub due : e.due ≡ before.due ++ flat_map (λ (a : Act). a.bytes) acts
@@ -147,9 +132,53 @@ pub record Went (core : State) (key : ℕ) (handled : List Handled) (x : Option 
 abbrev pub TalkedAs : State → ℕ → List Handled → Option Entry → Entry → Type 0
 TalkedAs core key handled x e = Went core key handled x e ⊎ IsAnswered core key handled e
 
-acts_append : (before mid after : PeerRecord) (acts more : List Act) → AreActs before acts mid → AreActs mid more after → AreActs before (acts ++ more) after
-acts_append before mid after [] more same are = subst (λ (t : PeerRecord). AreActs t more after) same are
-acts_append before mid after (a ∷ acts) more (is, act, rest) are = (is, act, acts_append a.after mid after acts more rest are)
+or_right : (x y : Bool) → y ≡ true → x || y ≡ true
+or_right true y is = refl
+or_right false y is = is
+
+or_left : (x y : Bool) → x ≡ true → x || y ≡ true
+or_left true y is = refl
+or_left false y is = cc
+
+or_either : (x y : Bool) → x || y ≡ true → (x ≡ true) ⊎ (y ≡ true)
+or_either true y is = inl refl
+or_either false y is = inr is
+
+drained_append : (acts more : List Act) → drained (acts ++ more) ≡ drained acts || drained more
+drained_append [] more = refl
+drained_append (a ∷ acts) more = ap (λ (t : Bool). drains a.what || t) (drained_append acts more) ∙ or_assoc (drains a.what) (drained acts) (drained more)
+  where
+    or_assoc : (x y z : Bool) → x || (y || z) ≡ (x || y) || z
+    or_assoc true y z = refl
+    or_assoc false y z = refl
+
+drained_either : (acts more : List Act) → drained (acts ++ more) ≡ true → (drained acts ≡ true) ⊎ (drained more ≡ true)
+drained_either acts more is = or_either (drained acts) (drained more) (sym (drained_append acts more) ∙ is)
+
+both_none : {A : Type 0} (xs ys : List A) → xs ≡ [] → ys ≡ [] → xs ++ ys ≡ []
+both_none xs ys p q = ap (λ zs. zs ++ ys) p ∙ q
+
+acts_append : (id : ℕ) (before mid after : PeerRecord) (acts more : List Act) → AreActs id before acts mid → (drained acts ≡ true → more ≡ []) → AreActs id mid more after → AreActs id before (acts ++ more) after
+acts_append id before mid after [] more same over are = subst (λ (t : PeerRecord). AreActs id t more after) same are
+acts_append id before mid after (a ∷ acts) more (is, act, none, rest) over are =
+    (is, act, λ last. both_none acts more (none last) (over (or_left (drains a.what) (drained acts) last)), acts_append id a.after mid after acts more rest (λ last. over (or_right (drains a.what) (drained acts) last)) are)
+
+-- without acts the peer stays
+acts_none : (id : ℕ) (before after : PeerRecord) (acts : List Act) → acts ≡ [] → AreActs id before acts after → after ≡ before
+acts_none id before after acts none are = subst (λ (its : List Act). AreActs id before its after) none are
+
+-- acts on a connection are acts on it once more was read
+pub acts_on : (d e : Entry) (before after : PeerRecord) (acts : List Act) → ReadsOn d e → AreActs d.id before acts after → AreActs e.id before acts after
+acts_on d e before after acts reads are = subst (λ (id : ℕ). AreActs id before acts after) (sym reads.same) are
+
+front_more : (d e : Entry) (read : List ℕ) → ReadsOn d e → IsFrontOf read d.read → IsFrontOf read e.read
+front_more d e read reads (rest, is) = (rest ++ reads.more, reads.grown ∙ (ap (λ (bytes : List ℕ). bytes ++ reads.more) is ∙ append_assoc read rest reads.more))
+
+fronts_more : (d e : Entry) (acts : List Act) → ReadsOn d e → All (λ (a : Act). IsFrontOf a.read d.read) acts → All (λ (a : Act). IsFrontOf a.read e.read) acts
+fronts_more d e acts reads all = All-weaker (λ (a : Act). IsFrontOf a.read d.read) (λ (a : Act). IsFrontOf a.read e.read) (λ a is. front_more d e a.read reads is) acts all
+
+fronts_joined : (d e : Entry) (acts more : List Act) → ReadsOn d e → All (λ (a : Act). IsFrontOf a.read d.read) acts → All (λ (a : Act). IsFrontOf a.read e.read) more → All (λ (a : Act). IsFrontOf a.read e.read) (acts ++ more)
+fronts_joined d e acts more reads first later = All-append (λ (a : Act). IsFrontOf a.read e.read) acts more (fronts_more d e acts reads first) later
 
 asked_append : (key : ℕ) (first later : List Handled) → asked_by key (first ++ later) ≡ asked_by key first ++ asked_by key later
 asked_append key [] later = refl
@@ -165,7 +194,7 @@ state_more state core (it ∷ first) later (inr is) = inr (state_more state it.s
 
 state_behind : (state core mid : State) (first later : List Handled) → AreHandled core first mid → IsStateOf state mid later → IsStateOf state core (first ++ later)
 state_behind state core mid [] later same is = subst (λ (s : State). IsStateOf state s later) same is
-state_behind state core mid (it ∷ first) later (naming, handles, run) is = inr (state_behind state it.state mid first later run is)
+state_behind state core mid (it ∷ first) later (handles, run) is = inr (state_behind state it.state mid first later run is)
 
 states_more : (core : State) (first later : List Handled) (acts : List Act) → All (λ (a : Act). IsStateOf a.state core first) acts → All (λ (a : Act). IsStateOf a.state core (first ++ later)) acts
 states_more core first later acts all = All-weaker (λ (a : Act). IsStateOf a.state core first) (λ (a : Act). IsStateOf a.state core (first ++ later)) (λ a is. state_more a.state core first later is) acts all
@@ -189,20 +218,30 @@ progressed_then core mid key first later x y e run (inr a) before = inr (record 
   door = a.door;
   acts = a.acts;
   are = a.are;
+  fronts = a.fronts;
+  over = a.over;
   states = states_behind core mid first later a.acts run a.states;
   asked = a.asked;
   due = a.due;
 })
 progressed_then core mid key first later x y e run (inl w) before = by (before w.before w.there w.client w.sound)
   where
+    over_joined : (acts : List Act) → (drained acts ≡ true) ⊎ (drained w.acts ≡ true) → (drained acts ≡ true → w.before.draining ≡ true) → e.draining ≡ true
+    over_joined acts (inl last) over = w.reads.drains (over last)
+    over_joined acts (inr last) over = w.over last
+
     by : TalkedAs core key first x w.before → TalkedAs core key (first ++ later) x e
     by (inl v) = inl (record {
       before = v.before;
       there = v.there;
       client = v.client;
       sound = v.sound;
+      reads = reads_then v.before w.before e v.reads w.reads;
       acts = v.acts ++ w.acts;
-      are = acts_append v.before.progress w.before.progress e.progress v.acts w.acts v.are w.are;
+      are = acts_append e.id v.before.progress w.before.progress e.progress v.acts w.acts (acts_on w.before e v.before.progress w.before.progress v.acts w.reads v.are) (λ last. w.quiet (v.over last)) w.are;
+      fronts = fronts_joined w.before e v.acts w.acts w.reads v.fronts w.fronts;
+      quiet = λ is. both_none v.acts w.acts (v.quiet is) (w.quiet (v.reads.drains is));
+      over = λ last. over_joined v.acts (drained_either v.acts w.acts last) v.over;
       states = All-append (λ (a : Act). IsStateOf a.state core (first ++ later)) v.acts w.acts (states_more core first later v.acts v.states) (states_behind core mid first later w.acts run w.states);
       asked = asked_joined key first later v.acts w.acts v.asked w.asked;
       due = due_joined v.before.due w.before.due e.due v.acts w.acts v.due w.due;
@@ -213,7 +252,9 @@ progressed_then core mid key first later x y e run (inl w) before = by (before w
       whole = ap (λ (its : List Handled). its ++ later) b.whole ∙ append_assoc b.earlier b.since later;
       door = b.door;
       acts = b.acts ++ w.acts;
-      are = acts_append (opening_peer b.door) w.before.progress e.progress b.acts w.acts b.are w.are;
+      are = acts_append e.id (opening_peer b.door) w.before.progress e.progress b.acts w.acts (acts_on w.before e (opening_peer b.door) w.before.progress b.acts w.reads b.are) (λ last. w.quiet (b.over last)) w.are;
+      fronts = fronts_joined w.before e b.acts w.acts w.reads b.fronts w.fronts;
+      over = λ last. over_joined b.acts (drained_either b.acts w.acts last) b.over;
       states = All-append (λ (a : Act). IsStateOf a.state core (first ++ later)) b.acts w.acts (states_more core first later b.acts b.states) (states_behind core mid first later w.acts run w.states);
       asked = asked_joined key b.since later b.acts w.acts b.asked w.asked;
       due = due_joined [] w.before.due e.due b.acts w.acts b.due w.due;
@@ -221,41 +262,53 @@ progressed_then core mid key first later x y e run (inl w) before = by (before w
 
 -- ---- where it broke
 
+-- if the connection drained before, it took no acts and asked nothing until it broke
+abbrev pub QuietFrom : Bool → List Act → List Handled → PeerRecord → PeerRecord → Type 0
+QuietFrom draining acts unanswered before after = draining ≡ true → (acts ≡ []) × (unanswered ≡ []) × (after ≡ before)
+
 -- the connection had broken before; or it went on, and broke; or it was accepted since, and broke
 abbrev pub StopsAs : State → ℕ → List Handled → Option Entry → Entry → Type 0
 StopsAs core key handled x e =
-    ((d : Entry) × (x ≡ Some d) × (d.broken ≡ true) × (d.progress ≡ e.progress) × (d.due ≡ e.due) × (asked_by key handled ≡ []))
-    ⊎ (((d : Entry) × (x ≡ Some d) × ClientTalk d.progress × (d.broken ≡ false) × BrokeAfter core key handled handled d.progress d.due e) ⊎ IsCutOff core key handled e)
+    ((d : Entry) × (x ≡ Some d) × (d.broken ≡ true) × (d.progress ≡ e.progress) × (d.due ≡ e.due) × (asked_by key handled ≡ []) × ReadsOn d e)
+    ⊎ (((d : Entry) × (x ≡ Some d) × ClientTalk d.progress × (d.broken ≡ false) × (until : BrokeAfter core key handled handled d.progress d.due e) × ReadsOn d e × QuietFrom d.draining until.acts until.unanswered d.progress e.progress) ⊎ IsCutOff core key handled e)
 
-last_more : (core : State) (first later : List Handled) (after progress : PeerRecord) → IsLast core first after progress → IsLast core (first ++ later) after progress
-last_more core first later after progress (inl is) = inl is
-last_more core first later after progress (inr (state, what, of, next)) = inr (state, what, state_more state core first later of, next)
+last_more : (core : State) (first later : List Handled) (d e : Entry) (after progress : PeerRecord) → ReadsOn d e → IsLast core first d.read after progress → IsLast core (first ++ later) e.read after progress
+last_more core first later d e after progress reads (inl is) = inl is
+last_more core first later d e after progress reads (inr (state, read, what, of, front, next)) = inr (state, read, what, state_more state core first later of, front_more d e read reads front, next)
 
-last_behind : (core mid : State) (first later : List Handled) (after progress : PeerRecord) → AreHandled core first mid → IsLast mid later after progress → IsLast core (first ++ later) after progress
-last_behind core mid first later after progress run (inl is) = inl is
-last_behind core mid first later after progress run (inr (state, what, of, next)) = inr (state, what, state_behind state core mid first later run of, next)
+last_behind : (core mid : State) (first later : List Handled) (whole : List ℕ) (after progress : PeerRecord) → AreHandled core first mid → IsLast mid later whole after progress → IsLast core (first ++ later) whole after progress
+last_behind core mid first later whole after progress run (inl is) = inl is
+last_behind core mid first later whole after progress run (inr (state, read, what, of, front, next)) = inr (state, read, what, state_behind state core mid first later run of, front, next)
 
 -- more comes, which it doesn't ask for
-broke_more : (core : State) (key : ℕ) (first later since : List Handled) (before : PeerRecord) (base : List ℕ) (d e : Entry) → BrokeAfter core key first since before base d → d.progress ≡ e.progress → d.due ≡ e.due → asked_by key later ≡ [] → BrokeAfter core key (first ++ later) (since ++ later) before base e
-broke_more core key first later since before base d e b progress due none = record {
+abbrev broke_more : (core : State) (key : ℕ) (first later since : List Handled) (before : PeerRecord) (base : List ℕ) (d e : Entry) → BrokeAfter core key first since before base d → d.progress ≡ e.progress → d.due ≡ e.due → asked_by key later ≡ [] → ReadsOn d e → BrokeAfter core key (first ++ later) (since ++ later) before base e
+broke_more core key first later since before base d e b progress due none reads = record {
   acts = b.acts;
   after = b.after;
-  are = b.are;
+  are = acts_on d e before b.after b.acts reads b.are;
+  fronts = fronts_more d e b.acts reads b.fronts;
   states = states_more core first later b.acts b.states;
   unanswered = b.unanswered;
   one = b.one;
   asked = asked_append key since later ∙ (ap (λ (its : List Handled). asked_by key since ++ its) none ∙ (append-nil (asked_by key since) ∙ b.asked));
-  last = subst (λ (t : PeerRecord). IsLast core (first ++ later) b.after t) progress (last_more core first later b.after d.progress b.last);
+  last = subst (λ (t : PeerRecord). IsLast core (first ++ later) e.read b.after t) progress (last_more core first later d e b.after d.progress reads b.last);
+  over = λ last. let it = b.over last in (sym progress ∙ it.0, it.1);
   due = sym due ∙ b.due;
 }
 
+broke_ended : (mid : State) (key : ℕ) (later : List Handled) (d e : Entry) (acts : List Act) (b : BrokeAfter mid key later later d.progress d.due e) → (drained acts ≡ true → d.draining ≡ true) → QuietFrom d.draining b.acts b.unanswered d.progress e.progress
+    → (drained acts ≡ true) ⊎ (drained b.acts ≡ true) → (e.progress ≡ b.after) × (b.unanswered ≡ [])
+broke_ended mid key later d e acts b over quiet (inl last) = let it = quiet (over last) in (it.2 ∙ sym (acts_none e.id d.progress b.after b.acts it.0 b.are), it.1)
+broke_ended mid key later d e acts b over quiet (inr last) = b.over last
+
 -- the connection had gone on by other acts before
-broke_behind : (core mid : State) (key : ℕ) (first later since : List Handled) (before : PeerRecord) (base : List ℕ) (d e : Entry) (acts : List Act) → AreHandled core first mid → AreActs before acts d.progress → All (λ (a : Act). IsStateOf a.state core first) acts → asked_by key since ≡ flat_map (λ (a : Act). a.asked) acts
-    → d.due ≡ base ++ flat_map (λ (a : Act). a.bytes) acts → BrokeAfter mid key later later d.progress d.due e → BrokeAfter core key (first ++ later) (since ++ later) before base e
-broke_behind core mid key first later since before base d e acts run are states asked due b = record {
+abbrev broke_behind : (core mid : State) (key : ℕ) (first later since : List Handled) (before : PeerRecord) (base : List ℕ) (d e : Entry) (acts : List Act) → AreHandled core first mid → AreActs d.id before acts d.progress → (drained acts ≡ true → d.draining ≡ true) → All (λ (a : Act). IsFrontOf a.read d.read) acts → All (λ (a : Act). IsStateOf a.state core first) acts → asked_by key since ≡ flat_map (λ (a : Act). a.asked) acts
+    → d.due ≡ base ++ flat_map (λ (a : Act). a.bytes) acts → (b : BrokeAfter mid key later later d.progress d.due e) → ReadsOn d e → QuietFrom d.draining b.acts b.unanswered d.progress e.progress → BrokeAfter core key (first ++ later) (since ++ later) before base e
+broke_behind core mid key first later since before base d e acts run are over fronts states asked due b reads quiet = record {
   acts = acts ++ b.acts;
   after = b.after;
-  are = acts_append before d.progress b.after acts b.acts are b.are;
+  are = acts_append e.id before d.progress b.after acts b.acts (acts_on d e before d.progress acts reads are) (λ last. (quiet (over last)).0) b.are;
+  fronts = fronts_joined d e acts b.acts reads fronts b.fronts;
   states = All-append (λ (a : Act). IsStateOf a.state core (first ++ later)) acts b.acts (states_more core first later acts states) (states_behind core mid first later b.acts run b.states);
   unanswered = b.unanswered;
   one = b.one;
@@ -263,34 +316,47 @@ broke_behind core mid key first later since before base d e acts run are states 
       ∙ (ap (λ (its : List Handled). its ++ asked_by key later) asked
       ∙ (ap (λ (its : List Handled). flat_map (λ (a : Act). a.asked) acts ++ its) b.asked
       ∙ (sym (append_assoc (flat_map (λ (a : Act). a.asked) acts) (flat_map (λ (a : Act). a.asked) b.acts) b.unanswered) ∙ ap (λ (its : List Handled). its ++ b.unanswered) (sym (flat_map-append (λ (a : Act). a.asked) acts b.acts)))));
-  last = last_behind core mid first later b.after e.progress run b.last;
+  last = last_behind core mid first later e.read b.after e.progress run b.last;
+  over = λ last. broke_ended mid key later d e acts b over quiet (drained_either acts b.acts last);
   due = due_joined base d.due e.due acts b.acts due b.due;
 }
 
 pub stops_then : (core mid : State) (key : ℕ) (first later : List Handled) (x y : Option Entry) (e : Entry) → AreHandled core first mid → ClientTalk e.progress → StopsAs mid key later y e → ((d : Entry) → y ≡ Some d → ClientTalk d.progress → d.broken ≡ false → TalkedAs core key first x d)
     → ((d : Entry) → y ≡ Some d → ClientTalk d.progress → d.broken ≡ true → StopsAs core key first x d) → StopsAs core key (first ++ later) x e
-stops_then core mid key first later x y e run client (inl (d, there, broken, progress, due, none)) progressed stopped = by (stopped d there (subst ClientTalk (sym progress) client) broken)
+stops_then core mid key first later x y e run client (inl (d, there, broken, progress, due, none, reads)) progressed stopped = by (stopped d there (subst ClientTalk (sym progress) client) broken)
   where
     by : StopsAs core key first x d → StopsAs core key (first ++ later) x e
-    by (inl (f, is, was, same, more, silent)) = inl (f, is, was, same ∙ progress, more ∙ due, asked_append key first later ∙ (ap (λ (its : List Handled). its ++ asked_by key later) silent ∙ none))
-    by (inr (inl (f, is, of, sound, b))) = inr (inl (f, is, of, sound, broke_more core key first later first f.progress f.due d e b progress due none))
+    by (inl (f, is, was, same, more, silent, read)) = inl (f, is, was, same ∙ progress, more ∙ due, asked_append key first later ∙ (ap (λ (its : List Handled). its ++ asked_by key later) silent ∙ none), reads_then f d e read reads)
+    by (inr (inl (f, is, of, sound, b, read, quiet))) =
+        inr (inl (f, is, of, sound, broke_more core key first later first f.progress f.due d e b progress due none reads, reads_then f d e read reads, λ drains. let it = quiet drains in (it.0, it.1, sym progress ∙ it.2)))
     by (inr (inr c)) = inr (inr (record {
       earlier = c.earlier;
       since = c.since ++ later;
       whole = ap (λ (its : List Handled). its ++ later) c.whole ∙ append_assoc c.earlier c.since later;
       door = c.door;
-      until = broke_more core key first later c.since (opening_peer c.door) [] d e c.until progress due none;
+      until = broke_more core key first later c.since (opening_peer c.door) [] d e c.until progress due none reads;
     }))
-stops_then core mid key first later x y e run client (inr (inl (d, there, of, sound, b))) progressed stopped = by (progressed d there of sound)
+stops_then core mid key first later x y e run client (inr (inl (d, there, of, sound, b, reads, quiet))) progressed stopped = by (progressed d there of sound)
   where
     by : TalkedAs core key first x d → StopsAs core key (first ++ later) x e
-    by (inl v) = inr (inl (v.before, v.there, v.client, v.sound, broke_behind core mid key first later first v.before.progress v.before.due d e v.acts run v.are v.states v.asked v.due b))
+    by (inl v) = inr (inl (
+      v.before,
+      v.there,
+      v.client,
+      v.sound,
+      broke_behind core mid key first later first v.before.progress v.before.due d e v.acts run v.are v.over v.fronts v.states v.asked v.due b reads quiet,
+      reads_then v.before d e v.reads reads,
+      λ drains.
+          let none = v.quiet drains in
+          let it = quiet (v.reads.drains drains) in
+          (both_none v.acts b.acts none it.0, it.1, it.2 ∙ acts_none d.id v.before.progress d.progress v.acts none v.are),
+    ))
     by (inr a) = inr (inr (record {
       earlier = a.earlier;
       since = a.since ++ later;
       whole = ap (λ (its : List Handled). its ++ later) a.whole ∙ append_assoc a.earlier a.since later;
       door = a.door;
-      until = broke_behind core mid key first later a.since (opening_peer a.door) [] d e a.acts run a.are a.states a.asked a.due b;
+      until = broke_behind core mid key first later a.since (opening_peer a.door) [] d e a.acts run a.are a.over a.fronts a.states a.asked a.due b reads quiet;
     }))
 stops_then core mid key first later x y e run client (inr (inr c)) progressed stopped = inr (inr (record {
   earlier = first ++ c.earlier;
@@ -301,11 +367,13 @@ stops_then core mid key first later x y e run client (inr (inr c)) progressed st
     acts = c.until.acts;
     after = c.until.after;
     are = c.until.are;
+    fronts = c.until.fronts;
     states = states_behind core mid first later c.until.acts run c.until.states;
     unanswered = c.until.unanswered;
     one = c.until.one;
     asked = c.until.asked;
-    last = last_behind core mid first later c.until.after e.progress run c.until.last;
+    last = last_behind core mid first later e.read c.until.after e.progress run c.until.last;
+    over = c.until.over;
     due = c.until.due;
   };
 }))
@@ -314,11 +382,11 @@ stops_then core mid key first later x y e run client (inr (inr c)) progressed st
 pub stops_still : (core : State) (key : ℕ) (handled : List Handled) (x y : Option Entry) → Stays x y → asked_by key handled ≡ [] → (e : Entry) → y ≡ Some e → ClientTalk e.progress → e.broken ≡ true → StopsAs core key handled x e
 stops_still core key handled x y stays none e is client broken =
     let d = stays e is client in
-    by d.0 d.1 d.2 d.4 d.0.broken refl
+    by d.0 d.1 d.2 d.4 d.5 d.0.broken refl
   where
-    by : (d : Entry) → x ≡ Some d → d.progress ≡ e.progress → d.due ≡ e.due → (t : Bool) → d.broken ≡ t → StopsAs core key handled x e
-    by d there progress due true was = inl (d, there, was, progress, due, none)
-    by d there progress due false was = inr (inl (
+    by : (d : Entry) → x ≡ Some d → d.progress ≡ e.progress → d.due ≡ e.due → ReadsOn d e → (t : Bool) → d.broken ≡ t → StopsAs core key handled x e
+    by d there progress due reads true was = inl (d, there, was, progress, due, none, reads)
+    by d there progress due reads false was = inr (inl (
       d,
       there,
       subst ClientTalk (sym progress) client,
@@ -327,13 +395,17 @@ stops_still core key handled x y stays none e is client broken =
         acts = [];
         after = d.progress;
         are = refl;
+        fronts = All-nil (λ (a : Act). IsFrontOf a.read e.read);
         states = All-nil (λ (a : Act). IsStateOf a.state core handled);
         unanswered = [];
-        one = inl refl;
+        one = tt;
         asked = none;
         last = inl progress;
+        over = λ is. cc;
         due = sym due ∙ sym (append-nil d.due);
       },
+      reads,
+      λ drains. (refl, refl, sym progress),
     ))
 
 -- the connection is unchanged if these events weren't asked on it
@@ -345,8 +417,12 @@ progressed_still core key handled x y stays none e is client sound =
       there = d.1;
       client = subst ClientTalk (sym d.2) client;
       sound = d.3 sound;
+      reads = d.5;
       acts = [];
       are = sym d.2;
+      fronts = All-nil (λ (a : Act). IsFrontOf a.read e.read);
+      quiet = λ is. refl;
+      over = λ is. cc;
       states = All-nil (λ (a : Act). IsStateOf a.state core handled);
       asked = none;
       due = sym d.4 ∙ sym (append-nil d.0.due);
@@ -374,13 +450,13 @@ pub record AllClosed (l : Ledger) (handled : List Handled) (l' : Ledger) : Type 
 pub none_closed : (l : Ledger) (handled : List Handled) (l' : Ledger) → l'.closed ≡ l.closed → AllClosed l handled l'
 none_closed l handled l' same = record { more = []; closed = same ∙ sym (append-nil l.closed); each = All-nil (λ (it : Entry × Fate). ClosedAs l handled it.0) }
 
--- the core handled these, at one moment
-pub record Goes (moment : ℕ) (l : Ledger) (hs : List Happening) (l' : Ledger) : Type 0 where
+-- the core handled these, at one moment, in a turn or not
+pub record Goes (turn : Bool) (moment : ℕ) (l : Ledger) (hs : List Happening) (l' : Ledger) : Type 0 where
   pub handled : List Handled
   pub good : Good l'
   pub run : AreHandled l.core handled l'.core
-  pub timed : AreAt moment handled
-  pub told : core_notes hs ≡ flat_map (λ (it : Handled). it.notes) handled
+  pub timed : AreAt turn moment handled
+  pub told : run_notes hs ≡ flat_map (λ (it : Handled). it.notes) handled
   pub came : (key device : ℕ) → Counts device (l'.entries key) → CameAs device handled (l.entries key) (l'.entries key)
   pub lost : (key device : ℕ) → IsLost device (l'.entries key) → LostAs device handled (l.entries key) (l'.entries key)
   pub progresses : (key : ℕ) (e : Entry) → l'.entries key ≡ Some e → ClientTalk e.progress → e.broken ≡ false → TalkedAs l.core key handled (l.entries key) e
@@ -407,14 +483,6 @@ due_named device before other (it ∷ later) is = by_name (names device it.named
     by_name : (t : Bool) → (has_named device later ≡ true → due_by device (before ++ orders_of device it) later ≡ due_by device (other ++ orders_of device it) later) → t || has_named device later ≡ true → due_by device ((if t then [] else before) ++ orders_of device it) later ≡ due_by device ((if t then [] else other) ++ orders_of device it) later
     by_name true rest is = refl
     by_name false rest is = rest is
-
-or_right : (x y : Bool) → y ≡ true → x || y ≡ true
-or_right true y is = refl
-or_right false y is = is
-
-or_left : (x y : Bool) → x ≡ true → x || y ≡ true
-or_left true y is = refl
-or_left false y is = cc
 
 pub came_with : (device : ℕ) (first later : List Handled) (x y : Option Entry) (all : List ℕ) → CameWith device later y all → (Counts device y → CameAs device first x y) → CameWith device (first ++ later) x all
 came_with device first later x y all (inr (named, due)) before =
@@ -451,7 +519,7 @@ lost_then device first later x y z (inl (is, same)) lost came = by (lost is)
 
 pub handled_append : (old mid new : State) (first later : List Handled) → AreHandled old first mid → AreHandled mid later new → AreHandled old (first ++ later) new
 handled_append old mid new [] later same rest = subst (λ (s : State). AreHandled s later new) same rest
-handled_append old mid new (it ∷ first) later (naming, handles, more) rest = (naming, handles, handled_append it.state mid new first later more rest)
+handled_append old mid new (it ∷ first) later (handles, more) rest = (handles, handled_append it.state mid new first later more rest)
 
 -- closed before more comes, or after this
 closed_more : (l : Ledger) (first later : List Handled) (e : Entry) → ClosedAs l first e → ClosedAs l (first ++ later) e
@@ -493,13 +561,13 @@ all_closed_then l mid l' first later run came lost progresses stops p q = record
       (All-weaker (λ (it : Entry × Fate). ClosedAs mid later it.0) (λ (it : Entry × Fate). ClosedAs l (first ++ later) it.0) (λ it c. closed_behind l mid first later it.0 run came lost progresses stops c) q.more q.each);
 }
 
-pub goes_then : (moment : ℕ) (l : Ledger) (front : List Happening) (mid : Ledger) (back : List Happening) (l' : Ledger) (hs : List Happening) → hs ≡ front ++ back → Goes moment l front mid → Goes moment mid back l' → Goes moment l hs l'
-goes_then moment l front mid back l' hs whole p q = record {
+pub goes_then : (turn : Bool) (moment : ℕ) (l : Ledger) (front : List Happening) (mid : Ledger) (back : List Happening) (l' : Ledger) (hs : List Happening) → hs ≡ front ++ back → Goes turn moment l front mid → Goes turn moment mid back l' → Goes turn moment l hs l'
+goes_then turn moment l front mid back l' hs whole p q = record {
   handled = p.handled ++ q.handled;
   good = q.good;
   run = handled_append l.core mid.core l'.core p.handled q.handled p.run q.run;
-  timed = All-append (λ (it : Handled). it.moment ≡ moment) p.handled q.handled p.timed q.timed;
-  told = ap core_notes whole ∙ (notes_append front back ∙ (ap (λ (ns : List Note). ns ++ core_notes back) p.told ∙ (ap (λ (ns : List Note). flat_map (λ (it : Handled). it.notes) p.handled ++ ns) q.told ∙ sym (flat_map-append (λ (it : Handled). it.notes) p.handled q.handled))));
+  timed = All-append (IsAt turn moment) p.handled q.handled p.timed q.timed;
+  told = ap run_notes whole ∙ (notes_append front back ∙ (ap (λ (ns : List Note). ns ++ run_notes back) p.told ∙ (ap (λ (ns : List Note). flat_map (λ (it : Handled). it.notes) p.handled ++ ns) q.told ∙ sym (flat_map-append (λ (it : Handled). it.notes) p.handled q.handled))));
   came = λ key device counts. came_then device p.handled q.handled (l.entries key) (mid.entries key) (l'.entries key) (q.came key device counts) (p.came key device);
   lost = λ key device is. lost_then device p.handled q.handled (l.entries key) (mid.entries key) (l'.entries key) (q.lost key device is) (p.lost key device) (p.came key device);
   progresses = λ key e is client sound. progressed_then l.core mid.core key p.handled q.handled (l.entries key) (mid.entries key) e p.run (q.progresses key e is client sound) (λ d there of unbroken. p.progresses key d there of unbroken);
@@ -507,12 +575,12 @@ goes_then moment l front mid back l' hs whole p q = record {
   closed = all_closed_then l mid l' p.handled q.handled p.run p.came p.lost p.progresses p.stops p.closed q.closed;
 }
 
-pub goes_calm : (moment : ℕ) (l : Ledger) (hs : List Happening) (l' : Ledger) → Good l → Calm l hs l' → Goes moment l hs l'
-goes_calm moment l hs l' good calm = record {
+pub goes_calm : (turn : Bool) (moment : ℕ) (l : Ledger) (hs : List Happening) (l' : Ledger) → Good l → Calm l hs l' → Goes turn moment l hs l'
+goes_calm turn moment l hs l' good calm = record {
   handled = [];
   good = good_sent (λ device. []) l hs l' calm good;
   run = calm.core;
-  timed = All-nil (λ (it : Handled). it.moment ≡ moment);
+  timed = All-nil (IsAt turn moment);
   told = calm.notes;
   came = λ key device counts. let it = (calm.each key).counts device counts in inl (it.0, it.1 ∙ append-nil (due_at (l.entries key)));
   lost = λ key device is. lost_by device [] (λ d. []) (l.entries key) (l'.entries key) (sym (append-nil (due_at (l.entries key)))) ((calm.each key).breaks device is);
@@ -537,16 +605,16 @@ plain_at key o entries here other =
     by_test (other == key) (entries other) o (entries other) (λ is. subst (λ (k : ℕ). Plain (entries k) o) (sym (same_key other key is)) here) (λ is. record { counts = λ device counts. (counts, refl); lost = λ device lost. (lost, refl); device = λ device named. named; fresh = λ fresh. fresh })
 
 -- a connection came, or was closed
-pub goes_plain : (moment key : ℕ) (o : Option Entry) (l : Ledger) (hs : List Happening) (l' : Ledger) → Good l → core_notes hs ≡ [] → l'.core ≡ l.core → l'.entries ≡ at_key key o l.entries → Plain (l.entries key) o
-    → ((e : Entry) → o ≡ Some e → ClientTalk e.progress → e.broken ≡ false → TalkedAs l.core key [] (l.entries key) e) → ((e : Entry) → o ≡ Some e → e.broken ≡ true → ⊥) → AllClosed l [] l' → Goes moment l hs l'
-goes_plain moment key o l hs l' good silent core after here progresses unbroken closed = record {
+pub goes_plain : (turn : Bool) (moment key : ℕ) (o : Option Entry) (l : Ledger) (hs : List Happening) (l' : Ledger) → Good l → run_notes hs ≡ [] → l'.core ≡ l.core → l'.entries ≡ at_key key o l.entries → Plain (l.entries key) o
+    → ((e : Entry) → o ≡ Some e → ClientTalk e.progress → e.broken ≡ false → TalkedAs l.core key [] (l.entries key) e) → ((e : Entry) → o ≡ Some e → e.broken ≡ true → ⊥) → AllClosed l [] l' → Goes turn moment l hs l'
+goes_plain turn moment key o l hs l' good silent core after here progresses unbroken closed = record {
   handled = [];
   good = record {
     one = λ device k other p q. good.one device k other ((each k).device device p) ((each other).device device q);
     fresh = λ k. (each k).fresh (good.fresh k);
   };
   run = core;
-  timed = All-nil (λ (it : Handled). it.moment ≡ moment);
+  timed = All-nil (IsAt turn moment);
   told = silent;
   came = λ k device counts. inl ((each k).counts device counts);
   lost = λ k device is. inl ((each k).lost device is);
@@ -557,18 +625,18 @@ goes_plain moment key o l hs l' good silent core after here progresses unbroken 
   where
     progressed : (k : ℕ) (e : Entry) (t : Bool) → (k == key) ≡ t → (if t then o else l.entries k) ≡ Some e → ClientTalk e.progress → e.broken ≡ false → TalkedAs l.core k [] (l.entries k) e
     progressed k e true same is client sound = subst (λ (j : ℕ). TalkedAs l.core j [] (l.entries j) e) (sym (same_key k key same)) (progresses e is client sound)
-    progressed k e false same is client sound = progressed_still l.core k [] (l.entries k) (l.entries k) (λ f there of. (f, there, refl, λ still. still, refl)) refl e is client sound
+    progressed k e false same is client sound = progressed_still l.core k [] (l.entries k) (l.entries k) (λ f there of. (f, there, refl, λ still. still, refl, reads_same f)) refl e is client sound
 
     stopped : (k : ℕ) (e : Entry) (t : Bool) → (k == key) ≡ t → (if t then o else l.entries k) ≡ Some e → ClientTalk e.progress → e.broken ≡ true → StopsAs l.core k [] (l.entries k) e
     stopped k e true same is client broken = absurd (unbroken e is broken)
-    stopped k e false same is client broken = stops_still l.core k [] (l.entries k) (l.entries k) (λ f there of. (f, there, refl, λ still. still, refl)) refl e is client broken
+    stopped k e false same is client broken = stops_still l.core k [] (l.entries k) (l.entries k) (λ f there of. (f, there, refl, λ still. still, refl, reads_same f)) refl e is client broken
 
     each : (k : ℕ) → Plain (l.entries k) (l'.entries k)
     each k = subst (λ (entries : ℕ → Option Entry). Plain (l.entries k) (entries k)) (sym after) (plain_at key o l.entries here k)
 
 -- one event, as the core has it
 abbrev pub one_handled : (moment : ℕ) (event : Event) (outcome : Outcome) (hs : List Happening) (l' : Ledger) (named asked : Option ℕ) → Handled
-one_handled moment event outcome hs l' named asked = record { moment = moment; event = event; outcome = outcome; notes = core_notes hs; state = l'.core; named = named; asked = asked }
+one_handled moment event outcome hs l' named asked = record { moment = moment; what = EventComes event outcome; notes = run_notes hs; state = l'.core; named = named; asked = asked }
 
 good_one : (moment : ℕ) (event : Event) (outcome : Outcome) (l : Ledger) (hs : List Happening) (l' : Ledger) → Good l → Handles_one moment event outcome l hs l' → Good l'
 good_one moment event outcome l hs l' good it = record {
@@ -576,19 +644,37 @@ good_one moment event outcome l hs l' good it = record {
   fresh = λ key. (it.each key).fresh (good.fresh key);
 }
 
-pub goes_event : (moment : ℕ) (event : Event) (outcome : Outcome) (l : Ledger) (hs : List Happening) (l' : Ledger) → Good l → Handles_one moment event outcome l hs l' → Goes moment l hs l'
-goes_event moment event outcome l hs l' good it = record {
+pub goes_event : (turn : Bool) (moment : ℕ) (event : Event) (outcome : Outcome) (l : Ledger) (hs : List Happening) (l' : Ledger) → Good l → None ≡ named_by turn event → Handles_one moment event outcome l hs l' → Goes turn moment l hs l'
+goes_event turn moment event outcome l hs l' good nameless it = record {
   handled = one_handled moment event outcome hs l' None None ∷ [];
   good = good_one moment event outcome l hs l' good it;
-  run = (tt, it.handles, refl);
-  timed = All-cons (λ (h : Handled). h.moment ≡ moment) (one_handled moment event outcome hs l' None None) [] refl (All-nil (λ (h : Handled). h.moment ≡ moment));
-  told = sym (append-nil (core_notes hs));
+  run = (it.handles, refl);
+  timed = All-cons (IsAt turn moment) (one_handled moment event outcome hs l' None None) [] (refl, nameless) (All-nil (IsAt turn moment));
+  told = sym (append-nil (run_notes hs));
   came = λ key device counts. inl ((it.each key).counts device counts);
   lost = λ key device is. lost_by device (one_handled moment event outcome hs l' None None ∷ []) (sent_by outcome l'.core) (l.entries key) (l'.entries key) refl ((it.each key).breaks device is);
   progresses = λ key. progressed_still l.core key (one_handled moment event outcome hs l' None None ∷ []) (l.entries key) (l'.entries key) (it.each key).stays refl;
   stops = λ key. stops_still l.core key (one_handled moment event outcome hs l' None None ∷ []) (l.entries key) (l'.entries key) (it.each key).stays refl;
   closed = none_closed l (one_handled moment event outcome hs l' None None ∷ []) l' it.closed;
 }
+
+-- memory is refused, and the listener is told so
+pub goes_refused : (turn : Bool) (moment : ℕ) (place : AllocationSite) (id : Option ℕ) (l : Ledger) (hs : List Happening) (l' : Ledger) → Good l → run_notes (Told (Refused place id) ∷ []) ≡ Refused place id ∷ [] → Tells (Refused place id) l hs l' → Goes turn moment l hs l'
+goes_refused turn moment place id l hs l' good tells it = subst (λ (x : Ledger). Goes turn moment l hs x) (sym it.1) (record {
+  handled = one ∷ [];
+  good = good;
+  run = ((refl, refl), refl);
+  timed = All-cons (IsAt turn moment) one [] (refl, refl) (All-nil (IsAt turn moment));
+  told = ap run_notes it.0 ∙ tells;
+  came = λ key device counts. inl (counts, sym (append-nil (due_at (l.entries key))));
+  lost = λ key device is. inl (is, refl);
+  progresses = λ key. progressed_still l.core key (one ∷ []) (l.entries key) (l.entries key) (λ f there of. (f, there, refl, λ still. still, refl, reads_same f)) refl;
+  stops = λ key. stops_still l.core key (one ∷ []) (l.entries key) (l.entries key) (λ f there of. (f, there, refl, λ still. still, refl, reads_same f)) refl;
+  closed = none_closed l (one ∷ []) l refl;
+})
+  where
+    one : Handled
+    one = record { moment = moment; what = MemoryRefused place id; notes = Refused place id ∷ []; state = l.core; named = None; asked = None }
 
 -- ---- a device's name
 
@@ -597,8 +683,8 @@ pub record Awaits (moment device key : ℕ) (l : Ledger) (hs : List Happening) (
   pub handled : List Handled
   pub good : Good l'
   pub run : AreHandled l.core handled l'.core
-  pub timed : AreAt moment handled
-  pub told : core_notes hs ≡ flat_map (λ (it : Handled). it.notes) handled
+  pub timed : AreAt true moment handled
+  pub told : run_notes hs ≡ flat_map (λ (it : Handled). it.notes) handled
   pub only : (other : ℕ) → IsDevice device (l'.entries other) → other ≡ key
   pub due : Counts device (l'.entries key) → due_at (l'.entries key) ≡ []
   pub lost_due : IsLost device (l'.entries key) → due_at (l'.entries key) ≡ []
@@ -619,15 +705,15 @@ lost_none sent device x y lost due none (inr (counts, rest, is)) = front_nil (du
 
 -- an event that sends nothing to it
 pub awaits_event : (moment device key : ℕ) (event : Event) (outcome : Outcome) (l : Ledger) (front : List Happening) (mid : Ledger) (back : List Happening) (l' : Ledger) (hs : List Happening) → hs ≡ front ++ back
-    → Awaits moment device key l front mid → Handles_one moment event outcome mid back l' → sent_by outcome l'.core device ≡ [] → Awaits moment device key l hs l'
-awaits_event moment device key event outcome l front mid back l' hs whole p it none =
-    let q = goes_event moment event outcome mid back l' p.good it in
+    → Awaits moment device key l front mid → Handles_one moment event outcome mid back l' → sent_by outcome l'.core device ≡ [] → None ≡ named_by true event → Awaits moment device key l hs l'
+awaits_event moment device key event outcome l front mid back l' hs whole p it none nameless =
+    let q = goes_event true moment event outcome mid back l' p.good nameless it in
     record {
       handled = p.handled ++ q.handled;
       good = q.good;
       run = handled_append l.core mid.core l'.core p.handled q.handled p.run q.run;
-      timed = All-append (λ (h : Handled). h.moment ≡ moment) p.handled q.handled p.timed q.timed;
-      told = ap core_notes whole ∙ (notes_append front back ∙ (ap (λ (ns : List Note). ns ++ core_notes back) p.told ∙ (ap (λ (ns : List Note). flat_map (λ (h : Handled). h.notes) p.handled ++ ns) q.told ∙ sym (flat_map-append (λ (h : Handled). h.notes) p.handled q.handled))));
+      timed = All-append (IsAt true moment) p.handled q.handled p.timed q.timed;
+      told = ap run_notes whole ∙ (notes_append front back ∙ (ap (λ (ns : List Note). ns ++ run_notes back) p.told ∙ (ap (λ (ns : List Note). flat_map (λ (h : Handled). h.notes) p.handled ++ ns) q.told ∙ sym (flat_map-append (λ (h : Handled). h.notes) p.handled q.handled))));
       only = λ other is. p.only other ((it.each other).device device is);
       due = λ counts.
           let was = (it.each key).counts device counts in
@@ -642,13 +728,13 @@ awaits_event moment device key event outcome l front mid back l' hs whole p it n
 
 -- the device gives its name
 pub awaits_named : (moment device key : ℕ) (name : List ℕ) (outcome : Outcome) (l : Ledger) (front : List Happening) (mid : Ledger) (back : List Happening) (l' : Ledger) (hs : List Happening) → hs ≡ front ++ back
-    → Awaits moment device key l front mid → Handles_one moment (Is.Report device (report.Hello name)) outcome mid back l' → Goes moment l hs l'
+    → Awaits moment device key l front mid → Handles_one moment (Is.Report device (report.Hello name)) outcome mid back l' → Goes true moment l hs l'
 awaits_named moment device key name outcome l front mid back l' hs whole p it = record {
   handled = p.handled ++ last ∷ [];
   good = good_one moment (Is.Report device (report.Hello name)) outcome mid back l' p.good it;
-  run = handled_append l.core mid.core l'.core p.handled (last ∷ []) p.run ((name, refl), it.handles, refl);
-  timed = All-append (λ (h : Handled). h.moment ≡ moment) p.handled (last ∷ []) p.timed (All-cons (λ (h : Handled). h.moment ≡ moment) last [] refl (All-nil (λ (h : Handled). h.moment ≡ moment)));
-  told = ap core_notes whole ∙ (notes_append front back ∙ (ap (λ (ns : List Note). ns ++ core_notes back) p.told ∙ (ap (λ (ns : List Note). flat_map (λ (h : Handled). h.notes) p.handled ++ ns) (sym (append-nil (core_notes back))) ∙ sym (flat_map-append (λ (h : Handled). h.notes) p.handled (last ∷ [])))));
+  run = handled_append l.core mid.core l'.core p.handled (last ∷ []) p.run (it.handles, refl);
+  timed = All-append (IsAt true moment) p.handled (last ∷ []) p.timed (All-cons (IsAt true moment) last [] (refl, refl) (All-nil (IsAt true moment)));
+  told = ap run_notes whole ∙ (notes_append front back ∙ (ap (λ (ns : List Note). ns ++ run_notes back) p.told ∙ (ap (λ (ns : List Note). flat_map (λ (h : Handled). h.notes) p.handled ++ ns) (sym (append-nil (run_notes back))) ∙ sym (flat_map-append (λ (h : Handled). h.notes) p.handled (last ∷ [])))));
   came = λ other of counts. by other of counts (device == of) refl;
   lost = λ other of is. lost_at other of (device == of) refl ((it.each other).breaks of is);
   progresses = λ other e is client sound.

@@ -7,6 +7,7 @@ pub mod Acts
 pub mod Turns
 pub mod Calls
 pub mod Typing
+pub mod Noting
 pub mod Sending
 pub mod Handling
 pub mod Giving

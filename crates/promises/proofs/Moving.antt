@@ -11,54 +11,54 @@ use Rattle.server.specs.Ledger.{Ledger, Fate, Broken}
 use Rattle.server.specs.Rel.{Rel, Nothing, Then, If, Or, Times, Many, Each}
 use Rattle.server.specs.Happening.{Happens, Unanswered}
 use Rattle.server.specs.Closing.{Leaves, IsGone, ClosesAs, ClosesFirst, Settles}
-use Rattle.server.specs.Law.{core_notes}
-use Rattle.promises.proofs.Sending.{Counts, due_at, Good, IsLost}
+use Rattle.promises.specs.Orders.{named_by, run_notes}
+use Rattle.promises.proofs.Sending.{Counts, due_at, Good, IsLost, reads_same}
 use Rattle.promises.proofs.Handling.{goes_plain, happened, Goes, goes_then, goes_calm, goes_event, progressed_still, ClosedAs, stops_still}
 use Rattle.promises.proofs.Giving.{Calms, calms_nothing}
 
 -- ---- parts at which events come
 
-abbrev pub Moves : ℕ → Rel → Type 0
-Moves moment R = (l : Ledger) (hs : List Happening) (l' : Ledger) → Good l → R l hs l' → Goes moment l hs l'
+abbrev pub Moves : Bool → ℕ → Rel → Type 0
+Moves turn moment R = (l : Ledger) (hs : List Happening) (l' : Ledger) → Good l → R l hs l' → Goes turn moment l hs l'
 
-pub moves_calm : (moment : ℕ) (R : Rel) → Calms R → Moves moment R
-moves_calm moment R calms l hs l' good it = goes_calm moment l hs l' good (calms l hs l' it)
+pub moves_calm : (turn : Bool) (moment : ℕ) (R : Rel) → Calms R → Moves turn moment R
+moves_calm turn moment R calms l hs l' good it = goes_calm turn moment l hs l' good (calms l hs l' it)
 
-pub moves_then : (moment : ℕ) (R S : Rel) → Moves moment R → Moves moment S → Moves moment (Then R S)
-moves_then moment R S r s l hs l' good it =
+pub moves_then : (turn : Bool) (moment : ℕ) (R S : Rel) → Moves turn moment R → Moves turn moment S → Moves turn moment (Then R S)
+moves_then turn moment R S r s l hs l' good it =
     let first = r l it.front it.mid good it.first in
-    goes_then moment l it.front it.mid it.back l' hs it.whole first (s it.mid it.back l' first.good it.second)
+    goes_then turn moment l it.front it.mid it.back l' hs it.whole first (s it.mid it.back l' first.good it.second)
 
-pub moves_or : (moment : ℕ) (R S : Rel) → Moves moment R → Moves moment S → Moves moment (Or R S)
-moves_or moment R S r s l hs l' good (inl it) = r l hs l' good it
-moves_or moment R S r s l hs l' good (inr it) = s l hs l' good it
+pub moves_or : (turn : Bool) (moment : ℕ) (R S : Rel) → Moves turn moment R → Moves turn moment S → Moves turn moment (Or R S)
+moves_or turn moment R S r s l hs l' good (inl it) = r l hs l' good it
+moves_or turn moment R S r s l hs l' good (inr it) = s l hs l' good it
 
-pub moves_if : (moment : ℕ) (t : Bool) (R S : Rel) → Moves moment R → Moves moment S → Moves moment (If t R S)
-moves_if moment true R S r s l hs l' good it = r l hs l' good it
-moves_if moment false R S r s l hs l' good it = s l hs l' good it
+pub moves_if : (turn : Bool) (moment : ℕ) (t : Bool) (R S : Rel) → Moves turn moment R → Moves turn moment S → Moves turn moment (If t R S)
+moves_if turn moment true R S r s l hs l' good it = r l hs l' good it
+moves_if turn moment false R S r s l hs l' good it = s l hs l' good it
 
-pub moves_times : (moment n : ℕ) (R : Rel) → Moves moment R → Moves moment (Times n R)
-moves_times moment zero R r = moves_calm moment Nothing calms_nothing
-moves_times moment (suc n) R r = moves_then moment (Times n R) R (moves_times moment n R r) r
+pub moves_times : (turn : Bool) (moment n : ℕ) (R : Rel) → Moves turn moment R → Moves turn moment (Times n R)
+moves_times turn moment zero R r = moves_calm turn moment Nothing calms_nothing
+moves_times turn moment (suc n) R r = moves_then turn moment (Times n R) R (moves_times turn moment n R r) r
 
-pub moves_many : (moment : ℕ) (R : Rel) → Moves moment R → Moves moment (Many R)
-moves_many moment R r l hs l' good (n, it) = moves_times moment n R r l hs l' good it
+pub moves_many : (turn : Bool) (moment : ℕ) (R : Rel) → Moves turn moment R → Moves turn moment (Many R)
+moves_many turn moment R r l hs l' good (n, it) = moves_times turn moment n R r l hs l' good it
 
-pub moves_each : (moment n : ℕ) (R : ℕ → Rel) → ((key : ℕ) → Moves moment (R key)) → Moves moment (Each n R)
-moves_each moment zero R r = moves_calm moment Nothing calms_nothing
-moves_each moment (suc n) R r = moves_then moment (Each n R) (R n) (moves_each moment n R r) (r n)
+pub moves_each : (turn : Bool) (moment n : ℕ) (R : ℕ → Rel) → ((key : ℕ) → Moves turn moment (R key)) → Moves turn moment (Each n R)
+moves_each turn moment zero R r = moves_calm turn moment Nothing calms_nothing
+moves_each turn moment (suc n) R r = moves_then turn moment (Each n R) (R n) (moves_each turn moment n R r) (r n)
 
-pub moves_happens : (moment : ℕ) (event : Event) (outcome : Outcome) → Moves moment (Happens moment event outcome)
-moves_happens moment event outcome l hs l' good it = goes_event moment event outcome l hs l' good (happened moment event outcome l hs l' good it)
+pub moves_happens : (turn : Bool) (moment : ℕ) (event : Event) (outcome : Outcome) → None ≡ named_by turn event → Moves turn moment (Happens moment event outcome)
+moves_happens turn moment event outcome nameless l hs l' good it = goes_event turn moment event outcome l hs l' good nameless (happened moment event outcome l hs l' good it)
 
-pub moves_unanswered : (moment : ℕ) (event : Event) → Moves moment (Unanswered moment event)
-moves_unanswered moment event l hs l' good (outcome, it) = moves_happens moment event outcome l hs l' good it
+pub moves_unanswered : (turn : Bool) (moment : ℕ) (event : Event) → None ≡ named_by turn event → Moves turn moment (Unanswered moment event)
+moves_unanswered turn moment event nameless l hs l' good (outcome, it) = moves_happens turn moment event outcome nameless l hs l' good it
 
 -- ---- closings
 
-pub leaves_at : (moment : ℕ) (fate : Fate) (key : ℕ) (e : Entry) (l : Ledger) (hs : List Happening) (l' : Ledger) → Good l → l.entries key ≡ Some e → Leaves fate key e l hs l' → Goes moment l hs l'
+pub leaves_at : (moment : ℕ) (fate : Fate) (key : ℕ) (e : Entry) (l : Ledger) (hs : List Happening) (l' : Ledger) → Good l → l.entries key ≡ Some e → Leaves fate key e l hs l' → Goes true moment l hs l'
 leaves_at moment fate key e l hs l' good there it =
-    goes_plain moment key None l hs l' good (ap core_notes it.0) (ap (λ (x : Ledger). x.core) it.2) (ap (λ (x : Ledger). x.entries) it.2)
+    goes_plain true moment key None l hs l' good (ap run_notes it.0) (ap (λ (x : Ledger). x.core) it.2) (ap (λ (x : Ledger). x.entries) it.2)
     (record { counts = λ device is. absurd is; lost = λ device is. absurd is; device = λ device is. absurd is; fresh = λ is. tt }) (λ f is. cc) (λ f is. cc)
     (record { more = (e, fate) ∷ []; closed = ap (λ (x : Ledger). x.closed) it.2; each = All-cons (λ (x : Entry × Fate). ClosedAs l [] x.0) (e, fate) [] gone (All-nil (λ (x : Entry × Fate). ClosedAs l [] x.0)) })
   where
@@ -70,18 +70,18 @@ leaves_at moment fate key e l hs l' good there it =
       whole = refl;
       came = λ device named sound. inl (subst (λ (o : Option Entry). Counts device o) (sym there) (named, sound), sym (ap due_at there));
       lost = λ device named is. inl (subst (λ (o : Option Entry). IsLost device o) (sym there) (named, is), sym (ap due_at there));
-      progresses = λ client sound. progressed_still l.core key [] (l.entries key) (l.entries key) (λ f is of. (f, is, refl, λ unbroken. unbroken, refl)) refl e there client sound;
-      stops = λ client broken. stops_still l.core key [] (l.entries key) (l.entries key) (λ f is of. (f, is, refl, λ unbroken. unbroken, refl)) refl e there client broken;
+      progresses = λ client sound. progressed_still l.core key [] (l.entries key) (l.entries key) (λ f is of. (f, is, refl, λ unbroken. unbroken, refl, reads_same f)) refl e there client sound;
+      stops = λ client broken. stops_still l.core key [] (l.entries key) (l.entries key) (λ f is of. (f, is, refl, λ unbroken. unbroken, refl, reads_same f)) refl e there client broken;
     }
 
-pub moves_gone : (moment : ℕ) (device : Option ℕ) → Moves moment (IsGone moment device)
-moves_gone moment None = moves_calm moment Nothing calms_nothing
-moves_gone moment (Some device) = moves_unanswered moment (Is.Report device report.Gone)
+pub moves_gone : (moment : ℕ) (device : Option ℕ) → Moves true moment (IsGone moment device)
+moves_gone moment None = moves_calm true moment Nothing calms_nothing
+moves_gone moment (Some device) = moves_unanswered true moment (Is.Report device report.Gone) refl
 
-pub closes_at : (moment : ℕ) (fate : Fate) (key : ℕ) (e : Entry) (l : Ledger) (hs : List Happening) (l' : Ledger) → Good l → l.entries key ≡ Some e → ClosesAs moment fate key e l hs l' → Goes moment l hs l'
+pub closes_at : (moment : ℕ) (fate : Fate) (key : ℕ) (e : Entry) (l : Ledger) (hs : List Happening) (l' : Ledger) → Good l → l.entries key ≡ Some e → ClosesAs moment fate key e l hs l' → Goes true moment l hs l'
 closes_at moment fate key e l hs l' good there it =
     let first = leaves_at moment fate key e l it.front it.mid good there it.first in
-    goes_then moment l it.front it.mid it.back l' hs it.whole first (moves_gone moment (device_of e.progress) it.mid it.back l' first.good it.second)
+    goes_then true moment l it.front it.mid it.back l' hs it.whole first (moves_gone moment (device_of e.progress) it.mid it.back l' first.good it.second)
 
-pub moves_settles : (moment : ℕ) → Moves moment (Settles moment)
-moves_settles moment l hs l' good it = moves_many moment (ClosesFirst moment) (λ a ks b fine first. closes_at moment Broken first.key first.entry a ks b fine first.there first.closes) l hs l' good it.0
+pub moves_settles : (moment : ℕ) → Moves true moment (Settles moment)
+moves_settles moment l hs l' good it = moves_many true moment (ClosesFirst moment) (λ a ks b fine first. closes_at moment Broken first.key first.entry a ks b fine first.there first.closes) l hs l' good it.0

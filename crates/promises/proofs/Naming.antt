@@ -11,8 +11,7 @@ use Rattle.server.specs.Polls.{Happening}
 use Rattle.server.specs.Ledger.{Ledger, at_key, with_entry}
 use Rattle.server.specs.Enqueuing.{IsDevice}
 use Rattle.server.specs.Greeting.{IsDeviceAs, IsAlone, GivesWayAt, Greets}
-use Rattle.server.specs.Law.{core_notes}
-use Rattle.promises.specs.Orders.{Handled}
+use Rattle.promises.specs.Orders.{IsAt, run_notes}
 use Rattle.promises.specs.Answers.{ClientTalk}
 use Rattle.promises.proofs.Sending.{Counts, due_at, FreshTalk, IsFresh, same_key, other_key, Ordered, ordered_still, ordered_broken, ordered_given_up, notes_append, Good, one_entry, client_none, IsLost}
 use Rattle.promises.proofs.Handling.{happened, CameAs, Goes, goes_calm, Awaits, awaits_event, awaits_named, gone_sends_none, TalkedAs, progressed_still, LostAs, lost_by, StopsAs, stops_still}
@@ -37,12 +36,12 @@ pub record Alone (device key : ℕ) (new : Entry) (l l' : Ledger) : Type 0 where
 pub other_device : (o : Option ℕ) (device of : ℕ) → o ≡ Some device → o ≡ Some of → (device == of) ≡ false → ⊥
 other_device o device of p q apart = other_key device of apart cc
 
-pub awaits : (moment device key : ℕ) (e new : Entry) (l : Ledger) (hs : List Happening) (l' : Ledger) → Good l → core_notes hs ≡ [] → device_of new.progress ≡ Some device → FreshTalk new.progress new → new.due ≡ [] → Alone device key new l l' → Awaits moment device key l hs l'
+pub awaits : (moment device key : ℕ) (e new : Entry) (l : Ledger) (hs : List Happening) (l' : Ledger) → Good l → run_notes hs ≡ [] → device_of new.progress ≡ Some device → FreshTalk new.progress new → new.due ≡ [] → Alone device key new l l' → Awaits moment device key l hs l'
 awaits moment device key e new l hs l' good silent named fresh due alone = record {
   handled = [];
   good = record { one = λ d k o p q. one d k o p q (alone.each k) (alone.each o); fresh = λ k. fresh_at k (alone.each k) };
   run = alone.core;
-  timed = All-nil (λ (it : Handled). it.moment ≡ moment);
+  timed = All-nil (IsAt true moment);
   told = silent;
   only = λ other is. only other is (alone.each other);
   due = λ counts. due_here (alone.each key);
@@ -173,7 +172,7 @@ device_there device (Some e) is = (e, refl)
 -- the connection under the key has just said the name of this device
 pub record Just (key device : ℕ) (name : List ℕ) (e new : Entry) (l : Ledger) (hs : List Happening) (mid : Ledger) : Type 0 where
   pub good : Good l
-  pub silent : core_notes hs ≡ []
+  pub silent : run_notes hs ≡ []
   pub there : l.entries key ≡ Some e
   pub after : mid ≡ with_entry key new l
   pub named : device_of new.progress ≡ Some device
@@ -182,7 +181,7 @@ pub record Just (key device : ℕ) (name : List ℕ) (e new : Entry) (l : Ledger
   pub link : ClientTalk e.progress → ⊥
 
 pub greets : (moment key id device : ℕ) (name : List ℕ) (e new : Entry) (l : Ledger) (front : List Happening) (mid : Ledger) (back : List Happening) (l' : Ledger) (hs : List Happening) → hs ≡ front ++ back
-    → Just key device name e new l front mid → Greets moment key id device name mid back l' → Goes moment l hs l'
+    → Just key device name e new l front mid → Greets moment key id device name mid back l' → Goes true moment l hs l'
 greets moment key id device name e new l front mid back l' hs whole just (inl (alone, (outcome, it))) =
     let waits = awaits moment device key e new l front mid just.good just.silent just.named just.fresh just.due (alone_now device key new l mid just.after alone) in
     awaits_named moment device key name outcome l front mid back l' hs whole waits (happened moment (Is.Report device (report.Hello name)) outcome mid back l' waits.good it)
@@ -194,13 +193,13 @@ greets moment key id device name e new l front mid back l' hs whole just (inr (i
     let way = gives_way_at old (it.mid.entries old) found.0 it.mid draining.front draining.mid (ap (λ (x : Ledger). x.entries old) begun ∙ found.1) draining.first in
     let after : draining.mid ≡ with_entry old (given_up found.0) mid = way.1 ∙ ap (λ (x : Ledger). with_entry old (given_up found.0) x) begun in
     let alone = alone_then device key old new found.0 l mid draining.mid just.good just.after has.0 found.1 is_old after in
-    let quiet : core_notes (front ++ (it.front ++ draining.front)) ≡ [] =
-    notes_append front (it.front ++ draining.front) ∙ (ap (λ (ns : List Note). ns ++ core_notes (it.front ++ draining.front)) just.silent ∙ (notes_append it.front draining.front ∙ (ap (λ (ns : List Note). ns ++ core_notes draining.front) (ap core_notes it.first.0) ∙ ap core_notes way.0))) in
+    let quiet : run_notes (front ++ (it.front ++ draining.front)) ≡ [] =
+    notes_append front (it.front ++ draining.front) ∙ (ap (λ (ns : List Note). ns ++ run_notes (it.front ++ draining.front)) just.silent ∙ (notes_append it.front draining.front ∙ (ap (λ (ns : List Note). ns ++ run_notes draining.front) (ap run_notes it.first.0) ∙ ap run_notes way.0))) in
     let waits = awaits moment device key e new l (front ++ (it.front ++ draining.front)) draining.mid just.good quiet just.named just.fresh just.due alone in
     let ends = draining.second in
     let gone = happened moment (Is.Report device report.Gone) ends.first.0 draining.mid ends.front ends.mid waits.good ends.first.1 in
-    let none = gone_sends_none moment device draining.mid.core ends.first.0 (core_notes ends.front) ends.mid.core gone.handles in
-    let still = awaits_event moment device key (Is.Report device report.Gone) ends.first.0 l (front ++ (it.front ++ draining.front)) draining.mid ends.front ends.mid ((front ++ (it.front ++ draining.front)) ++ ends.front) refl waits gone none in
+    let none = gone_sends_none moment device draining.mid.core ends.first.0 (run_notes ends.front) ends.mid.core gone.handles in
+    let still = awaits_event moment device key (Is.Report device report.Gone) ends.first.0 l (front ++ (it.front ++ draining.front)) draining.mid ends.front ends.mid ((front ++ (it.front ++ draining.front)) ++ ends.front) refl waits gone none refl in
     let last = happened moment (Is.Report device (report.Hello name)) ends.second.0 ends.mid ends.back l' still.good ends.second.1 in
     awaits_named moment device key name ends.second.0 l ((front ++ (it.front ++ draining.front)) ++ ends.front) ends.mid ends.back l' hs (whole ∙ joined it.front draining.front ends.front ends.back back it.back draining.back it.whole draining.whole ends.whole) still last
   where
@@ -212,9 +211,9 @@ greets moment key id device name e new l front mid back l' hs whole just (inr (i
     let here : mid.entries key ≡ Some new = ap (λ (x : Ledger). x.entries key) just.after ∙ at_here key new l.entries in
     let way = gives_way_at key (mid.entries key) new mid it.front it.mid here it.first in
     let ended : l' ≡ with_entry key (given_up new) mid = it.second.1 ∙ way.1 in
-    let quiet : core_notes back ≡ [] = ap core_notes it.whole ∙ (notes_append it.front it.back ∙ (ap (λ (ns : List Note). ns ++ core_notes it.back) (ap core_notes way.0) ∙ ap core_notes it.second.0)) in
-    let silent_all : core_notes hs ≡ [] = ap core_notes whole ∙ (notes_append front back ∙ (ap (λ (ns : List Note). ns ++ core_notes back) just.silent ∙ quiet)) in
-    goes_calm moment l hs l' just.good (record {
+    let quiet : run_notes back ≡ [] = ap run_notes it.whole ∙ (notes_append it.front it.back ∙ (ap (λ (ns : List Note). ns ++ run_notes it.back) (ap run_notes way.0) ∙ ap run_notes it.second.0)) in
+    let silent_all : run_notes hs ≡ [] = ap run_notes whole ∙ (notes_append front back ∙ (ap (λ (ns : List Note). ns ++ run_notes back) just.silent ∙ quiet)) in
+    goes_calm true moment l hs l' just.good (record {
       core = ap (λ (x : Ledger). x.core) ended ∙ ap (λ (x : Ledger). x.core) just.after;
       closed = ap (λ (x : Ledger). x.closed) ended ∙ ap (λ (x : Ledger). x.closed) just.after;
       notes = silent_all;

@@ -1,4 +1,4 @@
--- The elements of an IPP client's stream that were acted on are the elements that its bytes say first.
+-- The items of a client's stream that were acted on are the items that its bytes say first.
 use Rattle.std.proofs.Common.{◌≡◌, ℕ, zero, suc, Bool, true, false, List, [], ◌∷◌, ◌++◌, length, take, refl, sym, ap, subst, Option, Some, None, inl, inr, All}
 use Rattle.std.specs.Prelude.{◌==◌, nat_lt, if◌then◌else◌}
 use Rattle.base_types.specs.declared.limits.TheConstants.Limits.{CONNECTIONS}
@@ -26,6 +26,8 @@ use Rattle.connections.specs.declared.step.Step.TheVariants as step
 use Rattle.connections.specs.Steps.{http_status}
 use Rattle.http_front.specs.declared.awaited.Awaited.TheVariants.{Head}
 use Rattle.http_front.proofs.Laws.{leads_more}
+use Rattle.lpd.specs.declared.reader.Awaited.TheVariants.{Command}
+use Rattle.lpd.proofs.Streams.{leads_more as items_more}
 use Rattle.std.proofs.lemmas.List.Elements.{All-nil, All-push}
 use Rattle.device_link.specs.Orders.{cancel_line}
 use Rattle.dispatcher.specs.declared.outcome.Outcome.{Outcome}
@@ -56,7 +58,7 @@ use Rattle.server.specs.Closing.{Leaves, IsGone, ClosesAs, ClosesFirst, Settles}
 use Rattle.server.specs.Polling.{Opens, AcceptsAs, AcceptsOne, AcceptsAt, Acts, Serves, FedWhole, FeedsAt, Fails, ReadsAs, ReadsOpen, ReadsAt, is_read, ReadsOne, WritesAs, WritesOpen, WritesAt, WritesOne, is_done, EndsAt, EndsOne}
 use Rattle.server.specs.Turn as Between
 use Rattle.server.specs.Turn.{Ticks, Notes, is_tick_due, TicksIfDue, Covers, Round, Turn, BodyAsks, BodyComes, Action, Turned, Served_body, Reported, Ticked, Trace, DoesAction, Runs}
-use Rattle.promises.specs.Exchanges.{IsFirst}
+use Rattle.promises.specs.Answers.{IsFirst}
 
 abbrev First : Entry → Type 0
 First e = IsFirst e.read e.progress
@@ -126,18 +128,18 @@ breaks_all key l hs l' first it = breaks_at key (l.entries key) l hs l' first (f
 -- more was read
 first_more : (read bytes : List ℕ) (progress : PeerRecord) → IsFirst read progress → IsFirst (read ++ bytes) progress
 first_more read bytes (Http said closes body) is = record { next = is.next; left = is.left ++ bytes; leads = (is.leads.0, leads_more is.leads.0 Head read bytes said is.next is.left is.leads.1) }
-first_more read bytes (Queue items session) is = tt
+first_more read bytes (Queue items session) is = record { next = is.next; left = is.left ++ bytes; leads = items_more Command read bytes items is.next is.left is.leads }
 first_more read bytes (Link reports device) is = tt
 
 first_unnamed : (read : List ℕ) (progress : PeerRecord) → IsFirst read progress → IsFirst read (unnamed progress)
 first_unnamed read (Http said closes body) is = is
-first_unnamed read (Queue items session) is = tt
+first_unnamed read (Queue items session) is = is
 first_unnamed read (Link reports device) is = tt
 
 -- the next of its stream
 first_mid : (settings : ServerSettings) (progress : PeerRecord) (e : Entry) (comes : Step) (mid : Entry) → IsFirst e.read e.progress → ItemComes settings progress e comes mid → IsFirst mid.read mid.progress
 first_mid settings (Http said closes body) e comes mid is next = subst (λ (x : Entry). IsFirst x.read x.progress) (sym next.after) next.next
-first_mid settings (Queue items session) e comes mid is (inl next) = subst (λ (x : Entry). IsFirst x.read x.progress) (sym next.after) tt
+first_mid settings (Queue items session) e comes mid is (inl next) = subst (λ (x : Entry). IsFirst x.read x.progress) (sym next.after) next.next
 first_mid settings (Queue items session) e comes mid is (inr (inl next)) = subst (λ (x : Entry). IsFirst x.read x.progress) (sym next.after) is
 first_mid settings (Queue items session) e comes mid is (inr (inr next)) = subst (λ (x : Entry). IsFirst x.read x.progress) (sym next.1) is
 first_mid settings (Link reports device) e comes mid is (inl next) = subst (λ (x : Entry). IsFirst x.read x.progress) (sym next.after) tt
@@ -411,7 +413,7 @@ keeps_ends moment key l hs l' first it = ends_at moment key (l.entries key) l hs
 
 opening_first : (door : Door) (id : ℕ) → First (opening_entry door id)
 opening_first Ipp id = record { next = Head; left = []; leads = (0, (refl, refl, refl)) }
-opening_first Lpd id = tt
+opening_first Lpd id = record { next = Command; left = []; leads = (refl, refl) }
 opening_first Devices id = tt
 
 keeps_opens : (door : Door) (id : ℕ) → Keeps (Opens door id)

@@ -4,6 +4,7 @@ use Rattle.std.specs.Prelude.{◌==◌, ◌⊎◌, if◌then◌else◌}
 use Rattle.std.specs.List.{flat_map}
 use Rattle.std.proofs.lemmas.Grind.{flat_map-append}
 use Rattle.std.proofs.lemmas.Bool.Decides.{nat_tests}
+use Rattle.base_types.specs.Report.{ReportRecord}
 use Rattle.device_link.specs.Orders.{cancel_line}
 use Rattle.print_room.specs.declared.started.Started.{Started}
 use Rattle.print_room.specs.State.{State}
@@ -17,9 +18,8 @@ use Rattle.server.specs.Ledger.{Ledger, at_key, with_entry, job_bytes}
 use Rattle.server.specs.Rel.{Rel, Nothing, If, EachOf}
 use Rattle.server.specs.Enqueuing.{EnqueuesOpen, EnqueuesAt, IsDevice, EnqueuesOn}
 use Rattle.server.specs.Happening.{Sends, Starts, Orders}
-use Rattle.server.specs.Law.{core_note, core_notes}
 use Rattle.promises.specs.Answers.{ClientTalk}
-use Rattle.promises.specs.Orders.{began, canceled, cancel_for, start_for}
+use Rattle.promises.specs.Orders.{began, canceled, cancel_for, start_for, run_note, run_notes}
 
 -- ---- connections
 
@@ -37,12 +37,17 @@ abbrev pub due_at : Option Entry → List ℕ
 due_at None = []
 due_at (Some e) = e.due
 
--- before a device says its name nothing is due
+-- the name is among the reports
+abbrev pub HasReport : List ReportRecord → Type 0
+HasReport [] = ⊥
+HasReport (said ∷ reports) = Unit {0}
+
+-- before a device says its name nothing is due, and the name is a report
 abbrev pub FreshTalk : PeerRecord → Entry → Type 0
 FreshTalk (Http said closes body) e = Unit {0}
 FreshTalk (Queue items session) e = Unit {0}
 FreshTalk (Link reports None) e = e.broken ≡ false → e.due ≡ []
-FreshTalk (Link reports (Some device)) e = Unit {0}
+FreshTalk (Link reports (Some device)) e = e.broken ≡ false → HasReport reports
 
 abbrev pub IsFresh : Option Entry → Type 0
 IsFresh None = Unit {0}
@@ -75,15 +80,31 @@ not_key k key apart = grind (arith, nat_tests, apart)
 pub no_bytes : ℕ → List ℕ
 no_bytes device = []
 
+-- the connection has the same number, more bytes may have been read on it, and it still drains if it did
+pub record ReadsOn (d e : Entry) : Type 0 where
+  pub same : e.id ≡ d.id
+  pub more : List ℕ
+  pub grown : e.read ≡ d.read ++ more
+  pub drains : d.draining ≡ true → e.draining ≡ true
+
+pub reads_still : (d e : Entry) → e.id ≡ d.id → e.read ≡ d.read → e.draining ≡ d.draining → ReadsOn d e
+reads_still d e same read drains = record { same = same; more = []; grown = read ∙ sym (append-nil d.read); drains = λ is. drains ∙ is }
+
+pub reads_same : (e : Entry) → ReadsOn e e
+reads_same e = reads_still e e refl refl refl
+
+pub reads_then : (d m e : Entry) → ReadsOn d m → ReadsOn m e → ReadsOn d e
+reads_then d m e p q = record { same = q.same ∙ p.same; more = p.more ++ q.more; grown = q.grown ∙ (ap (λ (bytes : List ℕ). bytes ++ q.more) p.grown ∙ append_assoc d.read p.more q.more); drains = λ is. q.drains (p.drains is) }
+
 -- a client's connection is unchanged, except that bytes may have been read or taken and that it may have broken
 abbrev pub Stays : Option Entry → Option Entry → Type 0
-Stays x y = (e : Entry) → y ≡ Some e → ClientTalk e.progress → (d : Entry) × (x ≡ Some d) × (d.progress ≡ e.progress) × (e.broken ≡ false → d.broken ≡ false) × (d.due ≡ e.due)
+Stays x y = (e : Entry) → y ≡ Some e → ClientTalk e.progress → (d : Entry) × (x ≡ Some d) × (d.progress ≡ e.progress) × (e.broken ≡ false → d.broken ≡ false) × (d.due ≡ e.due) × ReadsOn d e
 
 stays_then : (x y z : Option Entry) → Stays x y → Stays y z → Stays x z
 stays_then x y z p q e is client =
     let mid = q e is client in
     let first = p mid.0 mid.1 (subst ClientTalk (sym mid.2) client) in
-    (first.0, first.1, first.2 ∙ mid.2, λ sound. first.3 (mid.3 sound), first.4 ∙ mid.4)
+    (first.0, first.1, first.2 ∙ mid.2, λ sound. first.3 (mid.3 sound), first.4 ∙ mid.4, reads_then first.0 mid.0 e first.5 mid.5)
 
 pub one_entry : (d e : Entry) → Some d ≡ Some e → d ≡ e
 one_entry d e same = cc
@@ -123,7 +144,7 @@ ordered_same sent x none = record {
   device = λ device is. is;
   fresh = λ is. is;
   client = λ is. is;
-  stays = λ e is client. (e, is, refl, λ sound. sound, refl);
+  stays = λ e is client. (e, is, refl, λ sound. sound, refl, reads_same e);
 }
 
 pub ordered_still : (x : Option Entry) → Ordered (λ device. []) x x
@@ -162,10 +183,10 @@ broken_fresh : (progress : PeerRecord) (e : Entry) → e.broken ≡ true → Fre
 broken_fresh (Http said closes body) e is = tt
 broken_fresh (Queue items session) e is = tt
 broken_fresh (Link reports None) e is = λ not_broken. absurd (no_true e.broken is not_broken)
-broken_fresh (Link reports (Some device)) e is = tt
+broken_fresh (Link reports (Some device)) e is = λ not_broken. absurd (no_true e.broken is not_broken)
 
 -- a connection that is broken now, of the same peer, on which the same is due
-pub ordered_broken : (sent : ℕ → List ℕ) (d e : Entry) → e.broken ≡ true → ((device : ℕ) → device_of e.progress ≡ Some device → (device_of d.progress ≡ Some device) × (e.due ≡ d.due)) → (ClientTalk d.progress → ClientTalk e.progress) → (ClientTalk e.progress → (d.progress ≡ e.progress) × (d.due ≡ e.due)) → Ordered sent (Some d) (Some e)
+pub ordered_broken : (sent : ℕ → List ℕ) (d e : Entry) → e.broken ≡ true → ((device : ℕ) → device_of e.progress ≡ Some device → (device_of d.progress ≡ Some device) × (e.due ≡ d.due)) → (ClientTalk d.progress → ClientTalk e.progress) → (ClientTalk e.progress → (d.progress ≡ e.progress) × (d.due ≡ e.due) × ReadsOn d e) → Ordered sent (Some d) (Some e)
 ordered_broken sent d e is of_device of_client same_client = record {
   counts = λ device counts. absurd (no_true e.broken is counts.1);
   breaks = λ device lost. by device (of_device device lost.0) d.broken refl;
@@ -175,7 +196,7 @@ ordered_broken sent d e is of_device of_client same_client = record {
   stays = λ f same client.
       let this = one_entry e f same in
       let it = same_client (subst (λ (x : Entry). ClientTalk x.progress) (sym this) client) in
-      (d, refl, it.0 ∙ ap (λ (x : Entry). x.progress) this, λ sound. absurd (no_true e.broken is (ap (λ (x : Entry). x.broken) this ∙ sound)), it.1 ∙ ap (λ (x : Entry). x.due) this);
+      (d, refl, it.0 ∙ ap (λ (x : Entry). x.progress) this, λ sound. absurd (no_true e.broken is (ap (λ (x : Entry). x.broken) this ∙ sound)), it.1 ∙ ap (λ (x : Entry). x.due) this, subst (λ (x : Entry). ReadsOn d x) this it.2);
 }
   where
     by : (device : ℕ) → (device_of d.progress ≡ Some device) × (e.due ≡ d.due) → (t : Bool) → d.broken ≡ t → BreaksAs sent device (Some d) (Some e)
@@ -186,17 +207,17 @@ still_fresh : (progress : PeerRecord) (d e : Entry) → e.broken ≡ d.broken �
 still_fresh (Http said closes body) d e same due fresh = tt
 still_fresh (Queue items session) d e same due fresh = tt
 still_fresh (Link reports None) d e same due fresh = λ is. due ∙ fresh (sym same ∙ is)
-still_fresh (Link reports (Some device)) d e same due fresh = tt
+still_fresh (Link reports (Some device)) d e same due fresh = λ is. fresh (sym same ∙ is)
 
 -- a connection that changed in parts that no device notices
-pub ordered_keeps : (d e : Entry) → e.progress ≡ d.progress → e.broken ≡ d.broken → e.due ≡ d.due → Ordered (λ device. []) (Some d) (Some e)
-ordered_keeps d e progress same due = record {
+pub ordered_keeps : (d e : Entry) → e.progress ≡ d.progress → e.broken ≡ d.broken → e.due ≡ d.due → ReadsOn d e → Ordered (λ device. []) (Some d) (Some e)
+ordered_keeps d e progress same due reads = record {
   counts = λ device is. ((ap device_of (sym progress) ∙ is.0, sym same ∙ is.1), due ∙ sym (append-nil d.due));
   breaks = λ device is. inl ((ap device_of (sym progress) ∙ is.0, sym same ∙ is.1), due);
   device = λ device is. ap device_of (sym progress) ∙ is;
   fresh = λ fresh. subst (λ (t : PeerRecord). FreshTalk t e) (sym progress) (still_fresh d.progress d e same due fresh);
   client = λ client. subst ClientTalk (sym progress) client;
-  stays = λ f is client. let this = one_entry e f is in (d, refl, sym progress ∙ ap (λ (x : Entry). x.progress) this, λ sound. sym same ∙ (ap (λ (x : Entry). x.broken) this ∙ sound), sym due ∙ ap (λ (x : Entry). x.due) this);
+  stays = λ f is client. let this = one_entry e f is in (d, refl, sym progress ∙ ap (λ (x : Entry). x.progress) this, λ sound. sym same ∙ (ap (λ (x : Entry). x.broken) this ∙ sound), sym due ∙ ap (λ (x : Entry). x.due) this, subst (λ (x : Entry). ReadsOn d x) this reads);
 }
 
 unnamed_none : (progress : PeerRecord) (device : ℕ) → device_of (unnamed progress) ≡ Some device → device_of progress ≡ Some device
@@ -215,7 +236,7 @@ unnamed_progress (Queue items session) client = refl
 unnamed_progress (Link reports device) client = absurd client
 
 pub ordered_given_up : (e : Entry) → Ordered (λ device. []) (Some e) (Some (given_up e))
-ordered_given_up e = ordered_broken (λ device. []) e (given_up e) refl (λ device named. (unnamed_none e.progress device named, refl)) (unnamed_client e.progress) (λ client. (unnamed_progress e.progress client, refl))
+ordered_given_up e = ordered_broken (λ device. []) e (given_up e) refl (λ device named. (unnamed_none e.progress device named, refl)) (unnamed_client e.progress) (λ client. (unnamed_progress e.progress client, refl, reads_still e (given_up e) refl refl refl))
 
 -- ---- ledgers
 
@@ -223,18 +244,18 @@ ordered_given_up e = ordered_broken (λ device. []) e (given_up e) refl (λ devi
 pub record Sent (sent : ℕ → List ℕ) (l : Ledger) (hs : List Happening) (l' : Ledger) : Type 0 where
   pub core : l'.core ≡ l.core
   pub closed : l'.closed ≡ l.closed
-  pub notes : core_notes hs ≡ []
+  pub notes : run_notes hs ≡ []
   pub each : (key : ℕ) → Ordered sent (l.entries key) (l'.entries key)
 
 -- nothing was sent
 abbrev pub Calm : Rel
 Calm = Sent (λ device. [])
 
-pub notes_append : (hs ks : List Happening) → core_notes (hs ++ ks) ≡ core_notes hs ++ core_notes ks
-notes_append hs ks = flat_map-append core_note hs ks
+pub notes_append : (hs ks : List Happening) → run_notes (hs ++ ks) ≡ run_notes hs ++ run_notes ks
+notes_append hs ks = flat_map-append run_note hs ks
 
-no_notes : (hs front back : List Happening) → hs ≡ front ++ back → core_notes front ≡ [] → core_notes back ≡ [] → core_notes hs ≡ []
-no_notes hs front back whole p q = ap core_notes whole ∙ (notes_append front back ∙ (ap (λ (ns : List Note). ns ++ core_notes back) p ∙ q))
+no_notes : (hs front back : List Happening) → hs ≡ front ++ back → run_notes front ≡ [] → run_notes back ≡ [] → run_notes hs ≡ []
+no_notes hs front back whole p q = ap run_notes whole ∙ (notes_append front back ∙ (ap (λ (ns : List Note). ns ++ run_notes back) p ∙ q))
 
 pub sent_then : (sent more : ℕ → List ℕ) (l : Ledger) (front : List Happening) (mid : Ledger) (back : List Happening) (l' : Ledger) (hs : List Happening) → hs ≡ front ++ back → Sent sent l front mid → Sent more mid back l' → Sent (λ device. sent device ++ more device) l hs l'
 sent_then sent more l front mid back l' hs whole p q = record {
@@ -263,7 +284,7 @@ sent_as sent other l hs l' same p = record {
   };
 }
 
-pub calm_still : (l : Ledger) (hs : List Happening) (l' : Ledger) → core_notes hs ≡ [] → l' ≡ l → Calm l hs l'
+pub calm_still : (l : Ledger) (hs : List Happening) (l' : Ledger) → run_notes hs ≡ [] → l' ≡ l → Calm l hs l'
 calm_still l hs l' silent same = record {
   core = ap (λ (x : Ledger). x.core) same;
   closed = ap (λ (x : Ledger). x.closed) same;
@@ -272,7 +293,7 @@ calm_still l hs l' silent same = record {
 }
 
 -- if each connection is unchanged, nothing was sent
-pub sent_still : (sent : ℕ → List ℕ) (l : Ledger) (hs : List Happening) (l' : Ledger) → core_notes hs ≡ [] → l' ≡ l → ((key : ℕ) → Unsent sent (l.entries key)) → Sent sent l hs l'
+pub sent_still : (sent : ℕ → List ℕ) (l : Ledger) (hs : List Happening) (l' : Ledger) → run_notes hs ≡ [] → l' ≡ l → ((key : ℕ) → Unsent sent (l.entries key)) → Sent sent l hs l'
 sent_still sent l hs l' silent same none = record {
   core = ap (λ (x : Ledger). x.core) same;
   closed = ap (λ (x : Ledger). x.closed) same;
@@ -289,7 +310,7 @@ pub ordered_at : (sent : ℕ → List ℕ) (key : ℕ) (o : Option Entry) (entri
 ordered_at sent key o entries here there other =
     by_test sent (other == key) (entries other) o (entries other) (λ is. subst (λ (k : ℕ). Ordered sent (entries k) o) (sym (same_key other key is)) here) (λ is. ordered_same sent (entries other) (there other (other_key other key is)))
 
-pub sent_sets : (sent : ℕ → List ℕ) (key : ℕ) (d e : Entry) (l : Ledger) (hs : List Happening) (l' : Ledger) → l.entries key ≡ Some d → Ordered sent (Some d) (Some e) → ((other : ℕ) → other ≢ key → Unsent sent (l.entries other)) → core_notes hs ≡ [] → l' ≡ with_entry key e l → Sent sent l hs l'
+pub sent_sets : (sent : ℕ → List ℕ) (key : ℕ) (d e : Entry) (l : Ledger) (hs : List Happening) (l' : Ledger) → l.entries key ≡ Some d → Ordered sent (Some d) (Some e) → ((other : ℕ) → other ≢ key → Unsent sent (l.entries other)) → run_notes hs ≡ [] → l' ≡ with_entry key e l → Sent sent l hs l'
 sent_sets sent key d e l hs l' there here others silent after = record {
   core = ap (λ (x : Ledger). x.core) after;
   closed = ap (λ (x : Ledger). x.closed) after;
@@ -299,15 +320,15 @@ sent_sets sent key d e l hs l' there here others silent after = record {
       (ordered_at sent key (Some e) l.entries (subst (λ (o : Option Entry). Ordered sent o (Some e)) (sym there) here) others other);
 }
 
-pub calm_sets : (key : ℕ) (d e : Entry) (l : Ledger) (hs : List Happening) (l' : Ledger) → l.entries key ≡ Some d → Ordered (λ device. []) (Some d) (Some e) → core_notes hs ≡ [] → l' ≡ with_entry key e l → Calm l hs l'
+pub calm_sets : (key : ℕ) (d e : Entry) (l : Ledger) (hs : List Happening) (l' : Ledger) → l.entries key ≡ Some d → Ordered (λ device. []) (Some d) (Some e) → run_notes hs ≡ [] → l' ≡ with_entry key e l → Calm l hs l'
 calm_sets key d e l hs l' there here silent after = sent_sets (λ device. []) key d e l hs l' there here (λ other apart device is. refl) silent after
 
 pub breaking : (e : Entry) → Ordered (λ device. []) (Some e) (Some (broken e))
-breaking e = ordered_broken (λ device. []) e (broken e) refl (λ device is. (is, refl)) (λ client. client) (λ client. (refl, refl))
+breaking e = ordered_broken (λ device. []) e (broken e) refl (λ device is. (is, refl)) (λ client. client) (λ client. (refl, refl, reads_still e (broken e) refl refl refl))
 
 -- ---- bytes that are enqueued on a device's connection
 
--- two open connections are two devices', and none has anything due before its name
+-- two open connections are two devices', none has anything due before its name, and the name is a report
 pub record Good (l : Ledger) : Type 0 where
   pub one : (device key other : ℕ) → IsDevice device (l.entries key) → IsDevice device (l.entries other) → key ≡ other
   pub fresh : (key : ℕ) → IsFresh (l.entries key)
@@ -341,16 +362,16 @@ owing_to device bytes e is unbroken = record {
   breaks = λ other lost. absurd (no_true e.broken lost.1 unbroken);
   counts = λ other counts. (counts, ap (λ (more : List ℕ). e.due ++ more) (to_this device other bytes (one_device (device_of e.progress) device other is counts.0)));
   device = λ other named. named;
-  fresh = λ fresh. named_fresh e.progress (owing bytes e) is;
+  fresh = λ fresh. named_fresh e.progress is fresh;
   client = λ client. client;
   stays = λ f same client. absurd (client_none e.progress device (subst ClientTalk (sym (ap (λ (x : Entry). x.progress) (one_entry (owing bytes e) f same))) client) is);
 }
   where
-    named_fresh : (progress : PeerRecord) (it : Entry) → device_of progress ≡ Some device → FreshTalk progress it
-    named_fresh (Http said closes body) it named = tt
-    named_fresh (Queue items session) it named = tt
-    named_fresh (Link reports None) it named = cc
-    named_fresh (Link reports (Some other)) it named = tt
+    named_fresh : (progress : PeerRecord) → device_of progress ≡ Some device → FreshTalk progress e → FreshTalk progress (owing bytes e)
+    named_fresh (Http said closes body) named fresh = tt
+    named_fresh (Queue items session) named fresh = tt
+    named_fresh (Link reports None) named fresh = cc
+    named_fresh (Link reports (Some other)) named fresh = fresh
 
 broken_unsent : (sent : ℕ → List ℕ) (e : Entry) → e.broken ≡ true → Unsent sent (Some e)
 broken_unsent sent e is device counts = absurd (no_true e.broken is counts.1)
@@ -358,18 +379,18 @@ broken_unsent sent e is device counts = absurd (no_true e.broken is counts.1)
 enqueues_open : (grows : Bool) (device key : ℕ) (bytes : List ℕ) (e : Entry) (l : Ledger) (hs : List Happening) (l' : Ledger) → e.broken ≡ false → l.entries key ≡ Some e → device_of e.progress ≡ Some device → ((other : ℕ) → other ≢ key → IsDevice device (l.entries other) → ⊥) → EnqueuesOpen grows key bytes e l hs l' → Sent (to_device device bytes) l hs l'
 enqueues_open false device key bytes e l hs l' unbroken there is others it =
     sent_sets (to_device device bytes) key e (owing bytes e) l hs l' there (owing_to device bytes e is unbroken) (λ other apart. unsent_to device bytes (l.entries other) (others other apart))
-    (ap core_notes it.0) it.1
+    (ap run_notes it.0) it.1
 enqueues_open true device key bytes e l hs l' unbroken there is others (inl it) =
     let started : it.mid ≡ l = it.first.1 in
     sent_sets (to_device device bytes) key e (owing bytes e) l hs l' there (owing_to device bytes e is unbroken) (λ other apart. unsent_to device bytes (l.entries other) (others other apart))
-    (no_notes hs it.front it.back it.whole (ap core_notes it.first.0) (ap core_notes it.second.0)) (it.second.1 ∙ ap (λ (x : Ledger). with_entry key (owing bytes e) x) started)
+    (no_notes hs it.front it.back it.whole (ap run_notes it.first.0) (ap run_notes it.second.0)) (it.second.1 ∙ ap (λ (x : Ledger). with_entry key (owing bytes e) x) started)
 enqueues_open true device key bytes e l hs l' unbroken there is others (inr it) =
-    sent_sets (to_device device bytes) key e (broken e) l hs l' there (ordered_broken (to_device device bytes) e (broken e) refl (λ other named. (named, refl)) (λ client. client) (λ client. (refl, refl))) (λ other apart. unsent_to device bytes (l.entries other) (others other apart))
-    (ap core_notes it.0) it.1
+    sent_sets (to_device device bytes) key e (broken e) l hs l' there (ordered_broken (to_device device bytes) e (broken e) refl (λ other named. (named, refl)) (λ client. client) (λ client. (refl, refl, reads_still e (broken e) refl refl refl))) (λ other apart. unsent_to device bytes (l.entries other) (others other apart))
+    (ap run_notes it.0) it.1
 
 enqueues_if : (t grows : Bool) (device key : ℕ) (bytes : List ℕ) (e : Entry) (l : Ledger) (hs : List Happening) (l' : Ledger) → e.broken ≡ t → l.entries key ≡ Some e → device_of e.progress ≡ Some device → ((other : ℕ) → other ≢ key → IsDevice device (l.entries other) → ⊥) → If t Nothing (EnqueuesOpen grows key bytes e) l hs l' → Sent (to_device device bytes) l hs l'
 enqueues_if false grows device key bytes e l hs l' broken there is others it = enqueues_open grows device key bytes e l hs l' broken there is others it
-enqueues_if true grows device key bytes e l hs l' broken there is others it = sent_still (to_device device bytes) l hs l' (ap core_notes it.0) it.1 unsent
+enqueues_if true grows device key bytes e l hs l' broken there is others it = sent_still (to_device device bytes) l hs l' (ap run_notes it.0) it.1 unsent
   where
     here : (k : ℕ) → k ≡ key → Unsent (to_device device bytes) (l.entries k)
     here k same = subst (λ (o : Option Entry). Unsent (to_device device bytes) o) (sym (ap l.entries same ∙ there)) (broken_unsent (to_device device bytes) e broken)
@@ -391,20 +412,20 @@ enqueues_on refusable device bytes l hs l' good (inl (key, is, it)) =
     let begun : it.mid ≡ l = it.first.1 in
     let kept : EnqueuesAt refusable key bytes (l.entries key) l it.back l' = subst (λ (x : Ledger). EnqueuesAt refusable key bytes (x.entries key) x it.back l') begun it.second in
     let s = enqueues_at refusable device key bytes (l.entries key) l it.back l' refl is (λ other apart there. apart (good.one device other key there is)) kept in
-    record { core = s.core; closed = s.closed; notes = no_notes hs it.front it.back it.whole (ap core_notes it.first.0) s.notes; each = s.each }
-enqueues_on refusable device bytes l hs l' good (inr (absent, it)) = sent_still (to_device device bytes) l hs l' (ap core_notes it.0) it.1 (λ key. unsent_to device bytes (l.entries key) (absent key))
+    record { core = s.core; closed = s.closed; notes = no_notes hs it.front it.back it.whole (ap run_notes it.first.0) s.notes; each = s.each }
+enqueues_on refusable device bytes l hs l' good (inr (absent, it)) = sent_still (to_device device bytes) l hs l' (ap run_notes it.0) it.1 (λ key. unsent_to device bytes (l.entries key) (absent key))
 
 -- ---- all of an event
 
 sends_each : (cancels : List Cancel) (l : Ledger) (hs : List Happening) (l' : Ledger) → Good l → EachOf cancels Sends l hs l' → Sent (λ device. flat_map (cancel_for device) cancels) l hs l'
-sends_each [] l hs l' good it = calm_still l hs l' (ap core_notes it.0) it.1
+sends_each [] l hs l' good it = calm_still l hs l' (ap run_notes it.0) it.1
 sends_each (cancel ∷ cancels) l hs l' good it =
     let first = enqueues_on (needs_memory (cancel_line cancel.job)) cancel.device (cancel_line cancel.job) l it.front it.mid good it.first in
     let later = sends_each cancels it.mid it.back l' (good_sent (to_device cancel.device (cancel_line cancel.job)) l it.front it.mid first good) it.second in
     sent_then (to_device cancel.device (cancel_line cancel.job)) (λ device. flat_map (cancel_for device) cancels) l it.front it.mid it.back l' hs it.whole first later
 
 starts_each : (core : State) (starts : List Started) (l : Ledger) (hs : List Happening) (l' : Ledger) → l.core ≡ core → Good l → EachOf starts Starts l hs l' → Sent (λ device. flat_map (start_for device core) starts) l hs l'
-starts_each core [] l hs l' is good it = calm_still l hs l' (ap core_notes it.0) it.1
+starts_each core [] l hs l' is good it = calm_still l hs l' (ap run_notes it.0) it.1
 starts_each core (start ∷ starts) l hs l' is good it =
     let kept : EnqueuesOn (λ e. true) start.device (job_bytes core start.job) l it.front it.mid = subst (λ (c : State). EnqueuesOn (λ e. true) start.device (job_bytes c start.job) l it.front it.mid) is it.first in
     let first = enqueues_on (λ e. true) start.device (job_bytes core start.job) l it.front it.mid good kept in
@@ -422,7 +443,7 @@ only_sends outcome cancels core l hs l' are none good it =
     (sends_each cancels l hs l' good it)
 
 pub orders : (outcome : Outcome) (l : Ledger) (hs : List Happening) (l' : Ledger) → Good l → Orders outcome l hs l' → Sent (sent_by outcome l.core) l hs l'
-orders Dropped l hs l' good it = calm_still l hs l' (ap core_notes it.0) it.1
+orders Dropped l hs l' good it = calm_still l hs l' (ap run_notes it.0) it.1
 orders (Queried reply) l hs l' good it = only_sends (Queried reply) reply.cancels.items l.core l hs l' refl refl good it
 orders (Undispatched reply) l hs l' good it = only_sends (Undispatched reply) reply.cancels.items l.core l hs l' refl refl good it
 orders (Idle reply) l hs l' good it = only_sends (Idle reply) reply.cancels.items l.core l hs l' refl refl good it

@@ -1,6 +1,13 @@
 -- The steps for the next item of a client's stream, and of a device's stream.
-use Rattle.std.proofs.Common.{◌≡◌, ℕ, Bool, false, List, [], ◌∷◌, ◌++◌, refl, sym, ◌∙◌, ap, subst, append-nil, Option, Some, None, ◌⊎◌, inl, inr}
-use Rattle.base_types.specs.Report.{ReportRecord, SaysHello, SaysMedia, SaysReady, SaysStop, SaysBusy, SaysPages, SaysDone, SaysFail, IsGone as SaysGone}
+use Rattle.std.proofs.Common.{◌≡◌, ℕ, Bool, true, false, List, [], ◌∷◌, ◌++◌, refl, sym, ◌∙◌, ap, subst, append-nil, Option, Some, None, ◌⊎◌, inl, inr}
+use Rattle.base_types.specs.declared.report.Report.{Report}
+use Rattle.base_types.specs.declared.report.Report.TheVariants as reported
+use Rattle.base_types.specs.Report.{report_of, ReportRecord, SaysHello, SaysMedia, SaysReady, SaysStop, SaysBusy, SaysPages, SaysDone, SaysFail, IsGone as SaysGone}
+use Rattle.std.specs.Prelude.{take}
+use Rattle.std.specs.Str.Lines.{strip_carriage_return}
+use Rattle.text.specs.Parts.{words_of}
+use Rattle.device_link.specs.Line.{said as line_says, in_turn}
+use Rattle.device_link.specs.Stream.{Leads, ParsesFirst}
 use Rattle.settings_file.specs.Settings.{ServerSettings, device_named}
 use Rattle.http_front.specs.declared.item.HttpItem.{HttpItem}
 use Rattle.http_front.specs.declared.item.HttpItem.TheVariants as item
@@ -31,8 +38,9 @@ use Rattle.server.specs.Rel.{Tells}
 use Rattle.server.specs.Acting.{place_of, place_of_part, ActsOn}
 use Rattle.server.specs.Law.{core_notes}
 use Rattle.promises.proofs.Typing.{EventOf, asks_ipp, submits_job, commands}
+use Rattle.promises.specs.Orders.{named_by, run_notes}
 use Rattle.promises.specs.Answers.{ClientTalk}
-use Rattle.promises.proofs.Sending.{FreshTalk, Ordered, ordered_broken, calm_still, Good, one_entry}
+use Rattle.promises.proofs.Sending.{HasReport, FreshTalk, Ordered, ordered_broken, calm_still, Good, one_entry}
 use Rattle.promises.proofs.Handling.{Goes, goes_calm}
 use Rattle.promises.proofs.Giving.{Calms, calms_refusal}
 use Rattle.promises.proofs.Moving.{moves_unanswered}
@@ -59,7 +67,7 @@ IsDeviceAsk (ask.Event client event) = ⊥
 IsDeviceAsk (ask.Unread request) = ⊥
 IsDeviceAsk (ask.Lost part) = ⊥
 IsDeviceAsk (ask.Hello device name) = ⊥
-IsDeviceAsk (ask.Report device report) = Unit {0}
+IsDeviceAsk (ask.Report device report) = None ≡ named_by true (Is.Report device report)
 IsDeviceAsk (ask.Stranger name) = Unit {0}
 IsDeviceAsk (ask.Fault device) = Unit {0}
 
@@ -71,19 +79,28 @@ pub silent_part : (it : Part) (id : ℕ) → core_notes (Told (Refused (place_of
 silent_part part.File id = refl
 silent_part part.Job id = refl
 
-pub calms_device_refused : (id : ℕ) (note : Note) → core_notes (Told note ∷ []) ≡ [] → Calms (Tells note)
-calms_device_refused id note silent l hs l' it = calm_still l hs l' (ap core_notes it.0 ∙ silent) it.1
+-- as notes of a run
+pub silent_run : (it : Growth) (id : ℕ) → run_notes (Told (Refused (place_of it) (Some id)) ∷ []) ≡ []
+silent_run growth.Input id = refl
+silent_run growth.Output id = refl
 
-pub device_does : (moment key id : ℕ) (what : Ask) (l : Ledger) (hs : List Happening) (l' : Ledger) → IsDeviceAsk what → Good l → ActsOn moment key id what l hs l' → Goes moment l hs l'
+pub tells_part : (it : Part) (id : ℕ) → run_notes (Told (Refused (place_of_part it) (Some id)) ∷ []) ≡ Refused (place_of_part it) (Some id) ∷ []
+tells_part part.File id = refl
+tells_part part.Job id = refl
+
+pub calms_device_refused : (id : ℕ) (note : Note) → run_notes (Told note ∷ []) ≡ [] → Calms (Tells note)
+calms_device_refused id note silent l hs l' it = calm_still l hs l' (ap run_notes it.0 ∙ silent) it.1
+
+pub device_does : (moment key id : ℕ) (what : Ask) (l : Ledger) (hs : List Happening) (l' : Ledger) → IsDeviceAsk what → Good l → ActsOn moment key id what l hs l' → Goes true moment l hs l'
 device_does moment key id ask.Nothing l hs l' is good it = absurd is
-device_does moment key id (ask.Broke growth) l hs l' is good it = goes_calm moment l hs l' good (calms_refusal (place_of growth) (Some id) (silent_growth growth id) l hs l' it)
+device_does moment key id (ask.Broke growth) l hs l' is good it = goes_calm true moment l hs l' good (calms_refusal (place_of growth) (Some id) (silent_run growth id) l hs l' it)
 device_does moment key id (ask.Event who event) l hs l' is good it = absurd is
 device_does moment key id (ask.Unread request) l hs l' is good it = absurd is
 device_does moment key id (ask.Lost part) l hs l' is good it = absurd is
 device_does moment key id (ask.Hello device name) l hs l' is good it = absurd is
-device_does moment key id (ask.Report device report) l hs l' is good it = moves_unanswered moment (Is.Report device report) l hs l' good it
-device_does moment key id (ask.Stranger name) l hs l' is good it = goes_calm moment l hs l' good (calms_device_refused id (DeviceRefused id (why.UnknownName name)) refl l hs l' it)
-device_does moment key id (ask.Fault device) l hs l' is good it = goes_calm moment l hs l' good (calms_device_refused id (DeviceRefused id (why.Fault device)) refl l hs l' it)
+device_does moment key id (ask.Report device report) l hs l' is good it = moves_unanswered true moment (Is.Report device report) is l hs l' good it
+device_does moment key id (ask.Stranger name) l hs l' is good it = goes_calm true moment l hs l' good (calms_device_refused id (DeviceRefused id (why.UnknownName name)) refl l hs l' it)
+device_does moment key id (ask.Fault device) l hs l' is good it = goes_calm true moment l hs l' good (calms_device_refused id (DeviceRefused id (why.Fault device)) refl l hs l' it)
 
 -- ---- steps of a client
 
@@ -207,6 +224,10 @@ link_breaks what it e mid new asks fine after due of_device of_client never =
 pub not_client : (progress : PeerRecord) (reports : List ReportRecord) (device : Option ℕ) → progress ≡ Link reports device → ClientTalk progress → ⊥
 not_client progress reports device is client = subst ClientTalk is client
 
+pub has_more : (reports : List ReportRecord) (said : ReportRecord) → HasReport (reports ++ said ∷ [])
+has_more [] said = tt
+has_more (one ∷ reports) said = tt
+
 pub named_hears : (settings : ServerSettings) (reports : List ReportRecord) (name : List ℕ) (place : Option ℕ) (device_after : Option ℕ) (e : Entry) (comes : Step) (mid : Entry) (what : Ask) (new : Entry) → e.progress ≡ Link reports None
     → StepsHello name place comes device_after → mid ≡ with_progress (Link (reports ++ SaysHello name ∷ []) device_after) e → StepsTo comes mid what new → DeviceAsks what e new
 named_hears settings reports name None device_after e comes mid what new progress is after steps =
@@ -225,43 +246,68 @@ named_hears settings reports name (Some device) device_after e comes mid what ne
       after = ap (λ (x : Entry). device_of x.progress) whole;
       still = ap (λ (x : Entry). x.broken) whole;
       due = ap (λ (x : Entry). x.due) whole;
-      open_progress = subst (λ (x : Entry). FreshTalk x.progress x) (sym whole) tt;
+      open_progress = subst (λ (x : Entry). FreshTalk x.progress x) (sym whole) (λ sound. has_more reports (SaysHello name));
       link = not_client e.progress reports None progress;
     })
 
-pub report_hears : (settings : ServerSettings) (reports : List ReportRecord) (device : Option ℕ) (said : ReportRecord) (device_after : Option ℕ) (e : Entry) (comes : Step) (mid : Entry) (what : Ask) (new : Entry) → e.progress ≡ Link reports device
+-- once a device has given its name, its bytes say no name
+no_name : (said : Option ReportRecord) (name : List ℕ) → in_turn true said ≡ Some (SaysHello name) → ⊥
+no_name None name is = cc
+no_name (Some (SaysHello other)) name is = cc
+no_name (Some (SaysMedia names)) name is = cc
+no_name (Some SaysReady) name is = cc
+no_name (Some SaysStop) name is = cc
+no_name (Some (SaysBusy time)) name is = cc
+no_name (Some (SaysPages job printed)) name is = cc
+no_name (Some (SaysDone job)) name is = cc
+no_name (Some (SaysFail job)) name is = cc
+no_name (Some SaysGone) name is = cc
+
+named_already : (bytes : List ℕ) (reports : List ReportRecord) (name : List ℕ) (next : Bool) (left : List ℕ) → Leads true bytes (reports ++ SaysHello name ∷ []) next left → ⊥
+named_already bytes [] name next left (rest, front, more) = no_name (line_says (words_of (strip_carriage_return (take front.count bytes)))) name front.says
+named_already bytes (one ∷ reports) name next left (rest, front, more) = named_already rest reports name next left more
+
+named_once : (bytes : List ℕ) (reports : List ReportRecord) (name : List ℕ) → HasReport reports → ParsesFirst bytes (reports ++ SaysHello name ∷ []) → ⊥
+named_once bytes [] name has first = absurd has
+named_once bytes (one ∷ reports) name has first = named_already first.leads.0 reports name first.next first.left first.leads.2
+
+later_nameless : (bytes : List ℕ) (reports : List ReportRecord) (device : ℕ) (said : ReportRecord) (it : Report) → report_of it ≡ said → HasReport reports → ParsesFirst bytes (reports ++ said ∷ []) → None ≡ named_by true (Is.Report device it)
+later_nameless bytes reports device said (reported.Hello name) same has first = absurd (named_once bytes reports name has (subst (λ (r : ReportRecord). ParsesFirst bytes (reports ++ r ∷ [])) (sym same) first))
+later_nameless bytes reports device said it same has first = refl
+
+pub report_hears : (settings : ServerSettings) (reports : List ReportRecord) (device : Option ℕ) (said : ReportRecord) (device_after : Option ℕ) (e : Entry) (comes : Step) (mid : Entry) (what : Ask) (new : Entry) → e.progress ≡ Link reports device → FreshTalk (Link reports device) e → e.broken ≡ false → ParsesFirst e.read (reports ++ said ∷ [])
     → StepsDevice (device_named settings) device said comes device_after → mid ≡ with_progress (Link (reports ++ said ∷ []) device_after) e → StepsTo comes mid what new → DeviceAsks what e new
-report_hears settings reports None (SaysHello name) device_after e comes mid what new progress is after steps = named_hears settings reports name (device_named settings name) device_after e comes mid what new progress is after steps
-report_hears settings reports None (SaysMedia names) device_after e comes mid what new progress is after steps = absurd is
-report_hears settings reports None SaysReady device_after e comes mid what new progress is after steps = absurd is
-report_hears settings reports None SaysStop device_after e comes mid what new progress is after steps = absurd is
-report_hears settings reports None (SaysBusy time) device_after e comes mid what new progress is after steps = absurd is
-report_hears settings reports None (SaysPages job printed) device_after e comes mid what new progress is after steps = absurd is
-report_hears settings reports None (SaysDone job) device_after e comes mid what new progress is after steps = absurd is
-report_hears settings reports None (SaysFail job) device_after e comes mid what new progress is after steps = absurd is
-report_hears settings reports None SaysGone device_after e comes mid what new progress is after steps = absurd is
-report_hears settings reports (Some device) said device_after e comes mid what new progress ((it, same, is), named) after steps =
+report_hears settings reports None (SaysHello name) device_after e comes mid what new progress fresh sound first is after steps = named_hears settings reports name (device_named settings name) device_after e comes mid what new progress is after steps
+report_hears settings reports None (SaysMedia names) device_after e comes mid what new progress fresh sound first is after steps = absurd is
+report_hears settings reports None SaysReady device_after e comes mid what new progress fresh sound first is after steps = absurd is
+report_hears settings reports None SaysStop device_after e comes mid what new progress fresh sound first is after steps = absurd is
+report_hears settings reports None (SaysBusy time) device_after e comes mid what new progress fresh sound first is after steps = absurd is
+report_hears settings reports None (SaysPages job printed) device_after e comes mid what new progress fresh sound first is after steps = absurd is
+report_hears settings reports None (SaysDone job) device_after e comes mid what new progress fresh sound first is after steps = absurd is
+report_hears settings reports None (SaysFail job) device_after e comes mid what new progress fresh sound first is after steps = absurd is
+report_hears settings reports None SaysGone device_after e comes mid what new progress fresh sound first is after steps = absurd is
+report_hears settings reports (Some device) said device_after e comes mid what new progress fresh sound first ((it, same, is), named) after steps =
     let asks : (what ≡ ask.Report device it) × (new ≡ finishing false mid) = subst (λ (s : Step). StepsTo s mid what new) is steps in
     let whole : new ≡ finishing false (with_progress (Link (reports ++ said ∷ []) (Some device)) e) = asks.1 ∙ ap (finishing false) (after ∙ ap (λ (d : Option ℕ). with_progress (Link (reports ++ said ∷ []) d) e) named) in
     let before : device_of e.progress ≡ Some device = ap device_of progress in
     inl (
-      subst IsDeviceAsk (sym asks.0) tt,
+      subst IsDeviceAsk (sym asks.0) (later_nameless e.read reports device said it same (fresh sound) first),
       subst (λ (x : Entry). Ordered (λ d. []) (Some e) (Some x)) (sym whole) (record {
         counts = λ d is. ((before ∙ is.0, is.1), sym (append-nil e.due));
         breaks = λ d is. inl ((before ∙ is.0, is.1), refl);
         device = λ d is. before ∙ is;
-        fresh = λ fresh. tt;
+        fresh = λ fresh sound. has_more reports said;
         client = λ client. absurd (not_client e.progress reports (Some device) progress client);
         stays = λ f is client. absurd (subst ClientTalk (sym (ap (λ (x : Entry). x.progress) (one_entry (finishing false (with_progress (Link (reports ++ said ∷ []) (Some device)) e)) f is))) client);
       }),
     )
 
-pub device_hears : (settings : ServerSettings) (reports : List ReportRecord) (device : Option ℕ) (e : Entry) (comes : Step) (mid : Entry) (what : Ask) (new : Entry) → e.progress ≡ Link reports device → ItemComes settings (Link reports device) e comes mid → StepsTo comes mid what new → DeviceAsks what e new
-device_hears settings reports device e comes mid what new progress (inl next) steps = report_hears settings reports device next.said next.device_after e comes mid what new progress next.comes next.after steps
-device_hears settings reports device e comes mid what new progress (inr (inl next)) steps =
+pub device_hears : (settings : ServerSettings) (reports : List ReportRecord) (device : Option ℕ) (e : Entry) (comes : Step) (mid : Entry) (what : Ask) (new : Entry) → e.progress ≡ Link reports device → FreshTalk (Link reports device) e → e.broken ≡ false → ItemComes settings (Link reports device) e comes mid → StepsTo comes mid what new → DeviceAsks what e new
+device_hears settings reports device e comes mid what new progress fresh sound (inl next) steps = report_hears settings reports device next.said next.device_after e comes mid what new progress fresh sound next.next next.comes next.after steps
+device_hears settings reports device e comes mid what new progress fresh sound (inr (inl next)) steps =
     let breaks : (what ≡ ask.Fault device) × (new ≡ broken mid) = subst (λ (s : Step). StepsTo s mid what new) next.comes steps in
     link_breaks what (ask.Fault device) e mid new breaks.0 tt breaks.1 (ap (λ (x : Entry). x.due) next.after) (λ d is. ap (λ (x : Entry). device_of x.progress) (sym next.after) ∙ is) (λ client. absurd (not_client e.progress reports device progress client))
     (λ client. not_client e.progress reports device progress (subst (λ (x : Entry). ClientTalk x.progress) next.after client))
-device_hears settings reports device e comes mid what new progress (inr (inr next)) steps =
+device_hears settings reports device e comes mid what new progress fresh sound (inr (inr next)) steps =
     let breaks : (what ≡ ask.Broke growth.Input) × (new ≡ broken mid) = subst (λ (s : Step). StepsTo s mid what new) next.0 steps in
     link_breaks what (ask.Broke growth.Input) e mid new breaks.0 tt breaks.1 (ap (λ (x : Entry). x.due) next.1) (λ d is. ap (λ (x : Entry). device_of x.progress) (sym next.1) ∙ is) (λ client. absurd (not_client e.progress reports device progress client)) (λ client. not_client e.progress reports device progress (subst (λ (x : Entry). ClientTalk x.progress) next.1 client))

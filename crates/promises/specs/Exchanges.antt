@@ -6,10 +6,10 @@ use Rattle.http_front.specs.declared.refusal.HttpRejection.{HttpRejection}
 use Rattle.http_front.specs.declared.refusal.HttpRejection.TheVariants.{BadRequest}
 use Rattle.http_front.specs.declared.item.HttpItem.{HttpItem}
 use Rattle.http_front.specs.Reply.{continue_head}
-use Rattle.http_front.specs.Stream.{HttpElement, HasHead, Invites, HasByte, EndsBody, IsRefused, elements_of, ParsesFirst}
+use Rattle.http_front.specs.Stream.{HttpElement, HasHead, Invites, HasByte, EndsBody, IsRefused, elements_of}
 use Rattle.http_front.specs.Order.{Between, in_order}
 use Rattle.events.specs.declared.status.Status.TheVariants.{TemporaryError}
-use Rattle.dispatcher.specs.Run.{reply_of}
+use Rattle.dispatcher.specs.declared.listener.AllocationSite.TheVariants as At
 use Rattle.ipp_operations.specs.declared.parsed_request.ParsedRequest.{ParsedRequest}
 use Rattle.ipp_operations.specs.declared.parsed_request.ParsedRequest.TheVariants as asks
 use Rattle.ipp_operations.specs.ParsedRequest.{Asks, request_id_of}
@@ -20,13 +20,14 @@ use Rattle.connections.specs.Entry.{PeerRecord, Http, Entry, opening_peer}
 use Rattle.connections.specs.Asking.{IsHeard}
 use Rattle.server.specs.Ledger.{Ledger, Fate}
 use Rattle.server.specs.Turn.{Trace}
+use Rattle.server.specs.Law.{happenings_in}
 use Rattle.wires.specs.declared.wire.Door.TheVariants.{Ipp}
-use Rattle.promises.specs.Orders.{Handled, AreHandled, AreOf}
-use Rattle.promises.specs.Answers.{Act, AreActs, Given, asked_by, IsOneAtMost}
+use Rattle.promises.specs.Orders.{Handled, AreHandled, AreOf, run_notes}
+use Rattle.promises.specs.Answers.{Act, AreActs, IsRefusal, IsGivenTo, asked_by, IsOneAtMost, IsFirst}
 
 -- ---- one exchange
 
--- a request, from its head to the end of its body (RFC 9112, section 2.1), with the event of it that the core handled, and its answer
+-- a request, from its head to the end of its body (RFC 9112, section 2.1), with the part of the run that it asked for, which is the event of it that the core handled and that memory was refused, and its answer
 pub record Exchange : Type 0 where
   -- whether the connection closes behind the exchange (RFC 9112, section 9.3)
   pub closes : Bool
@@ -43,18 +44,19 @@ says_begun closes invites body = HasHead closes ∷ ((if invites then Invites �
 abbrev pub says_exchange : Exchange → List HttpElement
 says_exchange x = says_begun x.closes x.invites x.body ++ EndsBody ∷ []
 
--- A body without a whole header (RFC 8010, section 3.1.1) is answered by the head of a refusal, and a refused body by its status; no event is asked. For a body with an event, the core handles exactly that event, and the answer is the reply that it gave, or the status that memory was refused (RFC 8011, section 4.1).
-abbrev pub IsAnswerTo : Bool → ParsedRequest → List Handled → List ℕ → Type 0
-IsAnswerTo closes asks.TooShort asked answer = (asked ≡ []) × (answer ≡ refusal_head BadRequest)
-IsAnswerTo closes (asks.Refused status request) asked answer = (asked ≡ []) × (answer ≡ http_status closes status request)
-IsAnswerTo closes (asks.Event request event) asked answer = (it : Handled) × (asked ≡ it ∷ []) × (it.event ≡ event) × Given closes (client.Ipp request) (reply_of it.outcome) answer
+-- A body without a whole header (RFC 8010, section 3.1.1) is answered by the head of a refusal, and a refused body by its status; no event is asked. For a body with an event, the core handles exactly that event, and the answer is the reply that it gave. It is the status that memory was refused only if the listener was told so: memory for the event, or for the reply to a query (RFC 8011, section 4.1).
+abbrev pub IsAnswerTo : ℕ → Bool → ParsedRequest → List Handled → List ℕ → Type 0
+IsAnswerTo id closes asks.TooShort asked answer = (asked ≡ []) × (answer ≡ refusal_head BadRequest)
+IsAnswerTo id closes (asks.Refused status request) asked answer = (asked ≡ []) × (answer ≡ http_status closes status request)
+IsAnswerTo id closes (asks.Event request event) asked answer = IsGivenTo id closes (client.Ipp request) event asked answer
 
--- if memory to read a body was refused, no event is asked, and the answer is the status TemporaryError
-abbrev pub IsUnread : Bool → List ℕ → List Handled → List ℕ → Type 0
-IsUnread closes body asked answer = (request : ℕ) × (request_id_of body ≡ Some request) × (asked ≡ []) × (answer ≡ http_status closes TemporaryError request)
+-- if memory to read a body was refused, and the listener was told so, no event is asked, and the answer is the status TemporaryError
+abbrev pub IsUnread : ℕ → Bool → List ℕ → List Handled → List ℕ → Type 0
+IsUnread id closes body asked answer = (request : ℕ) × (request_id_of body ≡ Some request) × IsRefusal id At.Event asked × (answer ≡ http_status closes TemporaryError request)
 
-abbrev pub IsExchange : Exchange → Type 0
-IsExchange x = ((it : ParsedRequest) × Asks x.body it × IsAnswerTo x.closes it x.asked x.answer) ⊎ IsUnread x.closes x.body x.asked x.answer
+-- an exchange on the connection of this number
+abbrev pub IsExchange : ℕ → Exchange → Type 0
+IsExchange id x = ((it : ParsedRequest) × Asks x.body it × IsAnswerTo id x.closes it x.asked x.answer) ⊎ IsUnread id x.closes x.body x.asked x.answer
 
 -- the bytes of an exchange: the interim response if its head invites it (RFC 9110, section 15.2.1), and the answer
 abbrev pub invitation : Bool → List ℕ
@@ -89,11 +91,11 @@ due_refusal (Some refusal) = refusal_head refusal
 
 -- ---- the law
 
--- A client's stream is whole exchanges, one after the other, and then at most the front of one more, or a refusal. Nothing follows an exchange that closes, one with too short a body, or a refusal. The bytes due are those of the exchanges, and the events asked are exactly theirs, in order.
-pub record AreExchanges (heard : List HttpElement) (handled : List Handled) (bytes : List ℕ) : Type 0 where
+-- A client's stream is whole exchanges, one after the other, and then at most the front of one more, or a refusal. Nothing follows an exchange that closes, one with too short a body, or a refusal. The bytes due are those of the exchanges, and the events asked, and the refusals of memory for them, are exactly theirs, in order.
+pub record AreExchanges (id : ℕ) (heard : List HttpElement) (handled : List Handled) (bytes : List ℕ) : Type 0 where
   pub order : in_order Between heard ≡ true
   pub exchanges : List Exchange
-  pub each : All (λ (x : Exchange). IsExchange x) exchanges
+  pub each : All (λ (x : Exchange). IsExchange id x) exchanges
   pub front : Front
   pub refusal : Option HttpRejection
   pub said : heard ≡ flat_map says_exchange exchanges ++ (says_front front ++ says_refusal refusal)
@@ -103,21 +105,21 @@ pub record AreExchanges (heard : List HttpElement) (handled : List Handled) (byt
 -- all acts of an IPP client are such exchanges
 abbrev pub ActsAreExchanges : Type 0
 ActsAreExchanges =
-    (acts : List Act) (said : List HttpElement) (closes : Bool) (body : List ℕ) → AreActs (opening_peer Ipp) acts (Http said closes body)
-    → AreExchanges said (flat_map (λ (a : Act). a.asked) acts) (flat_map (λ (a : Act). a.bytes) acts)
+    (id : ℕ) (acts : List Act) (said : List HttpElement) (closes : Bool) (body : List ℕ) → AreActs id (opening_peer Ipp) acts (Http said closes body)
+    → AreExchanges id said (flat_map (λ (a : Act). a.asked) acts) (flat_map (λ (a : Act). a.bytes) acts)
 
 -- the events asked on a connection since it was accepted, and the bytes due on it, are those of exchanges
 pub record ByExchanges (key : ℕ) (handled : List Handled) (said : List HttpElement) (e : Entry) : Type 0 where
   pub earlier : List Handled
   pub since : List Handled
   pub whole : handled ≡ earlier ++ since
-  pub are : AreExchanges said (asked_by key since) e.due
+  pub are : AreExchanges e.id said (asked_by key since) e.due
 
 -- at most one more item was acted on
 abbrev pub IsOneMore : List HttpElement → List HttpElement → Type 0
 IsOneMore until said = (said ≡ until) ⊎ ((item : HttpItem) × (part : List ℕ) × (said ≡ until ++ elements_of item part))
 
--- A connection broke: the bytes due are those of the exchanges before, and at most one more event was asked, which has no answer.
+-- A connection broke: the bytes due are those of the exchanges before, and at most one more event was asked, which has no answer, with at most one more refusal of memory.
 pub record UntilBroken (key : ℕ) (handled : List Handled) (said : List HttpElement) (e : Entry) : Type 0 where
   pub earlier : List Handled
   pub since : List Handled
@@ -128,7 +130,7 @@ pub record UntilBroken (key : ℕ) (handled : List Handled) (said : List HttpEle
   pub unanswered : List Handled
   pub asked : asked_by key since ≡ answered ++ unanswered
   pub one : IsOneAtMost unanswered
-  pub are : AreExchanges until answered e.due
+  pub are : AreExchanges e.id until answered e.due
 
 abbrev pub IsByExchanges : ℕ → List Handled → PeerRecord → Entry → Type 0
 IsByExchanges key handled (Http said closes body) e = (e.broken ≡ false → ByExchanges key handled said e) × (e.broken ≡ true → UntilBroken key handled said e)
@@ -138,16 +140,12 @@ IsByExchanges key handled progress e = Unit {0}
 abbrev pub WasByExchanges : List Handled → Entry → Type 0
 WasByExchanges handled e = (key : ℕ) × (before : List Handled) × (behind : List Handled) × (handled ≡ before ++ behind) × IsByExchanges key before e.progress e
 
--- the items acted on are a front of those that the bytes read say by HTTP
-abbrev pub IsFirst : List ℕ → PeerRecord → Type 0
-IsFirst read (Http said closes body) = ParsesFirst read said
-IsFirst read progress = Unit {0}
-
--- The events of a trace are one run of the core, by which each IPP client is answered exchange by exchange, even if its connection was closed. On each connection the exchanges are a front of the exchanges that its bytes say. On an open connection they are all of these, unless the connection is draining or broken.
+-- The events of a trace are one run of the core, whose parts tell the listener's notes, and by which each IPP client is answered exchange by exchange, even if its connection was closed. On each connection the exchanges are a front of the exchanges that its bytes say. On an open connection they are all of these, unless the connection is draining or broken.
 pub record AreByExchanges (opening : State) (trace : Trace) (l : Ledger) : Type 0 where
   pub handled : List Handled
   pub timed : AreOf trace handled
   pub run : AreHandled opening handled l.core
+  pub told : run_notes (happenings_in trace) ≡ flat_map (λ (it : Handled). it.notes) handled
   pub each : (key : ℕ) (e : Entry) → l.entries key ≡ Some e → IsByExchanges key handled e.progress e
   pub closed : All (λ (it : Entry × Fate). WasByExchanges handled it.0) l.closed
   pub first : (key : ℕ) (e : Entry) → l.entries key ≡ Some e → IsFirst e.read e.progress

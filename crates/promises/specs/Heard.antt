@@ -15,9 +15,9 @@ use Rattle.connections.specs.Asking.{IsHeard}
 use Rattle.server.specs.Ledger.{Ledger, Fate}
 use Rattle.server.specs.Enqueuing.{IsAbsent}
 use Rattle.server.specs.Greeting.{IsAlone}
-use Rattle.server.specs.Turn.{Action, Turned, Served_body, Reported, Ticked, Trace}
+use Rattle.server.specs.Turn.{Trace}
 use Rattle.server.specs.Law.{core_notes, moment_of, happenings_in}
-use Rattle.promises.specs.Orders.{names}
+use Rattle.promises.specs.Orders.{is_turn, names}
 
 -- ---- the run
 
@@ -34,12 +34,6 @@ pub record Came : Type 0 where
 abbrev pub AreRun : State → List Came → State → Type 0
 AreRun old [] new = new ≡ old
 AreRun old (it ∷ later) new = Handles it.moment it.event old it.outcome it.notes it.state × AreRun it.state later new
-
-abbrev pub is_turn : Action → Bool
-is_turn (Turned moment hs) = true
-is_turn (Served_body moment body answer hs) = false
-is_turn (Reported moment device said hs) = false
-is_turn (Ticked moment hs) = false
 
 -- each event is at this moment, and in a turn or not
 abbrev pub ComeAt : Bool → ℕ → List Came → Type 0

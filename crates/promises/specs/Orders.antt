@@ -1,6 +1,7 @@
 -- The bytes that a device is sent: the line of each cancel for it, and the line and the documents of each job that begins on it, by the core's run.
 use Rattle.std.specs.Prelude.{ℕ, ◌≡◌, ◌==◌, Bool, true, false, if◌then◌else◌, List, [], ◌∷◌, ◌++◌, All, Option, Some, None}
 use Rattle.std.specs.List.{flat_map}
+use Rattle.base_types.specs.declared.report.Report.{Report}
 use Rattle.base_types.specs.declared.report.Report.TheVariants as report
 use Rattle.device_link.specs.Orders.{cancel_line}
 use Rattle.print_room.specs.declared.started.Started.{Started}
@@ -10,44 +11,99 @@ use Rattle.events.specs.declared.event.Event.TheVariants as Is
 use Rattle.events.specs.declared.effects.Cancel.{Cancel}
 use Rattle.dispatcher.specs.declared.outcome.Outcome.{Outcome}
 use Rattle.dispatcher.specs.declared.outcome.Outcome.TheVariants.{Dropped, Queried, Undispatched, Idle, Dispatched}
-use Rattle.dispatcher.specs.Notes.{Note}
+use Rattle.dispatcher.specs.declared.listener.AllocationSite.{AllocationSite}
+use Rattle.dispatcher.specs.declared.listener.AllocationSite.TheVariants as At
+use Rattle.dispatcher.specs.Notes.{Note, Planned, Canceled, DeviceRefused, Refused}
 use Rattle.dispatcher.specs.Run.{Handles}
 use Rattle.connections.specs.Entry.{Entry, device_of}
+use Rattle.server.specs.Polls.{Happening, Polled, Told, Chosen}
 use Rattle.server.specs.Ledger.{Ledger, Fate, job_bytes}
-use Rattle.server.specs.Turn.{Trace}
-use Rattle.server.specs.Law.{core_notes, moment_of, happenings_in}
+use Rattle.server.specs.Turn.{Action, Turned, Served_body, Reported, Ticked, Trace}
+use Rattle.server.specs.Law.{moment_of, happenings_of, happenings_in}
 
 -- ---- the run
 
--- An event that the core handled: its outcome, the listener's notes, and the state after it. A device may have given its name on its connection by the event, which is a HELLO then; a client's event was asked on the connection under a key.
+-- an event comes, with its outcome; or the allocator refuses memory at a place, for the connection of a number if it is for one
+pub data Happened : Type 0 where
+  EventComes : (event : Event) (outcome : Outcome) → Happened
+  MemoryRefused : (place : AllocationSite) (id : Option ℕ) → Happened
+
+-- A part of the run: what happened, the listener's notes of it, and the state of the core after it. By a HELLO in a turn a device gave its name on its connection. A client's event, or the memory that was refused for it, was asked on the connection under a key.
 pub record Handled : Type 0 where
   pub moment : ℕ
-  pub event : Event
-  pub outcome : Outcome
+  pub what : Happened
   pub notes : List Note
   pub state : State
   pub named : Option ℕ
   pub asked : Option ℕ
 
--- only a HELLO of the device names a connection
-abbrev pub IsNaming : Option ℕ → Event → Type 0
-IsNaming None event = Unit {0}
-IsNaming (Some device) event = (name : List ℕ) × (event ≡ Is.Report device (report.Hello name))
+-- the core handles an event; if memory was refused, the listener is told so, and the core is unchanged
+abbrev pub IsHandled : ℕ → Happened → State → List Note → State → Type 0
+IsHandled moment (EventComes event outcome) old notes new = Handles moment event old outcome notes new
+IsHandled moment (MemoryRefused place id) old notes new = (notes ≡ Refused place id ∷ []) × (new ≡ old)
 
--- the events in order
+-- the parts in order
 abbrev pub AreHandled : State → List Handled → State → Type 0
 AreHandled old [] new = new ≡ old
 AreHandled old (it ∷ later) new =
-    IsNaming it.named it.event × Handles it.moment it.event old it.outcome it.notes it.state × AreHandled it.state later new
+    IsHandled it.moment it.what old it.notes it.state × AreHandled it.state later new
 
--- each event is at this moment
-abbrev pub AreAt : ℕ → List Handled → Type 0
-AreAt moment handled = All (λ (it : Handled). it.moment ≡ moment) handled
+-- the device of a HELLO that comes in a turn
+abbrev pub hello_in : Bool → ℕ → Report → Option ℕ
+hello_in turn device (report.Hello name) = if turn then Some device else None
+hello_in turn device _ = None
 
--- the events of the first action, each at its moment, then those of the next, and so on
+-- the device that gives its name on its connection by an event: each HELLO in a turn gives the name, and none between turns
+abbrev pub named_by : Bool → Event → Option ℕ
+named_by turn (Is.Report device said) = hello_in turn device said
+named_by turn _ = None
+
+abbrev pub naming : Bool → Happened → Option ℕ
+naming turn (EventComes event outcome) = named_by turn event
+naming turn (MemoryRefused place id) = None
+
+abbrev pub is_turn : Action → Bool
+is_turn (Turned moment hs) = true
+is_turn (Served_body moment body answer hs) = false
+is_turn (Reported moment device said hs) = false
+is_turn (Ticked moment hs) = false
+
+-- the part is at this moment, in a turn or not
+abbrev pub IsAt : Bool → ℕ → Handled → Type 0
+IsAt turn moment it = (it.moment ≡ moment) × (it.named ≡ naming turn it.what)
+
+abbrev pub AreAt : Bool → ℕ → List Handled → Type 0
+AreAt turn moment handled = All (λ (it : Handled). IsAt turn moment it) handled
+
+-- the note of memory that was refused, if the note is one of the run: for an event, a dispatch, a reply or a file
+abbrev pub run_refusal : AllocationSite → Option ℕ → List Note
+run_refusal At.Accept id = []
+run_refusal At.Feed id = []
+run_refusal At.File id = Refused At.File id ∷ []
+run_refusal At.Event id = Refused At.Event id ∷ []
+run_refusal At.Dispatch id = Refused At.Dispatch id ∷ []
+run_refusal At.Reply id = Refused At.Reply id ∷ []
+run_refusal At.Enqueue id = []
+
+-- the note of the run in a happening, if there is one: a note of the core, or that memory was refused
+abbrev pub run_note : Happening → List Note
+run_note (Told (Refused place id)) = run_refusal place id
+run_note (Told (Planned plan started)) = Planned plan started ∷ []
+run_note (Told (Canceled cancel)) = Canceled cancel ∷ []
+run_note (Told (DeviceRefused id why)) = []
+run_note (Polled poll) = []
+run_note (Chosen choice) = []
+
+-- the notes of the run in these happenings, in order
+abbrev pub run_notes : List Happening → List Note
+run_notes hs = flat_map run_note hs
+
+-- the parts of the first action, at its moment, which tell the notes of its happenings; then those of the next, and so on
 abbrev pub AreOf : Trace → List Handled → Type 0
 AreOf [] handled = handled ≡ []
-AreOf (action ∷ actions) handled = (first : List Handled) × (later : List Handled) × (handled ≡ first ++ later) × AreAt (moment_of action) first × AreOf actions later
+AreOf (action ∷ actions) handled =
+    (first : List Handled) × (later : List Handled) × (handled ≡ first ++ later) × AreAt (is_turn action) (moment_of action) first
+    × (run_notes (happenings_of action) ≡ flat_map (λ (it : Handled). it.notes) first) × AreOf actions later
 
 -- ---- the orders of a device
 
@@ -74,9 +130,13 @@ cancel_for device cancel = if cancel.device == device then cancel_line cancel.jo
 abbrev pub start_for : ℕ → State → Started → List ℕ
 start_for device state start = if start.device == device then job_bytes state start.job else []
 
--- the orders of an event for a device: the cancels, and then the jobs that begin
+-- the orders of an event for a device, where the core has this state after it: the cancels, and then the jobs that begin
+abbrev pub orders_by : ℕ → Happened → State → List ℕ
+orders_by device (EventComes event outcome) state = flat_map (cancel_for device) (canceled outcome) ++ flat_map (start_for device state) (began outcome state)
+orders_by device (MemoryRefused place id) state = []
+
 abbrev pub orders_of : ℕ → Handled → List ℕ
-orders_of device it = flat_map (cancel_for device) (canceled it.outcome) ++ flat_map (start_for device it.state) (began it.outcome it.state)
+orders_of device it = orders_by device it.what it.state
 
 abbrev pub names : ℕ → Option ℕ → Bool
 names device None = false
@@ -101,12 +161,12 @@ IsFrontSent handled device due = (before : List Handled) × (behind : List Handl
 abbrev pub WasHalted : List Handled → Entry → Type 0
 WasHalted handled e = (device : ℕ) → device_of e.progress ≡ Some device → e.broken ≡ true → IsFrontSent handled device e.due
 
--- The events of a trace are one run of the core, which tells the listener's notes. On each open connection of a device that isn't broken, the bytes due are the run's orders for the device since it gave its name: the line of each cancel, and for each job the line and the documents as they were when the job began. The same holds for each that was closed without having broken, by the events before. On one that broke, a front of the orders is due.
+-- The events of a trace are one run of the core, whose parts tell the listener's notes. On each open connection of a device that isn't broken, the bytes due are the run's orders for the device since it gave its name: the line of each cancel, and for each job the line and the documents as they were when the job began. The same holds for each that was closed without having broken, by the events before. On one that broke, a front of the orders is due.
 pub record AreSent (opening : State) (trace : Trace) (l : Ledger) : Type 0 where
   pub handled : List Handled
   pub timed : AreOf trace handled
   pub run : AreHandled opening handled l.core
-  pub told : core_notes (happenings_in trace) ≡ flat_map (λ (it : Handled). it.notes) handled
+  pub told : run_notes (happenings_in trace) ≡ flat_map (λ (it : Handled). it.notes) handled
   pub due : (key : ℕ) (e : Entry) (device : ℕ) → l.entries key ≡ Some e → device_of e.progress ≡ Some device → e.broken ≡ false → e.due ≡ due_by device [] handled
   pub closed : All (λ (it : Entry × Fate). WasSent handled it.0) l.closed
   pub halted : (key : ℕ) (e : Entry) → l.entries key ≡ Some e → WasHalted handled e

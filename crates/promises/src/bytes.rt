@@ -29,10 +29,11 @@ pub fn one_ledger()
     ipp_operations::one_asked();
 }
 
-/// The core's events of a trace are one run, which tells exactly the listener's notes. On each open
-/// connection of a device that isn't broken, the bytes due are the run's orders for the device since it gave
-/// its name: the line of each cancel, and for each job that began on the device the line of the job, and its
-/// documents as they were when the job began. On a connection that broke, a front of the orders is due.
+/// The core's events of a trace are one run. The listener's notes of it are exactly those of its parts, turn
+/// by turn and call by call. On each open connection of a device that isn't broken, the bytes due are the
+/// run's orders for the device since it last gave its name: the line of each cancel, and for each job that
+/// began on the device the line of the job, and its documents as they were when the job began. Each HELLO in a
+/// turn gives a name, and no other event does. On a connection that broke, a front of the orders is due.
 pub fn devices_are_sent_their_orders()
     ensures { (opening : State) (trace : Trace) (ledger : Ledger) → Runs trace (opening_ledger opening) ledger → AreSent opening trace ledger }
 {}
@@ -49,12 +50,17 @@ pub fn devices_are_heard()
     ensures { (opening : State) (trace : Trace) (ledger : Ledger) → Runs trace (opening_ledger opening) ledger → AreHeard opening trace ledger }
 {}
 
-/// The core's events of a trace are one run. On each open connection of a client that isn't broken, the bytes
-/// due are those of its acts, one after the other, from its first byte on: `100 Continue` if a head invites a
-/// body, an acknowledgement or a refusal, the reply that the run gave to an event that the connection asked
-/// for, or the status that memory for it was refused. The run's events that the connection asked for are
-/// exactly those of its acts, in order. On a connection that broke, the same holds for the acts before. On
-/// each open connection all bytes that were read were acted on, unless the connection is draining or broken.
+/// The core's events of a trace, and the notes that memory was refused, are one run. The listener's notes of
+/// it are exactly those of its parts, turn by turn and call by call. On each open connection of a client that
+/// isn't broken, the bytes due are those of its acts, one after the other, from its first byte on: `100
+/// Continue` if a head invites a body, an acknowledgement or a refusal, or the reply that the run gave to an
+/// event that the connection asked for. The status 0x0505, and the byte 01 for a file or a job that can't be
+/// kept, each need a note that memory was refused on the connection of that number: for the event, for the
+/// reply to a query, or for the file. The byte 01 for a fault needs a fault in the bytes read. The events that
+/// the connection asked for, and these notes, are exactly those of its acts, in order. No act follows one
+/// after which the connection drains. On a connection that broke, the same holds for the acts before. On each
+/// connection, open or closed, the items acted on are a front of those that its bytes say: on an open one all
+/// of these, unless the connection is draining or broken.
 pub fn clients_are_answered()
     ensures { (opening : State) (trace : Trace) (ledger : Ledger) → Runs trace (opening_ledger opening) ledger → AreAnswered opening trace ledger }
 {}

@@ -9,4 +9,4 @@ returns-clause-acts c = acts_are_exchanges c.exchanges_in_order.ensures c.some_s
 
 pub returns-clause-due : goal.returns-clause-due
 returns-clause-due c opening trace ledger runs =
-    by_exchanges c.exchanges_in_order.ensures c.some_saying.ensures.some c.given_first.ensures.first opening trace ledger (are_answered opening trace ledger runs (all_heard opening trace ledger runs)) (all_first opening trace ledger runs) (gone_first opening trace ledger runs)
+    by_exchanges c.exchanges_in_order.ensures c.some_saying.ensures.some c.given_first.ensures.first opening trace ledger (are_answered opening trace ledger runs (all_heard opening trace ledger runs) (all_first opening trace ledger runs) (gone_first opening trace ledger runs))
