@@ -3,7 +3,6 @@ use Rattle.std.proofs.Common.{◌≡◌, ◌≤◌, ◌<◌, ◌+◌, arith, ℕ
 use Rattle.std.specs.Prelude.{◌||◌, ◌⊎◌, if◌then◌else◌}
 use Rattle.http_front.specs.declared.item.HttpItem.{HttpItem}
 use Rattle.http_front.specs.declared.item.HttpItem.TheVariants as item
-use Rattle.http_front.specs.Stream as Http
 use Rattle.lpd.specs.Stream as Lpd
 use Rattle.device_link.specs.Stream as Link
 use Rattle.settings_file.specs.Settings.{ServerSettings}

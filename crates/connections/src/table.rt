@@ -1,5 +1,5 @@
 //! The connections of a server under their keys. Each function acts on the connection under one key.
-ghost use Rattle.std.specs.Prelude.{◌≡◌, ◌≢◌, ◌≤◌, ℕ, true, false, None, Some, IsTrue, IsFalse, IfSome, IfNone};
+ghost use Rattle.std.specs.Prelude.{◌≡◌, ◌≢◌, ◌≤◌, ◌<◌, ℕ, true, false, None, Some, IsTrue, IsFalse, IfSome, IfNone};
 ghost use Rattle.std.specs.Option.{option_map_or};
 ghost use Rattle.slab.specs.Slab.{get};
 ghost use Rattle.device_link.specs.Orders.{cancel_line};
@@ -264,9 +264,10 @@ pub fn keys(connections: &Slab<Connection>) -> usize
     }
 }
 
-/// Returns a key of a device's connection.
+/// Returns the lowest key of a device's connections; no key if it has none.
 pub fn key_of(connections: &Slab<Connection>, device: DeviceId) -> Option<usize>
     ensures some { IfSome result (λ key. is_of connections.now.slots device key ≡ true) }
+    ensures lowest { IfSome result (λ key. (lower : ℕ) → lower < key → is_of connections.now.slots device lower ≡ false) }
     ensures none { IfNone result ((key : ℕ) → is_of connections.now.slots device key ≡ false) }
 {
     for key in 0..keys(connections) {
@@ -277,10 +278,11 @@ pub fn key_of(connections: &Slab<Connection>, device: DeviceId) -> Option<usize>
     None
 }
 
-/// Returns a key of a connection of the device other than `this`.
+/// Returns the lowest key of the device's connections other than `this`; no key if it has no other connection.
 pub fn other_key_of(connections: &Slab<Connection>, device: DeviceId, this: usize) -> Option<usize>
     ensures some { IfSome result (λ key. is_of connections.now.slots device key ≡ true) }
     ensures other { IfSome result (λ key. key ≢ this) }
+    ensures lowest { IfSome result (λ key. (lower : ℕ) → lower < key → lower ≢ this → is_of connections.now.slots device lower ≡ false) }
     ensures none { IfNone result ((key : ℕ) → key ≢ this → is_of connections.now.slots device key ≡ false) }
 {
     for key in 0..keys(connections) {

@@ -15,7 +15,7 @@ use Rattle.connections.specs.Entry.{Entry, device_of, given_up}
 use Rattle.connections.specs.Asking.{AsksNext}
 use Rattle.events.specs.SameEvent.{SameEvent}
 use Rattle.connections.specs.Choice.{Loss, part_of, lost_of, SameAsk, AsksOne}
-use Rattle.server.specs.Polls.{Happening, Polled, Told, Choice, On, Rested, Chosen}
+use Rattle.server.specs.Polls.{Happening, Polled, Told, Choice, Rested, Chosen}
 use Rattle.server.specs.Polls as As
 use Rattle.server.specs.Ledger.{Ledger, Fate, Broken, with_entry}
 use Rattle.server.specs.Rel.{Tells as Informs, Chooses, Then}
@@ -25,6 +25,7 @@ use Rattle.server.specs.Closing.{Leaves, IsGone, ClosesAs, IsBroken, ClosesFirst
 use Rattle.server.specs.Greeting.{Tells, IsDeviceAs, IsAlone, HasOther, GivesWayAt, GivesWay, TakesOver, Greets}
 use Rattle.server.specs.Acting.{place_of, place_of_part, Asks, ActsOn, ActsNext}
 use Rattle.promises.specs.OneLedger.{StepsOnce, SameQueries}
+use Rattle.promises.proofs.Lowest.{as_device, other_one, one_ending}
 use Rattle.promises.proofs.Alike.{Alike, Fixed, fixed_nothing, fixed_tells, fixed_chooses, alike_then, first_one, same_choice, choice_one, then_one, apart, BeginsAs, begins_just, Begins, begins_chooses, begins_then, is_choice, fixed_until}
 use Rattle.promises.proofs.Due.{fixed_sets}
 use Rattle.promises.proofs.Events.{unanswered_alike, fixed_report}
@@ -88,29 +89,11 @@ module _ (steps : StepsOnce) (queries : SameQueries) (asks : AsksOne) where
   fixed_takes_over : (moment old device : ℕ) (name : List ℕ) → Fixed (TakesOver moment old device name)
   fixed_takes_over moment old device name = alike_then (fixed_gives_way old) (alike_then (fixed_gone moment (Some device)) (fixed_report steps moment device (report.Hello name)))
 
-  silent_at : (key : ℕ) (o : Option Entry) (l : Ledger) (hs : List Happening) (a : Ledger) → GivesWayAt key o l hs a → hs ≡ []
-  silent_at key None l hs a it = it.0
-  silent_at key (Some e) l hs a it = it.0
-
   turned_away : (key id device : ℕ) → Fixed (Then (GivesWay key) (Informs (DeviceRefused id (why.Connected device))))
   turned_away key id device = alike_then (fixed_gives_way key) (fixed_tells (DeviceRefused id (why.Connected device)))
 
-  turned_first : (key id device : ℕ) (l : Ledger) (hs : List Happening) (a : Ledger) → Then (GivesWay key) (Informs (DeviceRefused id (why.Connected device))) l hs a → BeginsAs is_choice false hs
-  turned_first key id device l hs a it =
-      begins_just is_choice false (Told (DeviceRefused id (why.Connected device))) [] hs refl (it.whole ∙ (ap (λ (xs : List Happening). xs ++ it.back) (silent_at key (l.entries key) l it.front it.mid it.first) ∙ it.second.0))
-
-  taken_first : (moment other device : ℕ) (name : List ℕ) (l : Ledger) (hs : List Happening) (a : Ledger) → Then (Chooses (On other)) (TakesOver moment other device name) l hs a → BeginsAs is_choice true hs
-  taken_first moment other device name l hs a it = (begins_then is_choice true (Chooses (On other)) (TakesOver moment other device name) (begins_chooses is_choice true (On other) refl)).begins l hs a it
-
-  as_device : (ended : Bool) (device : ℕ) (o : Option Entry) → IsDeviceAs ended device o → IsDevice device o
-  as_device ended device None is = absurd is
-  as_device ended device (Some e) is = is.0
-
   not_alone : {A : Type 0} → (ended : Bool) (device key other : ℕ) (l : Ledger) → IsAlone device key l → HasOther ended device key other l → A
   not_alone ended device key other l alone it = absurd (alone other it.0 (as_device ended device (l.entries other) it.1))
-
-  same_on : (key other : ℕ) → On key ≡ On other → key ≡ other
-  same_on key other same = cc
 
   greets : (moment key id device : ℕ) (name : List ℕ) (l : Ledger) (hs rest : List Happening) (a : Ledger) (ks more : List Happening) (b : Ledger) → hs ++ rest ≡ ks ++ more → Greets moment key id device name l hs a → Greets moment key id device name l ks b → (hs ≡ ks) × (a ≡ b)
   greets moment key id device name l hs rest a ks more b e (inl (alone, p)) (inl (lone, q)) = (fixed_report steps moment device (report.Hello name)).one l hs rest a ks more b e p q
@@ -119,10 +102,10 @@ module _ (steps : StepsOnce) (queries : SameQueries) (asks : AsksOne) where
   greets moment key id device name l hs rest a ks more b e (inr (inl (other, is, p))) (inl (alone, q)) = not_alone true device key other l alone is
   greets moment key id device name l hs rest a ks more b e (inr (inr (other, is, p))) (inl (alone, q)) = not_alone false device key other l alone is
   greets moment key id device name l hs rest a ks more b e (inr (inl (old, is, p))) (inr (inl (other, its, q))) =
-      let same : old ≡ other = same_on old other (choice_one (On old) (On other) (TakesOver moment old device name) (TakesOver moment other device name) l hs rest a ks more b e p q) in
-      (alike_then (fixed_chooses (On old)) (fixed_takes_over moment old device name)).one l hs rest a ks more b e p (subst (λ (k : ℕ). Then (Chooses (On k)) (TakesOver moment k device name) l ks b) (sym same) q)
-  greets moment key id device name l hs rest a ks more b e (inr (inl (old, is, p))) (inr (inr (other, its, q))) = apart is_choice hs rest ks more e (taken_first moment old device name l hs a p) (turned_first key id device l ks b q)
-  greets moment key id device name l hs rest a ks more b e (inr (inr (old, is, p))) (inr (inl (other, its, q))) = apart is_choice ks more hs rest (sym e) (taken_first moment other device name l ks b q) (turned_first key id device l hs a p)
+      let same : old ≡ other = other_one true true device key old other l is its in
+      (fixed_takes_over moment old device name).one l hs rest a ks more b e p (subst (λ (k : ℕ). TakesOver moment k device name l ks b) (sym same) q)
+  greets moment key id device name l hs rest a ks more b e (inr (inl (old, is, p))) (inr (inr (other, its, q))) = one_ending device key old other l is its
+  greets moment key id device name l hs rest a ks more b e (inr (inr (old, is, p))) (inr (inl (other, its, q))) = one_ending device key other old l its is
   greets moment key id device name l hs rest a ks more b e (inr (inr (old, is, p))) (inr (inr (other, its, q))) = (turned_away key id device).one l hs rest a ks more b e p q
 
   pub same_report : (moment device other : ℕ) (one said : Report) → device ≡ other → report_of one ≡ report_of said → Alike (Unanswered moment (Is.Report device one)) (Unanswered moment (Is.Report other said))
@@ -221,7 +204,6 @@ abbrev pub asked_now : Choice → Bool
 asked_now (As.Asked part loss) = true
 asked_now As.Found = false
 asked_now (As.Opened key) = false
-asked_now (As.On key) = false
 asked_now As.Rested = false
 asked_now (As.Looked keys) = false
 

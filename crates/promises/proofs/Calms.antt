@@ -26,7 +26,7 @@ use Rattle.connections.specs.declared.ask.Client.{Client}
 use Rattle.connections.specs.declared.ask.Client.TheVariants as client
 use Rattle.connections.specs.Entry.{Entry, closes_of, broken, owing, needs_memory}
 use Rattle.connections.specs.Steps.{http_status}
-use Rattle.server.specs.Polls.{Happening, Told, Choice, Found, On}
+use Rattle.server.specs.Polls.{Happening, Told, Choice, Found}
 use Rattle.server.specs.Ledger.{Ledger, at_key, with_entry, job_bytes}
 use Rattle.server.specs.Rel.{Rel, Nothing, Polls, Tells, Chooses, Then, If, Or, EachOf}
 use Rattle.server.specs.Enqueuing.{BreaksAt, Breaks, EnqueuesOpen, EnqueuesAt, EnqueuesWhere, Enqueues, EnqueuesOn, EnqueuesReplyAt, EnqueuesResponse, EnqueuesStatus}
@@ -150,7 +150,7 @@ pub calms_enqueues : (key : ℕ) (bytes : List ℕ) → Calms (Enqueues key byte
 calms_enqueues key bytes = calms_where (needs_memory bytes) key bytes
 
 pub enqueues_on : (grows : Entry → Bool) (device : ℕ) (bytes : List ℕ) → Calms (EnqueuesOn grows device bytes)
-enqueues_on grows device bytes l hs l' (inl (key, is, it)) = calms_then (calms_choice (On key)) (calms_where grows key bytes) l hs l' it
+enqueues_on grows device bytes l hs l' (inl (key, is, it)) = calms_where grows key bytes l hs l' it
 enqueues_on grows device bytes l hs l' (inr (none, it)) = calms_nothing l hs l' it
 
 pub reply_at : (bytes : Bool → List ℕ) (key : ℕ) (o : Option Entry) → Calms (EnqueuesReplyAt bytes key o)

@@ -41,7 +41,7 @@ use Rattle.connections.specs.declared.step.Step.TheVariants as step
 use Rattle.connections.specs.Steps.{http_status, due_bytes}
 use Rattle.connections.specs.Entry.{PeerRecord, Http, Queue, Link, Entry, opening_entry, device_of, closes_of, broken, owing, given_up, with_progress, finishing, reading, waiting, needs_memory}
 use Rattle.connections.specs.Asking.{ItemComes, StepsTo, AsksNext}
-use Rattle.server.specs.Polls.{Happening, Polled, Told, Choice, Found, On, Rested, Looked, Chosen}
+use Rattle.server.specs.Polls.{Happening, Polled, Told, Choice, Found, Rested, Looked, Chosen}
 use Rattle.server.specs.Ledger.{Ledger, Fate, Drained, Broken, at_key, with_entry, job_bytes, opening_ledger}
 use Rattle.print_room.specs.State.{State}
 use Rattle.server.specs.Rel.{Rel, Nothing, Polls, Tells, Chooses, Then, If, Or, Times, Many, Each, EachOf}
@@ -318,7 +318,7 @@ carries_status : (key : ℕ) (status : Status) (request : ℕ) → Carries (Enqu
 carries_status key status request c l hs l' a new it = reply_at (λ closes. http_status closes status request) key (l.entries key) c l hs l' a new it
 
 carries_on : (refusable : Entry → Bool) (device : ℕ) (bytes : List ℕ) → Carries (EnqueuesOn refusable device bytes)
-carries_on refusable device bytes c l hs l' a new (inl (key, is, it)) = carries_then (Chooses (On key)) (EnqueuesWhere refusable key bytes) (carries_chooses (On key)) (carries_where refusable key bytes) c l hs l' a new it
+carries_on refusable device bytes c l hs l' a new (inl (key, is, it)) = carries_where refusable key bytes c l hs l' a new it
 carries_on refusable device bytes c l hs l' a new (inr (absent, it)) = carries_nothing c l hs l' a new it
 
 -- ---- events
@@ -460,7 +460,7 @@ carries_over moment old device name =
 
 carries_greets : (moment key id device : ℕ) (name : List ℕ) → Carries (Greets moment key id device name)
 carries_greets moment key id device name c l hs l' a new (inl (alone, it)) = carries_name moment device name c l hs l' a new it
-carries_greets moment key id device name c l hs l' a new (inr (inl (old, has, it))) = carries_then (Chooses (On old)) (TakesOver moment old device name) (carries_chooses (On old)) (carries_over moment old device name) c l hs l' a new it
+carries_greets moment key id device name c l hs l' a new (inr (inl (old, has, it))) = carries_over moment old device name c l hs l' a new it
 carries_greets moment key id device name c l hs l' a new (inr (inr (old, has, it))) =
     carries_then (GivesWay key) (Tells (DeviceRefused id (why.Connected device))) (carries_way key) (carries_tells (DeviceRefused id (why.Connected device))) c l hs l' a new it
 

@@ -51,7 +51,7 @@ use Rattle.connections.specs.declared.ask.Part.TheVariants as part
 use Rattle.connections.specs.Entry.{Entry, device_of, closes_of, given_up, broken, owing, needs_memory, reading, waiting}
 use Rattle.connections.specs.Steps.{http_status}
 use Rattle.connections.specs.Choice.{part_of, lost_of}
-use Rattle.server.specs.Polls.{Happening, Polled, Told, Choice, Found, On, Asked, Rested, Looked, Chosen}
+use Rattle.server.specs.Polls.{Happening, Polled, Told, Choice, Found, Asked, Rested, Looked, Chosen}
 use Rattle.server.specs.Ledger.{Ledger, Fate, Drained, Broken, with_entry, job_bytes}
 use Rattle.server.specs.Rel.{Rel, Nothing, Polls, Tells, Chooses, Then, If, Or, Many, Each, EachOf}
 use Rattle.server.specs.Enqueuing.{Sets, BreaksAt, Breaks, Drops, EnqueuesOpen, EnqueuesAt, EnqueuesWhere, Enqueues, EnqueuesOn, EnqueuesReplyAt, EnqueuesResponse, EnqueuesStatus}
@@ -162,7 +162,7 @@ quiet_enqueues : (key : ℕ) (bytes : List ℕ) → Quietly (Enqueues key bytes)
 quiet_enqueues key bytes = quiet_where (needs_memory bytes) key bytes
 
 enqueues_on : (grows : Entry → Bool) (device : ℕ) (bytes : List ℕ) → Quietly (EnqueuesOn grows device bytes)
-enqueues_on grows device bytes l hs l' (inl (key, is, it)) = quiet_then (quiet_choice (On key)) (quiet_where grows key bytes) l hs l' it
+enqueues_on grows device bytes l hs l' (inl (key, is, it)) = quiet_where grows key bytes l hs l' it
 enqueues_on grows device bytes l hs l' (inr (none, it)) = quiet_nothing l hs l' it
 
 reply_at : (bytes : Bool → List ℕ) (key : ℕ) (o : Option Entry) → Quietly (EnqueuesReplyAt bytes key o)
@@ -501,7 +501,7 @@ module _ (moment : ℕ) where
 
   greets_in : (key id device : ℕ) (name : List ℕ) → Within (Greeting.Greets moment key id device name)
   greets_in key id device name l hs l' (inl (absent, it)) = reported_in device (reported.Hello name) l hs l' it
-  greets_in key id device name l hs l' (inr (inl (other, ended, it))) = then_in (chooses_in (On other)) (then_in (gives_way_in other) (then_in (gone_in (Some device)) (reported_in device (reported.Hello name)))) l hs l' it
+  greets_in key id device name l hs l' (inr (inl (other, ended, it))) = then_in (gives_way_in other) (then_in (gone_in (Some device)) (reported_in device (reported.Hello name))) l hs l' it
   greets_in key id device name l hs l' (inr (inr (other, is, it))) = then_in (gives_way_in key) (turned_away_in id (why.Connected device)) l hs l' it
 
   -- ---- the asks of a connection

@@ -10,11 +10,12 @@ use Rattle.dispatcher.specs.declared.listener.AllocationSite.TheVariants.{Enqueu
 use Rattle.dispatcher.specs.Notes.{Refused}
 use Rattle.connections.specs.Entry.{Entry, closes_of, broken, owing, needs_memory}
 use Rattle.connections.specs.Steps.{http_status}
-use Rattle.server.specs.Polls.{Happening, Told, Found, On}
+use Rattle.server.specs.Polls.{Happening, Told, Found}
 use Rattle.server.specs.Ledger.{Ledger, with_entry, job_bytes}
 use Rattle.server.specs.Rel.{Chooses, Then}
 use Rattle.server.specs.Enqueuing.{Sets, BreaksAt, Breaks, Drops, EnqueuesOpen, EnqueuesAt, EnqueuesWhere, Enqueues, EnqueuesReplyAt, EnqueuesResponse, EnqueuesStatus, EnqueuesOn}
 use Rattle.server.specs.Happening.{Sends, Starts, StartsAll}
+use Rattle.promises.proofs.Lowest.{lowest_one}
 use Rattle.promises.proofs.Alike.{Fixed, fixed_just, fixed_nothing, fixed_chooses, alike_then, Begins, begins_just, begins_then, begins_chooses, is_choice, choice_one, fixed_or, alike_if, fixed_each_of}
 
 pub fixed_sets : (key : ℕ) (e : Entry) → Fixed (Sets key e)
@@ -62,15 +63,12 @@ fixed_status key status request = record { one = λ l hs rest a ks more b e p q.
 
 -- ---- by the device
 
-same_key : (key other : ℕ) → On key ≡ On other → key ≡ other
-same_key key other same = cc
-
 enqueues_on : (refusable : Entry → Bool) (device : ℕ) (bytes : List ℕ) (l : Ledger) (hs rest : List Happening) (a : Ledger) (ks more : List Happening) (b : Ledger) → hs ++ rest ≡ ks ++ more → EnqueuesOn refusable device bytes l hs a → EnqueuesOn refusable device bytes l ks b → (hs ≡ ks) × (a ≡ b)
 enqueues_on refusable device bytes l hs rest a ks more b e (inl (key, is, p)) (inl (other, its, q)) =
-    let same : key ≡ other = same_key key other (choice_one (On key) (On other) (EnqueuesWhere refusable key bytes) (EnqueuesWhere refusable other bytes) l hs rest a ks more b e p q) in
-    (alike_then (fixed_chooses (On key)) (fixed_enqueues_where refusable key bytes)).one l hs rest a ks more b e p (subst (λ (k : ℕ). Then (Chooses (On k)) (EnqueuesWhere refusable k bytes) l ks b) (sym same) q)
-enqueues_on refusable device bytes l hs rest a ks more b e (inl (key, is, p)) (inr (none, q)) = absurd (none key is)
-enqueues_on refusable device bytes l hs rest a ks more b e (inr (none, p)) (inl (key, is, q)) = absurd (none key is)
+    let same : key ≡ other = lowest_one device key other l is its in
+    (fixed_enqueues_where refusable key bytes).one l hs rest a ks more b e p (subst (λ (k : ℕ). EnqueuesWhere refusable k bytes l ks b) (sym same) q)
+enqueues_on refusable device bytes l hs rest a ks more b e (inl (key, is, p)) (inr (none, q)) = absurd (none key is.0)
+enqueues_on refusable device bytes l hs rest a ks more b e (inr (none, p)) (inl (key, is, q)) = absurd (none key is.0)
 enqueues_on refusable device bytes l hs rest a ks more b e (inr (none, p)) (inr (nor, q)) = fixed_nothing.one l hs rest a ks more b e p q
 
 pub fixed_enqueues_on : (refusable : Entry → Bool) (device : ℕ) (bytes : List ℕ) → Fixed (EnqueuesOn refusable device bytes)

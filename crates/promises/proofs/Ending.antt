@@ -24,7 +24,7 @@ use Rattle.connections.specs.declared.ask.Ask.{Ask}
 use Rattle.connections.specs.declared.ask.Ask.TheVariants as ask
 use Rattle.connections.specs.Entry.{Entry, device_of, given_up, reading, waiting}
 use Rattle.connections.specs.Asking.{IsHeard}
-use Rattle.server.specs.Polls.{Happening, Found, On, Rested}
+use Rattle.server.specs.Polls.{Happening, Found, Rested}
 use Rattle.server.specs.Ledger.{Ledger, Fate, Drained, Broken, opening_ledger}
 use Rattle.server.specs.Rel.{Rel, Nothing, Then, If, Times, Many, Each}
 use Rattle.server.specs.Enqueuing.{Sets, Drops}
@@ -112,7 +112,7 @@ module _ (moment : ℕ) where
   ends_greets : (key id device : ℕ) (name : List ℕ) → Ends (Greets moment key id device name)
   ends_greets key id device name l hs l' (inl (alone, it)) = ends_unanswered (Is.Report device (report.Hello name)) l hs l' it
   ends_greets key id device name l hs l' (inr (inl (other, has, it))) =
-      ends_then (calmly (calms_choice (On other))) (ends_then (ends_way other) (ends_then (ends_gone (Some device)) (ends_unanswered (Is.Report device (report.Hello name))))) l hs l' it
+      ends_then (ends_way other) (ends_then (ends_gone (Some device)) (ends_unanswered (Is.Report device (report.Hello name)))) l hs l' it
   ends_greets key id device name l hs l' (inr (inr (other, has, it))) = ends_then (ends_way key) (calmly (calms_tells (DeviceRefused id (why.Connected device)) refl)) l hs l' it
 
   ends_acts_on : (key id : ℕ) (what : Ask) → Ends (ActsOn moment key id what)

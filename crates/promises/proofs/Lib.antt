@@ -1,4 +1,5 @@
 mod Range
+pub mod Lowest
 pub mod Alike
 pub mod Due
 pub mod Events

@@ -13,6 +13,7 @@ use Rattle.server.specs.Enqueuing.{IsDevice}
 use Rattle.server.specs.Greeting.{IsDeviceAs, IsAlone, GivesWayAt, Greets}
 use Rattle.promises.specs.Orders.{IsAt, run_notes}
 use Rattle.promises.specs.Answers.{ClientTalk}
+use Rattle.promises.proofs.Lowest.{as_device}
 use Rattle.promises.proofs.Sending.{Counts, due_at, FreshTalk, IsFresh, same_key, other_key, Ordered, ordered_still, ordered_broken, ordered_given_up, notes_append, Good, one_entry, client_none, IsLost}
 use Rattle.promises.proofs.Handling.{happened, CameAs, Goes, goes_calm, Awaits, awaits_event, awaits_named, gone_sends_none, TalkedAs, progressed_still, LostAs, lost_by, StopsAs, stops_still}
 use Rattle.promises.proofs.Giving.{at_here}
@@ -103,10 +104,6 @@ named_client (Http said closes body) device is client = cc
 named_client (Queue items session) device is client = cc
 named_client (Link reports other) device is client = client
 
-pub as_device : (ended : Bool) (device : ℕ) (o : Option Entry) → IsDeviceAs ended device o → IsDevice device o
-as_device ended device None is = absurd is
-as_device ended device (Some e) is = is.0
-
 -- the device has no other connection
 pub alone_now : (device key : ℕ) (new : Entry) (l l' : Ledger) → l' ≡ with_entry key new l → IsAlone device key l' → Alone device key new l l'
 alone_now device key new l l' after alone = record {
@@ -186,27 +183,22 @@ greets moment key id device name e new l front mid back l' hs whole just (inl (a
     let waits = awaits moment device key e new l front mid just.good just.silent just.named just.fresh just.due (alone_now device key new l mid just.after alone) in
     awaits_named moment device key name outcome l front mid back l' hs whole waits (happened moment (Is.Report device (report.Hello name)) outcome mid back l' waits.good it)
 greets moment key id device name e new l front mid back l' hs whole just (inr (inl (old, has, it))) =
-    let begun : it.mid ≡ mid = it.first.1 in
-    let draining = it.second in
     let is_old : IsDevice device (mid.entries old) = as_device true device (mid.entries old) has.1 in
     let found = device_there device (mid.entries old) is_old in
-    let way = gives_way_at old (it.mid.entries old) found.0 it.mid draining.front draining.mid (ap (λ (x : Ledger). x.entries old) begun ∙ found.1) draining.first in
-    let after : draining.mid ≡ with_entry old (given_up found.0) mid = way.1 ∙ ap (λ (x : Ledger). with_entry old (given_up found.0) x) begun in
-    let alone = alone_then device key old new found.0 l mid draining.mid just.good just.after has.0 found.1 is_old after in
-    let quiet : run_notes (front ++ (it.front ++ draining.front)) ≡ [] =
-    notes_append front (it.front ++ draining.front) ∙ (ap (λ (ns : List Note). ns ++ run_notes (it.front ++ draining.front)) just.silent ∙ (notes_append it.front draining.front ∙ (ap (λ (ns : List Note). ns ++ run_notes draining.front) (ap run_notes it.first.0) ∙ ap run_notes way.0))) in
-    let waits = awaits moment device key e new l (front ++ (it.front ++ draining.front)) draining.mid just.good quiet just.named just.fresh just.due alone in
-    let ends = draining.second in
-    let gone = happened moment (Is.Report device report.Gone) ends.first.0 draining.mid ends.front ends.mid waits.good ends.first.1 in
-    let none = gone_sends_none moment device draining.mid.core ends.first.0 (run_notes ends.front) ends.mid.core gone.handles in
-    let still = awaits_event moment device key (Is.Report device report.Gone) ends.first.0 l (front ++ (it.front ++ draining.front)) draining.mid ends.front ends.mid ((front ++ (it.front ++ draining.front)) ++ ends.front) refl waits gone none refl in
+    let way = gives_way_at old (mid.entries old) found.0 mid it.front it.mid found.1 it.first in
+    let alone = alone_then device key old new found.0 l mid it.mid just.good just.after has.0 found.1 is_old way.1 in
+    let quiet : run_notes (front ++ it.front) ≡ [] = notes_append front it.front ∙ (ap (λ (ns : List Note). ns ++ run_notes it.front) just.silent ∙ ap run_notes way.0) in
+    let waits = awaits moment device key e new l (front ++ it.front) it.mid just.good quiet just.named just.fresh just.due alone in
+    let ends = it.second in
+    let gone = happened moment (Is.Report device report.Gone) ends.first.0 it.mid ends.front ends.mid waits.good ends.first.1 in
+    let none = gone_sends_none moment device it.mid.core ends.first.0 (run_notes ends.front) ends.mid.core gone.handles in
+    let still = awaits_event moment device key (Is.Report device report.Gone) ends.first.0 l (front ++ it.front) it.mid ends.front ends.mid ((front ++ it.front) ++ ends.front) refl waits gone none refl in
     let last = happened moment (Is.Report device (report.Hello name)) ends.second.0 ends.mid ends.back l' still.good ends.second.1 in
-    awaits_named moment device key name ends.second.0 l ((front ++ (it.front ++ draining.front)) ++ ends.front) ends.mid ends.back l' hs (whole ∙ joined it.front draining.front ends.front ends.back back it.back draining.back it.whole draining.whole ends.whole) still last
+    awaits_named moment device key name ends.second.0 l ((front ++ it.front) ++ ends.front) ends.mid ends.back l' hs (whole ∙ joined it.front ends.front ends.back back it.back it.whole ends.whole) still last
   where
-    joined : (a b c d back rest more : List Happening) → back ≡ a ++ rest → rest ≡ b ++ more → more ≡ c ++ d → front ++ back ≡ ((front ++ (a ++ b)) ++ c) ++ d
-    joined a b c d back rest more p q r =
-        ap (λ (xs : List Happening). front ++ xs) (p ∙ (ap (λ (xs : List Happening). a ++ xs) (q ∙ ap (λ (xs : List Happening). b ++ xs) r) ∙ sym (append_assoc a b (c ++ d))))
-        ∙ (sym (append_assoc front (a ++ b) (c ++ d)) ∙ sym (append_assoc (front ++ (a ++ b)) c d))
+    joined : (a b c back rest : List Happening) → back ≡ a ++ rest → rest ≡ b ++ c → front ++ back ≡ ((front ++ a) ++ b) ++ c
+    joined a b c back rest p q =
+        ap (λ (xs : List Happening). front ++ xs) (p ∙ ap (λ (xs : List Happening). a ++ xs) q) ∙ (sym (append_assoc front a (b ++ c)) ∙ sym (append_assoc (front ++ a) b c))
 greets moment key id device name e new l front mid back l' hs whole just (inr (inr (old, has, it))) =
     let here : mid.entries key ≡ Some new = ap (λ (x : Ledger). x.entries key) just.after ∙ at_here key new l.entries in
     let way = gives_way_at key (mid.entries key) new mid it.front it.mid here it.first in

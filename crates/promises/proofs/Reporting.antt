@@ -31,7 +31,7 @@ use Rattle.connections.specs.declared.ask.Client.{Client}
 use Rattle.connections.specs.declared.ask.Client.TheVariants as client
 use Rattle.connections.specs.Entry.{PeerRecord, Http, Queue, Link, Entry, opening_entry, device_of, given_up, broken, reading, unnamed, waiting}
 use Rattle.connections.specs.Asking.{ItemComes, IsHeard}
-use Rattle.server.specs.Polls.{Happening, Choice, Found, On, Rested, Looked}
+use Rattle.server.specs.Polls.{Happening, Choice, Found, Rested, Looked}
 use Rattle.server.specs.Ledger.{Ledger, Fate, Drained, Broken, opening_ledger, at_key, with_entry, without}
 use Rattle.server.specs.Rel.{Rel, Nothing, Polls, Tells, Chooses, Then, If, Or, Many, Each}
 use Rattle.server.specs.Enqueuing.{Sets, IsDevice}
@@ -425,15 +425,14 @@ both_told false one other = refl
 
 -- the device's old connection gives way: the core is told its end, and then the name on the new connection
 says_over : (moment device : ℕ) (name : List ℕ) (key other : ℕ) (d n : Entry) (l : Ledger) (front : List Happening) (m : Ledger) (back : List Happening) (l' : Ledger) (hs : List Happening) → hs ≡ front ++ back → core_notes front ≡ [] → Saying device name key d n l m → HasOther true device key other m
-    → Then (Chooses (On other)) (TakesOver moment other device name) m back l' → Goes true moment l hs l'
+    → TakesOver moment other device name m back l' → Goes true moment l hs l'
 says_over moment device name key other d n l front m back l' hs whole silent s has it = record {
   came = one ∷ two ∷ [];
   timed = All-cons (λ (x : Came). (x.moment ≡ moment) × (x.in_turn ≡ true)) one (two ∷ []) (refl, refl) (All-cons (λ (x : Came). (x.moment ≡ moment) × (x.in_turn ≡ true)) two [] (refl, refl) (All-nil (λ (x : Came). (x.moment ≡ moment) × (x.in_turn ≡ true))));
   run = (subst (λ (c : State). Handles moment (Is.Report device report.Gone) c gone.0 (core_notes last.front) last.mid.core) core first.handles, (second.handles, refl));
   told = no_notes hs front back whole silent
-      ∙ (no_notes back it.front it.back it.whole (ap core_notes it.first.0)
-      ∙ (no_notes it.back over.front over.back over.whole (ap core_notes way.0)
-      ∙ (ap core_notes last.whole ∙ (notes_append last.front last.back ∙ ap (λ (ns : List Note). core_notes last.front ++ ns) (sym (append-nil (core_notes last.back)))))));
+      ∙ (no_notes back it.front it.back it.whole (ap core_notes way.0)
+      ∙ (ap core_notes last.whole ∙ (notes_append last.front last.back ∙ ap (λ (ns : List Note). core_notes last.front ++ ns) (sym (append-nil (core_notes last.back))))));
   sound = λ sound. sound_by l l' closed sound (sounds sound);
   reported = λ sound of before r.
       reported_as of (before ++ told_if of device (SaysGone ∷ SaysHello name ∷ [])) (before ++ reports_by of (one ∷ two ∷ [])) l' (ap (λ (reports : List ReportRecord). before ++ reports) (both_told (device == of) SaysGone (SaysHello name)))
@@ -449,13 +448,10 @@ says_over moment device name key other d n l front m back l' hs whole silent s h
       now.1 (greeted_first Name device name now.0 (progress ∙ first_said device name key d n l m s sound) (names l.core name device (inl refl) s.place)) all;
 }
   where
-    over : TakesOver moment other device name it.mid it.back l'
-    over = it.second
+    last : Then (IsGone moment (Some device)) (SaysName moment device name) it.mid it.back l'
+    last = it.second
 
-    last : Then (IsGone moment (Some device)) (SaysName moment device name) over.mid over.back l'
-    last = over.second
-
-    gone : Unanswered moment (Is.Report device report.Gone) over.mid last.front last.mid
+    gone : Unanswered moment (Is.Report device report.Gone) it.mid last.front last.mid
     gone = last.first
 
     said : Unanswered moment (Is.Report device (report.Hello name)) last.mid last.back l'
@@ -464,17 +460,17 @@ says_over moment device name key other d n l front m back l' hs whole silent s h
     old : (e : Entry) × (m.entries other ≡ Some e) × (device_of e.progress ≡ Some device)
     old = open_as true device (m.entries other) has.1
 
-    way : (over.front ≡ []) × (over.mid ≡ with_entry other (given_up old.0) it.mid)
-    way = gives_way_at other old.0 (it.mid.entries other) it.mid over.front over.mid (ap (λ (x : Ledger). x.entries other) it.first.1 ∙ old.1) over.first
+    way : (it.front ≡ []) × (it.mid ≡ with_entry other (given_up old.0) m)
+    way = gives_way_at other old.0 (m.entries other) m it.front it.mid old.1 it.first
 
-    given : over.mid ≡ with_entry other (given_up old.0) m
-    given = way.1 ∙ ap (λ (x : Ledger). with_entry other (given_up old.0) x) it.first.1
+    given : it.mid ≡ with_entry other (given_up old.0) m
+    given = way.1
 
-    core : over.mid.core ≡ l.core
+    core : it.mid.core ≡ l.core
     core = ap (λ (x : Ledger). x.core) given ∙ ap (λ (x : Ledger). x.core) s.after
 
-    first : OneEvent moment (Is.Report device report.Gone) gone.0 over.mid last.front last.mid
-    first = happened moment (Is.Report device report.Gone) gone.0 over.mid last.front last.mid gone.1
+    first : OneEvent moment (Is.Report device report.Gone) gone.0 it.mid last.front last.mid
+    first = happened moment (Is.Report device report.Gone) gone.0 it.mid last.front last.mid gone.1
 
     second : OneEvent moment (Is.Report device (report.Hello name)) said.0 last.mid last.back l'
     second = happened moment (Is.Report device (report.Hello name)) said.0 last.mid last.back l' said.1
@@ -485,8 +481,8 @@ says_over moment device name key other d n l front m back l' hs whole silent s h
     two : Came
     two = record { moment = moment; event = Is.Report device (report.Hello name); outcome = said.0; notes = core_notes last.back; state = l'.core; in_turn = true }
 
-    kept : KeptAll over.mid l'
-    kept = kept_next over.mid last.mid l' first.kept second.kept
+    kept : KeptAll it.mid l'
+    kept = kept_next it.mid last.mid l' first.kept second.kept
 
     closed : l'.closed ≡ l.closed
     closed = kept.closed ∙ (ap (λ (x : Ledger). x.closed) given ∙ ap (λ (x : Ledger). x.closed) s.after)
@@ -495,16 +491,16 @@ says_over moment device name key other d n l front m back l' hs whole silent s h
     there = sym (set_aside key n l m s.after other has.0) ∙ old.1
 
     now : Kept (Some n) (l'.entries key)
-    now = kept_open n (over.mid.entries key) (l'.entries key) (set_aside other (given_up old.0) m over.mid given key (λ same. has.0 (sym same)) ∙ set_here key n l m s.after) (kept.each key)
+    now = kept_open n (it.mid.entries key) (l'.entries key) (set_aside other (given_up old.0) m it.mid given key (λ same. has.0 (sym same)) ∙ set_here key n l m s.after) (kept.each key)
 
     progress : now.0.progress ≡ n.progress
     progress = named_stays device n now.0 (ap device_of s.progress) now.2
 
     up : Kept (Some (given_up old.0)) (l'.entries other)
-    up = kept_open (given_up old.0) (over.mid.entries other) (l'.entries other) (set_here other (given_up old.0) m over.mid given) (kept.each other)
+    up = kept_open (given_up old.0) (it.mid.entries other) (l'.entries other) (set_here other (given_up old.0) m it.mid given) (kept.each other)
 
     others : (k : ℕ) → k ≢ key → k ≢ other → Kept (l.entries k) (l'.entries k)
-    others k apart away = subst (λ (o : Option Entry). Kept o (l'.entries k)) (set_aside other (given_up old.0) m over.mid given k away ∙ set_aside key n l m s.after k apart) (kept.each k)
+    others k apart away = subst (λ (o : Option Entry). Kept o (l'.entries k)) (set_aside other (given_up old.0) m it.mid given k away ∙ set_aside key n l m s.after k apart) (kept.each k)
 
     greeted_at_given : (Name : List ℕ → ℕ → Type 0) (e : Entry) → l'.entries other ≡ Some e → IsGreeted Name e
     greeted_at_given Name e at =

@@ -15,7 +15,7 @@ use Rattle.connections.specs.declared.ask.Ask.TheVariants as ask
 use Rattle.connections.specs.declared.ask.Client.{Client}
 use Rattle.connections.specs.Choice.{SameAsk}
 use Rattle.connections.specs.Entry.{Entry, device_of, given_up}
-use Rattle.server.specs.Polls.{Happening, Told, Chosen, On}
+use Rattle.server.specs.Polls.{Happening, Told, Chosen}
 use Rattle.server.specs.Ledger.{Ledger, Fate, Broken}
 use Rattle.server.specs.Rel.{Tells as Informs, Chooses, Then}
 use Rattle.server.specs.Enqueuing.{IsDevice}
@@ -25,6 +25,7 @@ use Rattle.server.specs.Greeting.{Tells, IsDeviceAs, IsAlone, HasOther, GivesWay
 use Rattle.server.specs.Acting.{place_of, place_of_part, ActsOn}
 use Rattle.promises.specs.Keyed.{keyed}
 use Rattle.promises.specs.OneLedger.{StepsOnce, SameQueries}
+use Rattle.promises.proofs.Lowest.{as_device, other_one, one_ending}
 use Rattle.promises.proofs.Same.{Calm, Same, One, same_nothing, same_tells, same_chooses, same_then, same_until, first_seen}
 use Rattle.promises.proofs.SameEvents.{same_sets, same_status, same_enqueues, same_on, on_first, unanswered_same, one_report, same_answered}
 use Rattle.promises.proofs.Acts.{same_entry, same_number, broken_there, same_self}
@@ -65,26 +66,8 @@ module _ (steps : StepsOnce) (queries : SameQueries) where
   same_takes_over : (moment old device : ℕ) (name : List ℕ) → One (TakesOver moment old device name)
   same_takes_over moment old device name = same_then (same_gives_way old) (same_then (same_gone moment (Some device)) (one_report steps moment device (report.Hello name)))
 
-  silent_at : (key : ℕ) (o : Option Entry) (l : Ledger) (hs : List Happening) (a : Ledger) → GivesWayAt key o l hs a → hs ≡ []
-  silent_at key None l hs a it = it.0
-  silent_at key (Some e) l hs a it = it.0
-
   turned_away : (key id device : ℕ) → One (Then (GivesWay key) (Informs (DeviceRefused id (why.Connected device))))
   turned_away key id device = same_then (same_gives_way key) (same_tells (DeviceRefused id (why.Connected device)))
-
-  turned_first : (key id device : ℕ) (l : Ledger) (hs : List Happening) (a : Ledger) → Then (GivesWay key) (Informs (DeviceRefused id (why.Connected device))) l hs a → keyed hs ≡ Told (DeviceRefused id (why.Connected device)) ∷ []
-  turned_first key id device l hs a it = ap keyed (it.whole ∙ (ap (λ (xs : List Happening). xs ++ it.back) (silent_at key (l.entries key) l it.front it.mid it.first) ∙ it.second.0))
-
-  -- a device's connection is taken over, or the new one is turned away
-  not_both : {A : Type 0} (old id device : ℕ) → Chosen (On old) ≡ Told (DeviceRefused id (why.Connected device)) → A
-  not_both old id device same = absurd (never same)
-    where
-      never : Chosen (On old) ≡ Told (DeviceRefused id (why.Connected device)) → ⊥
-      never p = cc
-
-  as_device : (ended : Bool) (device : ℕ) (o : Option Entry) → IsDeviceAs ended device o → IsDevice device o
-  as_device ended device None is = absurd is
-  as_device ended device (Some e) is = is.0
 
   not_alone : {A : Type 0} → (ended : Bool) (device key other : ℕ) (l : Ledger) → IsAlone device key l → HasOther ended device key other l → A
   not_alone ended device key other l alone it = absurd (alone other it.0 (as_device ended device (l.entries other) it.1))
@@ -96,14 +79,10 @@ module _ (steps : StepsOnce) (queries : SameQueries) where
   greets moment key id device name l hs rest a ks more b e c d (inr (inl (other, is, p))) (inl (alone, q)) = not_alone true device key other l alone is
   greets moment key id device name l hs rest a ks more b e c d (inr (inr (other, is, p))) (inl (alone, q)) = not_alone false device key other l alone is
   greets moment key id device name l hs rest a ks more b e c d (inr (inl (old, is, p))) (inr (inl (other, its, q))) =
-      let same : old ≡ other =
-      same_on old other (first_seen (Chosen (On old)) (Chosen (On other)) hs rest ks more (keyed p.back) (keyed q.back) e (on_first old (TakesOver moment old device name) l hs a p) (on_first other (TakesOver moment other device name) l ks b q)) in
-      (same_then (same_chooses (On old)) (same_takes_over moment old device name)).one l hs rest a ks more b e c d p (subst (λ (k : ℕ). Then (Chooses (On k)) (TakesOver moment k device name) l ks b) (sym same) q)
-  greets moment key id device name l hs rest a ks more b e c d (inr (inl (old, is, p))) (inr (inr (other, its, q))) =
-      not_both old id device (first_seen (Chosen (On old)) (Told (DeviceRefused id (why.Connected device))) hs rest ks more (keyed p.back) [] e (on_first old (TakesOver moment old device name) l hs a p) (turned_first key id device l ks b q))
-  greets moment key id device name l hs rest a ks more b e c d (inr (inr (old, is, p))) (inr (inl (other, its, q))) =
-      not_both other id device
-      (first_seen (Chosen (On other)) (Told (DeviceRefused id (why.Connected device))) ks more hs rest (keyed q.back) [] (sym e) (on_first other (TakesOver moment other device name) l ks b q) (turned_first key id device l hs a p))
+      let same : old ≡ other = other_one true true device key old other l is its in
+      (same_takes_over moment old device name).one l hs rest a ks more b e c d p (subst (λ (k : ℕ). TakesOver moment k device name l ks b) (sym same) q)
+  greets moment key id device name l hs rest a ks more b e c d (inr (inl (old, is, p))) (inr (inr (other, its, q))) = one_ending device key old other l is its
+  greets moment key id device name l hs rest a ks more b e c d (inr (inr (old, is, p))) (inr (inl (other, its, q))) = one_ending device key other old l its is
   greets moment key id device name l hs rest a ks more b e c d (inr (inr (old, is, p))) (inr (inr (other, its, q))) = (turned_away key id device).one l hs rest a ks more b e c d p q
 
   same_report : (moment device other : ℕ) (one said : Report) → device ≡ other → report_of one ≡ report_of said → Same (Unanswered moment (Is.Report device one)) (Unanswered moment (Is.Report other said))

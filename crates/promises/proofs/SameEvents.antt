@@ -31,7 +31,7 @@ use Rattle.connections.specs.declared.ask.Client.{Client}
 use Rattle.connections.specs.declared.ask.Client.TheVariants as client
 use Rattle.connections.specs.Entry.{Entry, closes_of, broken, owing, needs_memory}
 use Rattle.connections.specs.Steps.{http_status}
-use Rattle.server.specs.Polls.{Happening, Told, Found, On, Chosen}
+use Rattle.server.specs.Polls.{Happening, Told, Found, Chosen}
 use Rattle.server.specs.Ledger.{Ledger, with_entry, job_bytes}
 use Rattle.server.specs.Rel.{Rel, Tells, Chooses, Then, If, EachOf}
 use Rattle.server.specs.Enqueuing.{Sets, BreaksAt, Breaks, Drops, EnqueuesOpen, EnqueuesAt, EnqueuesWhere, Enqueues, EnqueuesReplyAt, EnqueuesResponse, EnqueuesStatus, EnqueuesOn}
@@ -40,6 +40,7 @@ use Rattle.server.specs.Answering as Ans
 use Rattle.server.specs.Turn as Between
 use Rattle.promises.specs.Keyed.{keyed}
 use Rattle.promises.specs.OneLedger.{StepsOnce}
+use Rattle.promises.proofs.Lowest.{lowest_one}
 use Rattle.promises.proofs.Same.{Calm, Same, One, keyed_append, calm_last, same_just, same_nothing, same_chooses, same_then_by, same_then, Refuses, refuses_just, refuses_then, same_or, same_if, same_each_of, first_seen}
 use Rattle.promises.proofs.Events.{SameOutcome, IsKept, kept_or, handled_one, same_undispatched, light_kept}
 use Rattle.promises.proofs.Answers.{same_bytes, same_text}
@@ -88,20 +89,12 @@ same_status key status request = record { one = λ l hs rest a ks more b e c d p
 
 -- ---- by the device
 
-pub same_on : (key other : ℕ) → Chosen (On key) ≡ Chosen (On other) → key ≡ other
-same_on key other same = cc
-
--- the choice of a key is seen first
-pub on_first : (key : ℕ) (R : Rel) (l : Ledger) (hs : List Happening) (a : Ledger) → (p : Then (Chooses (On key)) R l hs a) → keyed hs ≡ Chosen (On key) ∷ keyed p.back
-on_first key R l hs a p = ap keyed p.whole ∙ (keyed_append p.front p.back ∙ ap (λ (x : List Happening). keyed x ++ keyed p.back) p.first.0)
-
 enqueues_on : (refusable : Entry → Bool) (device : ℕ) (bytes : List ℕ) (l : Ledger) (hs rest : List Happening) (a : Ledger) (ks more : List Happening) (b : Ledger) → keyed hs ++ rest ≡ keyed ks ++ more → Calm hs → Calm ks → EnqueuesOn refusable device bytes l hs a → EnqueuesOn refusable device bytes l ks b → (keyed hs ≡ keyed ks) × (a ≡ b)
 enqueues_on refusable device bytes l hs rest a ks more b e c d (inl (key, is, p)) (inl (other, its, q)) =
-    let same : key ≡ other =
-    same_on key other (first_seen (Chosen (On key)) (Chosen (On other)) hs rest ks more (keyed p.back) (keyed q.back) e (on_first key (EnqueuesWhere refusable key bytes) l hs a p) (on_first other (EnqueuesWhere refusable other bytes) l ks b q)) in
-    (same_then (same_chooses (On key)) (same_enqueues_where refusable key bytes)).one l hs rest a ks more b e c d p (subst (λ (k : ℕ). Then (Chooses (On k)) (EnqueuesWhere refusable k bytes) l ks b) (sym same) q)
-enqueues_on refusable device bytes l hs rest a ks more b e c d (inl (key, is, p)) (inr (none, q)) = absurd (none key is)
-enqueues_on refusable device bytes l hs rest a ks more b e c d (inr (none, p)) (inl (key, is, q)) = absurd (none key is)
+    let same : key ≡ other = lowest_one device key other l is its in
+    (same_enqueues_where refusable key bytes).one l hs rest a ks more b e c d p (subst (λ (k : ℕ). EnqueuesWhere refusable k bytes l ks b) (sym same) q)
+enqueues_on refusable device bytes l hs rest a ks more b e c d (inl (key, is, p)) (inr (none, q)) = absurd (none key is.0)
+enqueues_on refusable device bytes l hs rest a ks more b e c d (inr (none, p)) (inl (key, is, q)) = absurd (none key is.0)
 enqueues_on refusable device bytes l hs rest a ks more b e c d (inr (none, p)) (inr (nor, q)) = same_nothing.one l hs rest a ks more b e c d p q
 
 same_enqueues_on : (refusable : Entry → Bool) (device : ℕ) (bytes : List ℕ) → One (EnqueuesOn refusable device bytes)

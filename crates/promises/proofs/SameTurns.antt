@@ -18,7 +18,7 @@ use Rattle.wires.specs.declared.wire.Progress.{Progress}
 use Rattle.wires.specs.declared.wire.Progress.TheVariants as wire
 use Rattle.connections.specs.Entry.{Entry, opening_entry, reading, waiting}
 use Rattle.connections.specs.Choice.{AsksOne}
-use Rattle.server.specs.Polls.{Happening, Polled, Told, Choice, Found, Opened, On, Asked, Rested, Looked, Chosen}
+use Rattle.server.specs.Polls.{Happening, Polled, Told, Choice, Found, Opened, Asked, Rested, Looked, Chosen}
 use Rattle.server.specs.Ledger.{Ledger, Drained, opening_ledger, with_new}
 use Rattle.server.specs.Rel.{Rel, Nothing, Polls, Tells, Chooses, Then, If, Or, Each}
 use Rattle.server.specs.Enqueuing.{Sets, Drops}
@@ -172,7 +172,6 @@ settled_ticks moment l hs l' none it = by (is_tick_due moment l) it
 chosen_calm : (choice : Choice) (hs : List Happening) → has_refusal (key_chosen choice ++ hs) ≡ has_refusal hs
 chosen_calm Found hs = refl
 chosen_calm (Opened key) hs = refl
-chosen_calm (On key) hs = refl
 chosen_calm (Asked part loss) hs = refl
 chosen_calm Rested hs = refl
 chosen_calm (Looked keys) hs = refl

@@ -49,7 +49,7 @@ use Rattle.send_queues.specs.Reply.{http_reply}
 use Rattle.server.specs.Answering as Ans
 use Rattle.server.specs.Greeting.{GivesWayAt, GivesWay, SaysName, TakesOver, Greets}
 use Rattle.server.specs.Acting.{place_of, place_of_part, Asks, ActsOn, ActsNext}
-use Rattle.server.specs.Polls.{Happening, Choice, Found, On, Rested}
+use Rattle.server.specs.Polls.{Happening, Choice, Found, Rested}
 use Rattle.server.specs.Ledger.{Ledger, Fate, Drained, Broken, at_key, job_bytes, opening_ledger}
 use Rattle.server.specs.Rel.{Rel, Nothing, Polls, Tells, Chooses, Then, If, Or, Times, Many, Each, EachOf}
 use Rattle.server.specs.Enqueuing.{Sets, BreaksAt, Breaks, Drops, EnqueuesOpen, EnqueuesAt, EnqueuesWhere, Enqueues, EnqueuesReplyAt, EnqueuesResponse, EnqueuesStatus, EnqueuesOn}
@@ -195,7 +195,7 @@ keeps_enqueues : (key : ℕ) (bytes : List ℕ) → Keeps (Enqueues key bytes)
 keeps_enqueues key bytes = keeps_where (needs_memory bytes) key bytes
 
 keeps_on : (refusable : Entry → Bool) (device : ℕ) (bytes : List ℕ) → Keeps (EnqueuesOn refusable device bytes)
-keeps_on refusable device bytes l hs l' first (inl (key, is, it)) = keeps_then (Chooses (On key)) (EnqueuesWhere refusable key bytes) (keeps_chooses (On key)) (keeps_where refusable key bytes) l hs l' first it
+keeps_on refusable device bytes l hs l' first (inl (key, is, it)) = keeps_where refusable key bytes l hs l' first it
 keeps_on refusable device bytes l hs l' first (inr (absent, it)) = keeps_nothing l hs l' first it
 
 -- ---- events, which concern devices' connections
@@ -310,9 +310,8 @@ keeps_gives_way key l hs l' first it = gives_way_at key (l.entries key) l hs l' 
 keeps_greets : (moment key id device : ℕ) (name : List ℕ) → Keeps (Greets moment key id device name)
 keeps_greets moment key id device name l hs l' first (inl (alone, it)) = keeps_unanswered moment (Is.Report device (report.Hello name)) l hs l' first it
 keeps_greets moment key id device name l hs l' first (inr (inl (other, has, it))) =
-    keeps_then (Chooses (On other)) (TakesOver moment other device name) (keeps_chooses (On other))
-    (keeps_then (GivesWay other) (Then (IsGone moment (Some device)) (SaysName moment device name)) (keeps_gives_way other)
-    (keeps_then (IsGone moment (Some device)) (SaysName moment device name) (keeps_unanswered moment (Is.Report device report.Gone)) (keeps_unanswered moment (Is.Report device (report.Hello name))))) l hs l' first it
+    keeps_then (GivesWay other) (Then (IsGone moment (Some device)) (SaysName moment device name)) (keeps_gives_way other)
+    (keeps_then (IsGone moment (Some device)) (SaysName moment device name) (keeps_unanswered moment (Is.Report device report.Gone)) (keeps_unanswered moment (Is.Report device (report.Hello name)))) l hs l' first it
 keeps_greets moment key id device name l hs l' first (inr (inr (other, has, it))) =
     keeps_then (GivesWay key) (Tells (DeviceRefused id (why.Connected device))) (keeps_gives_way key) (keeps_tells (DeviceRefused id (why.Connected device))) l hs l' first it
 

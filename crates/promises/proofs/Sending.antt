@@ -409,10 +409,7 @@ enqueues_at refusable device key bytes (Some e) l hs l' there is others it = enq
 -- bytes enqueued for a device are sent to that device, and to no other
 pub enqueues_on : (refusable : Entry → Bool) (device : ℕ) (bytes : List ℕ) (l : Ledger) (hs : List Happening) (l' : Ledger) → Good l → EnqueuesOn refusable device bytes l hs l' → Sent (to_device device bytes) l hs l'
 enqueues_on refusable device bytes l hs l' good (inl (key, is, it)) =
-    let begun : it.mid ≡ l = it.first.1 in
-    let kept : EnqueuesAt refusable key bytes (l.entries key) l it.back l' = subst (λ (x : Ledger). EnqueuesAt refusable key bytes (x.entries key) x it.back l') begun it.second in
-    let s = enqueues_at refusable device key bytes (l.entries key) l it.back l' refl is (λ other apart there. apart (good.one device other key there is)) kept in
-    record { core = s.core; closed = s.closed; notes = no_notes hs it.front it.back it.whole (ap run_notes it.first.0) s.notes; each = s.each }
+    enqueues_at refusable device key bytes (l.entries key) l hs l' refl is.0 (λ other apart there. apart (good.one device other key there is.0)) it
 enqueues_on refusable device bytes l hs l' good (inr (absent, it)) = sent_still (to_device device bytes) l hs l' (ap run_notes it.0) it.1 (λ key. unsent_to device bytes (l.entries key) (absent key))
 
 -- ---- all of an event

@@ -362,8 +362,7 @@ module _ (O : ℕ → List ℕ → Type 0) (other : ℕ) where
 
   left_enqueues_on : (refusable : Entry → Bool) (device : ℕ) (bytes : List ℕ) → O device bytes → (l : Ledger) (hs : List Happening) (l' : Ledger) → EnqueuesOn refusable device bytes l hs l' → Leaves_it l hs l'
   left_enqueues_on refusable device bytes order l hs l' (inl (key, is, it)) =
-      let kept : EnqueuesAt refusable key bytes (l.entries key) l it.back l' = subst (λ (x : Ledger). EnqueuesAt refusable key bytes (x.entries key) x it.back l') it.first.1 it.second in
-      leaves_then l it.front l it.back l' hs it.whole (leaves_same l it.front l refl) (enqueues_there refusable key device bytes (l.entries key) l it.back l' order refl is kept)
+      enqueues_there refusable key device bytes (l.entries key) l hs l' order refl is.0 it
   left_enqueues_on refusable device bytes order l hs l' (inr (absent, it)) = leaves_same l hs l' it.1
 
   left_sends : (cancels : List Cancel) → ((cancel : Cancel) → Contains cancels cancel → O cancel.device (cancel_line cancel.job)) → (l : Ledger) (hs : List Happening) (l' : Ledger) → EachOf cancels Sends l hs l' → Leaves_it l hs l'
@@ -577,9 +576,7 @@ module _ (moment key : ℕ) where
 
   spares_greets : (id device : ℕ) (name : List ℕ) → Spares_in (Greets moment key id device name)
   spares_greets id device name l hs l' (inl (alone, it)) = spares_unanswered (Is.Report device (report.Hello name)) l hs l' it
-  spares_greets id device name l hs l' (inr (inl (old, has, it))) =
-      spared_then moment key l it.front it.mid it.back l' hs it.whole (spared_aside moment key l it.front it.mid (aside_same key l it.front it.mid (ap core_notes it.first.0) it.first.1))
-      (takes_over old device name it.mid it.back l' (subst (λ (x : Ledger). IsDeviceAs true device (x.entries old)) (sym it.first.1) has.1) it.second)
+  spares_greets id device name l hs l' (inr (inl (old, has, it))) = takes_over old device name l hs l' has.1 it
   spares_greets id device name l hs l' (inr (inr (old, has, it))) =
       aside_in {R = Then (GivesWay key) (Tells (DeviceRefused id (why.Connected device)))} (aside_then key (GivesWay key) (Tells (DeviceRefused id (why.Connected device))) (aside_gives_way key) (aside_tells key (DeviceRefused id (why.Connected device)) refl)) l hs l' it
 

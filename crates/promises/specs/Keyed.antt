@@ -1,17 +1,16 @@
--- What a wire and a listener see of a trace, and the keys that connections have. If no memory was refused, that leads to one ledger.
+-- What a wire and a listener see of a trace, and the keys that accepted connections get. If no memory was refused, that leads to one ledger.
 use Rattle.std.specs.Prelude.{◌≡◌, false, List, [], ◌∷◌, map}
 use Rattle.std.specs.List.{flat_map}
 use Rattle.print_room.specs.State.{State}
-use Rattle.server.specs.Polls.{Happening, Polled, Told, Chosen, Choice, Found, Opened, On, Asked, Rested, Looked}
+use Rattle.server.specs.Polls.{Happening, Polled, Told, Chosen, Choice, Found, Opened, Asked, Rested, Looked}
 use Rattle.server.specs.Ledger.{Ledger, opening_ledger}
 use Rattle.server.specs.Turn.{Action, Turned, Served_body, Reported, Ticked, Trace, Runs, has_refusal}
 use Rattle.server.specs.Law.{happenings_in}
 
--- the choice of a key: the key of a connection that is accepted, or the key of a device's connection
+-- the choice of the key that an accepted connection gets
 abbrev pub key_chosen : Choice → List Happening
 key_chosen Found = []
 key_chosen (Opened key) = Chosen (Opened key) ∷ []
-key_chosen (On key) = Chosen (On key) ∷ []
 key_chosen (Asked part loss) = []
 key_chosen Rested = []
 key_chosen (Looked keys) = []

@@ -90,10 +90,10 @@ pub fn due_after_calls<W: Wire, N: Listener>()
     ensures { (opening : State) (calls : List Call) (u v : W × N) (old new : EngineState) → StandsAt opening [] old → AreMade W.polled N.told calls u old v new → IsAccounted W.polled N.told opening calls u v new }
 {}
 
-/// Two traces of a server that starts lead to one ledger if the wire and the listener see them alike, the
-/// connections have the same keys, and no memory was refused in them. Hence the bytes due on each connection
-/// are then determined by the calls of the wire with their answers, the listener's notes (the plans among
-/// them), and the keys.
+/// From the start of an engine on, two traces lead to one ledger if the wire and the listener see them alike,
+/// the accepted connections get the same keys in both, and no memory was refused. Hence the bytes due on each
+/// connection are then determined by the calls of the wire with their answers, the listener's notes (the plans
+/// among them), and these keys.
 pub fn one_seen_ledger()
     ensures { SeenLeadsToOne }
 {

@@ -43,7 +43,7 @@ use Rattle.connections.specs.declared.ask.Part.TheVariants as part
 use Rattle.connections.specs.Entry.{Entry, opening_entry, device_of, closes_of, given_up, reading, waiting}
 use Rattle.connections.specs.Steps.{http_status}
 use Rattle.connections.specs.Choice.{part_of, lost_of}
-use Rattle.server.specs.Polls.{Happening, Polled, Told, Choice, Found, On, Opened, Rested, Looked, Chosen}
+use Rattle.server.specs.Polls.{Happening, Polled, Told, Choice, Found, Opened, Rested, Looked, Chosen}
 use Rattle.server.specs.Polls as As
 use Rattle.server.specs.Ledger.{Ledger, Fate, Drained, Broken, with_entry, with_new}
 use Rattle.server.specs.Rel.{Rel, Nothing, Polls, Tells, Chooses, Then, If, Or, Times, Many, Each}
@@ -304,7 +304,7 @@ module _ (moment : ℕ) (P : Rel) (k : Holds moment P) where
 
   greets_in : (key id device : ℕ) (name : List ℕ) → Within P (Greeting.Greets moment key id device name)
   greets_in key id device name l hs l' (inl (absent, it)) = reported_in device (reported.Hello name) l hs l' it
-  greets_in key id device name l hs l' (inr (inl (other, ended, it))) = then_in (chooses_in (On other)) (then_in (gives_way_in other) (then_in (gone_in (Some device)) (reported_in device (reported.Hello name)))) l hs l' it
+  greets_in key id device name l hs l' (inr (inl (other, ended, it))) = then_in (gives_way_in other) (then_in (gone_in (Some device)) (reported_in device (reported.Hello name))) l hs l' it
   greets_in key id device name l hs l' (inr (inr (other, is, it))) = then_in (gives_way_in key) (turned_away_in id (why.Connected device)) l hs l' it
 
   refines_in : (key id : ℕ) (what : Ask) → Within P (Acting.ActsOn moment key id what)

@@ -16,7 +16,7 @@ use Rattle.dispatcher.specs.declared.listener.AllocationSite.TheVariants as At
 use Rattle.dispatcher.specs.Notes.{Note, Planned, Canceled, DeviceRefused, Refused}
 use Rattle.dispatcher.specs.Run.{reply_of, cancels_told, Handles}
 use Rattle.dispatcher.specs.Step.{TakesNoMemory}
-use Rattle.server.specs.Polls.{Happening, Polled, Told, Choice, Found, On, Chosen, seen}
+use Rattle.server.specs.Polls.{Happening, Polled, Told, Choice, Found, Chosen, seen}
 use Rattle.server.specs.Ledger.{Ledger, with_entry, job_bytes}
 use Rattle.server.specs.Rel.{Rel, Nothing, Tells, Chooses, Then, If, Or, EachOf}
 use Rattle.server.specs.Enqueuing.{Sets, BreaksAt, Breaks, Drops, EnqueuesOpen, EnqueuesAt, EnqueuesWhere, Enqueues, EnqueuesOn}
@@ -162,7 +162,7 @@ pub calm_enqueues : (key : ℕ) (bytes : List ℕ) → Calmly (Enqueues key byte
 calm_enqueues key bytes = calm_where (needs_memory bytes) key bytes
 
 pub calm_enqueues_on : (grows : Entry → Bool) (device : ℕ) (bytes : List ℕ) → Calmly (EnqueuesOn grows device bytes)
-calm_enqueues_on grows device bytes l hs l' (inl (key, is, it)) = calm_then (calm_choice (On key)) (calm_where grows key bytes) l hs l' it
+calm_enqueues_on grows device bytes l hs l' (inl (key, is, it)) = calm_where grows key bytes l hs l' it
 calm_enqueues_on grows device bytes l hs l' (inr (none, it)) = calm_nothing l hs l' it
 
 -- ---- an event

@@ -1,5 +1,5 @@
 -- Bytes become due on a connection, or memory for them is refused.
-use Rattle.std.specs.Prelude.{ℕ, ◌≡◌, ◌⊎◌, Bool, List, [], ◌∷◌, Option, Some, None}
+use Rattle.std.specs.Prelude.{ℕ, ◌≡◌, ◌<◌, ◌⊎◌, Bool, List, [], ◌∷◌, Option, Some, None}
 use Rattle.events.specs.declared.status.Status.{Status}
 use Rattle.send_queues.specs.Reply.{http_reply}
 use Rattle.dispatcher.specs.declared.listener.AllocationSite.{AllocationSite}
@@ -7,7 +7,7 @@ use Rattle.dispatcher.specs.declared.listener.AllocationSite.TheVariants.{Enqueu
 use Rattle.dispatcher.specs.Notes.{Refused}
 use Rattle.connections.specs.Entry.{Entry, device_of, closes_of, broken, owing, needs_memory}
 use Rattle.connections.specs.Steps.{http_status}
-use Rattle.server.specs.Polls.{Told, Found, On}
+use Rattle.server.specs.Polls.{Told, Found}
 use Rattle.server.specs.Ledger.{Ledger, with_entry}
 use Rattle.server.specs.Rel.{Rel, Nothing, Chooses, Then, If, Or}
 
@@ -64,7 +64,11 @@ IsDevice device (Some e) = device_of e.progress ≡ Some device
 abbrev pub IsAbsent : ℕ → Ledger → Type 0
 IsAbsent device l = (key : ℕ) → IsDevice device (l.entries key) → ⊥
 
+-- the device's connection is under this key, and under no lower key
+abbrev pub IsLowest : ℕ → ℕ → Ledger → Type 0
+IsLowest device key l = IsDevice device (l.entries key) × ((lower : ℕ) → lower < key → IsDevice device (l.entries lower) → ⊥)
+
 -- bytes become due on a device's connection, if the device has one; memory may be refused if `refusable` says so
 abbrev pub EnqueuesOn : (Entry → Bool) → ℕ → List ℕ → Rel
 EnqueuesOn refusable device bytes l hs l' =
-    ((key : ℕ) × IsDevice device (l.entries key) × Then (Chooses (On key)) (EnqueuesWhere refusable key bytes) l hs l') ⊎ (IsAbsent device l × Nothing l hs l')
+    ((key : ℕ) × IsLowest device key l × EnqueuesWhere refusable key bytes l hs l') ⊎ (IsAbsent device l × Nothing l hs l')

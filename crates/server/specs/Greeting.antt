@@ -1,5 +1,5 @@
 -- Devices that give their names.
-use Rattle.std.specs.Prelude.{ℕ, ◌≡◌, ◌≢◌, ◌⊎◌, Bool, true, false, List, Option, Some, None}
+use Rattle.std.specs.Prelude.{ℕ, ◌≡◌, ◌≢◌, ◌<◌, ◌⊎◌, Bool, true, false, List, Option, Some, None}
 use Rattle.base_types.specs.declared.report.Report.{Report}
 use Rattle.base_types.specs.declared.report.Report.TheVariants as report
 use Rattle.base_types.specs.Report.{ReportRecord, report_of}
@@ -7,9 +7,8 @@ use Rattle.events.specs.declared.event.Event.TheVariants as Is
 use Rattle.dispatcher.specs.declared.listener.DeviceRefusal.TheVariants as why
 use Rattle.dispatcher.specs.Notes.{DeviceRefused}
 use Rattle.connections.specs.Entry.{Entry, device_of, given_up}
-use Rattle.server.specs.Polls.{On}
 use Rattle.server.specs.Ledger.{Ledger}
-use Rattle.server.specs.Rel.{Rel, Nothing, Tells as Informs, Chooses, Then}
+use Rattle.server.specs.Rel.{Rel, Nothing, Tells as Informs, Then}
 use Rattle.server.specs.Enqueuing.{Sets, IsDevice}
 use Rattle.server.specs.Happening.{Unanswered}
 use Rattle.server.specs.Closing.{IsGone}
@@ -27,9 +26,11 @@ IsDeviceAs ended device (Some e) = (device_of e.progress ≡ Some device) × (e.
 abbrev pub IsAlone : ℕ → ℕ → Ledger → Type 0
 IsAlone device key l = (other : ℕ) → other ≢ key → IsDevice device (l.entries other) → ⊥
 
--- the device has a connection under the key `other`, and `ended` says whether the input of that connection has ended
+-- the device has a connection under the key `other`, and under no lower key but this one; `ended` says whether the input
+-- of that connection has ended
 abbrev pub HasOther : Bool → ℕ → ℕ → ℕ → Ledger → Type 0
-HasOther ended device key other l = (other ≢ key) × IsDeviceAs ended device (l.entries other)
+HasOther ended device key other l =
+    (other ≢ key) × IsDeviceAs ended device (l.entries other) × ((lower : ℕ) → lower < other → lower ≢ key → IsDevice device (l.entries lower) → ⊥)
 
 -- the connection under a key is to be closed as by a fault, since its device has another connection
 abbrev pub GivesWayAt : ℕ → Option Entry → Rel
@@ -53,5 +54,5 @@ TakesOver moment old device name = Then (GivesWay old) (Then (IsGone moment (Som
 abbrev pub Greets : ℕ → ℕ → ℕ → ℕ → List ℕ → Rel
 Greets moment key id device name l hs l' =
     (IsAlone device key l × SaysName moment device name l hs l')
-    ⊎ (((other : ℕ) × HasOther true device key other l × Then (Chooses (On other)) (TakesOver moment other device name) l hs l')
+    ⊎ (((other : ℕ) × HasOther true device key other l × TakesOver moment other device name l hs l')
     ⊎ ((other : ℕ) × HasOther false device key other l × Then (GivesWay key) (Informs (DeviceRefused id (why.Connected device))) l hs l'))

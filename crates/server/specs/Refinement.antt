@@ -101,10 +101,11 @@ pub record AsksBy (key : ℕ) (what : Option ConnectionAsk) (old new : EngineSta
   pub stands : (l : Ledger) → Represents l old → (l' : Ledger) × AsksAs key what l l' × Represents l' new
   pub less : HasLess key what old new
 
--- the device gave its name on the connection under the key `other`, and `other` isn't `key`
+-- the device gave its name on the connection under the key `other`, which isn't `key`, and on none of a lower key but `key`
 pub record IsOther (device key other : ℕ) (e : EngineState) : Type 0 where
   pub apart : other ≢ key
   pub is : is_of e.slots device other ≡ true
+  pub lowest : (lower : ℕ) → lower < other → lower ≢ key → is_of e.slots device lower ≡ false
 
 -- as `RefinesQuietly`, for the closing of the connection under a key; fewer connections are open than before
 pub record RefinesClosing {S : Type 0} (moves : S → Happening → S → Type 0) (moment : ℕ) (fate : Fate) (key : ℕ) (world : S) (old : EngineState) (world' : S) (new : EngineState) : Type 0 where

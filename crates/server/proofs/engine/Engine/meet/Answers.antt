@@ -3,24 +3,23 @@ use Rattle.connections.specs.Slots.{ended_at}
 use Rattle.dispatcher.specs.declared.listener.DeviceRefusal.TheVariants as why
 use Rattle.dispatcher.specs.Notes.{DeviceRefused}
 use Rattle.server.specs.Greeting.{GivesWay}
-use Rattle.server.specs.Polls.{On}
 use Rattle.server.specs.Rel.{Rel, Tells, Then}
 use Rattle.server.specs.State.{EngineState}
-use Rattle.server.proofs.Steps.{quietly_as, quietly_chosen, quietly_then, quietly_from}
-use Rattle.server.proofs.Happening.{device_as_there, gives_way_to, tells}
+use Rattle.server.proofs.Steps.{quietly_as, quietly_then, quietly_from}
+use Rattle.server.proofs.Happening.{other_there, gives_way_to, tells}
 use Rattle.server.proofs.engine.Engine.meet.Goals as goal
 
 pub returns-then-has_ended : goal.returns-then-has_ended
 returns-then-has_ended g c =
     quietly_as _ _ _ _ _ _ _
-    (λ l hs l' fits fits' it. inr (inl (c.args.other, (c.requires.apart, device_as_there l c.args.self.now c.args.device c.args.other true fits c.requires.is (ap (λ (e : EngineState). ended_at e.slots c.args.other) (sym c.self.view_is) ∙ (sym c.has_ended.ensures ∙ c.if-has_ended.true))), it)))
-    (quietly_chosen _ (On c.args.other) _ _ _ _ _ c.take_over.ensures)
+    (λ l hs l' fits fits' it. inr (inl (c.args.other, other_there l c.args.self.now c.args.device c.args.asker.key c.args.other true fits c.requires (ap (λ (e : EngineState). ended_at e.slots c.args.other) (sym c.self.view_is) ∙ (sym c.has_ended.ensures ∙ c.if-has_ended.true)), it)))
+    c.take_over.ensures
 
 pub returns-else-has_ended : goal.returns-else-has_ended
 returns-else-has_ended g c =
     let R : Rel = Then (GivesWay c.args.asker.key) (Tells (DeviceRefused c.args.asker.id (why.Connected c.args.device))) in
     quietly_as _ R _ _ _ _ _
-    (λ l hs l' fits fits' it. inr (inr (c.args.other, (c.requires.apart, device_as_there l c.args.self.now c.args.device c.args.other false fits c.requires.is (ap (λ (e : EngineState). ended_at e.slots c.args.other) (sym c.self.view_is) ∙ (sym c.has_ended.ensures ∙ c.if-has_ended.false))), it)))
+    (λ l hs l' fits fits' it. inr (inr (c.args.other, other_there l c.args.self.now c.args.device c.args.asker.key c.args.other false fits c.requires (ap (λ (e : EngineState). ended_at e.slots c.args.other) (sym c.self.view_is) ∙ (sym c.has_ended.ensures ∙ c.if-has_ended.false)), it)))
     (quietly_then _ (GivesWay c.args.asker.key) (Tells (DeviceRefused c.args.asker.id (why.Connected c.args.device))) _ _ _ _ _ _
     (quietly_from _ _ _ _ _ _ _ _ c.self.view_is refl (gives_way_to _ _ _ c.give_way.new.connections.slots c.args.asker.key c.give_way.ensures))
     (tells _ _ _ _ _ c.device_refused.ensures))
