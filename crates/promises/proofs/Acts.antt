@@ -18,15 +18,14 @@ use Rattle.connections.specs.Choice.{Loss, part_of, lost_of, SameAsk, AsksOne}
 use Rattle.server.specs.Polls.{Happening, Polled, Told, Choice, Rested, Chosen}
 use Rattle.server.specs.Polls as As
 use Rattle.server.specs.Ledger.{Ledger, Fate, Broken, with_entry}
-use Rattle.server.specs.Rel.{Tells as Informs, Chooses, Then}
-use Rattle.server.specs.Enqueuing.{IsDevice}
+use Rattle.server.specs.Rel.{Tells as Informs, Then}
 use Rattle.server.specs.Happening.{Unanswered}
 use Rattle.server.specs.Closing.{Leaves, IsGone, ClosesAs, IsBroken, ClosesFirst, NoneBroken, Settles}
-use Rattle.server.specs.Greeting.{Tells, IsDeviceAs, IsAlone, HasOther, GivesWayAt, GivesWay, TakesOver, Greets}
+use Rattle.server.specs.Greeting.{Tells, IsAlone, HasOther, GivesWayAt, GivesWay, TakesOver, Greets}
 use Rattle.server.specs.Acting.{place_of, place_of_part, Asks, ActsOn, ActsNext}
 use Rattle.promises.specs.OneLedger.{StepsOnce, SameQueries}
 use Rattle.promises.proofs.Lowest.{as_device, other_one, one_ending}
-use Rattle.promises.proofs.Alike.{Alike, Fixed, fixed_nothing, fixed_tells, fixed_chooses, alike_then, first_one, same_choice, choice_one, then_one, apart, BeginsAs, begins_just, Begins, begins_chooses, begins_then, is_choice, fixed_until}
+use Rattle.promises.proofs.Alike.{Alike, Fixed, fixed_nothing, fixed_tells, alike_then, first_one, same_choice, then_one, begins_just, Begins, is_choice, fixed_until}
 use Rattle.promises.proofs.Due.{fixed_sets}
 use Rattle.promises.proofs.Events.{unanswered_alike, fixed_report}
 use Rattle.promises.proofs.Answers.{fixed_dropped, fixed_declines, same_answered}

@@ -12,11 +12,11 @@ use Rattle.connections.specs.Entry.{Entry, closes_of, broken, owing, needs_memor
 use Rattle.connections.specs.Steps.{http_status}
 use Rattle.server.specs.Polls.{Happening, Told, Found}
 use Rattle.server.specs.Ledger.{Ledger, with_entry, job_bytes}
-use Rattle.server.specs.Rel.{Chooses, Then}
+use Rattle.server.specs.Rel.{Chooses}
 use Rattle.server.specs.Enqueuing.{Sets, BreaksAt, Breaks, Drops, EnqueuesOpen, EnqueuesAt, EnqueuesWhere, Enqueues, EnqueuesReplyAt, EnqueuesResponse, EnqueuesStatus, EnqueuesOn}
 use Rattle.server.specs.Happening.{Sends, Starts, StartsAll}
 use Rattle.promises.proofs.Lowest.{lowest_one}
-use Rattle.promises.proofs.Alike.{Fixed, fixed_just, fixed_nothing, fixed_chooses, alike_then, Begins, begins_just, begins_then, begins_chooses, is_choice, choice_one, fixed_or, alike_if, fixed_each_of}
+use Rattle.promises.proofs.Alike.{Fixed, fixed_just, fixed_nothing, fixed_chooses, alike_then, Begins, begins_just, begins_then, begins_chooses, is_choice, fixed_or, alike_if, fixed_each_of}
 
 pub fixed_sets : (key : ℕ) (e : Entry) → Fixed (Sets key e)
 fixed_sets key e = fixed_just (λ l. []) (λ l. with_entry key e l)

@@ -10,7 +10,7 @@ use Rattle.connections.specs.Entry.{PeerRecord, Http, Queue, Link, Entry, device
 use Rattle.server.specs.Polls.{Happening}
 use Rattle.server.specs.Ledger.{Ledger, at_key, with_entry}
 use Rattle.server.specs.Enqueuing.{IsDevice}
-use Rattle.server.specs.Greeting.{IsDeviceAs, IsAlone, GivesWayAt, Greets}
+use Rattle.server.specs.Greeting.{IsAlone, GivesWayAt, Greets}
 use Rattle.promises.specs.Orders.{IsAt, run_notes}
 use Rattle.promises.specs.Answers.{ClientTalk}
 use Rattle.promises.proofs.Lowest.{as_device}

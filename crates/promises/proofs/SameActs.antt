@@ -15,19 +15,18 @@ use Rattle.connections.specs.declared.ask.Ask.TheVariants as ask
 use Rattle.connections.specs.declared.ask.Client.{Client}
 use Rattle.connections.specs.Choice.{SameAsk}
 use Rattle.connections.specs.Entry.{Entry, device_of, given_up}
-use Rattle.server.specs.Polls.{Happening, Told, Chosen}
+use Rattle.server.specs.Polls.{Happening}
 use Rattle.server.specs.Ledger.{Ledger, Fate, Broken}
-use Rattle.server.specs.Rel.{Tells as Informs, Chooses, Then}
-use Rattle.server.specs.Enqueuing.{IsDevice}
+use Rattle.server.specs.Rel.{Tells as Informs, Then}
 use Rattle.server.specs.Happening.{Unanswered}
 use Rattle.server.specs.Closing.{Leaves, IsGone, ClosesAs, ClosesFirst, NoneBroken, Settles}
-use Rattle.server.specs.Greeting.{Tells, IsDeviceAs, IsAlone, HasOther, GivesWayAt, GivesWay, TakesOver, Greets}
+use Rattle.server.specs.Greeting.{Tells, IsAlone, HasOther, GivesWayAt, GivesWay, TakesOver, Greets}
 use Rattle.server.specs.Acting.{place_of, place_of_part, ActsOn}
 use Rattle.promises.specs.Keyed.{keyed}
 use Rattle.promises.specs.OneLedger.{StepsOnce, SameQueries}
 use Rattle.promises.proofs.Lowest.{as_device, other_one, one_ending}
-use Rattle.promises.proofs.Same.{Calm, Same, One, same_nothing, same_tells, same_chooses, same_then, same_until, first_seen}
-use Rattle.promises.proofs.SameEvents.{same_sets, same_status, same_enqueues, same_on, on_first, unanswered_same, one_report, same_answered}
+use Rattle.promises.proofs.Same.{Calm, Same, One, same_nothing, same_tells, same_then, same_until}
+use Rattle.promises.proofs.SameEvents.{same_sets, same_status, same_enqueues, unanswered_same, one_report, same_answered}
 use Rattle.promises.proofs.Acts.{same_entry, same_number, broken_there, same_self}
 
 same_leaves : (fate : Fate) (key : ℕ) (e : Entry) → One (Leaves fate key e)

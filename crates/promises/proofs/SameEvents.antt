@@ -31,7 +31,7 @@ use Rattle.connections.specs.declared.ask.Client.{Client}
 use Rattle.connections.specs.declared.ask.Client.TheVariants as client
 use Rattle.connections.specs.Entry.{Entry, closes_of, broken, owing, needs_memory}
 use Rattle.connections.specs.Steps.{http_status}
-use Rattle.server.specs.Polls.{Happening, Told, Found, Chosen}
+use Rattle.server.specs.Polls.{Happening, Told, Found}
 use Rattle.server.specs.Ledger.{Ledger, with_entry, job_bytes}
 use Rattle.server.specs.Rel.{Rel, Tells, Chooses, Then, If, EachOf}
 use Rattle.server.specs.Enqueuing.{Sets, BreaksAt, Breaks, Drops, EnqueuesOpen, EnqueuesAt, EnqueuesWhere, Enqueues, EnqueuesReplyAt, EnqueuesResponse, EnqueuesStatus, EnqueuesOn}
@@ -41,7 +41,7 @@ use Rattle.server.specs.Turn as Between
 use Rattle.promises.specs.Keyed.{keyed}
 use Rattle.promises.specs.OneLedger.{StepsOnce}
 use Rattle.promises.proofs.Lowest.{lowest_one}
-use Rattle.promises.proofs.Same.{Calm, Same, One, keyed_append, calm_last, same_just, same_nothing, same_chooses, same_then_by, same_then, Refuses, refuses_just, refuses_then, same_or, same_if, same_each_of, first_seen}
+use Rattle.promises.proofs.Same.{Calm, Same, One, keyed_append, calm_last, same_just, same_nothing, same_chooses, same_then_by, same_then, Refuses, refuses_just, refuses_then, same_or, same_if, same_each_of}
 use Rattle.promises.proofs.Events.{SameOutcome, IsKept, kept_or, handled_one, same_undispatched, light_kept}
 use Rattle.promises.proofs.Answers.{same_bytes, same_text}
 

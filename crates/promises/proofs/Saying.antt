@@ -47,7 +47,7 @@ use Rattle.dispatcher.specs.Notes.{Note, DeviceRefused, Refused}
 use Rattle.ipp_operations.specs.QueueText.{ack_of, text_of}
 use Rattle.send_queues.specs.Reply.{http_reply}
 use Rattle.server.specs.Answering as Ans
-use Rattle.server.specs.Greeting.{GivesWayAt, GivesWay, SaysName, TakesOver, Greets}
+use Rattle.server.specs.Greeting.{GivesWayAt, GivesWay, SaysName, Greets}
 use Rattle.server.specs.Acting.{place_of, place_of_part, Asks, ActsOn, ActsNext}
 use Rattle.server.specs.Polls.{Happening, Choice, Found, Rested}
 use Rattle.server.specs.Ledger.{Ledger, Fate, Drained, Broken, at_key, job_bytes, opening_ledger}
