@@ -54,9 +54,9 @@ pub fn devices_are_heard()
 /// it are exactly those of its parts, turn by turn and call by call. On each open connection of a client that
 /// isn't broken, the bytes due are those of its acts, one after the other, from its first byte on: `100
 /// Continue` if a head invites a body, an acknowledgement or a refusal, or the reply that the run gave to an
-/// event that the connection asked for. The status 0x0505, and the byte 01 for a file or a job that can't be
-/// kept, each need a note that memory was refused on the connection of that number: for the event, for the
-/// reply to a query, or for the file. The byte 01 for a fault needs a fault in the bytes read. The events that
+/// event that the connection asked for. The status 0x0505, and the byte 01 for a file or a job for which memory
+/// was refused, each need a note of that on the connection of that number: for the event, for the reply to a
+/// query, or for the file. The byte 01 for a fault needs a fault in the bytes read. The events that
 /// the connection asked for, and these notes, are exactly those of its acts, in order. No act follows one
 /// after which the connection drains. On a connection that broke, the same holds for the acts before. On each
 /// connection, open or closed, the items acted on are a front of those that its bytes say: on an open one all
