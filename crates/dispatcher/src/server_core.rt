@@ -1,8 +1,9 @@
 //! The core and its calls.
-ghost use Rattle.std.specs.Prelude.{◌≡◌, IfOk, IsOk, OnErr, option_map, slice_get};
+ghost use Rattle.std.specs.Prelude.{◌≡◌, IfOk, IfSome, IsOk, OnErr, option_map, slice_get};
 ghost use Rattle.std.specs.Option.{option_copied};
 ghost use Rattle.settings_file.specs.Settings.{MeetsLimits};
 ghost use Rattle.spool.specs.Jobs.{job_at, spooled_at};
+ghost use Rattle.spool.specs.Calls.{unfinished_jobs};
 ghost use Rattle.print_room.specs.Opening.{opening};
 ghost use Rattle.dispatcher.specs.Step.{Step, TakesNoMemory};
 
@@ -14,8 +15,10 @@ use octets::Document;
 use plan_prices::Planner;
 use print_room::{PrintRoom, Started};
 use settings_file::Settings;
+use spool::SpooledJob;
 use std::alloc::{AllocError, Global};
 use std::marker::Model;
+use std::mem;
 
 /// The core: a print room and a planner. In clauses it is the record of the room.
 #[derive(Drop)]
@@ -43,12 +46,32 @@ impl<P: Planner + Drop> Core<P> {
         ensures { IfOk result (λ core. core ≡ opening settings 1) }
     {
         let first = JobId::new(JobId::FIRST).unwrap();
+        Core::starting_at(alloc, settings, planner, first)
+    }
+
+    /// As [`Core::new`], but the first job gets the id `first`.
+    pub fn starting_at(
+        alloc: Global,
+        settings: Settings,
+        planner: P,
+        first: JobId,
+    ) -> Result<Core<P>, AllocError>
+        requires { MeetsLimits settings }
+        ensures { IfOk result (λ core. core ≡ opening settings first) }
+    {
         let room = PrintRoom::new(alloc, settings, first)?;
         Ok(Core {
             room,
             planner,
             alloc,
         })
+    }
+
+    /// Exchanges the planner for another.
+    pub fn swap_planner(&mut self, planner: &mut P)
+        ensures { self.new ≡ self.old }
+    {
+        mem::swap(&mut self.planner, planner);
     }
 
     /// Takes the step of an event at a moment; if that is before the last moment, at the last moment.
@@ -92,6 +115,27 @@ impl<P: Planner + Drop> Core<P> {
         ensures { option_copied result ≡ job_at id self.now.spool.jobs }
     {
         self.room.spool().get(id)
+    }
+
+    /// The jobs that are kept, by rising id. The call takes no memory.
+    pub fn jobs(&self) -> &[SpooledJob]
+        ensures { result.now ≡ self.now.spool.jobs }
+    {
+        self.room.spool().jobs()
+    }
+
+    /// The number of jobs that are neither canceled, aborted nor completed. The call takes no memory.
+    pub fn unfinished_jobs(&self) -> usize
+        ensures { result ≡ unfinished_jobs self.now.spool.jobs }
+    {
+        self.room.spool().unfinished()
+    }
+
+    /// The id of the next job; `None` once all ids are used. The call takes no memory.
+    pub fn next_job_id(&self) -> Option<JobId>
+        ensures { IfSome result (λ id. id ≡ self.now.spool.next) }
+    {
+        self.room.spool().next_id()
     }
 
     /// The states of the devices, in the order of the settings. The call takes no memory.

@@ -24,7 +24,7 @@ use Rattle.server.specs.Acting.{Asks}
 use Rattle.server.specs.Closing.{ClosesAt}
 use Rattle.server.specs.Polling.{IsHeardAt}
 use Rattle.server.specs.State.{EngineState, slot_at, with_slots}
-use Rattle.server.specs.Turn.{Turned, Served_body, Action, Trace, Allows, has_refusal, Outcome, Replied, BadRequest, OutOfMemory, served_as, IsBytes}
+use Rattle.server.specs.Turn.{Turn, Turned, Served_body, Action, Trace, Allows, has_refusal, Outcome, Replied, BadRequest, OutOfMemory, served_as, IsBytes}
 
 abbrev pub RepresentsOpen : Option Entry → Option ConnectionState → Type 0
 RepresentsOpen None None = Unit {0}
@@ -123,10 +123,11 @@ RefinesAnyFate moves moment key world old world' new =
 abbrev pub StandsAt : State → Trace → EngineState → Type 0
 StandsAt opening trace engine = (l : Ledger) × Allows trace (opening_ledger opening) l × Represents l engine
 
--- a turn leads the world on; if the old engine stands at a trace, the new engine stands at the trace and then this turn
+-- A turn leads the world on. It leads each ledger that represents the old engine to a ledger that represents the new engine. If the old engine stands at a trace, the new engine stands at the trace and then this turn.
 pub record RefinesTurn {S : Type 0} (moves : S → Happening → S → Type 0) (moment : ℕ) (world : S) (old : EngineState) (world' : S) (new : EngineState) : Type 0 where
   pub happenings : List Happening
   pub leads : Leads moves world happenings world'
+  pub turns : (l : Ledger) → Represents l old → (l' : Ledger) × Seen (Turn moment) l happenings l' × Represents l' new
   pub stands : (opening : State) (trace : Trace) → StandsAt opening trace old → StandsAt opening (trace ++ Turned moment happenings ∷ []) new
 
 -- as `RefinesTurn`, for a call between turns; the call fails if and only if memory was refused

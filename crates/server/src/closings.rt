@@ -1,5 +1,5 @@
 //! The closings of connections.
-ghost use Rattle.std.specs.Prelude.{◌≡◌, false, ℕ, IfSome, IfNone};
+ghost use Rattle.std.specs.Prelude.{◌≡◌, false, ℕ, IfSome, IfNone, IsTrue};
 ghost use Rattle.server.specs.World.{moved};
 ghost use Rattle.server.specs.Closing.{Settles};
 ghost use Rattle.server.specs.Polling.{Fails, EndsOne};
@@ -26,6 +26,13 @@ impl<P: Planner + Drop> Engine<P> {
             }
         }
         None
+    }
+
+    /// Returns whether no connection is broken. Connections break between turns where memory is refused.
+    pub fn is_settled(&self) -> bool
+        ensures { IsTrue result → (key : ℕ) → broken_at self.now.slots key ≡ false }
+    {
+        self.first_broken().is_none()
     }
 
     /// Closes the connection under a key. If a device gave its name on the connection, the core gets the report

@@ -1,9 +1,10 @@
 //! The engine of a server.
-ghost use Rattle.std.specs.Prelude.{◌≡◌, [], IfOk, slice_get};
+ghost use Rattle.std.specs.Prelude.{◌≡◌, ◌==◌, [], IfOk, IfSome, slice_get, count_by, is_some};
 ghost use Rattle.std.specs.Option.{option_copied};
 ghost use Rattle.settings_file.specs.Settings.{MeetsLimits};
 ghost use Rattle.print_room.specs.Opening.{opening};
 ghost use Rattle.spool.specs.Jobs.{job_at};
+ghost use Rattle.spool.specs.Calls.{unfinished_jobs};
 ghost use Rattle.server.specs.Polls.{both};
 ghost use Rattle.server.specs.State.{EngineState};
 ghost use Rattle.server.specs.Refinement.{StandsAt, RefinesTurn};
@@ -11,11 +12,13 @@ ghost use Rattle.server.specs.Refinement.{StandsAt, RefinesTurn};
 use crate::world::World;
 use base_types::{DeviceId, DeviceNow, JobId, Moment};
 use connections::Connection;
+use connections::table::key_of;
 use dispatcher::{Core, Listener};
 use job_objects::Job;
 use plan_prices::Planner;
 use settings_file::Settings;
 use slab::Slab;
+use spool::SpooledJob;
 use std::alloc::{AllocError, Global};
 use std::marker::Model;
 use wires::Wire;
@@ -47,7 +50,21 @@ impl<P: Planner + Drop> Engine<P> {
         requires { MeetsLimits settings }
         ensures { IfOk result (StandsAt (opening settings 1) []) }
     {
-        let core = Core::new(alloc, settings, planner)?;
+        let first = JobId::new(JobId::FIRST).unwrap();
+        Engine::starting_at(alloc, settings, planner, first)
+    }
+
+    /// As [`Engine::new`], but the first job gets the id `first`.
+    pub fn starting_at(
+        alloc: Global,
+        settings: Settings,
+        planner: P,
+        first: JobId,
+    ) -> Result<Engine<P>, AllocError>
+        requires { MeetsLimits settings }
+        ensures { IfOk result (StandsAt (opening settings first) []) }
+    {
+        let core = Core::starting_at(alloc, settings, planner, first)?;
         let connections = Slab::new(alloc);
         Ok(Engine {
             core,
@@ -68,6 +85,52 @@ impl<P: Planner + Drop> Engine<P> {
     {
         let mut world = World { wire, notes };
         self.turn_once(moment, &mut world);
+    }
+
+    /// Exchanges the planner for another.
+    pub fn swap_planner(&mut self, planner: &mut P)
+        ensures { self.new ≡ self.old }
+    {
+        self.core.swap_planner(planner);
+    }
+
+    /// Returns whether no connection is open.
+    pub fn is_unconnected(&self) -> bool
+        ensures { result ≡ (count_by is_some self.now.slots == 0) }
+    {
+        self.connections.len() == 0
+    }
+
+    /// Returns whether a connection is open on which no device gave its name.
+    pub fn has_client(&self) -> bool {
+        let mut named = 0_usize;
+        for place in 0..self.core.devices().len() {
+            if key_of(&self.connections, DeviceId::new(place)).is_some() {
+                named = named.saturating_add(1);
+            }
+        }
+        self.connections.len() > named
+    }
+
+    /// The jobs that are kept, by rising id. No memory is taken.
+    pub fn jobs(&self) -> &[SpooledJob]
+        ensures { result.now ≡ self.now.core.spool.jobs }
+    {
+        self.core.jobs()
+    }
+
+    /// The number of jobs that are neither canceled, aborted nor completed. No memory is taken.
+    pub fn unfinished_jobs(&self) -> usize
+        ensures { result ≡ unfinished_jobs self.now.core.spool.jobs }
+    {
+        self.core.unfinished_jobs()
+    }
+
+    /// The id of the next job; `None` once all ids are used. No memory is taken.
+    pub fn next_job_id(&self) -> Option<JobId>
+        ensures { IfSome result (λ id. id ≡ self.now.core.spool.next) }
+    {
+        self.core.next_job_id()
     }
 
     /// The job of an id, if it is kept. No memory is taken.

@@ -27,8 +27,8 @@ impl<P: Planner + Drop> Engine<P> {
         }
     }
 
-    /// Returns whether a tick is due.
-    fn is_tick_due(&self, moment: Moment) -> bool
+    /// Returns whether a tick is due in a turn at a moment.
+    pub fn is_tick_due(&self, moment: Moment) -> bool
         ensures { result ≡ is_due (max moment self.now.core.last) self.now.ticked self.now.undispatched }
     {
         let now = moment.later(self.core.last());

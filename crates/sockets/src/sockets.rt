@@ -408,6 +408,17 @@ impl Sockets {
         }
     }
 
+    /// Closes all connections. These closes are no calls of the wire.
+    pub fn close_all(&mut self)
+        ensures { self.new.history ≡ self.old.history }
+    {
+        for key in 0..self.links.capacity() {
+            if let Ok(id) = u32::try_from(key) {
+                self.remove(id);
+            }
+        }
+    }
+
     /// Removes the connection of a number, if there is one.
     fn remove(&mut self, id: WireId)
         ensures { self.new.history ≡ self.old.history }
