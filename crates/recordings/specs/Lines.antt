@@ -4,7 +4,7 @@ use Rattle.std.specs.Fmt.{decimal}
 use Rattle.wires.specs.declared.wire.Door.{Door}
 use Rattle.wires.specs.Door.{door_word}
 use Rattle.recordings.specs.declared.entry.Entry.{Entry}
-use Rattle.recordings.specs.declared.entry.Entry.TheVariants.{Accepted, Came, Octets, Zeros, Ended, Failed, Sent, Shut, Broken, Closed, Refused, Turn}
+use Rattle.recordings.specs.declared.entry.Entry.TheVariants.{Accepted, Came, Octets, Zeros, Ended, Failed, Sent, Shut, Broken, Closed, Refused, Restarted, Turn}
 use Rattle.recordings.specs.Data.{escaped}
 
 -- a word, a space and a number
@@ -65,6 +65,7 @@ entry_line (Shut id) = line_about (codes "shut") id
 entry_line (Broken id) = line_about (codes "break") id
 entry_line (Closed id) = line_about (codes "close") id
 entry_line Refused = codes "refused\n"
+entry_line Restarted = codes "restarted\n"
 entry_line (Turn moment) = turn_line moment
 
 -- the line, without its line feed, is that of an entry

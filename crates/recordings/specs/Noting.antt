@@ -1,5 +1,5 @@
 -- The notes of calls.
-use Rattle.std.specs.Prelude.{ℕ, ◌≡◌, ◌⊎◌, Bool, true, false, List, [], ◌++◌, Option, None, option_map, codes}
+use Rattle.std.specs.Prelude.{ℕ, ◌≡◌, ◌==◌, ◌&&◌, ◌⊎◌, Bool, true, false, List, [], ◌∷◌, ◌++◌, Option, None, option_map, codes}
 use Rattle.wires.specs.declared.wire.Progress.{Progress}
 use Rattle.wires.specs.declared.wire.Progress.TheVariants.{Done, Waiting, End, Fault}
 use Rattle.wires.specs.Poll.{Poll, Accepts, Reads, Writes, Closes}
@@ -30,9 +30,27 @@ abbrev pub end_of : ℕ → Bool → List ℕ
 end_of moment true = codes "refused\n" ++ turn_line moment
 end_of moment false = turn_line moment
 
+-- whether the bytes are whole lines, each of which begins with `#`; `true` if a line begins with the first byte
+abbrev pub are_comments_from : Bool → List ℕ → Bool
+are_comments_from start [] = start
+are_comments_from true (byte ∷ bytes) = (byte == 35) && are_comments_from false bytes
+are_comments_from false (byte ∷ bytes) = are_comments_from (byte == 10) bytes
+
+-- whether the bytes are comments: whole lines, each of which begins with `#`
+abbrev pub are_comments : List ℕ → Bool
+are_comments bytes = are_comments_from true bytes
+
 -- the notes with a line behind them; none if there are no notes
 abbrev pub with_note : List ℕ → Option (List ℕ) → Option (List ℕ)
 with_note line noted = option_map (λ before. before ++ line) noted
+
+-- the line of a turn in which a server that had been restarted lost its connections
+abbrev pub restarted_line : List ℕ
+restarted_line = codes "restarted\n"
+
+-- comments are noted, or the notes are lost
+abbrev pub NotesComments : List ℕ → Option (List ℕ) → Option (List ℕ) → Type 0
+NotesComments comments old new = (new ≡ None) ⊎ ((are_comments comments ≡ true) × (new ≡ with_note comments old))
 
 -- the end of a turn is noted, or the notes are lost
 abbrev pub EndsTurn : ℕ → Bool → Option (List ℕ) → Option (List ℕ) → Type 0

@@ -34,6 +34,8 @@ pub enum Entry {
     Closed(WireId),
     /// Memory was refused to the server.
     Refused,
+    /// The server had been restarted: it lost its connections in this turn, and made no plan.
+    Restarted,
     /// A turn at this moment ended.
     Turn(Moment),
 }
@@ -250,6 +252,9 @@ fn read_plain(line: &[u8]) -> Option<Entry> {
     }
     if line == b"refused".as_slice() {
         return Some(Entry::Refused);
+    }
+    if line == b"restarted".as_slice() {
+        return Some(Entry::Restarted);
     }
     read_about(line)
 }

@@ -15,9 +15,11 @@
 
 mod blanked;
 mod blanker;
+mod comments;
 mod data;
 mod entry;
 mod http_stream;
+mod lines;
 mod lpd_stream;
 mod message;
 mod note;
@@ -25,10 +27,16 @@ mod note_lines;
 mod noted;
 mod parts;
 mod script;
+mod start;
 mod sum;
 mod write;
 
+pub use comments::are_comments;
 pub use entry::{Accepted, Came, CameZeros, Entry, Sent, octets_behind, read_entry};
+pub use lines::{LineReader, fill};
 pub use noted::{NoteText, Noted};
 pub use script::{Moved, Script, Scripted, ServerCall, Stray};
-pub use write::{GOES_ON, put_entry, put_goes_on, put_start, put_turn};
+pub use start::{Start, read_start};
+pub use write::{
+    GOES_ON, STARTED, put_base, put_entry, put_goes_on, put_start, put_started, put_turn,
+};

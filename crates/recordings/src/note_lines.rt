@@ -1,9 +1,10 @@
 //! The store of the lines of calls.
-ghost use Rattle.std.specs.Prelude.{◌≡◌, ◌⊎◌, ℕ, List, Some, None, [], OnOk, length, option_map};
+ghost use Rattle.std.specs.Prelude.{◌≡◌, ◌⊎◌, ℕ, List, Some, None, [], OnOk, length, option_map, is_some};
 ghost use Rattle.wires.specs.Poll.{Accepts, Reads, Writes, Closes, bytes_read, IsCount};
-ghost use Rattle.recordings.specs.Noting.{note_of, written_note, end_of, with_note, NotesLine, EndsTurn};
+ghost use Rattle.recordings.specs.Noting.{note_of, written_note, end_of, restarted_line, with_note, NotesLine, NotesComments, EndsTurn};
 
 use crate::blanked::Blanked;
+use crate::comments::are_comments;
 use crate::note::{put_accept, put_end, put_read, put_write};
 use crate::write::{put_blanked, put_line};
 use base_types::Moment;
@@ -16,8 +17,6 @@ use wires::{Door, Progress, WireId};
 pub(crate) struct NoteLines {
     text: Vec<u8>,
     keeps: bool,
-    /// The number of bytes of the turns that have ended.
-    whole: usize,
 }
 
 impl Model for NoteLines {
@@ -36,7 +35,6 @@ impl NoteLines {
         NoteLines {
             text: Vec::new(alloc),
             keeps: false,
-            whole: 0,
         }
     }
 
@@ -45,30 +43,38 @@ impl NoteLines {
         ensures { self.new ≡ Some [] }
     {
         self.text.clear();
-        self.whole = 0;
         self.keeps = true;
     }
 
     /// Returns whether lines are kept.
-    pub(crate) fn keeps(&self) -> bool {
+    pub(crate) fn keeps(&self) -> bool
+        ensures { result ≡ is_some self.now }
+    {
         self.keeps
     }
 
     /// The lines, which have a meaning only while lines are kept.
-    pub(crate) fn text(&self) -> &[u8] {
+    pub(crate) fn text(&self) -> &[u8]
+        ensures { (text : List ℕ) → self.now ≡ Some text → result.now ≡ text }
+    {
         &self.text
     }
 
-    /// Returns whether a call was noted since the last turn ended.
-    pub(crate) fn has_call(&self) -> bool {
-        self.whole < self.text.len()
+    /// Appends whole lines, each of which begins with `#`. If these aren't such lines or memory is refused, no
+    /// lines are kept any more.
+    pub(crate) fn comment(&mut self, lines: &[u8])
+        ensures { NotesComments lines.now self.old self.new }
+    {
+        if !are_comments(lines) || self.note_text(lines).is_err() {
+            self.stop();
+        }
     }
 
-    /// Appends whole lines, each of which is a comment. If memory is refused, no lines are kept any more.
-    pub(crate) fn comment(&mut self, lines: &[u8])
-        ensures { (self.new ≡ None) ⊎ (self.new ≡ with_note lines.now self.old) }
+    /// Notes that the server lost its connections, since it had been restarted.
+    pub(crate) fn restarted(&mut self)
+        ensures { (self.new ≡ None) ⊎ (self.new ≡ with_note restarted_line self.old) }
     {
-        if self.keeps && self.text.extend_from_slice(lines).is_err() {
+        if self.note_text(b"restarted\n").is_err() {
             self.stop();
         }
     }
@@ -78,7 +84,6 @@ impl NoteLines {
         ensures { self.new ≡ option_map (λ text. []) self.old }
     {
         self.text.clear();
-        self.whole = 0;
     }
 
     /// Stops keeping lines.
@@ -86,7 +91,6 @@ impl NoteLines {
         ensures { self.new ≡ None }
     {
         self.text.clear();
-        self.whole = 0;
         self.keeps = false;
     }
 
@@ -98,7 +102,6 @@ impl NoteLines {
         if self.note_end(moment, refused).is_err() {
             self.stop();
         }
-        self.whole = self.text.len();
     }
 
     /// Notes an accept with its answer.
@@ -143,6 +146,17 @@ impl NoteLines {
         if self.note_close(id).is_err() {
             self.stop();
         }
+    }
+
+    /// Appends a text. The only error is out of memory.
+    fn note_text(&mut self, text: &[u8]) -> Result<(), AllocError>
+        ensures { OnOk result (self.new ≡ with_note text.now self.old) }
+    {
+        if !self.keeps {
+            return Ok(());
+        }
+        self.text.extend_from_slice(text)?;
+        Ok(())
     }
 
     /// Appends the lines of the end of a turn. The only error is out of memory.

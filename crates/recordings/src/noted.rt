@@ -1,8 +1,8 @@
 //! A wire that notes its calls.
-ghost use Rattle.std.specs.Prelude.{◌≡◌, ◌⊎◌, Some, None, [], length, option_map, false};
+ghost use Rattle.std.specs.Prelude.{◌≡◌, ◌⊎◌, ℕ, List, Some, None, [], length, option_map, is_some, false};
 ghost use Rattle.std.specs.Io.Slices.{io_slices_bytes};
 ghost use Rattle.wires.specs.Poll.{Accepts, Reads, Writes, Closes, bytes_read, IsCount};
-ghost use Rattle.recordings.specs.Noting.{NoteState, Notes, EndsTurn, with_note};
+ghost use Rattle.recordings.specs.Noting.{NoteState, Notes, NotesComments, EndsTurn, with_note, restarted_line};
 
 use crate::blanked::Blanked;
 use crate::blanker::Blanker;
@@ -66,26 +66,34 @@ impl NoteText {
     }
 
     /// Returns whether lines are kept.
-    pub fn keeps(&self) -> bool {
+    pub fn keeps(&self) -> bool
+        ensures { result ≡ is_some self.now.lines }
+    {
         self.lines.keeps()
     }
 
     /// The lines, which have a meaning only while lines are kept.
-    pub fn text(&self) -> &[u8] {
+    pub fn text(&self) -> &[u8]
+        ensures { (text : List ℕ) → self.now.lines ≡ Some text → result.now ≡ text }
+    {
         self.lines.text()
     }
 
-    /// Returns whether a call was noted since the last turn ended.
-    pub fn has_call(&self) -> bool {
-        self.lines.has_call()
-    }
-
-    /// Appends whole lines, each of which is a comment. If memory is refused, no lines are kept any more.
+    /// Appends comments: whole lines, each of which begins with `#`. If these aren't such lines or memory is
+    /// refused, no lines are kept any more.
     pub fn comment(&mut self, lines: &[u8])
-        ensures lines { (self.new.lines ≡ None) ⊎ (self.new.lines ≡ with_note lines.now self.old.lines) }
+        ensures lines { NotesComments lines.now self.old.lines self.new.lines }
         ensures heads { self.new.heads ≡ self.old.heads }
     {
         self.lines.comment(lines);
+    }
+
+    /// Notes that the server lost its connections in this turn, since it had been restarted.
+    pub fn restarted(&mut self)
+        ensures lines { (self.new.lines ≡ None) ⊎ (self.new.lines ≡ with_note restarted_line self.old.lines) }
+        ensures heads { self.new.heads ≡ self.old.heads }
+    {
+        self.lines.restarted();
     }
 
     /// Removes all lines.

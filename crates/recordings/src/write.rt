@@ -6,7 +6,7 @@ ghost use Rattle.recordings.specs.Lines.{about, line_about, accept_line, read_li
 use crate::blanked::Blanked;
 use crate::data::put_data;
 use crate::entry::{Accepted, Entry, Sent};
-use base_types::Moment;
+use base_types::{JobId, Moment};
 use itoa::Buffer;
 use std::alloc::AllocError;
 use wires::{Door, WireId};
@@ -16,6 +16,9 @@ const MANY: usize = 1024;
 
 /// The front of the first line of a file that continues another file.
 pub const GOES_ON: &[u8] = b"#goes on behind ";
+
+/// The front of the line of a server that was started, in a file that continues another file.
+pub const STARTED: &[u8] = b"#started ";
 
 /// Appends the digits of a number.
 fn put_number(output: &mut Vec<u8>, number: u64) -> Result<(), AllocError>
@@ -148,6 +151,14 @@ pub(crate) fn put_refused(output: &mut Vec<u8>) -> Result<(), AllocError>
     Ok(())
 }
 
+/// Appends the line `restarted`: the server lost its connections, since it had been restarted.
+pub(crate) fn put_restarted(output: &mut Vec<u8>) -> Result<(), AllocError>
+    ensures { OnOk result (output.new.items ≡ output.old.items ++ codes "restarted\n") }
+{
+    output.extend_from_slice(b"restarted\n")?;
+    Ok(())
+}
+
 /// Appends the line of an entry.
 pub fn put_entry(output: &mut Vec<u8>, entry: &Entry) -> Result<(), AllocError>
     ensures { OnOk result (output.new.items ≡ output.old.items ++ entry_line entry.now) }
@@ -164,8 +175,27 @@ pub fn put_entry(output: &mut Vec<u8>, entry: &Entry) -> Result<(), AllocError>
         Entry::Broken(id) => put_line(output, b"break", u64::from(*id)),
         Entry::Closed(id) => put_line(output, b"close", u64::from(*id)),
         Entry::Refused => put_refused(output),
+        Entry::Restarted => put_restarted(output),
         Entry::Turn(moment) => put_turn(output, *moment),
     }
+}
+
+/// Appends the settings, the point behind them, and the front of the line behind it: the start of the server in ms
+/// since the beginning of 1970, and its version.
+fn put_settings(
+    output: &mut Vec<u8>,
+    settings: &[u8],
+    began: u64,
+    version: &str,
+) -> Result<(), AllocError> {
+    output.extend_from_slice(settings)?;
+    if settings.last() != Some(&b'\n') {
+        output.extend_from_slice(b"\n")?;
+    }
+    output.extend_from_slice(b".\n")?;
+    put_about(output, b"recorded", began)?;
+    output.extend_from_slice(b" ")?;
+    output.extend_from_slice(version.as_bytes())
 }
 
 /// Appends the lines before the turns: the settings, the point behind them, and a line with the start of the
@@ -177,20 +207,35 @@ pub fn put_start(
     version: &str,
     heads: bool,
 ) -> Result<(), AllocError> {
-    output.extend_from_slice(settings)?;
-    if settings.last() != Some(&b'\n') {
-        output.extend_from_slice(b"\n")?;
-    }
-    output.extend_from_slice(b".\n")?;
-    put_about(output, b"recorded", began)?;
-    output.extend_from_slice(b" ")?;
-    output.extend_from_slice(version.as_bytes())?;
+    put_settings(output, settings, began, version)?;
     output.extend_from_slice(if heads { b" heads\n" } else { b"\n" })
+}
+
+/// Appends the lines before the turns, as [`put_start`] does, of a server whose first job gets the id `first`.
+pub fn put_base(
+    output: &mut Vec<u8>,
+    settings: &[u8],
+    began: u64,
+    version: &str,
+    first: JobId,
+) -> Result<(), AllocError> {
+    put_settings(output, settings, began, version)?;
+    put_line(output, b" first", u64::from(first.number()))
 }
 
 /// Appends the line before the turns of a file that continues the file `name`.
 pub fn put_goes_on(output: &mut Vec<u8>, name: &[u8]) -> Result<(), AllocError> {
     output.extend_from_slice(GOES_ON)?;
     output.extend_from_slice(name)?;
+    output.extend_from_slice(b"\n")
+}
+
+/// Appends the line behind that of [`put_goes_on`] where a server was started: the start in ms since the beginning
+/// of 1970, and its version.
+pub fn put_started(output: &mut Vec<u8>, began: u64, version: &str) -> Result<(), AllocError> {
+    output.extend_from_slice(STARTED)?;
+    put_number(output, began)?;
+    output.extend_from_slice(b" ")?;
+    output.extend_from_slice(version.as_bytes())?;
     output.extend_from_slice(b"\n")
 }
