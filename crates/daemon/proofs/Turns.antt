@@ -1,32 +1,56 @@
 -- Turns of a server, one after the other.
-use Rattle.std.proofs.Common.{◌≡◌, ℕ, List, [], ◌∷◌, ◌++◌, ◌∙◌, refl, sym, ap, subst, append_assoc, append-nil}
+use Rattle.std.proofs.Common.{◌≡◌, ℕ, Bool, List, [], ◌∷◌, ◌++◌, ◌∙◌, refl, sym, ap, subst, append_assoc, append-nil, Option, Some, None, inr}
 use Rattle.wires.specs.Poll.{Poll}
 use Rattle.print_room.specs.State.{State}
-use Rattle.recordings.specs.Noting.{NoteState}
+use Rattle.recordings.specs.Noting.{NoteState, with_note}
 use Rattle.server.specs.Law.{happenings_in}
 use Rattle.server.specs.Polls.{Happening, Polled, Told, Chosen}
 use Rattle.server.specs.State.{EngineState}
 use Rattle.server.specs.Turn.{Trace, Turned}
-use Rattle.server.specs.Refinement.{StandsAt}
+use Rattle.server.specs.Refinement.{Represents, StandsAt}
+use Rattle.journal.specs.declared.gate.Pass.{Pass}
+use Rattle.journal.specs.declared.gate.Pass.TheVariants.{All}
+use Rattle.journal.specs.Passing.{calls_in, passed}
 use Rattle.daemon.specs.declared.serving.Server.{Server}
-use Rattle.daemon.specs.Serving.{calls_of, calls_in, AreNoted, TakesTurn, Idles, AddsLines, ServesTurn, ServesTurns, HasTurned}
+use Rattle.daemon.specs.Serving.{calls_of, AreNoted, TakesTurn, Idles, Rests, AddsLines, ServesTurn, ServesTurns, HasTurned}
+use Rattle.daemon.proofs.Gates.{all_passed}
 
 pub idles_then : (a b c : Server) → Idles a b → Idles b c → Idles a c
-idles_then a b c first then = (then.0 ∙ first.0, then.1 ∙ first.1)
+idles_then a b c first then = (then.0 ∙ first.0, then.1 ∙ first.1, then.2 ∙ first.2)
 
--- before the turn the server idles, and its notes stay
-after_idle : (moment : ℕ) (a b c : Server) → Idles a b → b.wire.notes ≡ a.wire.notes → TakesTurn moment b c → TakesTurn moment a c
-after_idle moment a b c idles noted turn = record {
+no_lines : (noted : Option (List ℕ)) → noted ≡ with_note [] noted
+no_lines None = refl
+no_lines (Some text) = ap Some (sym (append-nil text))
+
+adds_none : (noted : NoteState) → AddsLines noted noted
+adds_none noted = inr ([], no_lines noted.lines)
+
+-- before the turn the server rests
+pub after_rest : (pass : Pass) (moment : ℕ) (told : Bool) (a b c : Server) → Rests a b → TakesTurn pass moment told b c → TakesTurn pass moment told a c
+after_rest pass moment told a b c (idles, noted) turn = record {
   happenings = turn.happenings;
+  turns = λ l fits. turn.turns l (subst (λ (e : EngineState). Represents l e) (sym idles.0) fits);
   stands = λ opening trace stands. turn.stands opening trace (subst (λ (e : EngineState). StandsAt opening trace e) (sym idles.0) stands);
-  calls = turn.calls ∙ ap (λ (polls : List Poll). polls ++ calls_in turn.happenings) idles.1;
+  are_passed = turn.are_passed;
+  calls = turn.calls ∙ ap (λ (polls : List Poll). polls ++ passed pass (calls_in turn.happenings)) idles.1;
   notes = subst (λ (n : NoteState). AreNoted (calls_in turn.happenings) n c.wire.notes) noted turn.notes;
+  untold = turn.untold;
+  journaled = turn.journaled ∙ idles.2;
 }
 
 -- a turn of the engine, and what a server does before and after it
-pub serves_turn : (moment : ℕ) (a b c d e : Server) → Idles a b → b.wire.notes ≡ a.wire.notes → TakesTurn moment b c → Idles c d → d.wire.notes ≡ c.wire.notes → Idles d e → AddsLines d.wire.notes e.wire.notes → ServesTurn moment a e
-serves_turn moment a b c d e before kept turn idles noted then lines =
-    (c, after_idle moment a b c before kept turn, idles_then c d e idles then, subst (λ (n : NoteState). AddsLines n e.wire.notes) noted lines)
+pub serves_turn : (pass : Pass) (moment : ℕ) (told : Bool) (a b c d e : Server) → Rests a b → TakesTurn pass moment told b c → Rests c d → Idles d e → AddsLines d.wire.notes e.wire.notes → ServesTurn pass moment a e
+serves_turn pass moment told a b c d e before turn rests then lines =
+    (told, c, after_rest pass moment told a b c before turn, idles_then c d e rests.0 then, subst (λ (n : NoteState). AddsLines n e.wire.notes) rests.1 lines)
+
+-- a turn of the engine, before and after which a server rests
+pub serves_still : (pass : Pass) (moment : ℕ) (told : Bool) (a b c d : Server) → Rests a b → TakesTurn pass moment told b c → Rests c d → ServesTurn pass moment a d
+serves_still pass moment told a b c d before turn rests = serves_turn pass moment told a b c d d before turn rests (refl, refl, refl) (adds_none d.wire.notes)
+
+-- a turn, and then the server rests
+pub then_rests : (pass : Pass) (moment : ℕ) (a b c : Server) → ServesTurn pass moment a b → Rests b c → ServesTurn pass moment a c
+then_rests pass moment a b c (told, turned, turn, idles, lines) rests =
+    (told, turned, turn, idles_then turned b c idles rests.0, subst (λ (n : NoteState). AddsLines turned.wire.notes n) (sym rests.1) lines)
 
 -- ---- lists of turns
 
@@ -39,7 +63,7 @@ idles_last [] a b c turns idles = idles_then a b c turns idles
 idles_last (moment ∷ moments) a b c (begun, turned, first, turn, later) idles = (begun, turned, first, turn, idles_last moments turned b c later idles)
 
 -- one more turn, and then the server idles
-pub one_more : (moments : List ℕ) (moment : ℕ) (a b c d : Server) → ServesTurns moments a b → ServesTurn moment b c → Idles c d → ServesTurns (moments ++ moment ∷ []) a d
+pub one_more : (moments : List ℕ) (moment : ℕ) (a b c d : Server) → ServesTurns moments a b → ServesTurn All moment b c → Idles c d → ServesTurns (moments ++ moment ∷ []) a d
 one_more [] moment a b c d first turn idles = (b, c, first, turn, idles)
 one_more (at ∷ moments) moment a b c d (begun, turned, first, one, later) turn idles = (begun, turned, first, one, one_more moments moment turned b c d later turn idles)
 
@@ -64,7 +88,7 @@ has_turned opening trace [] old new stands idles = record {
   stands = subst (λ (t : Trace). StandsAt opening t new.engine) (sym (append-nil trace)) (subst (λ (e : EngineState). StandsAt opening trace e) (sym idles.0) stands);
   calls = idles.1 ∙ sym (append-nil (calls_of old));
 }
-has_turned opening trace (moment ∷ moments) old new stands (begun, served, first, (turned, turn, idles, lines), later) =
+has_turned opening trace (moment ∷ moments) old new stands (begun, served, first, (told, turned, turn, idles, lines), later) =
     let At = λ (t : Trace) (e : EngineState). StandsAt opening t e in
     let after = trace ++ Turned moment turn.happenings ∷ [] in
     let stood = subst (At trace) (sym first.0) stands in
@@ -73,5 +97,5 @@ has_turned opening trace (moment ∷ moments) old new stands (begun, served, fir
       turns = Turned moment turn.happenings ∷ rest.turns;
       are_at = (refl, rest.are_at);
       stands = subst (λ (t : Trace). StandsAt opening t new.engine) (append_assoc trace (Turned moment turn.happenings ∷ []) rest.turns) rest.stands;
-      calls = all_calls turn.happenings (happenings_in rest.turns) (calls_of old) (calls_of begun) (calls_of turned) (calls_of served) (calls_of new) first.1 turn.calls idles.1 rest.calls;
+      calls = all_calls turn.happenings (happenings_in rest.turns) (calls_of old) (calls_of begun) (calls_of turned) (calls_of served) (calls_of new) first.1 (turn.calls ∙ ap (λ (polls : List Poll). calls_of begun ++ polls) (all_passed (calls_in turn.happenings))) idles.1 rest.calls;
     }

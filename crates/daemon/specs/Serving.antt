@@ -1,53 +1,66 @@
 -- The turns of a server: each is a turn of its engine, whose calls are those that it made of the sockets.
-use Rattle.std.specs.Prelude.{ℕ, ◌≡◌, ◌⊎◌, List, [], ◌∷◌, ◌++◌, None}
+use Rattle.std.specs.Prelude.{ℕ, ◌≡◌, ◌⊎◌, Bool, false, List, [], ◌∷◌, ◌++◌, None}
 use Rattle.wires.specs.Poll.{Poll}
 use Rattle.print_room.specs.State.{State}
 use Rattle.recordings.specs.Noting.{NoteState, Notes, with_note}
 use Rattle.server.specs.Law.{happenings_in}
 use Rattle.server.specs.Polls.{Happening, Polled, Told, Chosen}
-use Rattle.server.specs.Turn.{Trace, Turned}
-use Rattle.server.specs.Refinement.{StandsAt}
+use Rattle.server.specs.Ledger.{Ledger}
+use Rattle.server.specs.Rel.{Seen}
+use Rattle.server.specs.Turn.{Trace, Turn, Turned}
+use Rattle.server.specs.Refinement.{Represents, StandsAt}
+use Rattle.journal.specs.declared.gate.Pass.{Pass}
+use Rattle.journal.specs.declared.gate.Pass.TheVariants.{All}
+use Rattle.journal.specs.Passing.{calls_in, ArePassed, passed}
 use Rattle.daemon.specs.declared.serving.Server.{Server}
 
 -- the calls that were made of a server's sockets, with their answers, in order
 abbrev pub calls_of : Server → List Poll
-calls_of server = server.wire.wire.history.calls
-
--- the calls of the wire among the happenings, with their answers, in order
-abbrev pub calls_in : List Happening → List Poll
-calls_in [] = []
-calls_in (Polled poll ∷ hs) = poll ∷ calls_in hs
-calls_in (Told note ∷ hs) = calls_in hs
-calls_in (Chosen choice ∷ hs) = calls_in hs
+calls_of server = server.wire.wire.wire.history.calls
 
 -- each of these calls is noted, in order
 abbrev pub AreNoted : List Poll → NoteState → NoteState → Type 0
 AreNoted [] old new = new ≡ old
 AreNoted (poll ∷ polls) old new = (mid : NoteState) × Notes poll old mid × AreNoted polls mid new
 
--- For each trace at which the engine stood, the engine now stands at that trace followed by this turn. The calls of the turn are exactly those that were made of the sockets, and they are noted.
-pub record TakesTurn (moment : ℕ) (old new : Server) : Type 0 where
+-- the listener is told nothing
+abbrev pub AreUntold : List Happening → Type 0
+AreUntold [] = Unit {0}
+AreUntold (Polled poll ∷ hs) = AreUntold hs
+AreUntold (Told note ∷ hs) = ⊥
+AreUntold (Chosen choice ∷ hs) = AreUntold hs
+
+-- A turn of the engine, of which only some calls reach the sockets. It leads each ledger that represents the old engine to one that represents the new engine. For each trace at which the engine stood, it now stands at that trace followed by this turn. The calls of the turn that pass are exactly those that were made of the sockets, and all calls are noted. `told` says whether the listener may have been told something.
+pub record TakesTurn (pass : Pass) (moment : ℕ) (told : Bool) (old new : Server) : Type 0 where
   pub happenings : List Happening
+  pub turns : (l : Ledger) → Represents l old.engine → (l' : Ledger) × Seen (Turn moment) l happenings l' × Represents l' new.engine
   pub stands : (opening : State) (trace : Trace) → StandsAt opening trace old.engine → StandsAt opening (trace ++ Turned moment happenings ∷ []) new.engine
-  pub calls : calls_of new ≡ calls_of old ++ calls_in happenings
+  pub are_passed : ArePassed pass (calls_in happenings)
+  pub calls : calls_of new ≡ calls_of old ++ passed pass (calls_in happenings)
   pub notes : AreNoted (calls_in happenings) old.wire.notes new.wire.notes
+  pub untold : told ≡ false → AreUntold happenings
+  pub journaled : new.journaled ≡ old.journaled
 
 -- the engine is unchanged, and no call was made of the sockets
 abbrev pub Idles : Server → Server → Type 0
-Idles old new = (new.engine ≡ old.engine) × (calls_of new ≡ calls_of old)
+Idles old new = (new.engine ≡ old.engine) × (calls_of new ≡ calls_of old) × (new.journaled ≡ old.journaled)
+
+-- as `Idles`, and the notes are unchanged
+abbrev pub Rests : Server → Server → Type 0
+Rests old new = Idles old new × (new.wire.notes ≡ old.wire.notes)
 
 -- lines are added to the notes, or the notes are lost
 abbrev pub AddsLines : NoteState → NoteState → Type 0
 AddsLines old new = (new.lines ≡ None) ⊎ ((more : List ℕ) × (new.lines ≡ with_note more old.lines))
 
 -- a turn of the engine, and then lines in the notes that aren't calls
-abbrev pub ServesTurn : ℕ → Server → Server → Type 0
-ServesTurn moment old new = (turned : Server) × TakesTurn moment old turned × Idles turned new × AddsLines turned.wire.notes new.wire.notes
+abbrev pub ServesTurn : Pass → ℕ → Server → Server → Type 0
+ServesTurn pass moment old new = (told : Bool) × (turned : Server) × TakesTurn pass moment told old turned × Idles turned new × AddsLines turned.wire.notes new.wire.notes
 
--- turns at these moments, in order; before, between and after them the server idles
+-- turns at these moments, in order, in which all calls pass; before, between and after them the server idles
 abbrev pub ServesTurns : List ℕ → Server → Server → Type 0
 ServesTurns [] old new = Idles old new
-ServesTurns (moment ∷ moments) old new = (begun : Server) × (turned : Server) × Idles old begun × ServesTurn moment begun turned × ServesTurns moments turned new
+ServesTurns (moment ∷ moments) old new = (begun : Server) × (turned : Server) × Idles old begun × ServesTurn All moment begun turned × ServesTurns moments turned new
 
 -- each action is a turn at its moment
 abbrev pub AreTurnsAt : List ℕ → Trace → Type 0

@@ -3,8 +3,8 @@ use crate::ends::Begun;
 use crate::last_plan::LastPlan;
 use crate::log::Lines;
 use base_types::{Moment, Text};
-use plan_solver::AugmentingPaths;
-use server::{Engine, LoggedNote};
+use journal::JournaledEngine;
+use server::LoggedNote;
 use sockets::ConnectionEvent;
 use std::alloc::{AllocError, Global};
 
@@ -36,7 +36,7 @@ impl Chronicle {
         moment: Moment,
         visits: &[ConnectionEvent],
         heard: &[LoggedNote],
-        engine: &Engine<AugmentingPaths>,
+        engine: &JournaledEngine,
     ) -> Result<Vec<u8>, AllocError> {
         self.begun.add(heard)?;
         let ended = self.begun.take_ended(self.alloc, engine)?;

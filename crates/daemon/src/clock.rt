@@ -9,3 +9,15 @@ pub(crate) fn moment_since(clock: &impl Clock, start: &Instant) -> io::Result<Mo
     let millis = u64::try_from(passed).unwrap_or(Limits::LAST_MOMENT);
     Ok(Moment::new(millis.min(Limits::LAST_MOMENT)).unwrap_or(Moment::start()))
 }
+
+/// Returns the moment that is as many ms behind `from` as passed since a start, at most [`Limits::LAST_MOMENT`]. The
+/// error is the clock's.
+pub(crate) fn moment_after(
+    clock: &impl Clock,
+    start: &Instant,
+    from: Moment,
+) -> io::Result<Moment> {
+    let passed = moment_since(clock, start)?.millis();
+    let millis = from.millis().saturating_add(passed);
+    Ok(Moment::new(millis.min(Limits::LAST_MOMENT)).unwrap_or(from))
+}

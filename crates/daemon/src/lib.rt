@@ -15,17 +15,21 @@
 mod chronicle;
 mod clock;
 mod ends;
+mod journaled_run;
+mod journaling;
 mod last_plan;
 mod law;
 mod log;
 mod log_writer;
 mod lookout;
+mod pace;
 mod recorder;
 mod run;
 mod serving;
 mod witness;
 
 pub use chronicle::Chronicle;
+pub use journaled_run::{Ended, serve_journaled};
 pub use law::turns_are_one_trace;
 pub use recorder::Tape;
 pub use run::{Recording, serve};

@@ -1,12 +1,7 @@
 //! The recorder of turns, which never makes the server wait.
+use crate::pace::Pace;
 use base_types::Moment;
 use recordings::NoteText;
-
-/// The number of bytes of kept lines at which they are written.
-const MOST: usize = 65_536;
-
-/// The longest time for which fewer than [`MOST`] bytes are kept, in ms.
-const LONGEST: u64 = 100;
 
 /// The output of a recording.
 pub trait Tape {
@@ -22,8 +17,7 @@ pub trait Tape {
 #[derive(Drop)]
 pub(crate) struct Recorder<'a, T: Tape> {
     tape: &'a mut T,
-    /// The moment at which lines were last written.
-    written: Moment,
+    pace: Pace,
     ended: bool,
 }
 
@@ -32,7 +26,7 @@ impl<'a, T: Tape> Recorder<'a, T> {
     pub(crate) fn new(tape: &'a mut T) -> Recorder<'a, T> {
         Recorder {
             tape,
-            written: Moment::start(),
+            pace: Pace::from(Moment::start()),
             ended: false,
         }
     }
@@ -46,41 +40,29 @@ impl<'a, T: Tape> Recorder<'a, T> {
         if !notes.keeps() {
             self.tape.lose();
             self.ended = true;
-        } else if self.is_due(notes, moment) {
-            self.put(notes, moment);
+        } else if self.pace.is_due(notes.text().len(), moment) {
+            self.pace.writes(moment);
+            self.put(notes);
         }
     }
 
     /// Writes the kept lines after the last turn.
     pub(crate) fn finish(&mut self, notes: &mut NoteText) {
         if !self.ended && !notes.text().is_empty() {
-            let moment = self.written;
-            self.put(notes, moment);
+            self.put(notes);
         }
     }
 
     /// Returns the ms from `moment` until the kept lines are old, at most `most`.
     pub(crate) fn time_left(&self, notes: &NoteText, moment: Moment, most: u64) -> u64 {
-        if self.ended || notes.text().is_empty() {
+        if self.ended {
             return most;
         }
-        LONGEST.saturating_sub(self.age(moment)).min(most)
-    }
-
-    /// The ms since lines were last written.
-    fn age(&self, moment: Moment) -> u64 {
-        moment.millis().saturating_sub(self.written.millis())
-    }
-
-    /// Returns whether there are kept lines, and they are many or old.
-    fn is_due(&self, notes: &NoteText, moment: Moment) -> bool {
-        let count = notes.text().len();
-        count >= MOST || (count > 0 && self.age(moment) >= LONGEST)
+        self.pace.time_left(notes.text().len(), moment, most)
     }
 
     /// Writes the kept lines. If the tape fails, no lines are kept any more.
-    fn put(&mut self, notes: &mut NoteText, moment: Moment) {
-        self.written = moment;
+    fn put(&mut self, notes: &mut NoteText) {
         if self.tape.put(notes.text()) {
             notes.clear();
         } else {

@@ -1,6 +1,7 @@
 //! The loop of turns of a server.
 ghost use Rattle.std.specs.Prelude.{◌≡◌, ℕ, List, length, OnOk};
 ghost use Rattle.settings_file.specs.Settings.{MeetsLimits};
+ghost use Rattle.journal.specs.declared.gate.Pass.TheVariants.{All};
 ghost use Rattle.daemon.specs.Serving.{Idles, ServesTurn, ServesTurns};
 
 use crate::clock::moment_since;
@@ -17,7 +18,7 @@ use std::time::{Clock, Instant};
 
 /// The longest time that a server waits while nothing happens, in ms. A tick, which comes each second, is at
 /// most that late.
-const PAUSE: u64 = 100;
+pub(crate) const PAUSE: u64 = 100;
 
 /// A recording of the day: its tape, and whether it leaves out the octets of documents.
 #[derive(Drop)]
@@ -69,7 +70,10 @@ fn run<W: Write, T: Tape>(
 }
 
 /// Creates the writer of the log, if there is a log.
-fn writer_of<'a, W: Write>(alloc: Global, log: Option<&'a mut W>) -> Option<LogWriter<'a, W>> {
+pub(crate) fn writer_of<'a, W: Write>(
+    alloc: Global,
+    log: Option<&'a mut W>,
+) -> Option<LogWriter<'a, W>> {
     let Some(output) = log else {
         return None;
     };
@@ -113,7 +117,7 @@ fn take_turns<W: Write, T: Tape>(
 
 /// Takes a turn at a moment, and writes its lines of the log.
 fn take_turn<W: Write>(server: &mut Server, moment: Moment, log: &mut Option<LogWriter<'_, W>>)
-    ensures { ServesTurn moment server.old server.new }
+    ensures { ServesTurn All moment server.old server.new }
 {
     match log {
         Some(log) => put_lines(server.turn_logged(moment), log),
@@ -142,7 +146,7 @@ fn finish<T: Tape>(server: &mut Server, recorder: &mut Option<Recorder<'_, T>>)
 }
 
 /// Writes the lines of a turn, or a line that says that memory for them was refused.
-fn put_lines<W: Write>(lines: Result<Vec<u8>, AllocError>, log: &mut LogWriter<'_, W>) {
+pub(crate) fn put_lines<W: Write>(lines: Result<Vec<u8>, AllocError>, log: &mut LogWriter<'_, W>) {
     match lines {
         Ok(lines) => log.put(&lines),
         Err(AllocError) => log.put(b"no memory for the log\n"),

@@ -1,9 +1,11 @@
 //! A server over the system's sockets.
-ghost use Rattle.std.specs.Prelude.{◌≡◌, [], IfOk, Some};
+ghost use Rattle.std.specs.Prelude.{◌≡◌, ◌&&◌, [], IfOk, IsFalse, Some, is_some, true, false};
 ghost use Rattle.settings_file.specs.Settings.{MeetsLimits};
 ghost use Rattle.print_room.specs.Opening.{opening};
 ghost use Rattle.server.specs.Refinement.{StandsAt};
-ghost use Rattle.daemon.specs.Serving.{calls_of, Idles, TakesTurn, ServesTurn, AddsLines};
+ghost use Rattle.journal.specs.declared.gate.Pass.TheVariants.{All};
+ghost use Rattle.daemon.specs.Serving.{calls_of, Idles, Rests, TakesTurn, ServesTurn, AddsLines};
+ghost use Rattle.daemon.specs.Journaling.{FilesTurn, NotesEnd, AddsComments};
 
 use crate::chronicle::Chronicle;
 use crate::lookout::Lookout;
@@ -12,9 +14,12 @@ use crate::witness::Witness;
 use base_types::Moment;
 use dispatcher::{AllocationSite, DeviceRefusal, Dispatched, Listener};
 use events::Cancel;
+use journal::{
+    Gate, JournaledEngine, Pass, Pausable, quiet_turns_change_nothing, turns_append_to_files,
+};
 use plan_solver::AugmentingPaths;
 use recordings::Noted;
-use server::{Engine, NoteLog, TICK_TIME};
+use server::{Engine, NoteLog};
 use settings_file::Settings;
 use sockets::{ConnectionEvent, ConnectionLog, Listening, Sockets};
 use std::alloc::{AllocError, Global};
@@ -22,16 +27,24 @@ use std::io;
 use std::time::Duration;
 use wires::WireId;
 
-/// A server: its engine, its sockets, the chronicle of its log, the moment of the last turn in which a tick was
-/// due by the clock, and the lookout before its waits.
+/// A server: its engine, its sockets, the chronicle of its log, and the lookout before its waits.
 #[derive(Drop)]
 pub struct Server {
-    alloc: Global,
-    engine: Engine<AugmentingPaths>,
-    wire: Noted<Sockets>,
+    pub(crate) alloc: Global,
+    pub(crate) engine: JournaledEngine,
+    pub(crate) wire: Noted<Gate<Sockets>>,
     chronicle: Chronicle,
-    ticked: Option<Moment>,
     lookout: Lookout,
+    /// Whether the notes are those of a journal. It has no turn in which memory was refused: such a turn can't be
+    /// taken again.
+    pub(crate) journaled: bool,
+}
+
+/// What a turn told a listener, and the connections that came and went.
+#[derive(Drop)]
+pub(crate) struct Taken<N: Listener> {
+    listener: N,
+    visits: Result<Vec<ConnectionEvent>, AllocError>,
 }
 
 /// The events of a log of connections. Empty if no log was kept.
@@ -45,6 +58,13 @@ fn all_of(
     }
 }
 
+/// Returns whether something happened in a turn: a tick came, the listener was told something, or the notes grew.
+fn has_happened(ticks: bool, told: bool, before: usize, after: usize) -> bool
+    ensures { IsFalse result → (ticks ≡ false) × (told ≡ false) × (after ≡ before) }
+{
+    ticks || told || after != before
+}
+
 impl Server {
     /// Creates a server over sockets that listen. Its engine stands at the empty trace. The only error is out of
     /// memory.
@@ -54,20 +74,34 @@ impl Server {
         ensures calls { IfOk result (λ server. calls_of server ≡ sockets.history.calls) }
     {
         let names = settings.device_names(alloc)?;
-        let engine = Engine::new(alloc, settings, AugmentingPaths::new(alloc))?;
-        Ok(Server {
+        let planner = Pausable::new(AugmentingPaths::new(alloc));
+        let engine = Engine::new(alloc, settings, planner)?;
+        Ok(Server::over(alloc, sockets, engine, Chronicle::new(alloc, names)))
+    }
+
+    /// Creates a server of an engine, over sockets that listen.
+    pub(crate) fn over(
+        alloc: Global,
+        sockets: Sockets,
+        engine: JournaledEngine,
+        chronicle: Chronicle,
+    ) -> Server
+        ensures engine { result.engine ≡ engine }
+        ensures calls { calls_of result ≡ sockets.history.calls }
+    {
+        Server {
             alloc,
             engine,
-            wire: Noted::new(alloc, sockets),
-            chronicle: Chronicle::new(alloc, names),
-            ticked: None,
+            wire: Noted::new(alloc, Gate::new(sockets)),
+            chronicle,
             lookout: Lookout::new(),
-        })
+            journaled: false,
+        }
     }
 
     /// The addresses at which the server listens.
     pub fn listening(&self) -> io::Result<Vec<Listening>> {
-        self.wire.wire.listening()
+        self.wire.wire.wire.listening()
     }
 
     /// Starts noting each turn for a recording. The server has taken no turn yet.
@@ -102,83 +136,122 @@ impl Server {
     /// Takes one turn of the engine. For each trace at which the engine stood, it now stands at that trace
     /// followed by this turn. The calls of the turn are exactly those that the engine made of the sockets.
     pub fn turn(&mut self, moment: Moment)
-        ensures { ServesTurn moment self.old self.new }
+        ensures { ServesTurn All moment self.old self.new }
     {
-        self.log_visits();
-        let seen = self.run_turn(moment, NoListener);
-        let visits = self.visits();
-        self.note_turn(moment, &visits, seen.told, seen.refused);
+        let _taken = self.take(Pass::All, moment, NoListener, false);
     }
 
     /// Takes one turn of the engine, and returns the turn's lines of the log. The error is that memory for
     /// the lines was refused; the turn is taken nevertheless.
     pub fn turn_logged(&mut self, moment: Moment) -> Result<Vec<u8>, AllocError>
-        ensures { ServesTurn moment self.old self.new }
+        ensures { ServesTurn All moment self.old self.new }
     {
-        self.wire.wire.keep_visits(self.alloc);
-        let mut seen = self.run_turn(moment, NoteLog::new(self.alloc));
+        let mut taken = self.take(Pass::All, moment, NoteLog::new(self.alloc), true);
+        self.lines_of(moment, &mut taken)
+    }
+
+    /// The lines of the log about a turn.
+    pub(crate) fn lines_of(
+        &mut self,
+        moment: Moment,
+        taken: &mut Taken<NoteLog>,
+    ) -> Result<Vec<u8>, AllocError>
+        ensures { Rests self.old self.new }
+    {
+        let heard = taken.listener.take()?;
+        match &taken.visits {
+            Ok(visits) => self.chronicle.lines(moment, visits, &heard, &self.engine),
+            Err(_) => Err(AllocError),
+        }
+    }
+
+    /// Takes one turn of the engine, of which only some calls reach the sockets, and notes it. `logs` says whether
+    /// a log is written.
+    pub(crate) fn take<N: Listener>(
+        &mut self,
+        pass: Pass,
+        moment: Moment,
+        listener: N,
+        logs: bool,
+    ) -> Taken<N>
+        ensures turn { ServesTurn pass moment self.old self.new }
+        ensures filed { FilesTurn self.old self.new }
+    {
+        self.log_visits(logs);
+        let ticks = self.engine.is_tick_due(moment);
+        let before = self.wire.notes.text().len();
+        let seen = self.run_turn(pass, moment, listener);
         let visits = self.visits();
-        self.note_turn(moment, &visits, seen.told, seen.refused);
-        let heard = seen.listener.take()?;
-        self.chronicle.lines(moment, &visits?, &heard, &self.engine)
+        let after = self.wire.notes.text().len();
+        quiet_turns_change_nothing();
+        turns_append_to_files();
+        if has_happened(ticks, seen.told, before, after) {
+            self.note_turn(moment, &visits, seen.refused);
+        }
+        Taken {
+            listener: seen.listener,
+            visits,
+        }
     }
 
     /// Takes one turn of the engine, which tells the listener its notes.
-    fn run_turn<N: Listener>(&mut self, moment: Moment, listener: N) -> Witness<N>
-        ensures { TakesTurn moment self.old self.new }
+    fn run_turn<N: Listener>(&mut self, pass: Pass, moment: Moment, listener: N) -> Witness<N>
+        ensures { TakesTurn pass moment result.told self.old self.new }
     {
         let mut witness = Witness::new(listener);
-        self.wire.wire.set_moment(moment);
+        self.wire.wire.wire.set_moment(moment);
+        self.wire.wire.set(pass);
         self.engine.turn(&mut self.wire, &mut witness, moment);
         witness
     }
 
-    /// Starts a log of connections if the turns are noted.
-    fn log_visits(&mut self)
-        ensures idles { Idles self.old self.new }
-        ensures notes { self.new.wire.notes ≡ self.old.wire.notes }
+    /// Starts a log of connections if the turns are noted, or a log is written.
+    fn log_visits(&mut self, logs: bool)
+        ensures { Rests self.old self.new }
     {
-        if self.is_recorded() {
-            self.wire.wire.keep_visits(self.alloc);
+        if logs || self.is_recorded() {
+            self.wire.wire.wire.keep_visits(self.alloc);
         }
     }
 
     /// Takes the log of connections. The only error is out of memory.
     fn visits(&mut self) -> Result<Vec<ConnectionEvent>, AllocError>
-        ensures idles { Idles self.old self.new }
-        ensures notes { self.new.wire.notes ≡ self.old.wire.notes }
+        ensures { Rests self.old self.new }
     {
-        all_of(self.alloc, self.wire.wire.take_visits())
+        all_of(self.alloc, self.wire.wire.wire.take_visits())
     }
 
     /// Returns whether the turns are noted.
-    fn is_recorded(&self) -> bool {
+    pub(crate) fn is_recorded(&self) -> bool
+        ensures { result ≡ is_some self.now.wire.notes.lines }
+    {
         self.wire.notes.keeps()
     }
 
-    /// Returns whether a tick is due by the clock in a turn at a moment. Such a turn is recorded in any case.
-    fn ticks_at(&self, moment: Moment) -> bool {
-        match self.ticked {
-            Some(last) => moment.millis().saturating_sub(last.millis()) >= TICK_TIME,
-            None => true,
-        }
+    /// Returns whether a turn can't be noted: memory was refused in it, and the notes are those of a journal.
+    fn loses(&self, refused: bool) -> bool
+        ensures { result ≡ (refused && self.now.journaled) }
+    {
+        refused && self.journaled
     }
 
-    /// Notes the connections that came and went in a turn, and the end of the turn, if turns are noted and
-    /// something happened in this turn.
+    /// Notes the connections that came and went in a turn, and the end of the turn, if turns are noted. A journal
+    /// keeps no lines any more if memory was refused in the turn.
     fn note_turn(
         &mut self,
         moment: Moment,
         visits: &Result<Vec<ConnectionEvent>, AllocError>,
-        told: bool,
         refused: bool,
     )
         ensures idles { Idles self.old self.new }
         ensures notes { AddsLines self.old.wire.notes self.new.wire.notes }
+        ensures journal { self.old.journaled ≡ true → NotesEnd moment self.old.wire.notes self.new.wire.notes }
     {
-        let ticks = self.ticks_at(moment);
-        self.ticked = if ticks { Some(moment) } else { self.ticked };
-        if !self.is_recorded() || !(ticks || told || self.wire.notes.has_call()) {
+        if self.loses(refused) {
+            self.wire.notes.stop();
+            return;
+        }
+        if !self.is_recorded() {
             return;
         }
         self.note_visits(visits);
@@ -188,7 +261,7 @@ impl Server {
     /// Notes the connections that came and went, as comments. If memory is refused, no comment is noted.
     fn note_visits(&mut self, visits: &Result<Vec<ConnectionEvent>, AllocError>)
         ensures idles { Idles self.old self.new }
-        ensures notes { AddsLines self.old.wire.notes self.new.wire.notes }
+        ensures notes { AddsComments self.old.wire.notes self.new.wire.notes }
     {
         let Ok(visits) = visits else {
             return;
@@ -201,13 +274,20 @@ impl Server {
         }
     }
 
+    /// Waits until the poll reports an event, or this time has passed.
+    pub(crate) fn wait(&mut self, most: Duration) -> io::Result<()>
+        ensures { Rests self.old self.new }
+    {
+        self.wire.wire.wire.wait(most)
+    }
+
     /// Waits until the poll reports an event, a peer has been silent for too long, or `most` ms have passed.
     /// It doesn't wait if the turns since the last call had work to do. Then the system is asked for events,
     /// but while bytes are left to read, only once in a ms.
     pub fn rest(&mut self, most: u64) -> io::Result<()>
-        ensures { Idles self.old self.new }
+        ensures { Rests self.old self.new }
     {
-        let sockets = &mut self.wire.wire;
+        let sockets = &mut self.wire.wire.wire;
         if sockets.take_worked() {
             self.lookout.works();
             return if sockets.take_more() && sockets.has_just_waited() {
@@ -230,7 +310,7 @@ impl Server {
 
 /// A listener that ignores its notes.
 #[derive(Drop)]
-struct NoListener;
+pub(crate) struct NoListener;
 
 impl Listener for NoListener {
     ghost told = { λ old note new. Unit {0} };

@@ -1,5 +1,5 @@
 //! A listener that records whether it was told a note.
-ghost use Rattle.std.specs.Prelude.{◌≡◌};
+ghost use Rattle.std.specs.Prelude.{◌≡◌, true, false};
 
 use dispatcher::{AllocationSite, DeviceRefusal, Dispatched, Listener};
 use events::Cancel;
@@ -17,7 +17,8 @@ pub(crate) struct Witness<N: Listener> {
 impl<N: Listener> Witness<N> {
     /// Creates a listener that was told no note yet.
     pub(crate) fn new(listener: N) -> Witness<N>
-        ensures { result.listener ≡ listener }
+        ensures listener { result.listener ≡ listener }
+        ensures told { result.told ≡ false }
     {
         Witness {
             listener,
@@ -28,7 +29,7 @@ impl<N: Listener> Witness<N> {
 }
 
 impl<N: Listener> Listener for Witness<N> {
-    ghost told = { λ old note new. N.told old.listener note new.listener };
+    ghost told = { λ old note new. N.told old.listener note new.listener × (new.told ≡ true) };
 
     fn dispatched(&mut self, made: &Dispatched<'_>) {
         self.told = true;

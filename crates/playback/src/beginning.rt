@@ -1,7 +1,6 @@
 //! The beginning of a trace.
 
-use crate::input::fill;
-use recordings::GOES_ON;
+use recordings::{GOES_ON, fill};
 use std::alloc::Global;
 use std::cmp::min;
 use std::io;

@@ -18,7 +18,7 @@ fn connection_of(entry: &Entry) -> Option<WireId> {
         | Entry::Shut(id)
         | Entry::Broken(id)
         | Entry::Closed(id) => Some(*id),
-        Entry::Refused | Entry::Turn(_) => None,
+        Entry::Refused | Entry::Restarted | Entry::Turn(_) => None,
     }
 }
 

@@ -11,7 +11,6 @@
 
 mod beginning;
 mod difference;
-mod input;
 mod listener;
 mod player;
 mod playing;

@@ -20,6 +20,8 @@ pub(crate) struct Told {
     text: Vec<u8>,
     heard: NoteLog,
     lost: bool,
+    /// Whether no plan is made in the turn: each dispatch is one that was refused memory.
+    unplanned: bool,
 }
 
 impl Listener for Told {
@@ -47,8 +49,10 @@ impl Listener for Told {
         }
     }
 
-    fn refused(&mut self, _place: AllocationSite, _id: Option<WireId>) {
-        self.lost = true;
+    fn refused(&mut self, place: AllocationSite, _id: Option<WireId>) {
+        if !self.unplanned || place != AllocationSite::Dispatch {
+            self.lost = true;
+        }
     }
 }
 
@@ -62,7 +66,13 @@ impl Told {
             text: Vec::new(alloc),
             heard: NoteLog::new(alloc),
             lost: false,
+            unplanned: false,
         }
+    }
+
+    /// Sets whether no plan is made in the turn that comes.
+    pub(crate) fn set_unplanned(&mut self, unplanned: bool) {
+        self.unplanned = unplanned;
     }
 
     /// Appends the lines of a dispatch.

@@ -5,9 +5,9 @@ use crate::listener::Told;
 use crate::playing::Shows;
 use base_types::Moment;
 use daemon::Chronicle;
+use journal::{JournaledEngine, Pausable};
 use plan_solver::AugmentingPaths;
 use recordings::{Entry, Moved, Script, read_entry};
-use server::Engine;
 use settings_file::Settings;
 use std::alloc::{AllocError, Global};
 use traces::{put_gone, put_out};
@@ -37,7 +37,7 @@ pub(crate) struct Audience {
 #[derive(Drop)]
 pub(crate) struct Player<'a> {
     alloc: Global,
-    engine: &'a mut Engine<AugmentingPaths>,
+    engine: &'a mut JournaledEngine,
     script: Script,
     shows: Shows,
     audience: Audience,
@@ -47,6 +47,8 @@ pub(crate) struct Player<'a> {
     goings: Vec<u8>,
     /// The moment that was printed last.
     printed: Option<Moment>,
+    /// Whether the turn that hasn't ended is one in which a restarted server lost its connections.
+    restarted: bool,
 }
 
 /// The moment of the turn that a line ends, if it ends one.
@@ -106,7 +108,7 @@ impl<'a> Player<'a> {
     /// Creates the player for a server that has only started. `shows` says what is written.
     pub(crate) fn new(
         alloc: Global,
-        engine: &'a mut Engine<AugmentingPaths>,
+        engine: &'a mut JournaledEngine,
         shows: Shows,
         audience: Audience,
     ) -> Player<'a> {
@@ -119,6 +121,7 @@ impl<'a> Player<'a> {
             comings: Vec::new(alloc),
             goings: Vec::new(alloc),
             printed: None,
+            restarted: false,
         }
     }
 
@@ -148,6 +151,10 @@ impl<'a> Player<'a> {
     ) -> Result<Step, AllocError> {
         match turn_of(&entry) {
             Some(moment) => self.take_turn(number, moment, output),
+            None if matches!(&entry, Entry::Restarted) => {
+                self.restarted = true;
+                Ok(Step::Played)
+            }
             None => {
                 self.script.add(number, entry)?;
                 Ok(Step::Played)
@@ -182,8 +189,7 @@ impl<'a> Player<'a> {
         if let Some(refused) = self.script.refusal() {
             return Ok(Step::Refused(refused));
         }
-        self.engine
-            .turn(&mut self.script, &mut self.audience.told, moment);
+        self.turn_engine(moment);
         self.put_turn(moment, output)?;
         match self.script.end_turn() {
             None => Ok(Step::Played),
@@ -193,6 +199,21 @@ impl<'a> Player<'a> {
                 Ok(Step::Differs(lines))
             }
         }
+    }
+
+    /// Has the server take a turn. In a turn in which a restarted server lost its connections no plan is made.
+    fn turn_engine(&mut self, moment: Moment) {
+        let mut paused = Pausable::paused(AugmentingPaths::new(self.alloc));
+        self.audience.told.set_unplanned(self.restarted);
+        if self.restarted {
+            self.engine.swap_planner(&mut paused);
+        }
+        self.engine
+            .turn(&mut self.script, &mut self.audience.told, moment);
+        if self.restarted {
+            self.engine.swap_planner(&mut paused);
+        }
+        self.restarted = false;
     }
 
     /// Appends the text of a turn.

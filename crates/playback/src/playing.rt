@@ -2,12 +2,12 @@
 ghost use Rattle.std.specs.Prelude.{IfOk};
 ghost use Rattle.settings_file.specs.Settings.{MeetsLimits};
 
-use crate::input::Lines;
 use crate::player::{Audience, Player, Step};
-use base_types::Limits;
+use base_types::{JobId, Limits};
+use journal::{JournaledEngine, Pausable};
 use plan_solver::AugmentingPaths;
 use program::ExitStatus;
-use recordings::GOES_ON;
+use recordings::{GOES_ON, LineReader, read_start};
 use server::Engine;
 use settings_file::{Settings, SettingsFault, explain, read_settings_bytes};
 use std::alloc::{AllocError, Global};
@@ -85,7 +85,7 @@ enum Front {
 }
 
 /// Reads the lines before the turns.
-fn read_front<R: Read>(alloc: Global, lines: &mut Lines<'_, R>) -> io::Result<Front> {
+fn read_front<R: Read>(alloc: Global, lines: &mut LineReader<'_, R>) -> io::Result<Front> {
     let mut settings = Vec::new(alloc);
     let mut line = Vec::new(alloc);
     for number in 1..u64::MAX {
@@ -104,27 +104,43 @@ fn read_front<R: Read>(alloc: Global, lines: &mut Lines<'_, R>) -> io::Result<Fr
     Ok(Front::Neither)
 }
 
-/// Returns whether the next line is the first of a recording.
-fn is_start<R: Read>(alloc: Global, lines: &mut Lines<'_, R>) -> io::Result<bool> {
-    let mut line = Vec::new(alloc);
-    Ok(lines.read(&mut line)? && line.starts_with(b"recorded "))
+/// The id of the first job, if a line is the first of a recording.
+fn first_in(line: &[u8]) -> Option<JobId> {
+    match read_start(line) {
+        Some(start) => Some(start.first),
+        None => None,
+    }
 }
 
-/// Reads the text of the settings before the turns.
-fn read_start<R: Read>(
+/// The id of the first job, if the next line is the first of a recording.
+fn read_first<R: Read>(alloc: Global, lines: &mut LineReader<'_, R>) -> io::Result<Option<JobId>> {
+    let mut line = Vec::new(alloc);
+    if !lines.read(&mut line)? {
+        return Ok(None);
+    }
+    Ok(first_in(&line))
+}
+
+/// Reads the lines before the turns: the text of the settings, and the id of the first job.
+fn read_beginning<R: Read>(
     alloc: Global,
     file: &str,
-    lines: &mut Lines<'_, R>,
-) -> Result<Vec<u8>, Fault> {
-    let sentence = match read_front(alloc, lines)? {
-        Front::Settings(text) if is_start(alloc, lines)? => return Ok(text),
-        Front::Settings(_) => format!(in alloc;
+    lines: &mut LineReader<'_, R>,
+) -> Result<(Vec<u8>, JobId), Fault> {
+    let front = read_front(alloc, lines)?;
+    let first = match &front {
+        Front::Settings(_) => read_first(alloc, lines)?,
+        _ => None,
+    };
+    let sentence = match (front, first) {
+        (Front::Settings(text), Some(first)) => return Ok((text, first)),
+        (Front::Settings(_), None) => format!(in alloc;
             "{file}: this is no recorded day: the line behind \".\" isn't recorded and a number"
         ),
-        Front::GoesOn => format!(in alloc;
+        (Front::GoesOn, _) => format!(in alloc;
             "{file}: this goes on where another file ends, which its first line names: play both, the earlier first, as one"
         ),
-        Front::Neither => format!(in alloc;
+        (Front::Neither, _) => format!(in alloc;
             "{file}: no line is \".\" alone, as the one behind the settings is"
         ),
     };
@@ -237,7 +253,7 @@ impl<'file, 'output, W: Write> Day<'file, 'output, W> {
     /// Plays the lines of the turns, which are behind the settings.
     fn play_turns<R: Read>(
         &mut self,
-        lines: &mut Lines<'_, R>,
+        lines: &mut LineReader<'_, R>,
         player: &mut Player<'_>,
     ) -> Result<(), Fault> {
         let mut line = Vec::new(self.alloc);
@@ -254,39 +270,41 @@ impl<'file, 'output, W: Write> Day<'file, 'output, W> {
     /// Plays the lines of the turns on a server that has started.
     fn play_on<R: Read>(
         &mut self,
-        lines: &mut Lines<'_, R>,
-        engine: &mut Engine<AugmentingPaths>,
+        lines: &mut LineReader<'_, R>,
+        engine: &mut JournaledEngine,
         audience: Audience,
     ) -> Result<(), Fault> {
         let mut player = Player::new(self.alloc, engine, self.shows, audience);
         self.play_turns(lines, &mut player)
     }
 
-    /// Plays the lines of the turns on a server that starts with these settings.
+    /// Plays the lines of the turns on a server that starts with these settings, and whose first job gets the id
+    /// `first`.
     fn play_with<R: Read>(
         &mut self,
-        lines: &mut Lines<'_, R>,
+        lines: &mut LineReader<'_, R>,
         settings: Settings,
+        first: JobId,
     ) -> Result<(), Fault>
         requires { MeetsLimits settings }
     {
         let audience = Audience::new(self.alloc, &settings, self.shows)?;
-        let planner = AugmentingPaths::new(self.alloc);
-        let Ok(mut engine) = Engine::new(self.alloc, settings, planner) else {
+        let planner = Pausable::new(AugmentingPaths::new(self.alloc));
+        let Ok(mut engine) = Engine::starting_at(self.alloc, settings, planner, first) else {
             return Err(Fault::OutOfMemory);
         };
         self.play_on(lines, &mut engine, audience)
     }
 
     /// Plays the whole day.
-    fn play_all<R: Read>(&mut self, lines: &mut Lines<'_, R>) -> Result<(), Fault> {
-        let text = read_start(self.alloc, self.file, lines)?;
+    fn play_all<R: Read>(&mut self, lines: &mut LineReader<'_, R>) -> Result<(), Fault> {
+        let (text, first) = read_beginning(self.alloc, self.file, lines)?;
         let settings = settings_of(self.alloc, self.file, &text)?;
-        self.play_with(lines, settings)
+        self.play_with(lines, settings, first)
     }
 
     /// Plays the whole day, and writes the printed text up to its end.
-    fn play<R: Read>(&mut self, lines: &mut Lines<'_, R>) -> Result<(), Fault> {
+    fn play<R: Read>(&mut self, lines: &mut LineReader<'_, R>) -> Result<(), Fault> {
         let played = self.play_all(lines);
         if played.is_ok() && self.shows == Shows::Verdict {
             self.output.extend_from_slice(b"same\n")?;
@@ -304,7 +322,7 @@ fn play_day<R: Read, W: Write>(
     writer: &mut W,
     shows: Shows,
 ) -> Result<(), Fault> {
-    let mut lines = Lines::new(alloc, reader)?;
+    let mut lines = LineReader::new(alloc, reader)?;
     let mut day = Day::new(alloc, file, writer, shows);
     day.play(&mut lines)
 }

@@ -52,7 +52,7 @@ impl Writer {
                 self.close(*id);
                 Ok(())
             }
-            Entry::Sent(_) | Entry::Refused => Ok(()),
+            Entry::Sent(_) | Entry::Refused | Entry::Restarted => Ok(()),
             Entry::Turn(moment) => self.end_turn(*moment),
         }
     }

@@ -1,17 +1,25 @@
-use Rattle.std.proofs.Common.{List, ◌∙◌, ap, ◌++◌}
-use Rattle.wires.specs.Poll.{Poll}
-use Rattle.daemon.specs.Serving.{calls_in}
-use Rattle.daemon.proofs.Noted.{are_noted, are_called}
+use Rattle.std.proofs.Common.{◌≡◌, ◌∷◌, [], ◌∙◌, refl, ap, subst, ◌++◌}
+use Rattle.journal.specs.declared.gate.Pass.{Pass}
+use Rattle.journal.specs.Passing.{calls_in, passed, ArePassed}
+use Rattle.daemon.proofs.Noted.{are_noted}
+use Rattle.daemon.proofs.Gates.{are_called, are_passed, are_untold}
 use Rattle.daemon.proofs.serving.Server.run_turn.Goals as goal
 
 pub returns : goal.returns
 returns g c =
     let turn = c.turn.ensures in
+    let hs = turn.happenings in
     record {
-      happenings = turn.happenings;
+      happenings = hs;
+      turns = turn.turns;
       stands = turn.stands;
+      are_passed =
+          subst (λ (p : Pass). ArePassed p (calls_in hs)) c.set.ensures.pass
+          (are_passed _ (λ a poll b. b.history.calls ≡ a.history.calls ++ poll ∷ []) (λ w. w.0.wire.wire) (λ w. w.0.wire.pass) (λ x poll y moved. moved.0.0) (λ x note y moved. ap (λ w. w.wire.pass) moved.1) (λ x choice y moved. moved) hs _ _ turn.leads);
       calls =
-          are_called _ (λ w. w.0.wire.history.calls) (λ x poll y moved. moved.0.0) (λ x note y moved. ap (λ w. w.wire.history.calls) moved.1) (λ x choice y moved. moved) turn.happenings _ _ turn.leads
-          ∙ ap (λ h. h.calls ++ calls_in turn.happenings) c.set_moment.ensures;
-      notes = are_noted _ (λ w. w.0.notes) (λ x poll y moved. moved.0.1) (λ x note y moved. ap (λ w. w.notes) moved.1) (λ x choice y moved. moved) turn.happenings _ _ turn.leads;
+          are_called _ (λ w. w.0.wire.wire) (λ w. w.0.wire.pass) (λ w. w.history.calls) (λ x poll y moved. moved.0.0) (λ x note y moved. (ap (λ w. w.wire.wire) moved.1, ap (λ w. w.wire.pass) moved.1)) (λ x choice y moved. moved) hs _ _ turn.leads
+          ∙ (ap (λ (p : Pass). c.set.new.self.wire.history.calls ++ passed p (calls_in hs)) c.set.ensures.pass ∙ (ap (λ w. w.history.calls ++ passed c.args.pass (calls_in hs)) c.set.ensures.wire ∙ ap (λ h. h.calls ++ passed c.args.pass (calls_in hs)) c.set_moment.ensures));
+      notes = are_noted _ (λ w. w.0.notes) (λ x poll y moved. moved.0.1) (λ x note y moved. ap (λ w. w.notes) moved.1) (λ x choice y moved. moved) hs _ _ turn.leads;
+      untold = are_untold _ (λ w. w.1.told) (λ x poll y moved. ap (λ n. n.told) moved.1) (λ x note y moved. moved.0.1) (λ x choice y moved. moved) hs _ _ turn.leads;
+      journaled = refl;
     }

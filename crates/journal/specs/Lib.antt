@@ -1,0 +1,4 @@
+pub mod Passing
+pub mod File
+pub mod Laws
+pub mod Resuming

@@ -1,0 +1,27 @@
+//! Why a file isn't played.
+use recordings::Stray;
+use std::alloc::{AllocError, AllocFailed};
+
+/// Why a line of a file isn't played.
+#[derive(Drop)]
+pub enum PlayFault {
+    /// The line isn't one of a journal, or stands where none of its kind may.
+    BadLine,
+    /// In the turn that the line ends, the engine makes another call than the file says.
+    Differs(Stray),
+    /// In the turn that the line ends, the engine makes the calls of the file, but notes them otherwise.
+    NotedOtherwise,
+    OutOfMemory,
+}
+
+impl From<AllocError> for PlayFault {
+    fn from(_error: AllocError) -> PlayFault {
+        PlayFault::OutOfMemory
+    }
+}
+
+impl<T: Drop> From<AllocFailed<T>> for PlayFault {
+    fn from(_error: AllocFailed<T>) -> PlayFault {
+        PlayFault::OutOfMemory
+    }
+}
