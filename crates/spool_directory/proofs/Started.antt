@@ -1,0 +1,37 @@
+-- The lines that an engine played are those that are stored.
+use Rattle.std.proofs.Common.{◌≡◌, ℕ, List, [], ◌++◌, sym, subst}
+use Rattle.settings_file.specs.Settings.{ServerSettings, MeetsLimits}
+use Rattle.print_room.specs.Opening.{opening}
+use Rattle.server.specs.State.{EngineState}
+use Rattle.server.specs.Refinement.{StandsAt}
+use Rattle.journal.specs.File.{HasPlayed}
+use Rattle.journal.specs.Resuming.{Extends, RestartsAs}
+use Rattle.journal.specs.declared.resumption.Resumption.{Resumption}
+use Rattle.journal.specs.declared.restarting.Restarted.{Restarted}
+use Rattle.spool_directory.specs.Starting.{IsPlaying, GoesOn, HasStarted}
+
+-- one more line was played
+pub one_more : (first middle last : Resumption) (more : List ℕ) → GoesOn first middle → Extends more middle last → GoesOn first last
+one_more first middle last more goes extends playing =
+    let p = goes playing in
+    record { settings = p.settings; within = p.within; first = p.first; file = p.file ++ more; resumes = extends (opening p.settings p.first) p.file p.resumes }
+
+-- the connections were lost
+pub restarted : (r : Resumption) (s : Restarted) → IsPlaying r → RestartsAs r s → HasStarted s.stored.lines s.engine
+restarted r s playing restarts =
+    let p = restarts (opening playing.settings playing.first) playing.file playing.resumes in
+    record {
+      settings = playing.settings;
+      within = playing.within;
+      first = playing.first;
+      played = subst (λ (t : List ℕ). HasPlayed (opening playing.settings playing.first) t s.engine) (sym p.2) (record { trace = p.1.trace ++ p.1.lost; stands = p.1.stands; is_file = p.1.is_longer });
+    }
+
+-- no line was played
+pub begun : (settings : ServerSettings) (first : ℕ) (lines : List ℕ) (engine : EngineState) → MeetsLimits settings → StandsAt (opening settings first) [] engine → lines ≡ [] → HasStarted lines engine
+begun settings first lines engine within stands none = record {
+  settings = settings;
+  within = within;
+  first = first;
+  played = record { trace = []; stands = stands; is_file = none };
+}

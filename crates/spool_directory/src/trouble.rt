@@ -1,0 +1,71 @@
+//! What went wrong while a file was read, without the file's name.
+use crate::fault::Why;
+use journal::PlayFault;
+use recordings::Stray;
+use std::alloc::{AllocError, AllocFailed, Global};
+use std::io;
+
+/// What went wrong while a file was read.
+#[derive(Drop)]
+pub(crate) enum Trouble {
+    /// The system's error, or out of memory.
+    System(io::Error),
+    /// The file isn't as a server left it. The number is that of the line, if the fault is in a line.
+    File(Option<u64>, Why),
+    /// The settings are refused, as the sentence says.
+    Settings(String),
+}
+
+impl From<io::Error> for Trouble {
+    fn from(error: io::Error) -> Trouble {
+        Trouble::System(error)
+    }
+}
+
+impl From<AllocError> for Trouble {
+    fn from(error: AllocError) -> Trouble {
+        Trouble::System(io::Error::from(error))
+    }
+}
+
+impl<T: Drop> From<AllocFailed<T>> for Trouble {
+    fn from(error: AllocFailed<T>) -> Trouble {
+        Trouble::System(io::Error::from(AllocError::from(error)))
+    }
+}
+
+/// The fault of a line that isn't one of a journal.
+pub(crate) fn bad_line(number: u64) -> Trouble {
+    Trouble::File(Some(number), Why::BadLine)
+}
+
+/// The number of the line at which the engine strayed; `number` where it isn't known.
+fn line_of(number: u64, stray: &Stray) -> u64 {
+    match &stray.wanted {
+        Some(wanted) => wanted.number,
+        None => number,
+    }
+}
+
+/// The fault of a turn in which the engine does something else than a server of a version did.
+fn differs(alloc: Global, number: u64, version: &[u8]) -> Trouble {
+    match String::from_utf8_lossy(alloc, version) {
+        Ok(version) => Trouble::File(Some(number), Why::Differs(version)),
+        Err(error) => Trouble::from(error),
+    }
+}
+
+/// The fault of a line with this number, in a file that a server of a version wrote.
+pub(crate) fn play_trouble(
+    alloc: Global,
+    number: u64,
+    version: &[u8],
+    fault: &PlayFault,
+) -> Trouble {
+    match fault {
+        PlayFault::BadLine => bad_line(number),
+        PlayFault::Differs(stray) => differs(alloc, line_of(number, stray), version),
+        PlayFault::NotedOtherwise => differs(alloc, number, version),
+        PlayFault::OutOfMemory => Trouble::from(AllocError),
+    }
+}
