@@ -18,5 +18,5 @@ mod words_error;
 pub use attach_words::Attaching;
 pub use read::{VERSION, read_words};
 pub use simulate_words::Simulating;
-pub use subcommand::{AboutSettings, Log, Replaying, Serving, Subcommand};
+pub use subcommand::{AboutSettings, Log, Replaying, Serving, Spooling, Subcommand};
 pub use words_error::WordsError;

@@ -4,7 +4,7 @@ use crate::attach_words::attach_words;
 use crate::command::program;
 use crate::doors::{addresses, default_address};
 use crate::simulate_words::simulate_words;
-use crate::subcommand::{AboutSettings, Log, Replaying, Serving, Subcommand};
+use crate::subcommand::{AboutSettings, Log, Replaying, Serving, Spooling, Subcommand};
 use crate::words::{MOST_TURNS, STANDARD_ERROR};
 use crate::words_error::WordsError;
 use clap::error::ErrorKind;
@@ -13,6 +13,10 @@ use std::alloc::Global;
 
 /// The version of the program, as in the file VERSION.
 pub const VERSION: &str = "1.0.0";
+
+/// The text about words that ask for a spool and for a recording.
+const SPOOLED_AND_RECORDED: &str =
+    "error: the argument '--spool <DIR>' cannot be used with '--record <FILE>': the spool is a recording\n";
 
 /// The port of LPD (RFC 1179, section 3.1).
 const LPD_PORT: u16 = 515;
@@ -33,6 +37,24 @@ fn log_to(word: &str) -> Log<'_> {
     }
 }
 
+/// Where the queue is kept, if it survives a restart. The error is the text about invalid words, or out of memory.
+fn spool_words<'a>(
+    alloc: Global,
+    found: &ArgMatches<'a>,
+) -> Result<Option<Spooling<'a>>, WordsError> {
+    let Some(directory) = found.get_str("spool") else {
+        return Ok(None);
+    };
+    if found.get_str("record").is_some() {
+        return Err(WordsError::Fault(String::from_str(alloc, SPOOLED_AND_RECORDED)?));
+    }
+    Ok(Some(Spooling {
+        directory,
+        sync: found.get_flag("sync"),
+        keep: found.get_flag("spool-keep"),
+    }))
+}
+
 /// The options of `printd serve`. The error is the text about invalid words, or out of memory.
 fn serve_words<'a>(alloc: Global, found: &ArgMatches<'a>) -> Result<Serving<'a>, WordsError> {
     let address = default_address(alloc, found)?;
@@ -45,6 +67,7 @@ fn serve_words<'a>(alloc: Global, found: &ArgMatches<'a>) -> Result<Serving<'a>,
         log: found.get_str("log").map(log_to),
         record: found.get_str("record"),
         record_heads: found.get_flag("record-heads"),
+        spool: spool_words(alloc, found)?,
     })
 }
 

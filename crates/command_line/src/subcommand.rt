@@ -49,6 +49,18 @@ pub struct Serving<'a> {
     pub record: Option<&'a str>,
     /// Whether the octets of documents are recorded as zeros.
     pub record_heads: bool,
+    /// Where the queue is kept, if it survives a restart.
+    pub spool: Option<Spooling<'a>>,
+}
+
+/// How `printd serve` keeps its queue.
+#[derive(Clone, Copy, Debug, PartialEq, Eq)]
+pub struct Spooling<'a> {
+    pub directory: &'a str,
+    /// Whether nothing is answered before it is on the disk.
+    pub sync: bool,
+    /// Whether the files of past days stay.
+    pub keep: bool,
 }
 
 /// The options of `printd replay`.

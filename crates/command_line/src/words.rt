@@ -159,6 +159,24 @@ const SERVE: &[ArgumentWords<'static>] = &[
         help: "Record each octet of a document as a zero",
         ..FLAG
     },
+    ArgumentWords {
+        name: "spool",
+        value_name: Some("DIR"),
+        help: "Keep the queue in this directory, which is made, and go on with the jobs that it has",
+        ..TEXT
+    },
+    ArgumentWords {
+        name: "sync",
+        needs: Some("spool"),
+        help: "Answer nothing before it is on the disk, so that the queue survives a power failure, too",
+        ..FLAG
+    },
+    ArgumentWords {
+        name: "spool-keep",
+        needs: Some("spool"),
+        help: "Keep the files of past days in the directory, with the documents that they hold",
+        ..FLAG
+    },
 ];
 
 const SETTINGS: &[ArgumentWords<'static>] = &[

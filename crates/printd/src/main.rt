@@ -17,6 +17,7 @@ mod replaying;
 mod serving;
 mod settings;
 mod simulating;
+mod spooling;
 mod tape;
 
 use crate::attaching::run_attach;

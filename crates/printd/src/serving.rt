@@ -4,6 +4,7 @@ ghost use Rattle.settings_file.specs.Settings.{MeetsLimits};
 use crate::failure::{cannot, cannot_with};
 use crate::log_output::{LogFile, LogOutput};
 use crate::settings::{built_in_text, read_file, settings_in};
+use crate::spooling::{SettingsText, serve_spooled};
 use crate::tape::TapeFiles;
 use command_line::{Log, Serving};
 use daemon::{Recording, serve};
@@ -160,6 +161,19 @@ fn serve_settings(
 {
     let mut log = log_of(rt, serving)?;
     let sockets = open(rt, serving)?;
+    if let Some(spooling) = serving.spool {
+        let file = file_of(serving);
+        let settings_text = SettingsText { file, text };
+        return serve_spooled(
+            rt,
+            settings,
+            settings_text,
+            spooling,
+            serving.turns,
+            sockets,
+            &mut log,
+        );
+    }
     match tape_of(rt, serving, text) {
         Ok(mut tape) => serve_over(rt, settings, serving, sockets, log.as_mut(), tape.as_mut()),
         Err(status) => Err(status),

@@ -45,31 +45,31 @@ const READ: [(&str, &str); 24] = [
     ),
     (
         "printd serve",
-        "Serve(Serving { settings: None, ipp: [127.0.0.1:8631], lpd: [127.0.0.1:8515], devices: [127.0.0.1:8632], turns: 1000000000000, log: None, record: None, record_heads: false })",
+        "Serve(Serving { settings: None, ipp: [127.0.0.1:8631], lpd: [127.0.0.1:8515], devices: [127.0.0.1:8632], turns: 1000000000000, log: None, record: None, record_heads: false, spool: None })",
     ),
     (
         "printd serve --settings lab.toml --ipp 631 --lpd 515 --devices 0 --log --turns 7",
-        "Serve(Serving { settings: Some(\"lab.toml\"), ipp: [127.0.0.1:631], lpd: [127.0.0.1:515], devices: [127.0.0.1:0], turns: 7, log: Some(StandardError), record: None, record_heads: false })",
+        "Serve(Serving { settings: Some(\"lab.toml\"), ipp: [127.0.0.1:631], lpd: [127.0.0.1:515], devices: [127.0.0.1:0], turns: 7, log: Some(StandardError), record: None, record_heads: false, spool: None })",
     ),
     (
         "printd serve --log printd.log --ipp 631",
-        "Serve(Serving { settings: None, ipp: [127.0.0.1:631], lpd: [127.0.0.1:8515], devices: [127.0.0.1:8632], turns: 1000000000000, log: Some(File(\"printd.log\")), record: None, record_heads: false })",
+        "Serve(Serving { settings: None, ipp: [127.0.0.1:631], lpd: [127.0.0.1:8515], devices: [127.0.0.1:8632], turns: 1000000000000, log: Some(File(\"printd.log\")), record: None, record_heads: false, spool: None })",
     ),
     (
         "printd serve --address 0.0.0.0 --ipp 631 --devices 127.0.0.1:8632",
-        "Serve(Serving { settings: None, ipp: [0.0.0.0:631], lpd: [0.0.0.0:8515], devices: [127.0.0.1:8632], turns: 1000000000000, log: None, record: None, record_heads: false })",
+        "Serve(Serving { settings: None, ipp: [0.0.0.0:631], lpd: [0.0.0.0:8515], devices: [127.0.0.1:8632], turns: 1000000000000, log: None, record: None, record_heads: false, spool: None })",
     ),
     (
         "printd serve --ipp 10.0.0.1:631 --ipp [::1]:632 --lpd 515 --lpd 516",
-        "Serve(Serving { settings: None, ipp: [10.0.0.1:631, [::1]:632], lpd: [127.0.0.1:515, 127.0.0.1:516], devices: [127.0.0.1:8632], turns: 1000000000000, log: None, record: None, record_heads: false })",
+        "Serve(Serving { settings: None, ipp: [10.0.0.1:631, [::1]:632], lpd: [127.0.0.1:515, 127.0.0.1:516], devices: [127.0.0.1:8632], turns: 1000000000000, log: None, record: None, record_heads: false, spool: None })",
     ),
     (
         "printd serve --address ::",
-        "Serve(Serving { settings: None, ipp: [[::]:8631], lpd: [[::]:8515], devices: [[::]:8632], turns: 1000000000000, log: None, record: None, record_heads: false })",
+        "Serve(Serving { settings: None, ipp: [[::]:8631], lpd: [[::]:8515], devices: [[::]:8632], turns: 1000000000000, log: None, record: None, record_heads: false, spool: None })",
     ),
     (
         "printd serve --record day.trace --record-heads --turns 7",
-        "Serve(Serving { settings: None, ipp: [127.0.0.1:8631], lpd: [127.0.0.1:8515], devices: [127.0.0.1:8632], turns: 7, log: None, record: Some(\"day.trace\"), record_heads: true })",
+        "Serve(Serving { settings: None, ipp: [127.0.0.1:8631], lpd: [127.0.0.1:8515], devices: [127.0.0.1:8632], turns: 7, log: None, record: Some(\"day.trace\"), record_heads: true, spool: None })",
     ),
     ("printd log day.trace", "Log { file: Some(\"day.trace\") }"),
     (
