@@ -3,6 +3,7 @@
 //! A [`Server`] takes turns over sockets that listen at the three doors. [`serve`] takes a given number of
 //! turns by the clock, waits while nothing happens, and writes the log and the [`Tape`] of a recording where
 //! there are such. A [`Chronicle`] makes the lines of a log, also for a recorded day that is played again.
+//! [`serve_journaled`] serves with a journal: its turns send nothing, or only what was due by stored turns.
 //!
 //! A server starts at the empty trace. The calls that a turn made of the sockets are exactly those of the next
 //! turn of its trace, and nothing but a turn calls the sockets' wire ([`turns_are_one_trace`]). Each call is

@@ -38,6 +38,9 @@ impl Resumption {
 
     /// Takes a turn in which each connection is lost, if one is open. Lines of a turn that hasn't ended are dropped:
     /// nothing was sent that such a turn decided.
+    ///
+    /// The error is out of memory. It is the same where a tick is due or a connection is broken before that turn, or a
+    /// job begins or a connection stays open in it: no file leads there.
     pub fn restart(self) -> Result<Restarted, PlayFault>
         ensures { IfOk result (RestartsAs self) }
     {
