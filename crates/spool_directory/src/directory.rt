@@ -24,15 +24,18 @@ fn remove_if_there(rt: &HostRuntime, path: &str) -> io::Result<()> {
     }
 }
 
-/// Creates a file that only its owner can read, to be appended to, and writes to it.
-fn create(rt: &HostRuntime, path: &str, head: &[u8]) -> io::Result<File> {
+/// Creates a file that only its owner can read, to be appended to, and writes to it. Waits until that is on the
+/// disk, if asked.
+fn create(rt: &HostRuntime, path: &str, head: &[u8], sync: bool) -> io::Result<File> {
     let mut file = OpenOptions::new()
         .append(true)
         .create_new(true)
         .mode(0o600)
         .open(rt, path)?;
     file.write_all(head)?;
-    file.sync_all()?;
+    if sync {
+        file.sync_all()?;
+    }
     Ok(file)
 }
 
@@ -60,9 +63,12 @@ impl<'a> Directory<'a> {
         self.path_of(&name)
     }
 
-    /// Waits until the names of the files are on the disk.
-    fn sync(&self) -> io::Result<()> {
-        File::open(self.rt, self.path)?.sync_all()
+    /// Waits until the names of the files are on the disk, if asked.
+    fn sync_names(&self, sync: bool) -> io::Result<()> {
+        if sync {
+            File::open(self.rt, self.path)?.sync_all()?;
+        }
+        Ok(())
     }
 
     /// Opens the file of the journal with a number for reading.
@@ -71,13 +77,13 @@ impl<'a> Directory<'a> {
         File::open(self.rt, &path)
     }
 
-    /// Makes the file of the journal with a number, with its first lines. It gets its name once they are on the
-    /// disk. Where an error is returned, no file has the name.
-    pub(crate) fn make(&self, number: u32, head: &[u8]) -> io::Result<File> {
+    /// Makes the file of the journal with a number, with its first lines. It gets its name once they are written,
+    /// and on the disk, if asked. Where an error is returned, no file has the name.
+    pub(crate) fn make(&self, number: u32, head: &[u8], sync: bool) -> io::Result<File> {
         let unfinished = self.unfinished_path(number)?;
         let path = self.trace_path(number)?;
         remove_if_there(self.rt, &unfinished)?;
-        let file = match create(self.rt, &unfinished, head) {
+        let file = match create(self.rt, &unfinished, head, sync) {
             Ok(file) => file,
             Err(error) => {
                 let _removed = fs::remove_file(self.rt, &unfinished);
@@ -85,7 +91,7 @@ impl<'a> Directory<'a> {
             }
         };
         fs::rename(self.rt, &unfinished, &path)?;
-        match self.sync() {
+        match self.sync_names(sync) {
             Err(error) if fs::remove_file(self.rt, &path).is_ok() => Err(error),
             _ => Ok(file),
         }

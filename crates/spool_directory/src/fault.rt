@@ -61,7 +61,11 @@ impl fmt::Display for Why {
         let words = match self {
             Why::BadLine => ": this is no line of a journal",
             Why::NoSettings => ": no line is \".\" alone, as the one behind the settings is",
-            Why::Torn => ": it ends within a turn, and another file goes on behind it",
+            Why::Torn => {
+                return f.write_str(
+                    ": it ends within a turn, and another file goes on behind it: put the files behind it aside, or restore the directory from a backup",
+                );
+            }
             Why::Differs(version) => {
                 return write!(
                     f,

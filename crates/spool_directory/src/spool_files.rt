@@ -68,7 +68,7 @@ fn make_base(
         first,
     )?;
     let number = number_behind(listing.last)?;
-    let tail = Tail::make(directory, number, &head, time)?;
+    let tail = Tail::make(directory, number, &head, time, true)?;
     Ok((tail, began))
 }
 
@@ -86,7 +86,7 @@ fn make_next(
     let mut head = next_head(directory.alloc(), place.last, started, options.version)?;
     head.extend_from_slice(lines)?;
     let number = number_behind(listing.last)?;
-    let tail = Tail::make(directory, number, &head, time)?;
+    let tail = Tail::make(directory, number, &head, time, true)?;
     Ok((tail, started))
 }
 

@@ -81,14 +81,15 @@ pub(crate) fn next_head(
 }
 
 impl Tail {
-    /// Makes the file with a number, with its first lines.
+    /// Makes the file with a number, with its first lines. Waits until they are on the disk, if asked.
     pub(crate) fn make(
         directory: Directory<'_>,
         number: u32,
         head: &[u8],
         now: Duration,
+        sync: bool,
     ) -> io::Result<Tail> {
-        let file = directory.make(number, head)?;
+        let file = directory.make(number, head, sync)?;
         Ok(Tail {
             file,
             number,
@@ -118,7 +119,8 @@ impl Writer<'_> {
         Ok(())
     }
 
-    /// Goes on in another file, if another day has begun or the file is large.
+    /// Goes on in another file, if another day has begun or the file is large. Waits until both files are on the
+    /// disk only if all lines do: it takes as long as the disk needs for a whole file.
     fn turn_over(&mut self) -> io::Result<()> {
         let directory = self.opened.directory;
         let time = now(directory.rt)?;
@@ -132,8 +134,11 @@ impl Writer<'_> {
             self.started,
             self.options.version,
         )?;
-        self.tail.file.sync_data()?;
-        self.tail = Tail::make(directory, number_behind(before)?, &head, time)?;
+        let sync = self.options.sync;
+        if sync {
+            self.tail.file.sync_data()?;
+        }
+        self.tail = Tail::make(directory, number_behind(before)?, &head, time, sync)?;
         Ok(())
     }
 
@@ -197,7 +202,7 @@ impl Writer<'_> {
             first,
         )?;
         let number = number_behind(self.tail.number)?;
-        self.tail = Tail::make(directory, number, &head, time)?;
+        self.tail = Tail::make(directory, number, &head, time, true)?;
         self.torn = false;
         self.begun = began;
         for gone in self.base..number {
