@@ -1,5 +1,6 @@
 #!/usr/bin/env python3
-"""Compares the server under load with cupsd, ippeveprinter and a program that only answers, on this machine alone.
+"""Compares the server under load, without a spool and with one, with cupsd, ippeveprinter and a program that only
+answers, on this machine alone.
 
     tools/load.py [SECONDS [ROUNDS]]       (3 seconds for each load and server, in 3 rounds)
 
@@ -8,7 +9,8 @@ server that has just started. The rounds take turns between the servers, and the
 each: requests a second, the server's processor time for one, how long one takes (middle and 99th percent), the
 part that was taken, and how many times better than cupsd's the first two are. A job that is refused since the
 server is busy counts as no request. cupsd is given a raw queue for /dev/null, no limit of jobs and no
-history of them (it is quickest so), `printd` 16 devices that take each job and end it at once. Then: how long a
+history of them (it is quickest so), `printd` 16 devices that take each job and end it at once. Its spool is in the
+directory for temporary files, as that of cupsd: what --sync costs depends on the disk that has it. Then: how long a
 Print-Job and a Get-Printer-Attributes take while 120 jobs wait for 16 devices, each of which has one.
 
 Wanted: Debian's cups-daemon, cups-ipp-utils and wrk, and a C compiler. PRINTD names the program; without it, it is the one that

@@ -6,7 +6,7 @@ import soak
 from floods import READY, REFUSED, while_ready, while_refused
 from instructions import instructions
 from measures import KINDS, LOADS, compare, one_by_one, percentile, while_jobs_wait
-from peers import Answerer, Cupsd, LoneOurs, Ours
+from peers import Answerer, Cupsd, LoneOurs, Ours, Synced
 from rounds import all_rounds, middle, middles
 from tables import Ratio, Table, figure, reason, say, spread, table
 
@@ -84,7 +84,8 @@ def of_requests(sizes):
     say("instructions of requests")
     rows, ratios = [], []
     for load in (LOADS[0], JOBS):
-        kinds = {kind.name: lambda kind=kind: instructions(kind, load, sizes.counted) for kind in KINDS if issubclass(kind, (Ours, Cupsd))}
+        # to wait for the disk takes no instructions
+        kinds = {kind.name: lambda kind=kind: instructions(kind, load, sizes.counted) for kind in KINDS if issubclass(kind, (Ours, Cupsd)) and kind is not Synced}
         found = middles(all_rounds(kinds, 1))
         rows += [reason(3, [load[0], shown(name)], one) if isinstance(one, str) else [load[0], shown(name), figure(one)] for name, one in found.items()]
         if not any(isinstance(one, str) for one in found.values()):

@@ -8,11 +8,11 @@ import time
 import typing
 
 from messages import GET_PRINTER_ATTRIBUTES, PRINT_JOB, head, message
-from peers import Answerer, Cupsd, Ippeveprinter, Ours, SlowOurs, processor_seconds, resident_kib
+from peers import Answerer, Cupsd, Ippeveprinter, Ours, SlowOurs, Spooled, Synced, processor_seconds, resident_kib
 from rounds import CannotMeasure, all_rounds
 
 HERE = pathlib.Path(__file__).resolve().parent
-KINDS = [Ours, Cupsd, Ippeveprinter, Answerer]
+KINDS = [Ours, Spooled, Synced, Cupsd, Ippeveprinter, Answerer]
 # name, operation, connections, octets of the document
 LOADS = [
     ("Get-Printer-Attributes, 1 connection", GET_PRINTER_ATTRIBUTES, 1, 0),

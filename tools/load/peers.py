@@ -219,6 +219,23 @@ class Ours:
         self.running.__exit__(*end)
 
 
+class Spooled(Ours):
+    """The same, which writes what comes to a directory before it sends anything."""
+
+    name = "printd --spool"
+    more = ()
+
+    def __init__(self, folder):
+        super().__init__(folder, words=["--spool", folder / "spool", *self.more])
+
+
+class Synced(Spooled):
+    """The same, which waits until that is on the disk."""
+
+    name = "printd --spool --sync"
+    more = ("--sync",)
+
+
 def earlier(name, program):
     """The same by an earlier build of the program."""
     return type("Earlier", (Ours,), {"name": f"printd {name}", "program": program})
