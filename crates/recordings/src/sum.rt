@@ -6,6 +6,9 @@ use std::io::IoSlice;
 /// The number of bytes of a word.
 const WORD: usize = 8;
 
+/// The number of words that are added side by side.
+const LANES: usize = 4;
+
 /// The sum of bytes that come in pieces, as `docs/TRACES.md` defines it. The bytes are words of eight bytes,
 /// of which the last may be shorter. One number is the sum of the words, and another the sum of all those
 /// sums.
@@ -19,6 +22,26 @@ struct Sum {
     scale: u64,
     /// The number of bytes that the word lacks; 0 if it hasn't begun.
     missing: usize,
+}
+
+/// The sum of words, and the sum of all those sums.
+#[derive(Clone, Copy)]
+struct Lane {
+    sum: u64,
+    sums: u64,
+}
+
+impl Lane {
+    /// Creates the sum of no words.
+    fn new() -> Lane {
+        Lane { sum: 0, sums: 0 }
+    }
+
+    /// Adds a word.
+    fn add(&mut self, word: [u8; WORD]) {
+        self.sum = self.sum.wrapping_add(u64::from_le_bytes(word));
+        self.sums = self.sums.wrapping_add(self.sum);
+    }
 }
 
 impl Sum {
@@ -44,14 +67,42 @@ impl Sum {
 
     /// Adds words, where the word before them is complete.
     fn add_words(&mut self, words: &[[u8; WORD]]) {
-        let mut sum = self.sum;
-        let mut sums = self.sums;
-        for word in words {
-            sum = sum.wrapping_add(u64::from_le_bytes(*word));
-            sums = sums.wrapping_add(sum);
+        let (groups, last) = words.as_chunks::<LANES>();
+        self.add_groups(groups);
+        for word in last {
+            self.sum = self.sum.wrapping_add(u64::from_le_bytes(*word));
+            self.sums = self.sums.wrapping_add(self.sum);
         }
-        self.sum = sum;
-        self.sums = sums;
+    }
+
+    /// Adds groups of words. The first words of all groups are a lane, and so are the second, the third and the
+    /// fourth words: a processor adds lanes side by side, where it adds words to one sum one after the other.
+    fn add_groups(&mut self, groups: &[[[u8; WORD]; LANES]]) {
+        let mut first = Lane::new();
+        let mut second = Lane::new();
+        let mut third = Lane::new();
+        let mut fourth = Lane::new();
+        for [one, two, three, four] in groups {
+            first.add(*one);
+            second.add(*two);
+            third.add(*three);
+            fourth.add(*four);
+        }
+        let words = (groups.len() as u64).wrapping_mul(LANES as u64);
+        self.sums = self.sums.wrapping_add(words.wrapping_mul(self.sum));
+        self.add_lane(first, 0);
+        self.add_lane(second, 1);
+        self.add_lane(third, 2);
+        self.add_lane(fourth, 3);
+    }
+
+    /// Adds a lane, whose words stand at this place of their groups. Each word counts in the sums from its own on: in
+    /// four for each group from its own on, less those at places before it.
+    fn add_lane(&mut self, lane: Lane, place: u64) {
+        let all = lane.sums.wrapping_mul(LANES as u64);
+        let before = lane.sum.wrapping_mul(place);
+        self.sum = self.sum.wrapping_add(lane.sum);
+        self.sums = self.sums.wrapping_add(all.wrapping_sub(before));
     }
 
     /// Adds bytes, one after the other.
