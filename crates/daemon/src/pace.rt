@@ -1,8 +1,9 @@
 //! When kept lines are written.
 use base_types::Moment;
 
-/// The number of bytes of kept lines at which they are written.
-const MOST: usize = 65_536;
+/// The number of bytes of kept lines at which they are written. The system takes them into its memory page by page,
+/// and the more pages there are in a call, the less each costs.
+const MOST: usize = 262_144;
 
 /// The longest time for which fewer than [`MOST`] bytes are kept, in ms.
 const LONGEST: u64 = 100;
