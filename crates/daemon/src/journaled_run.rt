@@ -28,7 +28,7 @@ pub enum Ended {
 
 /// Serves with a journal. It takes a given number of rounds, each at the ms since the first, behind the moment
 /// `from` of the last turn in the journal, and writes a log if one is given. A round is a turn in which nothing is
-/// sent and, if bytes wait then, a turn in which nothing comes, once all lines are stored.
+/// sent and, if bytes wait then that a socket may take, a turn in which nothing comes, once all lines are stored.
 ///
 /// While the storage takes no lines the server takes no turn, and tries again each second. From the moment `day` on
 /// it ends once no job is unfinished and no client is connected, so that its journal can begin anew.

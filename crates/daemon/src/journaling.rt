@@ -78,9 +78,14 @@ impl Server {
         sockets
     }
 
-    /// Returns whether bytes wait that the last turn didn't send, since nothing was sent in it.
+    /// Returns whether bytes wait that the last turn didn't send, since nothing was sent in it, and a socket may take
+    /// some of them now. A device that prints slowly has its socket full for most of the time.
     pub fn holds(&self) -> bool {
-        self.wire.wire.holds()
+        let gate = &self.wire.wire;
+        let Some(held) = gate.held() else {
+            return true;
+        };
+        held.iter().any(|id| gate.wire.may_write(*id))
     }
 
     /// The number of bytes of the lines that are kept and not stored.

@@ -92,7 +92,7 @@ impl Server {
         Server {
             alloc,
             engine,
-            wire: Noted::new(alloc, Gate::new(sockets)),
+            wire: Noted::new(alloc, Gate::new(alloc, sockets)),
             chronicle,
             lookout: Lookout::new(),
             journaled: false,

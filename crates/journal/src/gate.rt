@@ -2,6 +2,7 @@
 ghost use Rattle.std.specs.Prelude.{◌≡◌};
 ghost use Rattle.journal.specs.Passing.{after, Passes};
 
+use std::alloc::Global;
 use std::io::IoSlice;
 use wires::{Door, Progress, Wire, WireId};
 
@@ -23,20 +24,23 @@ pub enum Pass {
 pub struct Gate<W: Wire> {
     pub wire: W,
     pub pass: Pass,
-    /// Whether a write had to wait since the last call of [`Gate::set`].
-    held: bool,
+    /// The connections on which a write had to wait since the last call of [`Gate::set`], since it didn't pass.
+    held: Vec<WireId>,
+    /// Whether `held` lacks one, since memory was refused.
+    lacks: bool,
 }
 
 impl<W: Wire> Gate<W> {
     /// Creates a gate that passes all calls.
-    pub fn new(wire: W) -> Gate<W>
+    pub fn new(alloc: Global, wire: W) -> Gate<W>
         ensures wire { result.wire ≡ wire }
         ensures pass { result.pass ≡ Pass.All }
     {
         Gate {
             wire,
             pass: Pass::All,
-            held: false,
+            held: Vec::new(alloc),
+            lacks: false,
         }
     }
 
@@ -46,12 +50,24 @@ impl<W: Wire> Gate<W> {
         ensures pass { self.new.pass ≡ pass }
     {
         self.pass = pass;
-        self.held = false;
+        self.held.clear();
+        self.lacks = false;
     }
 
-    /// Returns whether a write had to wait, since writes don't pass, after the last call of [`Gate::set`].
-    pub fn holds(&self) -> bool {
-        self.held
+    /// The connections on which a write had to wait after the last call of [`Gate::set`], since it didn't pass.
+    /// `None` if memory for one was refused.
+    pub fn held(&self) -> Option<&[WireId]> {
+        if self.lacks { None } else { Some(&self.held) }
+    }
+
+    /// Records that a write of a connection has to wait.
+    fn hold(&mut self, id: WireId)
+        ensures wire { self.new.wire ≡ self.old.wire }
+        ensures pass { self.new.pass ≡ self.old.pass }
+    {
+        if self.held.push(id).is_err() {
+            self.lacks = true;
+        }
     }
 }
 
@@ -90,7 +106,7 @@ impl<W: Wire> Wire for Gate<W> {
                 }
             },
             Pass::Inward | Pass::Shut => {
-                self.held = true;
+                self.hold(id);
                 Progress::Waiting
             }
         }

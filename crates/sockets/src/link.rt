@@ -95,6 +95,12 @@ impl Link {
         !self.readable && self.ahead.is_empty()
     }
 
+    /// Returns whether a write may take bytes: the poll has reported room since the last write that had to wait, or
+    /// the peer has no time left.
+    pub(crate) fn may_write(&self, moment: Moment) -> bool {
+        self.writable || self.patience.left(moment) == Some(0)
+    }
+
     /// Reads bytes into `buffer`: those read ahead, or else those of the socket. Returns 0 at the end of the
     /// stream.
     pub(crate) fn read(&mut self, buffer: &mut [u8], moment: Moment) -> io::Result<usize>

@@ -196,6 +196,14 @@ impl Sockets {
         self.waited == self.moment
     }
 
+    /// Returns whether a write of a connection may do more than find that it would have to wait.
+    pub fn may_write(&self, id: WireId) -> bool {
+        match self.links.get(id as usize) {
+            Some(link) => link.may_write(self.moment),
+            None => true,
+        }
+    }
+
     /// Returns the ms until the first peer has no time left or the first allowance is used up, at most
     /// `most`.
     pub fn time_left(&self, most: u64) -> u64 {
