@@ -23,9 +23,11 @@ class Head(typing.NamedTuple):
     commit: str
     date: str
     rows: list
+    # what a section of fewer tables has before the version
+    part: str = ""
 
     def title(self):
-        return f"{self.version} ({self.commit}, {self.date})"
+        return f"{self.part}{self.version} ({self.commit}, {self.date})"
 
     def is_unproved(self):
         return dict(self.rows)["program"] == UNPROVED
@@ -54,11 +56,20 @@ def kind_of(program):
     return f"{program.name}, of which isn't known whether it is proved"
 
 
-def head_of(program, quick, earlier):
-    """The head of a section, at its start. `earlier` names an earlier program, if there is one."""
+def package(name):
+    """The version of a package of Debian."""
+    return said("dpkg-query", "-W", "-f", "${Version}", name) or "not installed"
+
+
+def own_version():
+    """The version of the sources."""
+    return (TOP / "VERSION").read_text().strip()
+
+
+def head_with(version, quick, more, part=""):
+    """The head of a section, at its start, with more rows."""
     commit = said("git", "rev-parse", "--short", "HEAD") or "unknown"
     changed = said("git", "status", "--porcelain", "--", "crates", "crates.txt")
-    version = said(str(program), "--version").removeprefix("printd ") or (TOP / "VERSION").read_text().strip()
     date = str(datetime.date.today())
     load = pathlib.Path("/proc/loadavg").read_text().split()[:3]
     rows = [
@@ -68,14 +79,26 @@ def head_of(program, quick, earlier):
         ["processor", processor()],
         ["processors", str(len(os.sched_getaffinity(0)))],
         ["load at the start, over 1, 5 and 15 minutes", ", ".join(load)],
-        ["program", kind_of(program)],
-        ["CUPS", said("dpkg-query", "-W", "-f", "${Version}", "cups-daemon") or "not installed"],
+        *more,
     ]
-    if earlier:
-        rows.append(["measured beside it", f"`printd {earlier}`, an earlier program"])
     if quick:
         rows.append(["measured", "with `--quick`, to try the tool: no figure is worth keeping"])
-    return Head(version, commit, date, rows)
+    return Head(version, commit, date, rows, part)
+
+
+def planners_head(quick):
+    """The head of a section that has the planners alone."""
+    rows = [["scipy", package("python3-scipy")], ["LEMON", package("liblemon-dev")]]
+    return head_with(own_version(), quick, rows, "The planners of ")
+
+
+def head_of(program, quick, earlier):
+    """The head of a section with all tables. `earlier` names an earlier program, if there is one."""
+    version = said(str(program), "--version").removeprefix("printd ") or own_version()
+    rows = [["program", kind_of(program)], ["CUPS", package("cups-daemon")], ["scipy", package("python3-scipy")], ["LEMON", package("liblemon-dev")]]
+    if earlier:
+        rows.append(["measured beside it", f"`printd {earlier}`, an earlier program"])
+    return head_with(version, quick, rows)
 
 
 def section(head, tables):
@@ -89,7 +112,7 @@ def with_section(page, head, text):
     """The page with a section at the head of its sections, in place of one of the same version and commit."""
     before, marker, rest = page.partition(SECTIONS)
     old = [one for one in re.split(r"^(?=## )", rest.lstrip("\n"), flags=re.M) if one.strip()]
-    kept = [one for one in old if not one.startswith(f"## {head.version} ({head.commit}, ")]
+    kept = [one for one in old if not one.startswith(f"## {head.part}{head.version} ({head.commit}, ")]
     return before + marker + "\n" + "\n".join([text, *(one.rstrip("\n") + "\n" for one in kept)])
 
 
@@ -106,11 +129,16 @@ def figures(head, sizes, memory, jobs, event):
     return table(["What", "Measured"], rows) + f"\n{where}\n"
 
 
+def write_section(head, text):
+    """Puts a section into the page."""
+    PAGE.write_text(with_section(PAGE.read_text(), head, text))
+    subprocess.run([TOP / "tools/check_docs", "--contents"], check=False)
+
+
 def write(head, text, picture, asked):
     """Puts a section, the chart and the three figures where they belong."""
-    PAGE.write_text(with_section(PAGE.read_text(), head, text))
     PICTURE.write_text(picture)
     before, begin, rest = RUNNING.read_text().partition(BEGIN)
     _, end, after = rest.partition(END)
     RUNNING.write_text(before + begin + asked + end + after)
-    subprocess.run([TOP / "tools/check_docs", "--contents"], check=False)
+    write_section(head, text)

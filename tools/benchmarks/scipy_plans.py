@@ -3,8 +3,10 @@
     scipy_plans.py JOBS DEVICES SEED COUNT
 
 The classes are those of `plan_bench paths` with the same words (crates/plan_bench/src/made_class.rt): a job k places
-from the end of a device costs the device's wait and k times its own time there. Each device shows as many places as
-there are jobs. The seconds are those of linear_sum_assignment alone, not of making the table of costs.
+from the end of a device costs the device's wait and k times its own time there. Each device has FACTOR times as many
+places as it would have jobs if all had equally many. While some device's last place is used, the places are doubled.
+If no last place is used, further places would change nothing, since they cost more. The seconds are those of each call
+of linear_sum_assignment for a class, without making the tables of costs.
 """
 import sys
 import time
@@ -13,6 +15,8 @@ import numpy
 from scipy.optimize import linear_sum_assignment
 
 MASK = (1 << 64) - 1
+# with 2, 3 or 5 more classes need a second try, or the tables are larger, and most of them take longer
+FACTOR = 4
 # above every cost of a pair that is able, and small enough for sums of them to be exact
 NOT_ABLE = 1e12
 
@@ -47,24 +51,39 @@ def made_class(random, jobs, devices):
     return waits, [times_of(random, speeds, job % devices) for job in range(jobs)]
 
 
-def cost_table(waits, rows):
-    """A row for each job, and a column for each place of each device."""
+def cost_table(waits, rows, count):
+    """A row for each job, and a column for each of so many places of each device."""
     times = numpy.array([[numpy.nan if time is None else time for time in row] for row in rows])
-    places = numpy.arange(1, len(rows) + 1)
+    places = numpy.arange(1, count + 1)
     costs = numpy.array(waits)[None, :, None] + times[:, :, None] * places[None, None, :]
     return numpy.nan_to_num(costs, nan=NOT_ABLE).reshape(len(rows), -1)
+
+
+def assigned(costs):
+    """The columns that the jobs get, their total, and the seconds of a processor."""
+    # the thread's time: that of a process whose time is limited is counted in ticks
+    start = time.thread_time()
+    seats = linear_sum_assignment(costs)
+    return seats[1], int(costs[seats].sum()), time.thread_time() - start
+
+
+def planned(waits, rows):
+    """The least total of a class, and the seconds of a processor."""
+    jobs, devices = len(rows), len(waits)
+    count, passed = min(jobs, FACTOR * -(-jobs // devices)), 0.0
+    while True:
+        columns, total, seconds = assigned(cost_table(waits, rows, count))
+        passed += seconds
+        if count == jobs or not (columns % count == count - 1).any():
+            return total, passed
+        count = min(jobs, 2 * count)
 
 
 def main():
     jobs, devices, seed, count = map(int, sys.argv[1:5])
     random = Random(seed)
     for _ in range(count):
-        costs = cost_table(*made_class(random, jobs, devices))
-        # the thread's time: that of a process whose time is limited is counted in ticks
-        start = time.thread_time()
-        seats = linear_sum_assignment(costs)
-        passed = time.thread_time() - start
-        print(int(costs[seats].sum()), passed)
+        print(*planned(*made_class(random, jobs, devices)))
 
 
 if __name__ == "__main__":
