@@ -35,7 +35,10 @@ fn with_values<'a>(argument: Arg<'a>, words: &'a ArgumentWords<'a>) -> Arg<'a> {
 }
 
 fn argument_of<'a>(alloc: Global, words: &'a ArgumentWords<'a>) -> Result<Arg<'a>, AllocError> {
-    with_values(named(alloc, words), words).requires_all(words.needs.as_slice())
+    match with_values(named(alloc, words), words).requires_all(words.needs.as_slice()) {
+        Ok(argument) => argument.conflicts_with_all(words.excludes.as_slice()),
+        Err(error) => Err(error),
+    }
 }
 
 fn arguments<'a>(

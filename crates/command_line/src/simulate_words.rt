@@ -21,6 +21,8 @@ pub struct Simulating<'a> {
     pub with: Vec<&'a str>,
     /// For each additional device, the name of the device whose settings it has.
     pub like: Vec<&'a str>,
+    /// The names of the policies in the table. If there are none, the table has all policies.
+    pub policies: Vec<&'a str>,
     /// The name of a policy whose day is drawn below the planned day.
     pub draw: Option<&'a str>,
     /// Whether the drawing is for a terminal.
@@ -75,6 +77,7 @@ pub(crate) fn simulate_words<'a>(
         without: all_of(alloc, found, "without")?,
         with,
         like,
+        policies: all_of(alloc, found, "policy")?,
         draw: found.get_str("draw"),
         text: found.get_flag("text"),
     })

@@ -9,8 +9,14 @@ pub(crate) const STANDARD_ERROR: &str = "-";
 /// A number of turns without practical end: at ten a second, three thousand years.
 pub(crate) const MOST_TURNS: u64 = 1_000_000_000_000;
 
-/// The names of the policies whose day can be drawn.
-const POLICIES: &[&str] = &["round-robin", "first-free", "shortest-queue"];
+/// The names of the policies with which a planned day can be compared.
+const POLICIES: &[&str] = &[
+    "round-robin",
+    "first-free",
+    "shortest-queue",
+    "ends-first",
+    "shortest-first",
+];
 
 /// A command.
 pub(crate) struct CommandWords<'a> {
@@ -40,6 +46,8 @@ pub(crate) struct ArgumentWords<'a> {
     pub(crate) is_required: bool,
     /// The argument without which `clap` refuses this argument.
     pub(crate) needs: Option<&'a str>,
+    /// The argument together with which `clap` refuses this argument.
+    pub(crate) excludes: Option<&'a str>,
     /// The text of help about the argument.
     pub(crate) help: &'a str,
 }
@@ -55,6 +63,7 @@ const FLAG: ArgumentWords<'static> = ArgumentWords {
     default_if_bare: None,
     is_required: false,
     needs: None,
+    excludes: None,
     help: "",
 };
 
@@ -284,10 +293,19 @@ const SIMULATE: &[ArgumentWords<'static>] = &[
         ..TEXT
     },
     ArgumentWords {
+        name: "policy",
+        action: ArgAction::Append,
+        value_name: Some("POLICY"),
+        parser: ValueParser::Names(POLICIES),
+        help: "A policy of the table; without it, all of them",
+        ..TEXT
+    },
+    ArgumentWords {
         name: "draw",
         value_name: Some("POLICY"),
         parser: ValueParser::Names(POLICIES),
         default_if_bare: Some("round-robin"),
+        excludes: Some("policy"),
         help: "Draw the planned day and that of a policy",
         ..TEXT
     },

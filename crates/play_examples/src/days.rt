@@ -3,7 +3,9 @@
 
 use gantt_chart::Form;
 use job_lists::{ListedJob, read_list};
-use played_days::{Noise, Question, Watch, draw_day, listed_jobs, read_day, run_simulation};
+use played_days::{
+    Noise, Policy, Question, Watch, draw_day, listed_jobs, read_day, run_simulation,
+};
 use settings_file::{Settings, read_settings_bytes};
 use std::alloc::Global;
 
@@ -15,11 +17,16 @@ pub struct Day {
     pub output: &'static str,
 }
 
-pub const DAYS: [Day; 4] = [
+pub const DAYS: [Day; 5] = [
     Day {
         settings: "unlike_devices.toml",
         jobs: "unlike_devices.csv",
         output: "unlike_devices.table",
+    },
+    Day {
+        settings: "unlike_setups.toml",
+        jobs: "unlike_setups.csv",
+        output: "unlike_setups.table",
     },
     Day {
         settings: "two_printers.toml",
@@ -93,6 +100,7 @@ pub fn is_played_so(alloc: Global, settings: &[u8], jobs: &[u8], wanted: &[u8]) 
         },
         away: &[],
         added: &[],
+        policies: &Policy::ALL,
         drawn: None,
     };
     match run_simulation(alloc, settings, &jobs, question, &mut Quiet { come: 0 }) {

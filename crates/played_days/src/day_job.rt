@@ -22,6 +22,15 @@ pub struct DayJob {
     pub members: Vec<Member>,
 }
 
+/// The lesser one of two times.
+fn lesser(one: Option<u64>, other: Option<u64>) -> Option<u64> {
+    match (one, other) {
+        (Some(one), Some(other)) => Some(one.min(other)),
+        (Some(one), None) => Some(one),
+        (None, other) => other,
+    }
+}
+
 impl DayJob {
     /// The place of a device among those of the job's printer.
     pub fn place_of(&self, device: usize) -> Option<usize> {
@@ -37,6 +46,15 @@ impl DayJob {
     pub fn time_on(&self, device: usize) -> Option<u64> {
         let place = self.place_of(device)?;
         self.members.get(place)?.time
+    }
+
+    /// The time on the fastest device; 0 if no device can print the job.
+    pub(crate) fn least_time(&self) -> u64 {
+        let mut least = None;
+        for member in &self.members {
+            least = lesser(least, member.time);
+        }
+        least.unwrap_or(0)
     }
 
     /// Returns whether some device can print the job.

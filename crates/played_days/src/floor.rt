@@ -99,7 +99,7 @@ impl<'a> Floor<'a> {
     /// Begins the jobs that the room returns, at most one on each device. The only error is out of memory.
     fn begin_all<R: Room>(&mut self, room: &mut R, now: u64) -> Result<(), AllocError> {
         for _ in 0..self.running.len() {
-            let Some(start) = room.start() else {
+            let Some(start) = room.start(now) else {
                 return Ok(());
             };
             self.begin(start, now)?;

@@ -9,7 +9,7 @@
 //! day, and once for each [`Policy`] by which print systems without plans choose a device for each job. The
 //! real times of jobs are the estimates or differ from them by a random part. It writes the times from the
 //! jobs' moments until they were printed, the time for which each device printed and was idle, and the jobs
-//! that no device can print; or it draws two of the days. The plans are those of the real core,
+//! that no device can print; or it draws the days. The plans are those of the real core,
 //! `dispatcher::Core`, which gets requests and reports. A `Queue` is used for the policies: it has the waiting
 //! jobs, in the order of their priorities and then of their moments.
 //!
@@ -50,7 +50,6 @@ pub use fleet::Added;
 pub use floor::Watch;
 pub use job::{RecordedJob, RecordedPrint};
 pub use list::listed_jobs;
-pub use picture::Drawn;
 pub use policy::Policy;
 pub use queue::{Queue, Start};
 pub use read::{RecordedDay, read_day};

@@ -12,7 +12,7 @@ use plan_solver::AugmentingPaths;
 use std::alloc::{AllocError, Global};
 
 /// The name of the day that the server plans.
-pub(crate) const PLANNED: &str = "planned";
+const PLANNED: &str = "planned";
 
 /// The outcome of a day: the name of its play, and the jobs that were printed.
 #[derive(Drop)]
@@ -55,20 +55,21 @@ fn play_policy<W: Watch>(
     })
 }
 
-/// Plays a day with the real core, and then once for each policy. The only error is out of memory.
+/// Plays a day with the real core, and then once for each of some policies. The only error is out of memory.
 pub(crate) fn play_all<W: Watch>(
     alloc: Global,
     core: &mut Core<AugmentingPaths>,
     listed: &[ListedJob],
     day: &Day,
+    policies: &[Policy],
     watch: &mut W,
 ) -> Result<Vec<Outcome>, AllocError> {
     let printers = core.settings().printers.len();
     let devices = core.settings().devices.len();
     let mut outcomes = Vec::new(alloc);
     outcomes.push(play_planned(alloc, core, listed, day, watch)?)?;
-    for &policy in &Policy::ALL {
-        outcomes.push(play_policy(alloc, policy, day, printers, devices, watch)?)?;
+    for policy in policies {
+        outcomes.push(play_policy(alloc, *policy, day, printers, devices, watch)?)?;
     }
     Ok(outcomes)
 }

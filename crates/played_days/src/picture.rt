@@ -1,18 +1,10 @@
 //! Pictures of days.
 
 use crate::day::Day;
-use crate::outcome::{Outcome, PLANNED};
-use crate::policy::Policy;
+use crate::outcome::Outcome;
 use base_types::Text;
 use gantt_chart::{Arrival, Chart, Form, Page, Print, chart_of_day, draw_charts};
 use std::alloc::{AllocError, Global};
-
-/// The picture of a simulation: the planned day, and below it the day of a policy.
-#[derive(Clone, Copy)]
-pub struct Drawn {
-    pub policy: Policy,
-    pub form: Form,
-}
 
 /// The most jobs without a device that are listed below a chart.
 const STRANDED: usize = 10;
@@ -85,20 +77,17 @@ fn chart_of(
     chart_with(alloc, names, day, outcome.name, &arrivals, &outcome.prints)
 }
 
-/// A picture of a day as it was played in two ways: planned, and below it by a policy. The only error is out
-/// of memory.
+/// A picture of a day as it was played in several ways, one below the other. The only error is out of memory.
 pub(crate) fn picture_of(
     alloc: Global,
     names: &[Text],
     day: &Day,
     outcomes: &[Outcome],
-    drawn: Drawn,
+    form: Form,
 ) -> Result<String, AllocError> {
-    let mut charts = Vec::new(alloc);
+    let mut charts = Vec::with_capacity(alloc, outcomes.len())?;
     for outcome in outcomes {
-        if outcome.name == PLANNED || outcome.name == drawn.policy.name() {
-            charts.push(chart_of(alloc, names, day, outcome)?)?;
-        }
+        charts.push(chart_of(alloc, names, day, outcome)?)?;
     }
-    draw_charts(alloc, &charts, drawn.form)
+    draw_charts(alloc, &charts, form)
 }

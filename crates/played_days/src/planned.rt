@@ -190,7 +190,7 @@ impl Room for Planned<'_> {
         self.send_waiting(now)
     }
 
-    fn start(&mut self) -> Option<Start> {
+    fn start(&mut self, _now: u64) -> Option<Start> {
         self.begun.pop()
     }
 }

@@ -18,15 +18,39 @@ pub struct Start {
 struct Waiting {
     job: usize,
     priority: u8,
+    /// The time by which jobs of one priority are ordered, the shortest first. It is 0 if the policy keeps
+    /// them in the order in which they came.
+    length: u64,
     /// The place of the device that the job waits for, if it waits for one alone.
     device: Option<usize>,
 }
 
-/// A device: whether it is free, and the number of jobs that wait for it alone or print on it.
+/// A device.
 #[derive(Clone, Copy)]
 struct Device {
     is_free: bool,
+    /// The number of jobs that wait for it alone or print on it.
     jobs: usize,
+    /// The estimated end of its last job.
+    end: u64,
+    /// The estimated end of all jobs that are assigned to it.
+    assigned_end: u64,
+}
+
+/// The estimated end of a job on a device.
+#[derive(Clone, Copy)]
+struct Ending {
+    device: usize,
+    end: u64,
+}
+
+/// The earlier one of two endings; if both are at one moment, the first.
+fn earlier(one: Option<Ending>, other: Option<Ending>) -> Option<Ending> {
+    match (one, other) {
+        (Some(one), Some(other)) if other.end < one.end => Some(other),
+        (Some(one), _) => Some(one),
+        (None, other) => other,
+    }
 }
 
 /// The waiting jobs, and the choice of a device for each.
@@ -34,7 +58,7 @@ struct Device {
 pub struct Queue<'a> {
     policy: Policy,
     jobs: &'a [DayJob],
-    /// The waiting jobs, by falling priority, and then in the order in which they came.
+    /// The waiting jobs, by falling priority, then by rising length, and then in the order in which they came.
     waiting: Vec<Waiting>,
     devices: Vec<Device>,
     /// For each printer, the place among its devices of the device that got the last job.
@@ -48,6 +72,8 @@ fn free_devices(alloc: Global, count: usize) -> Result<Vec<Device>, AllocError> 
         devices.push(Device {
             is_free: true,
             jobs: 0,
+            end: 0,
+            assigned_end: 0,
         })?;
     }
     Ok(devices)
@@ -108,15 +134,25 @@ impl<'a> Queue<'a> {
     /// The device that a job has to wait for alone, by the policy.
     fn device_for(&self, job: &DayJob) -> Option<usize> {
         match self.policy {
-            Policy::RoundRobin | Policy::FirstFree => None,
             Policy::ShortestQueue => self.shortest(job),
+            Policy::RoundRobin | Policy::FirstFree | Policy::EndsFirst | Policy::ShortestFirst =>
+                None,
         }
     }
 
-    /// The place behind the last waiting job of at least this priority.
-    fn place_behind(&self, priority: u8) -> usize {
+    /// The time by which a job is ordered among those of its priority, by the policy.
+    fn length_of(&self, job: &DayJob) -> u64 {
+        match self.policy {
+            Policy::ShortestFirst => job.least_time(),
+            Policy::RoundRobin | Policy::FirstFree | Policy::ShortestQueue | Policy::EndsFirst => 0,
+        }
+    }
+
+    /// The place behind the last waiting job that is at least as urgent and, at the same priority, no longer.
+    fn place_behind(&self, priority: u8, length: u64) -> usize {
         for (place, waiting) in self.waiting.iter().enumerate() {
-            if waiting.priority < priority {
+            let is_longer = waiting.priority == priority && waiting.length > length;
+            if is_longer || waiting.priority < priority {
                 return place;
             }
         }
@@ -131,9 +167,12 @@ impl<'a> Queue<'a> {
         let waiting = Waiting {
             job: place,
             priority: job.priority,
+            length: self.length_of(job),
             device: self.device_for(job),
         };
-        let behind = self.place_behind(job.priority).min(self.waiting.len());
+        let behind = self
+            .place_behind(waiting.priority, waiting.length)
+            .min(self.waiting.len());
         self.waiting.insert(behind, waiting)?;
         if let Some(device) = waiting.device {
             self.count(device);
@@ -208,13 +247,57 @@ impl<'a> Queue<'a> {
         }
     }
 
+    /// Unassigns all waiting jobs. A device that misses its estimate counts as free now.
+    fn unassign(&mut self, now: u64) {
+        for device in &mut self.devices {
+            device.assigned_end = if device.is_free {
+                now
+            } else {
+                device.end.max(now)
+            };
+        }
+    }
+
+    /// The estimated end of the job of the member, behind the jobs that are assigned to its device. `None` if
+    /// the device can't print the job.
+    fn ending_on(&self, member: Member) -> Option<Ending> {
+        let device = self.devices.get(member.device)?;
+        Some(Ending {
+            device: member.device,
+            end: device.assigned_end.saturating_add(member.time?),
+        })
+    }
+
+    /// The first estimated end of a job, on any device of its printer.
+    fn first_ending(&self, job: &DayJob) -> Option<Ending> {
+        let mut found = None;
+        for member in &job.members {
+            found = earlier(found, self.ending_on(*member));
+        }
+        found
+    }
+
+    /// Assigns a job to the device that ends it first. Returns the device if it is free.
+    fn assign(&mut self, job: &DayJob) -> Option<usize> {
+        let ending = self.first_ending(job)?;
+        let device = self.devices.get_mut(ending.device)?;
+        device.assigned_end = ending.end;
+        if device.is_free {
+            Some(ending.device)
+        } else {
+            None
+        }
+    }
+
     /// The device that has to begin a waiting job, by the policy.
-    fn choose(&self, waiting: Waiting) -> Option<usize> {
-        let job = self.jobs.get(waiting.job)?;
+    fn choose(&mut self, waiting: Waiting) -> Option<usize> {
+        let jobs = self.jobs;
+        let job = jobs.get(waiting.job)?;
         match self.policy {
             Policy::RoundRobin => self.next_free(job),
             Policy::FirstFree => self.first_free(job),
             Policy::ShortestQueue => self.own_free(waiting, job),
+            Policy::EndsFirst | Policy::ShortestFirst => self.assign(job),
         }
     }
 
@@ -228,21 +311,29 @@ impl<'a> Queue<'a> {
         }
     }
 
+    /// The estimated time of a job that begins.
+    fn time_of(&self, start: Start) -> Option<u64> {
+        self.jobs.get(start.job)?.time_on(start.device)
+    }
+
     /// Begins the job that waits at a place.
-    fn begin(&mut self, place: usize, start: Start) {
+    fn begin(&mut self, place: usize, start: Start, now: u64) {
         if place < self.waiting.len() {
             self.waiting.remove(place);
         }
+        let time = self.time_of(start).unwrap_or(0);
         if let Some(begun) = self.devices.get_mut(start.device) {
             begun.is_free = false;
+            begun.end = now.saturating_add(time);
         }
         self.note_last(start);
     }
 
-    /// The first waiting job that a free device can begin, with the place at which it waits.
-    fn first_start(&self) -> Option<(usize, Start)> {
-        for (place, waiting) in self.waiting.iter().enumerate() {
-            if let Some(device) = self.choose(*waiting) {
+    /// The first waiting job that a free device has to begin, with the place at which it waits.
+    fn first_start(&mut self) -> Option<(usize, Start)> {
+        for place in 0..self.waiting.len() {
+            let waiting = *self.waiting.get(place)?;
+            if let Some(device) = self.choose(waiting) {
                 let job = waiting.job;
                 return Some((place, Start { job, device }));
             }
@@ -260,13 +351,14 @@ impl<'a> Queue<'a> {
         false
     }
 
-    /// Begins a job, if a free device can. The job doesn't wait any more then, and the device isn't free.
-    pub fn start(&mut self) -> Option<Start> {
+    /// Begins a job now, if a free device can. The job doesn't wait any more then, and the device isn't free.
+    pub fn start(&mut self, now: u64) -> Option<Start> {
         if !self.has_free() {
             return None;
         }
+        self.unassign(now);
         let (place, start) = self.first_start()?;
-        self.begin(place, start);
+        self.begin(place, start, now);
         Some(start)
     }
 }

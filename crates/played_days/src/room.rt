@@ -12,7 +12,7 @@ pub(crate) trait Room {
     fn end(&mut self, ended: Start, now: u64) -> Result<(), AllocError>;
 
     /// Returns the next job that begins now, if there is one.
-    fn start(&mut self) -> Option<Start>;
+    fn start(&mut self, now: u64) -> Option<Start>;
 }
 
 impl Room for Queue<'_> {
@@ -25,7 +25,7 @@ impl Room for Queue<'_> {
         Ok(())
     }
 
-    fn start(&mut self) -> Option<Start> {
-        Queue::start(self)
+    fn start(&mut self, now: u64) -> Option<Start> {
+        Queue::start(self, now)
     }
 }

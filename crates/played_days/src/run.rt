@@ -6,10 +6,12 @@ use crate::fault::DayFault;
 use crate::fleet::{Added, make_ready, with_devices};
 use crate::floor::Watch;
 use crate::outcome::play_all;
-use crate::picture::{Drawn, picture_of};
+use crate::picture::picture_of;
+use crate::policy::Policy;
 use crate::table::table_of;
 use base_types::Text;
 use dispatcher::Core;
+use gantt_chart::Form;
 use job_lists::ListedJob;
 use plan_solver::AugmentingPaths;
 use settings_file::Settings;
@@ -22,8 +24,10 @@ pub struct Question<'a> {
     /// The names of the devices that are away all day.
     pub away: &'a [&'a str],
     pub added: &'a [Added<'a>],
-    /// The picture to draw. If it is `None`, a table is written.
-    pub drawn: Option<Drawn>,
+    /// The policies with which the planned day is compared.
+    pub policies: &'a [Policy],
+    /// The form of the picture to draw. If it is `None`, a table is written.
+    pub drawn: Option<Form>,
 }
 
 /// The names of the devices, and the jobs of a day.
@@ -57,7 +61,7 @@ fn play_with<W: Watch>(
 ) -> Result<String, DayFault> {
     make_ready(alloc, core, question.away)?;
     let stage = stage_of(alloc, core, listed, question.noise)?;
-    Ok(play_on(alloc, core, listed, &stage, question.drawn, watch)?)
+    Ok(play_on(alloc, core, listed, &stage, question, watch)?)
 }
 
 /// Plays a day. Returns the table of the outcomes, or a picture.
@@ -66,13 +70,13 @@ fn play_on<W: Watch>(
     core: &mut Core<AugmentingPaths>,
     listed: &[ListedJob],
     stage: &Stage,
-    drawn: Option<Drawn>,
+    question: Question<'_>,
     watch: &mut W,
 ) -> Result<String, AllocError> {
     let Stage { names, day } = stage;
-    let outcomes = play_all(alloc, core, listed, day, watch)?;
-    match drawn {
-        Some(drawn) => picture_of(alloc, names, day, &outcomes, drawn),
+    let outcomes = play_all(alloc, core, listed, day, question.policies, watch)?;
+    match question.drawn {
+        Some(form) => picture_of(alloc, names, day, &outcomes, form),
         None => table_of(alloc, names, day, &outcomes),
     }
 }
@@ -92,7 +96,7 @@ fn play_settings<W: Watch>(
 }
 
 /// Plays the jobs of a list, which is one for these settings, on their devices: once as the core plans it,
-/// and once for each policy. Returns the table of the outcomes, or a picture.
+/// and once for each policy of the question. Returns the table of the outcomes, or a picture.
 ///
 /// # Errors
 ///

@@ -23,6 +23,9 @@ const LATE: usize = 11;
 /// The width of a device's times.
 const PAIR: usize = 16;
 
+/// The most days beside one another.
+const BESIDE: usize = 4;
+
 /// The most jobs without a device whose numbers are listed.
 const STRANDED: usize = 10;
 
@@ -147,11 +150,20 @@ fn put_devices_head(page: Page, outcomes: &[Outcome]) -> Page {
     page.put_letter('\n')
 }
 
-/// Appends the rows of all devices.
+/// Appends the rows of all devices, below an empty line.
 fn put_devices(page: Page, names: &[Text], outcomes: &[Outcome]) -> Page {
-    let mut page = put_devices_head(page, outcomes);
+    let mut page = put_devices_head(page.put_letter('\n'), outcomes);
     for (device, name) in names.iter().enumerate() {
         page = put_device(page, name, outcomes, device);
+    }
+    page
+}
+
+/// Appends the rows of all devices, for a few days at a time.
+fn put_all_devices(page: Page, names: &[Text], outcomes: &[Outcome]) -> Page {
+    let mut page = page;
+    for beside in outcomes.chunks(BESIDE) {
+        page = put_devices(page, names, beside);
     }
     page
 }
@@ -187,6 +199,6 @@ pub(crate) fn table_of(
     outcomes: &[Outcome],
 ) -> Result<String, AllocError> {
     let page = put_all_waits(alloc, Page::new(alloc), day, outcomes);
-    let page = put_devices(page.put_letter('\n'), names, outcomes);
+    let page = put_all_devices(page, names, outcomes);
     put_stranded(page, &day.stranded).finish()
 }

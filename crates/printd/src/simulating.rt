@@ -5,9 +5,10 @@ use crate::drawing::{form_of, refuse_day, written_trace};
 use crate::failure::{cannot, out_of_memory, say, write_text};
 use crate::settings::{read_file, settings_of};
 use command_line::Simulating;
+use gantt_chart::Form;
 use job_lists::{ListError, ListedJob, read_list};
 use played_days::{
-    Added, DayFault, Drawn, Noise, Policy, Question, Watch, listed_jobs, read_day, run_simulation,
+    Added, DayFault, Noise, Policy, Question, Watch, listed_jobs, read_day, run_simulation,
 };
 use program::ExitStatus;
 use settings_file::Settings;
@@ -83,11 +84,36 @@ fn policy_named(name: &str) -> Option<Policy> {
         .find(|policy| policy.name() == name)
 }
 
-/// The drawing that is asked for, if there is one.
-fn drawn_of(simulating: &Simulating<'_>) -> Option<Drawn> {
-    let policy = policy_named(simulating.draw?)?;
-    let form = form_of(simulating.text);
-    Some(Drawn { policy, form })
+/// The policies with these names. The only error is out of memory.
+fn policies_named(rt: &HostRuntime, names: &[&str]) -> Result<Vec<Policy>, AllocError> {
+    let mut policies = Vec::new(rt.alloc());
+    for name in names {
+        if let Some(policy) = policy_named(name) {
+            policies.push(policy)?;
+        }
+    }
+    Ok(policies)
+}
+
+/// The policies that are played: that of the drawing, or those of the table; all of them if none is named. The
+/// only error is out of memory.
+fn policies_of(rt: &HostRuntime, simulating: &Simulating<'_>) -> Result<Vec<Policy>, AllocError> {
+    let drawn = simulating.draw.as_slice();
+    let named = if drawn.is_empty() {
+        &simulating.policies
+    } else {
+        drawn
+    };
+    if named.is_empty() {
+        Vec::from_slice(rt.alloc(), &Policy::ALL)
+    } else {
+        policies_named(rt, named)
+    }
+}
+
+/// The form of the drawing that is asked for, if there is one.
+fn drawn_of(simulating: &Simulating<'_>) -> Option<Form> {
+    simulating.draw.map(|_| form_of(simulating.text))
 }
 
 /// Reports why a list is not read, and returns the exit status.
@@ -139,6 +165,7 @@ fn played(
     requires { MeetsLimits settings }
 {
     let added = added_of(rt, simulating).map_err(|_| cannot(rt, PLAY, out_of_memory()))?;
+    let policies = policies_of(rt, simulating).map_err(|_| cannot(rt, PLAY, out_of_memory()))?;
     let question = Question {
         noise: Noise {
             percent: simulating.noise,
@@ -146,6 +173,7 @@ fn played(
         },
         away: &simulating.without,
         added: &added,
+        policies: &policies,
         drawn: drawn_of(simulating),
     };
     let mut progress = Progress::new(rt);

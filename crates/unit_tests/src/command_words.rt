@@ -5,7 +5,7 @@ use std::alloc::{AllocError, Global};
 use std::test::Fail;
 
 /// Lines of words that are read, and the subcommand of each.
-const READ: [(&str, &str); 24] = [
+const READ: [(&str, &str); 25] = [
     (
         "printd replay",
         "Replay(Replaying { file: None, plans: false, verify: false })",
@@ -24,11 +24,15 @@ const READ: [(&str, &str); 24] = [
     ),
     (
         "printd simulate --settings a.toml --jobs b.csv",
-        "Simulate(Simulating { settings: \"a.toml\", jobs: \"b.csv\", noise: 0, seed: 1, without: [], with: [], like: [], draw: None, text: false })",
+        "Simulate(Simulating { settings: \"a.toml\", jobs: \"b.csv\", noise: 0, seed: 1, without: [], with: [], like: [], policies: [], draw: None, text: false })",
     ),
     (
         "printd simulate --settings a --jobs b --noise 20 --seed 7 --without A --without B --with C=D --draw first-free --text",
-        "Simulate(Simulating { settings: \"a\", jobs: \"b\", noise: 20, seed: 7, without: [\"A\", \"B\"], with: [\"C\"], like: [\"D\"], draw: Some(\"first-free\"), text: true })",
+        "Simulate(Simulating { settings: \"a\", jobs: \"b\", noise: 20, seed: 7, without: [\"A\", \"B\"], with: [\"C\"], like: [\"D\"], policies: [], draw: Some(\"first-free\"), text: true })",
+    ),
+    (
+        "printd simulate --settings a --jobs b --policy shortest-first --policy ends-first",
+        "Simulate(Simulating { settings: \"a\", jobs: \"b\", noise: 0, seed: 1, without: [], with: [], like: [], policies: [\"shortest-first\", \"ends-first\"], draw: None, text: false })",
     ),
     ("printd settings", "Settings(BuiltIn)"),
     (
@@ -87,8 +91,8 @@ const READ: [(&str, &str); 24] = [
 ];
 
 /// Lines of words that are refused: an unknown word, a word without the word that it needs, an invalid port,
-/// an invalid address, and turns out of their range.
-const REFUSED: [&str; 12] = [
+/// an invalid address, turns out of their range, an unknown policy, and two words that exclude each other.
+const REFUSED: [&str; 14] = [
     "printd",
     "printd reply",
     "printd settings --avahi",
@@ -99,6 +103,8 @@ const REFUSED: [&str; 12] = [
     "printd serve --record-heads",
     "printd serve --turns 0",
     "printd serve --turns 1000000000001",
+    "printd simulate --settings a --jobs b --policy best",
+    "printd simulate --settings a --jobs b --policy ends-first --draw",
     "printd attach --name window",
     "printd attach --to file:printed",
 ];
