@@ -1,29 +1,30 @@
 #!/usr/bin/env python3
-"""Counts the jobs of made-up days that planning has done sooner or later than round-robin.
+"""Counts the jobs of made-up days that planning has done sooner or later than a policy.
 
-    tools/compare_jobs.py DAY SETTINGS [SEEDS]      DAY as tools/make_day.py has it; 10 seeds, where no number is given
+    tools/compare_jobs.py DAY SETTINGS [SEEDS] [--policy POLICY] [--load FACTOR]
 
-For each seed: the part of the jobs that are done sooner and later by the planned day; the mean time to paper of
-the longest tenth of the jobs, as a part of that by round-robin; and the job of the longest tenth, and of all, whose
-time to paper grows the most, with its impressions, its number, and both times in seconds. When a job is done is
+DAY and FACTOR are those of tools/make_day.py. Without other words, the policy is round-robin, the load 1, and there
+are 10 seeds. For each seed: the part of the jobs that are done sooner and later by the planned day; the mean time to
+paper of the longest tenth of the jobs, as a part of that by the policy; and the job of the longest tenth, and of all,
+whose time to paper grows the most, with its impressions, its number, and both times in seconds. When a job is done is
 read from the pictures of `printd simulate --draw`.
 """
+import argparse
 import csv
 import pathlib
 import re
 import subprocess
-import sys
 import tempfile
 
 TOP = pathlib.Path(__file__).resolve().parent.parent
 BAR = re.compile(r"<title>job (\d+), priority \d+: \d+ to (\d+) ms</title>")
 
 
-def ends_of(settings, jobs):
-    """When each job is done, planned and by round-robin, by its number."""
-    words = [TOP / "printd", "simulate", "--settings", settings, "--jobs", jobs, "--draw", "round-robin"]
+def ends_of(settings, jobs, policy):
+    """When each job is done, planned and by a policy, by its number."""
+    words = [TOP / "printd", "simulate", "--settings", settings, "--jobs", jobs, "--draw", policy]
     picture = subprocess.run(words, check=True, capture_output=True, text=True).stdout
-    parts = picture.split(">round-robin</text>")
+    parts = picture.split(f">{policy}</text>")
     return [{int(job): int(end) for job, end in BAR.findall(part)} for part in parts]
 
 
@@ -45,26 +46,37 @@ def told(job):
     return f"{growth:.1f} (job {number}, {size} impressions, {ours / 1000:.0f} s for {theirs / 1000:.0f})"
 
 
-def compare(day, settings, seed):
-    text = subprocess.run([TOP / "tools/make_day.py", day, str(seed)], check=True, capture_output=True, text=True).stdout
+def compare(words, seed):
+    made = [TOP / "tools/make_day.py", words.day, str(seed), "--load", str(words.load)]
+    text = subprocess.run(made, check=True, capture_output=True, text=True).stdout
     rows = list(csv.DictReader(text.splitlines()))
     with tempfile.NamedTemporaryFile("w", suffix=".csv") as file:
         file.write(text)
         file.flush()
-        jobs = list(growth_of(rows, ends_of(settings, file.name)))
+        jobs = list(growth_of(rows, ends_of(words.settings, file.name, words.policy)))
     least = sorted(size_of(row) for row in rows)[len(rows) * 9 // 10]
     longest = [job for job in jobs if job[1] >= least]
     part = sum(job[3] for job in longest) / sum(job[4] for job in longest)
     sooner = round(100 * sum(job[0] < 1 for job in jobs) / len(jobs))
     later = round(100 * sum(job[0] > 1 for job in jobs) / len(jobs))
-    print(f"seed {seed}: {sooner} % sooner, {later} % later; longest tenth {part:.2f}, {told(max(longest))}; any {told(max(jobs))}")
+    print(f"seed {seed}: {sooner} % sooner, {later} % later; longest tenth {part:.2f}, {told(max(longest))}; any {told(max(jobs))}", flush=True)
 
 
-def main(words):
-    if not 2 <= len(words) <= 3:
-        sys.exit(__doc__)
-    for seed in range(1, int(words[2] if len(words) > 2 else 10) + 1):
-        compare(words[0], words[1], seed)
+def words_of():
+    """What the command line asks for."""
+    parser = argparse.ArgumentParser(description=__doc__, formatter_class=argparse.RawDescriptionHelpFormatter)
+    parser.add_argument("day")
+    parser.add_argument("settings")
+    parser.add_argument("seeds", nargs="?", type=int, default=10)
+    parser.add_argument("--policy", default="round-robin")
+    parser.add_argument("--load", type=float, default=1)
+    return parser.parse_args()
 
 
-main(sys.argv[1:])
+def main():
+    words = words_of()
+    for seed in range(1, words.seeds + 1):
+        compare(words, seed)
+
+
+main()

@@ -1,9 +1,11 @@
 #!/usr/bin/env python3
 """Makes the list of jobs of a day, as `printd simulate --jobs` reads it.
 
-    tools/make_day.py office|school|print_room [SEED [LONG]]     (seed 1, where none is given)
+    tools/make_day.py office|school|print_room [SEED] [--load FACTOR] [--urgent PERCENT]     (seed 1, load 1, 0 %)
 
-With LONG, a job of so many impressions or more, all its copies counted, has at least priority 60.
+A load above 1 lays several days over one another: that of the seed, of the seed and 1,000, of the seed and 2,000, ..
+The last of them is thinned: of load 2.5 the third day has half of its jobs, by chance; of load 0.5 the only one has.
+With --urgent the longest jobs, so many in a hundred, have at least priority 60.
 
 The days, and the rates by which their jobs come; each moment is in ms from the opening:
 
@@ -15,7 +17,9 @@ The days, and the rates by which their jobs come; each moment is in ms from the 
 - print_room: ten hours, 11 orders an hour. An order has 20 to 300 pages, in 1 to 40 copies; three in ten are to be
   stapled, one in ten bound; one in eight is urgent (priority 80), one in ten may wait (priority 20).
 """
+import argparse
 import csv
+import math
 import random
 import sys
 
@@ -77,24 +81,49 @@ def print_room(chance):
 DAYS = {"office": office, "school": school, "print_room": print_room}
 
 
-def hurry(jobs, least):
-    """The same jobs; those of so many impressions or more have at least priority 60."""
-    for job in jobs:
-        if job["impressions"] * job.get("copies", 1) >= least:
-            job["priority"] = max(60, job.get("priority", 50))
-    return jobs
+def day_of(name, seed, part):
+    """The jobs of a day; of a part of a day each job with that probability."""
+    chance = random.Random(seed)
+    jobs = list(DAYS[name](chance))
+    return jobs if part == 1 else [job for job in jobs if chance.random() < part]
 
 
-def main(words):
-    if not 1 <= len(words) <= 3 or words[0] not in DAYS:
-        sys.exit(__doc__)
-    chance = random.Random(int(words[1]) if len(words) > 1 else 1)
-    jobs = sorted(DAYS[words[0]](chance), key=lambda job: job["moment"])
-    if len(words) == 3:
-        jobs = hurry(jobs, int(words[2]))
+def days_of(name, seed, load):
+    """The jobs of so many days laid over one another, the last one thinned."""
+    for place in range(math.ceil(load)):
+        yield from day_of(name, seed + 1000 * place, min(1, load - place))
+
+
+def size_of(job):
+    """The impressions of a job, all its copies counted."""
+    return job["impressions"] * job.get("copies", 1)
+
+
+def hurry(jobs, percent):
+    """Gives the longest jobs, so many in a hundred, at least priority 60."""
+    longest = sorted(jobs, key=size_of, reverse=True)[: len(jobs) * percent // 100]
+    for job in longest:
+        job["priority"] = max(60, job.get("priority", 50))
+
+
+def words_of():
+    """What the command line asks for."""
+    parser = argparse.ArgumentParser(description=__doc__, formatter_class=argparse.RawDescriptionHelpFormatter)
+    parser.add_argument("day", choices=DAYS)
+    parser.add_argument("seed", nargs="?", type=int, default=1)
+    parser.add_argument("--load", type=float, default=1)
+    parser.add_argument("--urgent", type=int, default=0, metavar="PERCENT")
+    return parser.parse_args()
+
+
+def main():
+    words = words_of()
+    jobs = sorted(days_of(words.day, words.seed, words.load), key=lambda job: job["moment"])
+    hurry(jobs, words.urgent)
     writer = csv.DictWriter(sys.stdout, COLUMNS, restval="", lineterminator="\n")
     writer.writeheader()
     writer.writerows(jobs)
 
 
-main(sys.argv[1:])
+if __name__ == "__main__":
+    main()
