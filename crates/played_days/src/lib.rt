@@ -6,12 +6,12 @@
 //! played in other ways.
 //!
 //! [`run_simulation`] plays the jobs of a list on the devices of some settings, once as the server plans the
-//! day, and once for each [`Policy`] by which print systems without plans choose a device for each job. The
-//! real times of jobs are the estimates or differ from them by a random part. It writes the times from the
-//! jobs' moments until they were printed, the time for which each device printed and was idle, and the jobs
-//! that no device can print; or it draws the days. The plans are those of the real core,
-//! `dispatcher::Core`, which gets requests and reports. A `Queue` is used for the policies: it has the waiting
-//! jobs, in the order of their priorities and then of their moments.
+//! day, and once for each given [`Policy`], a rule that chooses a device for each job without a plan. The real
+//! times of jobs are the estimates or differ from them by a random part. It writes the times from the jobs'
+//! moments until they were printed, the time for which each device printed and was idle, and the jobs that no
+//! device can print; or it draws the days. The plans are those of the real core, `dispatcher::Core`, which
+//! gets requests and reports. A `Queue` is used for the policies: it has the waiting jobs, in the order of
+//! their priorities and then in that of the policy.
 //!
 //! Nothing is proved of a day, except that its functions are safe and end. The contract of a server is in
 //! `server`, and the lines are those of `traces`. The crate reads no clock and no command line. Its rows are
