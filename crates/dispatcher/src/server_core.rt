@@ -3,12 +3,12 @@ ghost use Rattle.std.specs.Prelude.{◌≡◌, IfOk, IfSome, IsOk, OnErr, option
 ghost use Rattle.std.specs.Option.{option_copied};
 ghost use Rattle.settings_file.specs.Settings.{MeetsLimits};
 ghost use Rattle.spool.specs.Jobs.{job_at, spooled_at};
-ghost use Rattle.spool.specs.Calls.{unfinished_jobs};
+ghost use Rattle.spool.specs.Calls.{paused_at, unfinished_jobs};
 ghost use Rattle.print_room.specs.Opening.{opening};
 ghost use Rattle.dispatcher.specs.Step.{Step, TakesNoMemory};
 
 use crate::apply::apply;
-use base_types::{DeviceId, DeviceNow, JobId, Moment};
+use base_types::{DeviceId, DeviceNow, JobId, Moment, PrinterId};
 use events::{Effects, Event};
 use job_objects::Job;
 use octets::Document;
@@ -136,6 +136,13 @@ impl<P: Planner + Drop> Core<P> {
         ensures { IfSome result (λ id. id ≡ self.now.spool.next) }
     {
         self.room.spool().next_id()
+    }
+
+    /// Returns whether a printer is paused. The call takes no memory.
+    pub fn is_paused(&self, printer: PrinterId) -> bool
+        ensures { result ≡ paused_at self.now.paused printer }
+    {
+        self.room.is_paused(printer)
     }
 
     /// The states of the devices, in the order of the settings. The call takes no memory.

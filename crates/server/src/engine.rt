@@ -4,13 +4,13 @@ ghost use Rattle.std.specs.Option.{option_copied};
 ghost use Rattle.settings_file.specs.Settings.{MeetsLimits};
 ghost use Rattle.print_room.specs.Opening.{opening};
 ghost use Rattle.spool.specs.Jobs.{job_at};
-ghost use Rattle.spool.specs.Calls.{unfinished_jobs};
+ghost use Rattle.spool.specs.Calls.{paused_at, unfinished_jobs};
 ghost use Rattle.server.specs.Polls.{both};
 ghost use Rattle.server.specs.State.{EngineState};
 ghost use Rattle.server.specs.Refinement.{StandsAt, RefinesTurn};
 
 use crate::world::World;
-use base_types::{DeviceId, DeviceNow, JobId, Moment};
+use base_types::{DeviceId, DeviceNow, JobId, Moment, PrinterId};
 use connections::Connection;
 use connections::table::key_of;
 use dispatcher::{Core, Listener};
@@ -110,6 +110,20 @@ impl<P: Planner + Drop> Engine<P> {
             }
         }
         self.connections.len() > named
+    }
+
+    /// The settings that the engine was made with.
+    pub fn settings(&self) -> &Settings
+        ensures { result.now ≡ self.now.core.settings }
+    {
+        self.core.settings()
+    }
+
+    /// Returns whether a printer is paused. No memory is taken.
+    pub fn is_paused(&self, printer: PrinterId) -> bool
+        ensures { result ≡ paused_at self.now.core.paused printer }
+    {
+        self.core.is_paused(printer)
     }
 
     /// The jobs that are kept, by rising id. No memory is taken.
