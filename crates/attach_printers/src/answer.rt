@@ -4,8 +4,8 @@ ghost use Rattle.attach_printers.specs.Told.{is_completed, is_printed, more_than
 
 use crate::told::{ReplyBreach, Told};
 use attach_http::ReplyReader;
-use attach_ipp::{is_successful, number_in, reply_in};
 use ipp_codec::{GroupTag, MessageView};
+use ipp_requests::{is_successful, number_in, reply_in};
 
 /// The HTTP status of an IPP reply (RFC 8010, section 4).
 const OK: u32 = 200;

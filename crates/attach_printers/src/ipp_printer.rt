@@ -5,13 +5,13 @@ use crate::job::JobWish;
 use crate::task::{Stage, Task};
 use crate::told::{LeftOut, ReplyBreach, Told};
 use attach_http::{ReplyFault, ReplyReader};
-use attach_ipp::{
-    ask_of_job, ask_of_printer, cancel_job, is_stopped, loaded_media, print_job, reply_in,
-};
 use attach_orders::JobOrder;
 use attachment::{Attachment, Pauses};
 use base_types::Text;
 use ipp_codec::EncodeFault;
+use ipp_requests::{
+    ask_of_job, ask_of_printer, cancel_job, is_stopped, loaded_media, print_job, reply_in,
+};
 use std::alloc::{AllocError, Global};
 use text::drop_front;
 

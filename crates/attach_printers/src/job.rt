@@ -1,9 +1,9 @@
 //! The options of a job, and those that a printer supports.
 use crate::told::LeftOut;
-use attach_ipp::{Ticket, copies_up_to, lists, lists_number};
 use attach_orders::JobOrder;
 use base_types::{Finishings, Sides, Text};
 use ipp_codec::{GroupTag, MessageView};
+use ipp_requests::{Ticket, copies_up_to, lists, lists_number};
 use std::alloc::Global;
 
 /// The format of any document.

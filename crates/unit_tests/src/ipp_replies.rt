@@ -1,7 +1,7 @@
 //! Replies of HTTP, requests to a printer of IPP, and the facts in its replies.
 use attach_http::ReplyReader;
-use attach_ipp::{cancel_job, copies_up_to, is_stopped, lists, loaded_media, reply_in};
 use ipp_codec::GroupTag;
+use ipp_requests::{cancel_job, copies_up_to, is_stopped, lists, loaded_media, reply_in};
 use std::alloc::{AllocError, Global};
 use std::test::Fail;
 

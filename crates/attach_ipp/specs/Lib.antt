@@ -1,6 +1,0 @@
-pub mod Group
-pub mod Media
-pub mod Printer
-pub mod Reply
-pub mod Request
-pub mod Ticket
