@@ -6,3 +6,4 @@ pub mod Lost
 pub mod Noted
 pub mod Played
 pub mod LostTurn
+pub mod Filed

@@ -27,7 +27,7 @@ filed_behind moment hs text turn (Ticked at those ∷ trace) file never = absurd
 -- ---- the end of a turn
 
 -- the notes without their lines, where lines are kept
-no_notes : (notes : NoteState) (lines : List ℕ) → notes.lines ≡ Some lines → notes.heads ≡ false → record notes { lines = option_map (λ text. []) notes.lines } ≡ record { lines = Some []; heads = false }
+pub no_notes : (notes : NoteState) (lines : List ℕ) → notes.lines ≡ Some lines → notes.heads ≡ false → record notes { lines = option_map (λ text. []) notes.lines } ≡ record { lines = Some []; heads = false }
 no_notes notes lines kept whole =
     let emptied : Option (List ℕ) → NoteState = λ o. record notes { lines = option_map (λ text. []) o } in
     let headed : Bool → NoteState = λ heads. record { lines = Some []; heads = heads } in

@@ -40,3 +40,7 @@ pub record HasPlayed (opening : State) (file : List ℕ) (engine : EngineState) 
   pub trace : Trace
   pub stands : StandsAt opening trace engine
   pub is_file : IsFile trace file
+
+-- wherever the engine stood at the trace of a file of these lines, it stands at the trace of one of those
+abbrev pub KeepsPlayed : List ℕ → EngineState → List ℕ → EngineState → Type 0
+KeepsPlayed before old after new = (opening : State) → HasPlayed opening before old → HasPlayed opening after new

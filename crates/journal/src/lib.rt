@@ -12,9 +12,11 @@
 #![tactic(auto)]
 
 mod fault;
+mod filing;
 mod gate;
 mod law;
 mod lost_wire;
+mod mark;
 mod pausable;
 mod restart_witness;
 mod restarting;
@@ -22,11 +24,13 @@ mod resumption;
 mod storage;
 
 pub use fault::PlayFault;
+pub use filing::{FilingFault, file_turn};
 pub use gate::{Gate, Pass};
 pub use law::{
     lost_connections_leave_waiting_jobs, quiet_turns_change_nothing, sent_bytes_were_due,
     turns_append_to_files,
 };
+pub use mark::Mark;
 pub use pausable::Pausable;
 pub use restarting::Restarted;
 pub use resumption::{JournaledEngine, Resumption};
