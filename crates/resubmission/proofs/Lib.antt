@@ -1,0 +1,2 @@
+pub mod SameJobs
+pub mod Keeping

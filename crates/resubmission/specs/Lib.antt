@@ -1,0 +1,3 @@
+pub mod Saved
+pub mod Alike
+pub mod Resubmitting

@@ -1,0 +1,31 @@
+//! The turns of an engine that serves a client in memory.
+ghost use Rattle.std.specs.Prelude.{OnOk};
+ghost use Rattle.journal.specs.File.{KeepsPlayed};
+
+use crate::client::Client;
+use crate::fault::ResubmissionFault;
+use base_types::Moment;
+use journal::{JournaledEngine, Storage, file_turn};
+use recordings::Noted;
+use std::alloc::Global;
+
+/// Has an engine take turns at a moment until a client's connection is closed, and appends them to a storage.
+pub(crate) fn serve<T: Storage>(
+    alloc: Global,
+    client: Client,
+    engine: &mut JournaledEngine,
+    moment: Moment,
+    storage: &mut T,
+) -> Result<(), ResubmissionFault>
+    ensures { OnOk result (KeepsPlayed (T.stored storage.old) engine.old (T.stored storage.new) engine.new) }
+{
+    let mut wire = Noted::new(alloc, client);
+    wire.notes.begin(false);
+    for _ in 0..u64::MAX {
+        file_turn(engine, &mut wire, moment, storage)?;
+        if wire.wire.closed {
+            break;
+        }
+    }
+    Ok(())
+}
