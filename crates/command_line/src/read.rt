@@ -52,6 +52,7 @@ fn spool_words<'a>(
         directory,
         sync: found.get_flag("sync"),
         keep: found.get_flag("spool-keep"),
+        reprint: found.get_flag("reprint"),
     }))
 }
 

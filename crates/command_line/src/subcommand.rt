@@ -61,6 +61,8 @@ pub struct Spooling<'a> {
     pub sync: bool,
     /// Whether the files of past days stay.
     pub keep: bool,
+    /// Whether jobs that devices had in hand are printed again.
+    pub reprint: bool,
 }
 
 /// The options of `printd replay`.

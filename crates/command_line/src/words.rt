@@ -186,6 +186,12 @@ const SERVE: &[ArgumentWords<'static>] = &[
         help: "Keep the files of past days in the directory, with the documents that they hold",
         ..FLAG
     },
+    ArgumentWords {
+        name: "reprint",
+        needs: Some("spool"),
+        help: "Print the jobs again that devices had in hand when the server ended: they may come out twice",
+        ..FLAG
+    },
 ];
 
 const SETTINGS: &[ArgumentWords<'static>] = &[

@@ -9,7 +9,7 @@ ghost use Rattle.daemon.specs.Journaling.{IsFiled, KeepsFiled, FilesTurn, SendsS
 
 use crate::chronicle::Chronicle;
 use crate::serving::{NoListener, Server};
-use base_types::{JobId, Moment, Text};
+use base_types::{Moment, Text};
 use journal::{Gate, JournaledEngine, Pass, Storage, sent_bytes_were_due};
 use recordings::Noted;
 use server::NoteLog;
@@ -59,9 +59,11 @@ impl Server {
         self.engine.unfinished_jobs() == 0 && !self.engine.has_client()
     }
 
-    /// The id of the next job; `None` once all ids are used.
-    pub fn next_job_id(&self) -> Option<JobId> {
-        self.engine.next_job_id()
+    /// The engine.
+    pub fn engine(&self) -> &JournaledEngine
+        ensures { result.now ≡ self.now.engine }
+    {
+        &self.engine
     }
 
     /// Ends the server. Its connections are closed, and its sockets listen on.

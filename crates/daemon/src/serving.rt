@@ -15,7 +15,7 @@ use base_types::Moment;
 use dispatcher::{AllocationSite, DeviceRefusal, Dispatched, Listener};
 use events::Cancel;
 use journal::{
-    Gate, JournaledEngine, Pass, Pausable, quiet_turns_change_nothing, turns_append_to_files,
+    Gate, JournaledEngine, Mark, Pass, Pausable, quiet_turns_change_nothing, turns_append_to_files,
 };
 use plan_solver::AugmentingPaths;
 use recordings::Noted;
@@ -38,6 +38,8 @@ pub struct Server {
     /// Whether the notes are those of a journal. It has no turn in which memory was refused: such a turn can't be
     /// taken again.
     pub(crate) journaled: bool,
+    /// The last mark of the journal.
+    marked: Option<Mark>,
 }
 
 /// What a turn told a listener, and the connections that came and went.
@@ -96,6 +98,7 @@ impl Server {
             chronicle,
             lookout: Lookout::new(),
             journaled: false,
+            marked: None,
         }
     }
 
@@ -254,24 +257,68 @@ impl Server {
         if !self.is_recorded() {
             return;
         }
-        self.note_visits(visits);
+        self.note_comments(visits);
         self.wire.notes.end_turn(moment, refused);
     }
 
-    /// Notes the connections that came and went, as comments. If memory is refused, no comment is noted.
-    fn note_visits(&mut self, visits: &Result<Vec<ConnectionEvent>, AllocError>)
+    /// Notes the connections that came and went, and the mark of a journal, as comments. If memory is refused, no
+    /// comment is noted, and a journal keeps no lines any more.
+    fn note_comments(&mut self, visits: &Result<Vec<ConnectionEvent>, AllocError>)
         ensures idles { Idles self.old self.new }
         ensures notes { AddsComments self.old.wire.notes self.new.wire.notes }
     {
-        let Ok(visits) = visits else {
-            return;
-        };
-        if visits.is_empty() {
-            return;
+        match self.comments_of(visits) {
+            Ok(comments) => self.comment(&comments),
+            Err(_) if self.journaled => self.wire.notes.stop(),
+            Err(_) => {}
         }
-        if let Ok(comments) = self.chronicle.comments(visits) {
-            self.wire.notes.comment(&comments);
+    }
+
+    /// Notes comments, if there are any.
+    fn comment(&mut self, comments: &[u8])
+        ensures idles { Idles self.old self.new }
+        ensures notes { AddsComments self.old.wire.notes self.new.wire.notes }
+    {
+        if !comments.is_empty() {
+            self.wire.notes.comment(comments);
         }
+    }
+
+    /// The comments on the connections that came and went, and the mark of a journal if it is another.
+    fn comments_of(
+        &mut self,
+        visits: &Result<Vec<ConnectionEvent>, AllocError>,
+    ) -> Result<Vec<u8>, AllocError>
+        ensures { Rests self.old self.new }
+    {
+        let mut comments = self.visits_of(visits)?;
+        if self.journaled {
+            self.put_mark(&mut comments)?;
+        }
+        Ok(comments)
+    }
+
+    /// The comments on the connections that came and went; none if memory for their log was refused.
+    fn visits_of(
+        &self,
+        visits: &Result<Vec<ConnectionEvent>, AllocError>,
+    ) -> Result<Vec<u8>, AllocError> {
+        match visits {
+            Ok(visits) if !visits.is_empty() => self.chronicle.comments(visits),
+            _ => Ok(Vec::new(self.alloc)),
+        }
+    }
+
+    /// Appends the mark of the journal, if it is another than the last.
+    fn put_mark(&mut self, comments: &mut Vec<u8>) -> Result<(), AllocError>
+        ensures { Rests self.old self.new }
+    {
+        let mark = Mark::of(&self.engine);
+        if self.marked != Some(mark) {
+            mark.put(self.alloc, comments)?;
+            self.marked = Some(mark);
+        }
+        Ok(())
     }
 
     /// Waits until the poll reports an event, or this time has passed.

@@ -13,9 +13,9 @@ use program::ExitStatus;
 use server::Engine;
 use settings_file::Settings;
 use sockets::Sockets;
-use spool_directory::{JobInHand, SpoolDirectory, SpoolFault, SpoolFiles, SpoolOptions, Start};
+use spool_directory::{SpoolDirectory, SpoolFault, SpoolFiles, SpoolOptions, Start};
 use std::alloc::{AllocError, Global};
-use std::{io, str};
+use std::io;
 
 /// The ms of a day.
 const DAY: u64 = 86_400_000;
@@ -49,28 +49,6 @@ fn no_memory(rt: &HostRuntime, _error: AllocError) -> ExitStatus {
     cannot(rt, "go on serving", out_of_memory())
 }
 
-/// Writes to standard error that a job was in a device's hand.
-fn tell_in_hand(rt: &HostRuntime, job: &JobInHand) {
-    let id = job.id.number();
-    let _said = match str::from_utf8(job.owner.as_bytes()) {
-        Ok(owner) => {
-            eprintln!(rt; "printd: job {id} of {owner:?} was in a device's hand, and is aborted")
-        }
-        Err(_) => eprintln!(rt; "printd: job {id} was in a device's hand, and is aborted"),
-    };
-}
-
-/// Writes to standard error how many jobs wait, and which were in a device's hand.
-fn tell(rt: &HostRuntime, start: &Start<'_>) {
-    let waiting = start.waiting;
-    if waiting > 0 {
-        let _said = eprintln!(rt; "printd: jobs that wait: {waiting}");
-    }
-    for job in &start.in_hand {
-        tell_in_hand(rt, job);
-    }
-}
-
 /// Opens the directory, and starts from its journal. A fault is reported, and its exit status returned.
 fn start_in<'a>(
     rt: &'a HostRuntime,
@@ -83,16 +61,14 @@ fn start_in<'a>(
     let options = SpoolOptions {
         sync: spooling.sync,
         keep: spooling.keep,
+        reprint: spooling.reprint,
         version: VERSION,
     };
     let directory = SpoolDirectory::open(rt, spooling.directory).map_err(|fault| refused(
         rt, &fault,
     ))?;
     match directory.start(text, settings, options) {
-        Ok(start) => {
-            tell(rt, &start);
-            Ok(start)
-        }
+        Ok(start) => Ok(start),
         Err(fault) => Err(refused(rt, &fault)),
     }
 }
@@ -125,12 +101,13 @@ fn begin_anew(
     turns: u64,
 ) -> Result<Day, ExitStatus> {
     let first = server
+        .engine()
         .next_job_id()
         .ok_or_else(|| cannot(rt, "begin the journal anew", out_of_memory()))?;
-    let engine = fresh_engine(rt, settings, first)?;
+    let mut engine = fresh_engine(rt, settings, first)?;
     files
-        .begin_anew(settings.text, first)
-        .map_err(|error| cannot(rt, "begin the journal anew", error))?;
+        .begin_anew(settings.text, first, server.engine(), &mut engine)
+        .map_err(|fault| refused(rt, &fault))?;
     Ok(Day {
         sockets: server.into_sockets(),
         engine,

@@ -4,7 +4,7 @@ use Rattle.settings_file.specs.Settings.{ServerSettings, MeetsLimits}
 use Rattle.print_room.specs.Opening.{opening}
 use Rattle.server.specs.State.{EngineState}
 use Rattle.server.specs.Refinement.{StandsAt}
-use Rattle.journal.specs.File.{HasPlayed}
+use Rattle.journal.specs.File.{HasPlayed, KeepsPlayed}
 use Rattle.journal.specs.Resuming.{Extends, RestartsAs}
 use Rattle.journal.specs.declared.resumption.Resumption.{Resumption}
 use Rattle.journal.specs.declared.restarting.Restarted.{Restarted}
@@ -35,3 +35,13 @@ begun settings first lines engine within stands none = record {
   first = first;
   played = record { trace = []; stands = stands; is_file = none };
 }
+
+-- turns were stored behind them
+pub later : (lines more : List ℕ) (old new : EngineState) → HasStarted lines old → KeepsPlayed lines old more new → HasStarted more new
+later lines more old new started keeps = record { settings = started.settings; within = started.within; first = started.first; played = keeps (opening started.settings started.first) started.played }
+
+-- no line was played, and turns were stored then
+pub renewed : (settings : ServerSettings) (first : ℕ) (none paused submitted : List ℕ) (fresh one two : EngineState) → MeetsLimits settings → StandsAt (opening settings first) [] fresh → none ≡ []
+    → KeepsPlayed none fresh paused one → KeepsPlayed paused one submitted two → HasStarted submitted two
+renewed settings first none paused submitted fresh one two within stands empty pauses submits =
+    later paused submitted one two (later none paused fresh one (begun settings first none fresh within stands empty) pauses) submits

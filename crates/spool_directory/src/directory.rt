@@ -24,18 +24,14 @@ fn remove_if_there(rt: &HostRuntime, path: &str) -> io::Result<()> {
     }
 }
 
-/// Creates a file that only its owner can read, to be appended to, and writes to it. Waits until that is on the
-/// disk, if asked.
-fn create(rt: &HostRuntime, path: &str, head: &[u8], sync: bool) -> io::Result<File> {
+/// Creates a file that only its owner can read, to be appended to, and writes to it.
+fn create(rt: &HostRuntime, path: &str, head: &[u8]) -> io::Result<File> {
     let mut file = OpenOptions::new()
         .append(true)
         .create_new(true)
         .mode(0o600)
         .open(rt, path)?;
     file.write_all(head)?;
-    if sync {
-        file.sync_all()?;
-    }
     Ok(file)
 }
 
@@ -63,12 +59,9 @@ impl<'a> Directory<'a> {
         self.path_of(&name)
     }
 
-    /// Waits until the names of the files are on the disk, if asked.
-    fn sync_names(&self, sync: bool) -> io::Result<()> {
-        if sync {
-            File::open(self.rt, self.path)?.sync_all()?;
-        }
-        Ok(())
+    /// Waits until the names of the files are on the disk.
+    pub(crate) fn sync(&self) -> io::Result<()> {
+        File::open(self.rt, self.path)?.sync_all()
     }
 
     /// Opens the file of the journal with a number for reading.
@@ -77,24 +70,50 @@ impl<'a> Directory<'a> {
         File::open(self.rt, &path)
     }
 
-    /// Makes the file of the journal with a number, with its first lines. It gets its name once they are written,
-    /// and on the disk, if asked. Where an error is returned, no file has the name.
-    pub(crate) fn make(&self, number: u32, head: &[u8], sync: bool) -> io::Result<File> {
+    /// Creates the file with a number, with its first lines. It isn't a file of the journal until it is published.
+    /// Where an error is returned, it isn't there.
+    pub(crate) fn create(&self, number: u32, head: &[u8]) -> io::Result<File> {
         let unfinished = self.unfinished_path(number)?;
-        let path = self.trace_path(number)?;
         remove_if_there(self.rt, &unfinished)?;
-        let file = match create(self.rt, &unfinished, head, sync) {
-            Ok(file) => file,
+        match create(self.rt, &unfinished, head) {
+            Ok(file) => Ok(file),
             Err(error) => {
                 let _removed = fs::remove_file(self.rt, &unfinished);
-                return Err(error);
+                Err(error)
             }
-        };
-        fs::rename(self.rt, &unfinished, &path)?;
-        match self.sync_names(sync) {
-            Err(error) if fs::remove_file(self.rt, &path).is_ok() => Err(error),
-            _ => Ok(file),
         }
+    }
+
+    /// Makes the file with a number that was created a file of the journal. Where an error is returned, no file of the
+    /// journal has the number.
+    fn name(&self, number: u32) -> io::Result<()> {
+        let unfinished = self.unfinished_path(number)?;
+        let path = self.trace_path(number)?;
+        fs::rename(self.rt, &unfinished, &path)
+    }
+
+    /// Makes the file with a number that was created a file of the journal, once its lines are on the disk, and waits
+    /// until its name is, too. Where an error is returned, no file of the journal has the number.
+    pub(crate) fn publish(&self, number: u32, file: &File) -> io::Result<()> {
+        let path = self.trace_path(number)?;
+        file.sync_all()?;
+        self.name(number)?;
+        match self.sync() {
+            Err(error) if fs::remove_file(self.rt, &path).is_ok() => Err(error),
+            _ => Ok(()),
+        }
+    }
+
+    /// Makes the file of the journal with a number, with its first lines, and waits until it is on the disk, if asked.
+    /// Where an error is returned, there is no such file.
+    pub(crate) fn make(&self, number: u32, head: &[u8], sync: bool) -> io::Result<File> {
+        let file = self.create(number, head)?;
+        if sync {
+            self.publish(number, &file)?;
+        } else {
+            self.name(number)?;
+        }
+        Ok(file)
     }
 
     /// Cuts the file of the journal with a number.

@@ -1,5 +1,6 @@
 //! Why a spool directory is refused.
 use crate::system_error::SystemError;
+use base_types::JobId;
 use std::error::Error;
 use std::fmt;
 
@@ -46,11 +47,8 @@ pub enum SpoolFault {
     File(FileFault),
     /// The settings of a base are refused, as the sentence says. Nothing was changed.
     Settings(String),
-    /// Jobs are unfinished that came under other settings, those of the file of this path. Nothing was changed.
-    SettingsChanged {
-        file: String,
-        unfinished: usize,
-    },
+    /// The job of this id changed while others were submitted again. Nothing was changed.
+    Changed(JobId),
     /// All ids of jobs are used in the directory of this path.
     AllIdsUsed(String),
     OutOfMemory,
@@ -107,15 +105,33 @@ impl fmt::Display for SpoolFault {
             SpoolFault::Refused { what, path, error } => write!(f, "cannot {what} {path}: {error}"),
             SpoolFault::File(fault) => write!(f, "{fault}"),
             SpoolFault::Settings(sentence) => write!(f, "{sentence}; nothing was changed"),
-            SpoolFault::SettingsChanged { file, unfinished } => write!(
-                f,
-                "jobs are unfinished ({unfinished}) that came under the settings of {file}, which aren't those given: start with its settings, the lines before \".\", until none is; nothing was changed"
-            ),
+            SpoolFault::Changed(job) => {
+                let id = job.number();
+                write!(
+                    f,
+                    "job {id} changed while it was submitted again; nothing was changed"
+                )
+            }
             SpoolFault::AllIdsUsed(path) => write!(
                 f,
                 "all ids of jobs are used: put the files of {path} aside"
             ),
             SpoolFault::OutOfMemory => f.write_str("out of memory"),
+        }
+    }
+}
+
+impl SpoolFault {
+    /// Returns whether this server does something else than a file says, which a server of another version wrote.
+    pub(crate) fn is_of_other(&self, version: &str) -> bool {
+        match self {
+            SpoolFault::File(
+                FileFault {
+                    why: Why::Differs(other),
+                    ..
+                },
+            ) => other.as_str() != version,
+            _ => false,
         }
     }
 }

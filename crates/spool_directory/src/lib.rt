@@ -16,23 +16,26 @@
 
 mod clock;
 mod directory;
+mod draft;
 mod fault;
 mod following;
 mod head;
-mod in_hand;
+mod keeping;
 mod listing;
+mod marks;
 mod named;
 mod opening;
 mod playing;
 mod removing;
+mod renewing;
 mod spool_files;
 mod starting;
 mod system_error;
+mod telling;
 mod trouble;
 mod writer;
 
 pub use fault::{FileFault, SpoolFault, Why};
-pub use in_hand::JobInHand;
 pub use opening::SpoolDirectory;
 pub use spool_files::{SpoolFiles, SpoolOptions};
 pub use starting::Start;

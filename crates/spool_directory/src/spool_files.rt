@@ -1,15 +1,18 @@
 //! The files of a journal as a storage of lines.
 ghost use Rattle.std.specs.Prelude.{◌≡◌, [], IfOk, OnOk, OnErr};
+ghost use Rattle.journal.specs.File.{KeepsPlayed};
 
 use crate::clock::{millis_of, now};
 use crate::directory::Directory;
+use crate::draft::Draft;
 use crate::fault::SpoolFault;
 use crate::listing::Listing;
 use crate::opening::SpoolDirectory;
 use crate::playing::Ending;
-use crate::writer::{Tail, Writer, base_head, next_head, number_behind};
+use crate::writer::{Tail, Writer};
 use base_types::JobId;
-use journal::{Storage, StoredLines};
+use journal::{JournaledEngine, Storage, StoredLines};
+use resubmission::paused_printers;
 use std::io;
 
 /// How the files of a directory are kept.
@@ -19,6 +22,8 @@ pub struct SpoolOptions<'a> {
     pub sync: bool,
     /// Whether files that the journal doesn't need any more get another name, and aren't removed.
     pub keep: bool,
+    /// Whether jobs that devices had in hand are submitted again.
+    pub reprint: bool,
     /// The version of the server.
     pub version: &'a str,
 }
@@ -43,51 +48,11 @@ pub(crate) struct Place {
 }
 
 /// Cuts off what follows the last turn of the last file.
-fn cut(directory: Directory<'_>, place: Place) -> io::Result<()> {
+pub(crate) fn cut(directory: Directory<'_>, place: Place) -> io::Result<()> {
     if place.ending.is_torn() {
         directory.cut(place.last, place.ending.whole)?;
     }
     Ok(())
-}
-
-/// Makes a base behind all files. Returns it with its beginning, in ms since the beginning of 1970.
-fn make_base(
-    directory: Directory<'_>,
-    listing: &Listing,
-    settings_text: &[u8],
-    first: JobId,
-    options: SpoolOptions<'_>,
-) -> io::Result<(Tail, u64)> {
-    let time = now(directory.rt)?;
-    let began = millis_of(time);
-    let head = base_head(
-        directory.alloc(),
-        settings_text,
-        began,
-        options.version,
-        first,
-    )?;
-    let number = number_behind(listing.last)?;
-    let tail = Tail::make(directory, number, &head, time, true)?;
-    Ok((tail, began))
-}
-
-/// Makes a file that goes on behind a place, with these lines first. Returns it with the start of the server, in ms
-/// since the beginning of 1970.
-fn make_next(
-    directory: Directory<'_>,
-    listing: &Listing,
-    place: Place,
-    lines: &[u8],
-    options: SpoolOptions<'_>,
-) -> io::Result<(Tail, u64)> {
-    let time = now(directory.rt)?;
-    let started = millis_of(time);
-    let mut head = next_head(directory.alloc(), place.last, started, options.version)?;
-    head.extend_from_slice(lines)?;
-    let number = number_behind(listing.last)?;
-    let tail = Tail::make(directory, number, &head, time, true)?;
-    Ok((tail, started))
 }
 
 impl<'a> SpoolFiles<'a> {
@@ -99,8 +64,9 @@ impl<'a> SpoolFiles<'a> {
         base: u32,
         begun: u64,
         tail: Tail,
+        stored: StoredLines,
     ) -> SpoolFiles<'a>
-        ensures { result.stored.lines ≡ [] }
+        ensures { result.stored ≡ stored }
     {
         let writer = Writer {
             opened,
@@ -112,52 +78,59 @@ impl<'a> SpoolFiles<'a> {
             torn: false,
             failing: false,
         };
-        SpoolFiles {
-            writer,
-            stored: StoredLines::new(),
-        }
+        SpoolFiles { writer, stored }
     }
 
-    /// The files of a journal that begins with a base of these settings, whose first job gets the id `first`. All
-    /// other files of the directory are let go.
+    /// The files of a journal that begins with a base. All other files of the directory are let go.
     pub(crate) fn begin(
         opened: SpoolDirectory<'a>,
         listing: &Listing,
-        settings_text: &[u8],
-        first: JobId,
+        base: Draft<'_>,
         options: SpoolOptions<'a>,
     ) -> Result<SpoolFiles<'a>, SpoolFault>
-        ensures { IfOk result (λ files. files.stored.lines ≡ []) }
+        ensures { IfOk result (λ files. files.stored.lines ≡ base.entry.stored.lines) }
     {
         let directory = opened.directory;
-        let (tail, began) = make_base(directory, listing, settings_text, first, options).map_err(
-            |error| directory.refused("write to", directory.path, error),
-        )?;
-        let base = tail.number;
-        directory.clear(listing, base, options.keep);
-        Ok(SpoolFiles::over(opened, options, began, base, began, tail))
+        let began = base.began();
+        let (published, stored) = base.publish();
+        match published {
+            Ok(tail) => {
+                let number = tail.number;
+                directory.clear(listing, number, options.keep);
+                Ok(SpoolFiles::over(opened, options, began, number, began, tail, stored))
+            }
+            Err(error) => Err(directory.refused("write to", directory.path, error)),
+        }
     }
 
-    /// The files of a journal that goes on behind a place, with these lines first. What follows the last turn of the
-    /// last file is cut off, and files that stand before the base are let go.
+    /// The files of a journal that goes on behind a place. Files that stand before its base are let go.
     pub(crate) fn go_on(
         opened: SpoolDirectory<'a>,
         listing: &Listing,
         place: Place,
-        lines: &[u8],
+        next: Draft<'_>,
         options: SpoolOptions<'a>,
-    ) -> Result<SpoolFiles<'a>, SpoolFault> {
+    ) -> Result<SpoolFiles<'a>, SpoolFault>
+        ensures { IfOk result (λ files. files.stored.lines ≡ next.entry.stored.lines) }
+    {
         let directory = opened.directory;
-        cut(directory, place).map_err(|error| directory.refused_trace(
-            "cut off the end of",
-            place.last,
-            error,
-        ))?;
-        let (tail, started) = make_next(directory, listing, place, lines, options).map_err(
-            |error| directory.refused("write to", directory.path, error),
-        )?;
-        directory.clear(listing, place.base, options.keep);
-        Ok(SpoolFiles::over(opened, options, started, place.base, place.begun, tail))
+        let started = next.began();
+        let (published, stored) = next.publish();
+        match published {
+            Ok(tail) => {
+                directory.clear(listing, place.base, options.keep);
+                Ok(SpoolFiles::over(
+                    opened,
+                    options,
+                    started,
+                    place.base,
+                    place.begun,
+                    tail,
+                    stored,
+                ))
+            }
+            Err(error) => Err(directory.refused("write to", directory.path, error)),
+        }
     }
 
     /// The last moment in ms since the beginning of 1970 at which a base was begun.
@@ -171,18 +144,46 @@ impl<'a> SpoolFiles<'a> {
         Ok(millis_of(time).saturating_sub(self.writer.begun))
     }
 
-    /// Begins the journal anew with a base of these settings, whose first job gets the id `first`. The files before
-    /// it are let go. An error leaves the journal as it was.
-    pub fn begin_anew(&mut self, settings_text: &[u8], first: JobId) -> io::Result<()>
-        ensures anew { OnOk result (self.new.stored.lines ≡ []) }
+    /// Begins the journal anew with a base of these settings, whose first job gets the id `first`. The engine, which is
+    /// to have taken no turn, pauses the printers that are paused in the engine before. The files before the base are
+    /// let go. An error leaves the journal as it was.
+    pub fn begin_anew(
+        &mut self,
+        settings_text: &[u8],
+        first: JobId,
+        before: &JournaledEngine,
+        engine: &mut JournaledEngine,
+    ) -> Result<(), SpoolFault>
+        ensures anew { OnOk result (KeepsPlayed [] engine.old self.new.stored.lines engine.new) }
         ensures kept { OnErr result (self.new.stored.lines ≡ self.old.stored.lines) }
     {
-        match self.writer.begin_anew(settings_text, first) {
-            Ok(()) => {
-                self.stored = StoredLines::new();
+        let directory = self.writer.opened.directory;
+        let Ok(paused) = paused_printers(directory.alloc(), before) else {
+            return Err(SpoolFault::OutOfMemory);
+        };
+        let begun = Draft::base(
+            directory,
+            self.writer.tail.number,
+            settings_text,
+            first,
+            self.writer.options.version,
+        );
+        let mut base = match begun {
+            Ok(base) => base,
+            Err(error) => return Err(directory.refused("write to", directory.path, error)),
+        };
+        if let Err(fault) = directory.pause(&paused, engine, &mut base) {
+            return Err(base.abandon(fault));
+        }
+        let began = base.began();
+        let (published, stored) = base.publish();
+        match published {
+            Ok(tail) => {
+                self.writer.begin_anew(tail, began);
+                self.stored = stored;
                 Ok(())
             }
-            Err(error) => Err(error),
+            Err(error) => Err(directory.refused("write to", directory.path, error)),
         }
     }
 }

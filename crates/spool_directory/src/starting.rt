@@ -1,23 +1,22 @@
 //! The start of a server from a directory.
-ghost use Rattle.std.specs.Prelude.{◌≡◌, [], IfOk};
+ghost use Rattle.std.specs.Prelude.{IfOk, OnOk};
+ghost use Rattle.journal.specs.File.{KeepsPlayed};
 ghost use Rattle.settings_file.specs.Settings.{MeetsLimits};
-ghost use Rattle.print_room.specs.Opening.{opening};
-ghost use Rattle.server.specs.Refinement.{StandsAt};
 ghost use Rattle.spool_directory.specs.Starting.{IsPlaying, HasStarted};
 
 use crate::directory::Directory;
+use crate::draft::Draft;
 use crate::fault::SpoolFault;
-use crate::in_hand::{JobInHand, jobs_in_hand, keep_aborted};
 use crate::listing::Listing;
 use crate::opening::SpoolDirectory;
 use crate::playing::Played;
-use crate::spool_files::{Place, SpoolFiles, SpoolOptions};
+use crate::renewing::Carried;
+use crate::spool_files::{Place, SpoolFiles, SpoolOptions, cut};
 use base_types::{JobId, Moment};
-use journal::{JournaledEngine, Pausable, Restarted, Resumption};
-use plan_solver::AugmentingPaths;
-use server::Engine;
+use job_objects::JobState;
+use journal::{JournaledEngine, Restarted, Resumption};
+use resubmission::{ResubmissionFault, SavedJob, Which, saved_jobs};
 use settings_file::Settings;
-use std::alloc::Global;
 
 /// A server that starts.
 #[derive(Drop)]
@@ -26,10 +25,6 @@ pub struct Start<'a> {
     /// The moment of the last turn.
     pub last: Moment,
     pub files: SpoolFiles<'a>,
-    /// The number of jobs that are unfinished.
-    pub waiting: usize,
-    /// The jobs that devices had in hand when the server before ended.
-    pub in_hand: Vec<JobInHand>,
 }
 
 /// The settings that a server is given.
@@ -44,33 +39,22 @@ fn has_settings(base: &[u8], text: &[u8]) -> bool {
     base == text || base.strip_suffix(b"\n") == Some(text)
 }
 
-/// The engine of a server without jobs, whose first job gets the id `first`.
-fn fresh_engine(
-    alloc: Global,
-    settings: Settings,
-    first: JobId,
-) -> Result<JournaledEngine, SpoolFault>
-    requires { MeetsLimits settings }
-    ensures { IfOk result (StandsAt (opening settings first) []) }
-{
-    let planner = Pausable::new(AugmentingPaths::new(alloc));
-    match Engine::starting_at(alloc, settings, planner, first) {
-        Ok(engine) => Ok(engine),
-        Err(_) => Err(SpoolFault::OutOfMemory),
-    }
-}
-
-/// Has the engine lose all connections, and leaves of the jobs only those that it aborted.
-fn restart(resumption: Resumption, in_hand: &mut Vec<JobInHand>) -> Result<Restarted, SpoolFault>
+/// Has the engine lose all connections.
+fn restart(resumption: Resumption) -> Result<Restarted, SpoolFault>
     requires { IsPlaying resumption }
     ensures { IfOk result (λ restarted. HasStarted restarted.stored.lines restarted.engine) }
 {
     match resumption.restart() {
-        Ok(restarted) => {
-            keep_aborted(&restarted.engine, in_hand);
-            Ok(restarted)
-        }
+        Ok(restarted) => Ok(restarted),
         Err(_) => Err(SpoolFault::OutOfMemory),
+    }
+}
+
+/// Returns whether the job of an id is aborted.
+fn is_aborted(engine: &JournaledEngine, id: JobId) -> bool {
+    match engine.job(id) {
+        Some(job) => matches!(job.state, JobState::Aborted),
+        None => false,
     }
 }
 
@@ -85,14 +69,6 @@ fn place_of(played: &Played) -> Place {
 }
 
 impl Directory<'_> {
-    /// The fault that jobs are unfinished that came under the settings of another base.
-    fn settings_changed(&self, base: u32, unfinished: usize) -> SpoolFault {
-        match self.trace_path(base) {
-            Ok(file) => SpoolFault::SettingsChanged { file, unfinished },
-            Err(_) => SpoolFault::OutOfMemory,
-        }
-    }
-
     /// The fault that all ids of jobs are used.
     fn all_ids_used(&self) -> SpoolFault {
         match String::from_str(self.alloc(), self.path) {
@@ -101,27 +77,72 @@ impl Directory<'_> {
         }
     }
 
-    /// The fault that jobs are unfinished that came under other settings, if it is so.
-    fn check_settings(&self, played: &Played, text: &[u8]) -> Result<(), SpoolFault> {
-        if has_settings(&played.head.settings, text) {
-            return Ok(());
+    /// What a server takes over from files that were played, and the id of its first job. The engine that played them
+    /// is dropped, so that documents are in memory once.
+    fn carry_over(&self, played: Played, reprint: bool) -> Result<(JobId, Carried), SpoolFault> {
+        let engine = played.resumption.engine();
+        let Some(first) = engine.next_job_id() else {
+            return Err(self.all_ids_used());
+        };
+        match Carried::of(self.alloc(), engine, reprint) {
+            Ok(carried) => Ok((first, carried)),
+            Err(_) => Err(SpoolFault::OutOfMemory),
         }
-        let unfinished = played.resumption.engine().unfinished_jobs();
-        Err(self.settings_changed(played.base, unfinished))
+    }
+
+    /// Submits the jobs that devices had in hand again, if asked, else reports them.
+    fn end_jobs(
+        &self,
+        in_hand: Vec<SavedJob>,
+        reprint: bool,
+        engine: &mut JournaledEngine,
+        moment: Moment,
+        draft: &mut Draft<'_>,
+    ) -> Result<(), ResubmissionFault>
+        ensures { OnOk result (KeepsPlayed draft.old.stored.lines engine.old draft.new.stored.lines engine.new) }
+    {
+        if reprint {
+            return self.submit(in_hand, engine, moment, draft);
+        }
+        self.tell_in_hand(&in_hand);
+        Ok(())
+    }
+
+    /// Begins the file behind a place in which connections were lost, after the end of the last file was cut off.
+    fn next_draft(
+        &self,
+        listing: &Listing,
+        place: Place,
+        text: &[u8],
+        version: &str,
+    ) -> Result<Draft<'_>, SpoolFault> {
+        let directory = *self;
+        cut(directory, place).map_err(|error| directory.refused_trace(
+            "cut off the end of",
+            place.last,
+            error,
+        ))?;
+        Draft::next(directory, listing.last, place.last, text, version).map_err(|error| {
+            directory.refused("write to", directory.path, error)
+        })
     }
 }
 
 impl<'a> SpoolDirectory<'a> {
     /// Starts a server with these settings from the journal of the directory.
     ///
-    /// Where no job is unfinished, the journal begins anew with these settings. Else the server's connections are
-    /// lost: the jobs that waited wait, and those that devices had in hand are aborted. The engine stands at the trace
-    /// of the stored lines.
+    /// Where jobs are unfinished that came under the same settings, the server's connections are lost: the jobs that
+    /// waited wait, and those that devices had in hand are aborted, or submitted again, if the options say so. Else
+    /// the journal begins anew with these settings, and takes over the pauses of printers. Jobs that waited under other
+    /// settings are submitted again; the documents of those that these settings refuse are kept in files of their own.
+    /// What becomes of each job is reported before the files of the directory change.
+    ///
+    /// The engine stands at the trace of the stored lines.
     ///
     /// # Errors
     ///
-    /// Where a file isn't as a server left it, or jobs are unfinished that came under other settings, nothing is
-    /// written or removed.
+    /// Where a file isn't as a server left it, nothing is written or removed. Where this server does something else than
+    /// the file says, since another version wrote it, the journal begins anew if no job was unfinished at its end.
     pub fn start(
         self,
         settings_text: &[u8],
@@ -143,7 +164,8 @@ impl<'a> SpoolDirectory<'a> {
             Some(base) => self.start_behind(&listing, base, settings, given),
             None => {
                 let first = JobId::new(JobId::FIRST).unwrap();
-                self.begin(&listing, first, settings, given)
+                let carried = Carried::nothing(directory.alloc());
+                self.begin(&listing, first, settings, given, carried)
             }
         }
     }
@@ -159,38 +181,86 @@ impl<'a> SpoolDirectory<'a> {
         requires { MeetsLimits settings }
         ensures { IfOk result (λ start. HasStarted start.files.stored.lines start.engine) }
     {
-        let directory = self.directory;
-        let played = directory.play(listing, base)?;
-        if played.resumption.engine().unfinished_jobs() > 0 {
-            directory.check_settings(&played, given.text)?;
+        let played = match self.directory.play(listing, base) {
+            Ok(played) => played,
+            Err(fault) => return self.begin_quiet(listing, base, settings, given, fault),
+        };
+        let unfinished = played.resumption.engine().unfinished_jobs();
+        if unfinished > 0 && has_settings(&played.head.settings, given.text) {
             return self.go_on(listing, played, given.options);
         }
-        match played.resumption.engine().next_job_id() {
-            Some(first) => self.begin(listing, first, settings, given),
-            None => Err(directory.all_ids_used()),
+        self.renew(listing, played, settings, given)
+    }
+
+    /// Starts a server behind the journal that begins with the base with a number, and isn't played for this fault: if a
+    /// server of another version wrote it, and at its end no job was unfinished.
+    fn begin_quiet(
+        self,
+        listing: &Listing,
+        base: u32,
+        settings: Settings,
+        given: Given<'a, '_>,
+        fault: SpoolFault,
+    ) -> Result<Start<'a>, SpoolFault>
+        requires { MeetsLimits settings }
+        ensures { IfOk result (λ start. HasStarted start.files.stored.lines start.engine) }
+    {
+        let directory = self.directory;
+        if !fault.is_of_other(given.options.version) {
+            return Err(fault);
+        }
+        match directory.quiet_end(listing, base) {
+            Some(first) => {
+                let carried = Carried::nothing(directory.alloc());
+                self.begin(listing, first, settings, given, carried)
+            }
+            None => Err(fault),
         }
     }
 
-    /// Starts a server without jobs, whose first job gets the id `first`.
-    fn begin(
+    /// Starts a server with other settings, or without jobs, behind files that were played.
+    fn renew(
         self,
         listing: &Listing,
-        first: JobId,
+        played: Played,
         settings: Settings,
         given: Given<'a, '_>,
     ) -> Result<Start<'a>, SpoolFault>
         requires { MeetsLimits settings }
         ensures { IfOk result (λ start. HasStarted start.files.stored.lines start.engine) }
     {
-        let alloc = self.directory.alloc();
-        let files = SpoolFiles::begin(self, listing, given.text, first, given.options)?;
-        match fresh_engine(alloc, settings, first) {
-            Ok(engine) => Ok(Start {
+        let (first, carried) = self.directory.carry_over(played, given.options.reprint)?;
+        self.begin(listing, first, settings, given, carried)
+    }
+
+    /// Starts a server whose first job gets the id `first`, and which takes over what is carried over.
+    fn begin(
+        self,
+        listing: &Listing,
+        first: JobId,
+        settings: Settings,
+        given: Given<'a, '_>,
+        carried: Carried,
+    ) -> Result<Start<'a>, SpoolFault>
+        requires { MeetsLimits settings }
+        ensures { IfOk result (λ start. HasStarted start.files.stored.lines start.engine) }
+    {
+        let directory = self.directory;
+        let options = given.options;
+        let (engine, base) = directory.renew(
+            listing.last,
+            given.text,
+            settings,
+            first,
+            carried,
+            options.version,
+        )?;
+        directory.tell_waiting(&engine);
+        match SpoolFiles::begin(self, listing, base, options) {
+            Ok(files) => Ok(Start {
                 engine,
                 last: Moment::start(),
                 files,
-                waiting: 0,
-                in_hand: Vec::new(alloc),
             }),
             Err(fault) => Err(fault),
         }
@@ -206,23 +276,55 @@ impl<'a> SpoolDirectory<'a> {
         requires { IsPlaying played.resumption }
         ensures { IfOk result (λ start. HasStarted start.files.stored.lines start.engine) }
     {
-        let alloc = self.directory.alloc();
+        let directory = self.directory;
         let place = place_of(&played);
-        let Ok(mut in_hand) = jobs_in_hand(alloc, played.resumption.engine()) else {
+        let engine = played.resumption.engine();
+        let Ok(mut in_hand) = saved_jobs(directory.alloc(), engine, Which::InHand) else {
             return Err(SpoolFault::OutOfMemory);
         };
-        let restarted = restart(played.resumption, &mut in_hand)?;
-        match SpoolFiles::go_on(self, listing, place, &restarted.text, options) {
-            Ok(mut files) => {
-                files.stored = restarted.stored;
-                Ok(Start {
-                    waiting: restarted.engine.unfinished_jobs(),
-                    engine: restarted.engine,
-                    last: restarted.last,
-                    files,
-                    in_hand,
-                })
-            }
+        let restarted = restart(played.resumption)?;
+        in_hand.retain(|job| is_aborted(&restarted.engine, job.id));
+        let next = directory.next_draft(listing, place, &restarted.text, options.version)?;
+        self.go_on_behind(listing, place, restarted, in_hand, next, options)
+    }
+
+    /// As [`SpoolDirectory::go_on`], with the file that goes on behind the place.
+    fn go_on_behind(
+        self,
+        listing: &Listing,
+        place: Place,
+        restarted: Restarted,
+        in_hand: Vec<SavedJob>,
+        next: Draft<'_>,
+        options: SpoolOptions<'a>,
+    ) -> Result<Start<'a>, SpoolFault>
+        requires { HasStarted restarted.stored.lines restarted.engine }
+        ensures { IfOk result (λ start. HasStarted start.files.stored.lines start.engine) }
+    {
+        let directory = self.directory;
+        let Restarted {
+            mut engine,
+            last,
+            stored,
+            ..
+        } = restarted;
+        let mut next = next.behind(stored);
+        if let Err(fault) = directory.end_jobs(
+            in_hand,
+            options.reprint,
+            &mut engine,
+            last,
+            &mut next,
+        ) {
+            return Err(next.abandon(fault));
+        }
+        directory.tell_waiting(&engine);
+        match SpoolFiles::go_on(self, listing, place, next, options) {
+            Ok(files) => Ok(Start {
+                engine,
+                last,
+                files,
+            }),
             Err(fault) => Err(fault),
         }
     }

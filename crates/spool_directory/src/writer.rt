@@ -81,21 +81,26 @@ pub(crate) fn next_head(
 }
 
 impl Tail {
+    /// A file with a number, of this length, that is begun at a time.
+    pub(crate) fn of(file: File, number: u32, length: u64, time: Duration) -> Tail {
+        Tail {
+            file,
+            number,
+            length,
+            day: day_of(time),
+        }
+    }
+
     /// Makes the file with a number, with its first lines. Waits until they are on the disk, if asked.
-    pub(crate) fn make(
+    fn make(
         directory: Directory<'_>,
         number: u32,
         head: &[u8],
-        now: Duration,
+        time: Duration,
         sync: bool,
     ) -> io::Result<Tail> {
         let file = directory.make(number, head, sync)?;
-        Ok(Tail {
-            file,
-            number,
-            length: head.len() as u64,
-            day: day_of(now),
-        })
+        Ok(Tail::of(file, number, head.len() as u64, time))
     }
 
     /// Writes lines behind those that are stored, and waits until they are on the disk, if asked.
@@ -189,26 +194,17 @@ impl Writer<'_> {
         !failing
     }
 
-    /// Begins a new base, whose first job gets the id `first`, and lets the files before it go.
-    pub(crate) fn begin_anew(&mut self, settings: &[u8], first: JobId) -> io::Result<()> {
+    /// Goes on in a base that was begun at this time, in ms since the beginning of 1970, and lets the files before it
+    /// go.
+    pub(crate) fn begin_anew(&mut self, tail: Tail, began: u64) {
         let directory = self.opened.directory;
-        let time = now(directory.rt)?;
-        let began = millis_of(time);
-        let head = base_head(
-            directory.alloc(),
-            settings,
-            began,
-            self.options.version,
-            first,
-        )?;
-        let number = number_behind(self.tail.number)?;
-        self.tail = Tail::make(directory, number, &head, time, true)?;
+        let number = tail.number;
+        self.tail = tail;
         self.torn = false;
         self.begun = began;
         for gone in self.base..number {
             directory.let_go(gone, self.options.keep);
         }
         self.base = number;
-        Ok(())
     }
 }
