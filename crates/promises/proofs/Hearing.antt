@@ -60,14 +60,18 @@ heard_left O C (Some e) y left heard = by (e.broken) refl (device_of e.progress)
     by false is None progress = subst IsHeardAt (sym (left.client e refl is progress)) heard
     by false is (Some device) progress = more device (left.device e device refl is progress)
 
-heard_spared : (moment key other : ℕ) (l : Ledger) (hs : List Happening) (l' : Ledger) → other ≢ key → Spared moment key l hs l' → IsHeardAt (l.entries other) → IsHeardAt (l'.entries other)
-heard_spared moment key other l hs l' apart it = heard_left (IsOrder it.came) (IsCause it.came hs) (l.entries other) (l'.entries other) (it.each other apart)
+-- whatever the cause
+abbrev Any : ℕ → Type 0
+Any k = Unit {0}
+
+heard_spared : (moment key other : ℕ) (l : Ledger) (hs : List Happening) (l' : Ledger) → other ≢ key → Spared Any moment key l hs l' → IsHeardAt (l.entries other) → IsHeardAt (l'.entries other)
+heard_spared moment key other l hs l' apart it = heard_left (IsOrder it.came) (IsCause Any it.came hs) (l.entries other) (l'.entries other) (it.each other apart)
 
 abbrev Hears : Rel → Type 0
 Hears R = (l : Ledger) (hs : List Happening) (l' : Ledger) → AllHeard l → R l hs l' → AllHeard l'
 
 -- a part that concerns none
-hears_left : (moment : ℕ) (R : Rel) → ((key : ℕ) → Spares_in moment key R) → Hears R
+hears_left : (moment : ℕ) (R : Rel) → ((key : ℕ) → Spares_in Any moment key R) → Hears R
 hears_left moment R spares l hs l' heard it key = heard_spared moment (suc key) key l hs l' (λ same. absurd (omega (arith, same))) (spares (suc key) l hs l' it) (heard key)
 
 pub hears_same : (l l' : Ledger) → l'.entries ≡ l.entries → AllHeard l → AllHeard l'
@@ -88,7 +92,7 @@ hears_each zero R r = hears_nothing
 hears_each (suc n) R r = hears_then (Each n R) (R n) (hears_each n R r) (r n)
 
 pub hears_settles : (moment : ℕ) → Hears (Settles moment)
-hears_settles moment = hears_left moment (Settles moment) (spares_settles moment)
+hears_settles moment = hears_left moment (Settles moment) (spares_settles Any moment)
 
 at_if : (t : Bool) (x y : Option Entry) → (t ≡ true → IsHeardAt x) → (t ≡ false → IsHeardAt y) → IsHeardAt (if t then x else y)
 at_if true x y p q = p refl
@@ -104,7 +108,7 @@ there l key e heard is = subst IsHeardAt is (heard key)
 -- ---- reads, writes and closings
 
 -- for its own connection by this property, for other connections since the part leaves them alone
-by_key : (R : Rel) (moment key : ℕ) → Spares_in moment key R → ((l : Ledger) (hs : List Happening) (l' : Ledger) → AllHeard l → R l hs l' → IsHeardAt (l'.entries key)) → Hears R
+by_key : (R : Rel) (moment key : ℕ) → Spares_in Any moment key R → ((l : Ledger) (hs : List Happening) (l' : Ledger) → AllHeard l → R l hs l' → IsHeardAt (l'.entries key)) → Hears R
 by_key R moment key spares own l hs l' heard it other = by (other == key) refl
   where
     by : (t : Bool) → (other == key) ≡ t → IsHeardAt (l'.entries other)
@@ -157,7 +161,7 @@ own_reads moment key None l hs l' heard is it = hears_nothing l hs l' heard it k
 own_reads moment key (Some e) l hs l' heard is it = own_reads_if (is_read e) moment key e l hs l' heard is it
 
 pub hears_reads : (moment key : ℕ) → Hears (ReadsOne moment key)
-hears_reads moment key = by_key (ReadsOne moment key) moment key (spares_reads moment key) (λ l hs l' heard it. own_reads moment key (l.entries key) l hs l' heard (heard key) it)
+hears_reads moment key = by_key (ReadsOne moment key) moment key (λ l hs l' it. spares_reads Any moment key l hs l' (λ device bears. tt) it) (λ l hs l' heard it. own_reads moment key (l.entries key) l hs l' heard (heard key) it)
 
 own_writes_as : (moment key : ℕ) (e : Entry) (offered : List ℕ) (answer : WireAnswer ℕ) (l : Ledger) (hs : List Happening) (l' : Ledger) → AllHeard l → IsHeard e → WritesAs moment key e offered answer l hs l' → IsHeardAt (l'.entries key)
 own_writes_as moment key e offered (wire.Done n) l hs l' heard is it =
@@ -175,11 +179,11 @@ own_writes moment key None l hs l' heard is it = hears_nothing l hs l' heard it 
 own_writes moment key (Some e) l hs l' heard is it = own_writes_if (nat_lt 0 (length (waiting e))) moment key e l hs l' heard is it
 
 pub hears_writes : (moment key : ℕ) → Hears (WritesOne moment key)
-hears_writes moment key = by_key (WritesOne moment key) moment key (spares_writes moment key) (λ l hs l' heard it. own_writes moment key (l.entries key) l hs l' heard (heard key) it)
+hears_writes moment key = by_key (WritesOne moment key) moment key (spares_writes Any moment key) (λ l hs l' heard it. own_writes moment key (l.entries key) l hs l' heard (heard key) it)
 
 hears_gone : (moment : ℕ) (device : Option ℕ) → Hears (IsGone moment device)
 hears_gone moment None = hears_nothing
-hears_gone moment (Some device) = hears_left moment (IsGone moment (Some device)) (λ key. spares_unanswered moment key (Is.Report device report.Gone))
+hears_gone moment (Some device) = hears_left moment (IsGone moment (Some device)) (λ key. spares_unanswered Any moment key (Is.Report device report.Gone))
 
 hears_closes : (moment key : ℕ) (e : Entry) → Hears (ClosesAs moment Drained key e)
 hears_closes moment key e =
@@ -215,7 +219,7 @@ hears_accepts door l hs l' heard it = hears_if (nat_lt l.count CONNECTIONS) (Acc
 -- ---- turns, and calls between them
 
 hears_unanswered : (moment : ℕ) (event : Event) → Hears (Unanswered moment event)
-hears_unanswered moment event = hears_left moment (Unanswered moment event) (λ key. spares_unanswered moment key event)
+hears_unanswered moment event = hears_left moment (Unanswered moment event) (λ key. spares_unanswered Any moment key event)
 
 hears_ticks : (moment : ℕ) → Hears (Ticks moment)
 hears_ticks moment l hs l' heard it =
@@ -248,7 +252,7 @@ body_asks moment asked.TooShort served l hs l' heard it = hears_nothing l hs l' 
 body_asks moment (asked.Refused status request) served l hs l' heard (is, inl it) = hears_same l l' (ap (λ (x : Ledger). x.entries) it.1) heard
 body_asks moment (asked.Refused status request) served l hs l' heard (is, inr it) = hears_same l l' (ap (λ (x : Ledger). x.entries) it.1) heard
 body_asks moment (asked.Event request event) served l hs l' heard (bytes, is, (outcome, it)) =
-    hears_then (Happens moment event outcome) (Between.Answers request (reply_of outcome) bytes) (hears_left moment (Happens moment event outcome) (λ key a ks b one. (brings moment key event outcome a ks b one).spared)) (between_answers request (reply_of outcome) bytes) l hs l' heard it
+    hears_then (Happens moment event outcome) (Between.Answers request (reply_of outcome) bytes) (hears_left moment (Happens moment event outcome) (λ key a ks b one. (brings Any moment key event outcome a ks b one).spared)) (between_answers request (reply_of outcome) bytes) l hs l' heard it
 
 body_comes : (moment : ℕ) (body : List ℕ) (served : Between.Outcome) → Hears (BodyComes moment body served)
 body_comes moment body served l hs l' heard (inl (it, asks, comes)) =

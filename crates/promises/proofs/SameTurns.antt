@@ -37,6 +37,7 @@ use Rattle.promises.proofs.SameActs.{same_closes_as, same_settles, same_reports}
 use Rattle.promises.proofs.SameParts.{serves_same}
 use Rattle.promises.proofs.Sending.{same_key, other_key}
 use Rattle.std.proofs.lemmas.Bool.Decides.{nat_tests}
+use Rattle.promises.specs.Others.{Bears}
 use Rattle.promises.proofs.Sparing.{spares_reads, spares_writes, spares_ends, Settled, settled_nothing, settled_then, settled_sets, settled_reads, settled_writes, settled_ends}
 
 -- ---- accepts
@@ -322,19 +323,19 @@ module _ (steps : StepsOnce) (queries : SameQueries) (asks : AsksOne) (bodies : 
   passes_reads : (moment : ℕ) → Passes (ReadsOne moment)
   passes_reads moment = record {
     empty = λ key l hs a none it. subst (λ (o : Option Entry). ReadsAt moment key o l hs a) none it;
-    others = λ key other l hs a apart it none. ((spares_reads moment key l hs a it).each other apart).none none;
+    others = λ key other l hs a apart it none. ((spares_reads (Bears key a) moment key l hs a (λ device fit. fit) it).each other apart).none none;
   }
 
   passes_writes : (moment : ℕ) → Passes (WritesOne moment)
   passes_writes moment = record {
     empty = λ key l hs a none it. subst (λ (o : Option Entry). WritesAt moment key o l hs a) none it;
-    others = λ key other l hs a apart it none. ((spares_writes moment key l hs a it).each other apart).none none;
+    others = λ key other l hs a apart it none. ((spares_writes (Bears key a) moment key l hs a it).each other apart).none none;
   }
 
   passes_ends : (moment : ℕ) → Passes (EndsOne moment)
   passes_ends moment = record {
     empty = λ key l hs a none it. subst (λ (o : Option Entry). EndsAt moment key o l hs a) none it;
-    others = λ key other l hs a apart it none. ((spares_ends moment key l hs a it).each other apart).none none;
+    others = λ key other l hs a apart it none. ((spares_ends (Bears key a) moment key l hs a it).each other apart).none none;
   }
 
   none_next : (R : ℕ → Rel) → Passes R → (n m : ℕ) → (l : Ledger) (hs : List Happening) (a : Ledger) → NoneFrom n l → R m l hs a → NoneFrom n a

@@ -51,9 +51,18 @@ use Rattle.server.specs.Acting.{Asks, ActsOn, ActsNext}
 use Rattle.server.specs.Polling.{Acts, Serves, FedWhole, FeedsAt, FeedsOne, Fails, ReadsAs, ReadsOpen, ReadsAt, is_read, ReadsOne, WritesAs, WritesOpen, WritesAt, WritesOne, is_done, EndsAt, EndsOne}
 use Rattle.server.specs.Law.{core_notes}
 use Rattle.promises.specs.Heard.{Came, AreRun, ComeAt}
-use Rattle.promises.specs.Others.{IsOrderBy, IsOrder, ComesAgain, IsCause, SparedAs, IsSpared, Spares, SparesAll}
-use Rattle.promises.proofs.Sending.{same_key}
-use Rattle.promises.proofs.Calms.{no_notes, enqueues_on, each_sent, calms_orders, happened}
+use Rattle.promises.specs.Others.{IsOrderBy, IsOrder, Bears, ComesAgain, IsCause, SparedAs, IsSpared, Spares, SparesAll}
+use Rattle.promises.proofs.Sending.{same_key, one_entry}
+use Rattle.promises.proofs.Speaking.{here, Kept, KeptAll, kept_then, kept_open, named_stays, no_both}
+use Rattle.promises.proofs.Stepping.{silent_growth, silent_part, client_hears}
+use Rattle.promises.proofs.Coming.{not_broken}
+use Rattle.promises.proofs.Devices.{IsFine, step_fine, DeviceStep, device_step}
+use Rattle.promises.specs.Answers.{ClientTalk}
+use Rattle.connections.specs.Asking.{AsksNext, ItemComes}
+use Rattle.connections.specs.Entry.{PeerRecord, Http, Queue, Link}
+use Rattle.settings_file.specs.Settings.{ServerSettings}
+use Rattle.server.specs.Acting.{place_of, place_of_part}
+use Rattle.promises.proofs.Calms.{kept_next, calms_nothing, calms_tells, calms_dropped, calms_declines, calms_answers, no_notes, enqueues_on, each_sent, calms_orders, happened}
 use Rattle.promises.proofs.Reporting.{run_then, told_then}
 
 -- ---- one connection
@@ -328,29 +337,33 @@ contains_first x xs = (0, omega arith, refl)
 just_told : (hs : List Happening) (device id : ℕ) (ended : Bool) → hs ≡ Told (Refused At.Enqueue (Some id)) ∷ [] → IsRefused hs device id ended
 just_told hs device id ended is = subst (λ (xs : List Happening). Contains xs (Told (Refused At.Enqueue (Some id)))) (sym is) (contains_first (Told (Refused At.Enqueue (Some id))) [])
 
+-- and there was an order for the device
+abbrev Denied : (ℕ → List ℕ → Type 0) → List Happening → ℕ → ℕ → Bool → Type 0
+Denied O hs device id ended = IsRefused hs device id ended × ((bytes : List ℕ) × O device bytes)
+
 module _ (O : ℕ → List ℕ → Type 0) (other : ℕ) where
   abbrev Leaves_it : Ledger → List Happening → Ledger → Type 0
-  Leaves_it l hs l' = Left O (IsRefused hs) (l.entries other) (l'.entries other)
+  Leaves_it l hs l' = Left O (Denied O hs) (l.entries other) (l'.entries other)
 
   leaves_same : (l : Ledger) (hs : List Happening) (l' : Ledger) → l' ≡ l → Leaves_it l hs l'
-  leaves_same l hs l' same = is_left O (IsRefused hs) other l l' same
+  leaves_same l hs l' same = is_left O (Denied O hs) other l l' same
 
   leaves_then : (l : Ledger) (front : List Happening) (mid : Ledger) (back : List Happening) (l' : Ledger) (hs : List Happening) → hs ≡ front ++ back → Leaves_it l front mid → Leaves_it mid back l' → Leaves_it l hs l'
   leaves_then l front mid back l' hs whole p q =
-      left_then O (IsRefused hs) (l.entries other) (mid.entries other) (l'.entries other)
-      (left_weaker O O (IsRefused front) (IsRefused hs) (l.entries other) (mid.entries other) (λ device bytes is. is) (refused_front hs front back whole) p)
-      (left_weaker O O (IsRefused back) (IsRefused hs) (mid.entries other) (l'.entries other) (λ device bytes is. is) (refused_back hs front back whole) q)
+      left_then O (Denied O hs) (l.entries other) (mid.entries other) (l'.entries other)
+      (left_weaker O O (Denied O front) (Denied O hs) (l.entries other) (mid.entries other) (λ device bytes is. is) (λ of id ended d. (refused_front hs front back whole of id ended d.0, d.1)) p)
+      (left_weaker O O (Denied O back) (Denied O hs) (mid.entries other) (l'.entries other) (λ device bytes is. is) (λ of id ended d. (refused_back hs front back whole of id ended d.0, d.1)) q)
 
   enqueues_open : (grows : Bool) (key device : ℕ) (bytes : List ℕ) (e : Entry) (l : Ledger) (hs : List Happening) (l' : Ledger) → O device bytes → l.entries key ≡ Some e → device_of e.progress ≡ Some device → e.broken ≡ false → EnqueuesOpen grows key bytes e l hs l' → Leaves_it l hs l'
   enqueues_open false key device bytes e l hs l' order there named sound it =
-      left_at O (IsRefused hs) other key (Some (owing bytes e)) l l' (ap (λ (x : Ledger). x.entries) it.1)
-      (λ same. subst (λ (o : Option Entry). Left O (IsRefused hs) o (Some (owing bytes e))) (sym (ap l.entries same ∙ there)) (left_owing O (IsRefused hs) e device bytes named sound order))
+      left_at O (Denied O hs) other key (Some (owing bytes e)) l l' (ap (λ (x : Ledger). x.entries) it.1)
+      (λ same. subst (λ (o : Option Entry). Left O (Denied O hs) o (Some (owing bytes e))) (sym (ap l.entries same ∙ there)) (left_owing O (Denied O hs) e device bytes named sound order))
   enqueues_open true key device bytes e l hs l' order there named sound (inl it) =
-      left_at O (IsRefused hs) other key (Some (owing bytes e)) l l' (ap (λ (x : Ledger). x.entries) (it.second.1 ∙ ap (λ (x : Ledger). with_entry key (owing bytes e) x) it.first.1))
-      (λ same. subst (λ (o : Option Entry). Left O (IsRefused hs) o (Some (owing bytes e))) (sym (ap l.entries same ∙ there)) (left_owing O (IsRefused hs) e device bytes named sound order))
+      left_at O (Denied O hs) other key (Some (owing bytes e)) l l' (ap (λ (x : Ledger). x.entries) (it.second.1 ∙ ap (λ (x : Ledger). with_entry key (owing bytes e) x) it.first.1))
+      (λ same. subst (λ (o : Option Entry). Left O (Denied O hs) o (Some (owing bytes e))) (sym (ap l.entries same ∙ there)) (left_owing O (Denied O hs) e device bytes named sound order))
   enqueues_open true key device bytes e l hs l' order there named sound (inr it) =
-      left_at O (IsRefused hs) other key (Some (broken e)) l l' (ap (λ (x : Ledger). x.entries) it.1)
-      (λ same. subst (λ (o : Option Entry). Left O (IsRefused hs) o (Some (broken e))) (sym (ap l.entries same ∙ there)) (left_out O (IsRefused hs) e device (Some (broken e)) named (inr (broken e, refl, refl)) (just_told hs device e.id e.ended it.0)))
+      left_at O (Denied O hs) other key (Some (broken e)) l l' (ap (λ (x : Ledger). x.entries) it.1)
+      (λ same. subst (λ (o : Option Entry). Left O (Denied O hs) o (Some (broken e))) (sym (ap l.entries same ∙ there)) (left_out O (Denied O hs) e device (Some (broken e)) named (inr (broken e, refl, refl)) (just_told hs device e.id e.ended it.0, (bytes, order))))
 
   enqueues_if : (t grows : Bool) (key device : ℕ) (bytes : List ℕ) (e : Entry) (l : Ledger) (hs : List Happening) (l' : Ledger) → O device bytes → e.broken ≡ t → l.entries key ≡ Some e → device_of e.progress ≡ Some device → If t Nothing (EnqueuesOpen grows key bytes e) l hs l' → Leaves_it l hs l'
   enqueues_if true grows key device bytes e l hs l' order is there named it = leaves_same l hs l' it.1
@@ -379,7 +392,7 @@ module _ (O : ℕ → List ℕ → Type 0) (other : ℕ) where
       leaves_then l it.front it.mid it.back l' hs it.whole (left_enqueues_on (λ e. true) start.device (job_bytes core start.job) (each start (contains_first start starts)) l it.front it.mid first)
       (left_starts core starts (λ one has. each one (Contains-append_right (start ∷ []) starts one has)) it.mid it.back l' core_kept it.second)
 
-left_orders : (outcome : Outcome) (core : State) (other : ℕ) (l : Ledger) (hs : List Happening) (l' : Ledger) → l.core ≡ core → Orders outcome l hs l' → Left (λ device bytes. IsOrderBy device outcome core bytes) (IsRefused hs) (l.entries other) (l'.entries other)
+left_orders : (outcome : Outcome) (core : State) (other : ℕ) (l : Ledger) (hs : List Happening) (l' : Ledger) → l.core ≡ core → Orders outcome l hs l' → Left (λ device bytes. IsOrderBy device outcome core bytes) (Denied (λ device bytes. IsOrderBy device outcome core bytes) hs) (l.entries other) (l'.entries other)
 left_orders Dropped core other l hs l' same it = leaves_same (λ device bytes. IsOrderBy device Dropped core bytes) other l hs l' it.1
 left_orders (Queried reply) core other l hs l' same it = left_sends (λ device bytes. IsOrderBy device (Queried reply) core bytes) other reply.cancels.items (λ cancel has. inl (cancel, has, refl, refl)) l hs l' it
 left_orders (Undispatched reply) core other l hs l' same it = left_sends (λ device bytes. IsOrderBy device (Undispatched reply) core bytes) other reply.cancels.items (λ cancel has. inl (cancel, has, refl, refl)) l hs l' it
@@ -394,12 +407,12 @@ left_orders (Dispatched reply) core other l hs l' same it =
 -- ---- parts that bring events
 
 -- the events of a part, and the changes of all connections but the one under a key
-pub record Spared (moment key : ℕ) (l : Ledger) (hs : List Happening) (l' : Ledger) : Type 0 where
+pub record Spared (F : ℕ → Type 0) (moment key : ℕ) (l : Ledger) (hs : List Happening) (l' : Ledger) : Type 0 where
   pub came : List Came
   pub timed : ComeAt true moment came
   pub run : AreRun l.core came l'.core
   pub told : core_notes hs ≡ flat_map (λ (it : Came). it.notes) came
-  pub each : (other : ℕ) → other ≢ key → Left (IsOrder came) (IsCause came hs) (l.entries other) (l'.entries other)
+  pub each : (other : ℕ) → other ≢ key → Left (IsOrder came) (IsCause F came hs) (l.entries other) (l'.entries other)
 
 -- more events, and more happenings
 module _ (first later : List Came) (front back : List Happening) where
@@ -409,45 +422,45 @@ module _ (first later : List Came) (front back : List Happening) where
   order_right : (device : ℕ) (bytes : List ℕ) → IsOrder later device bytes → IsOrder (first ++ later) device bytes
   order_right device bytes (it, has, is) = (it, Contains-append_right first later it has, is)
 
-  cause_left : (hs : List Happening) → hs ≡ front ++ back → (device id : ℕ) (ended : Bool) → IsCause first front device id ended → IsCause (first ++ later) hs device id ended
-  cause_left hs whole device id ended (inl told) = inl (refused_front hs front back whole device id ended told)
-  cause_left hs whole device id ended (inr (is, (it, has, name, named))) = inr (is, (it, Contains-append_left first later it has, name, named))
+  cause_left : (F : ℕ → Type 0) (hs : List Happening) → hs ≡ front ++ back → (device id : ℕ) (ended : Bool) → IsCause F first front device id ended → IsCause F (first ++ later) hs device id ended
+  cause_left F hs whole device id ended (inl (told, (bytes, is))) = inl (refused_front hs front back whole device id ended told, (bytes, order_left device bytes is))
+  cause_left F hs whole device id ended (inr (is, (it, has, name, named), f)) = inr (is, (it, Contains-append_left first later it has, name, named), f)
 
-  cause_right : (hs : List Happening) → hs ≡ front ++ back → (device id : ℕ) (ended : Bool) → IsCause later back device id ended → IsCause (first ++ later) hs device id ended
-  cause_right hs whole device id ended (inl told) = inl (refused_back hs front back whole device id ended told)
-  cause_right hs whole device id ended (inr (is, (it, has, name, named))) = inr (is, (it, Contains-append_right first later it has, name, named))
+  cause_right : (F : ℕ → Type 0) (hs : List Happening) → hs ≡ front ++ back → (device id : ℕ) (ended : Bool) → IsCause F later back device id ended → IsCause F (first ++ later) hs device id ended
+  cause_right F hs whole device id ended (inl (told, (bytes, is))) = inl (refused_back hs front back whole device id ended told, (bytes, order_right device bytes is))
+  cause_right F hs whole device id ended (inr (is, (it, has, name, named), f)) = inr (is, (it, Contains-append_right first later it has, name, named), f)
 
 abbrev IsInTurn : ℕ → Came → Type 0
 IsInTurn moment it = (it.moment ≡ moment) × (it.in_turn ≡ true)
 
-spared_then : (moment key : ℕ) (l : Ledger) (front : List Happening) (mid : Ledger) (back : List Happening) (l' : Ledger) (hs : List Happening) → hs ≡ front ++ back → Spared moment key l front mid → Spared moment key mid back l' → Spared moment key l hs l'
-spared_then moment key l front mid back l' hs whole p q = record {
+spared_then : (F : ℕ → Type 0) (moment key : ℕ) (l : Ledger) (front : List Happening) (mid : Ledger) (back : List Happening) (l' : Ledger) (hs : List Happening) → hs ≡ front ++ back → Spared F moment key l front mid → Spared F moment key mid back l' → Spared F moment key l hs l'
+spared_then F moment key l front mid back l' hs whole p q = record {
   came = p.came ++ q.came;
   timed = All-append (IsInTurn moment) p.came q.came p.timed q.timed;
   run = run_then l.core mid.core l'.core p.came q.came p.run q.run;
   told = told_then hs front back p.came q.came whole p.told q.told;
   each = λ other apart.
-      left_then (IsOrder (p.came ++ q.came)) (IsCause (p.came ++ q.came) hs) (l.entries other) (mid.entries other) (l'.entries other)
-      (left_weaker (IsOrder p.came) (IsOrder (p.came ++ q.came)) (IsCause p.came front) (IsCause (p.came ++ q.came) hs) (l.entries other) (mid.entries other) (order_left p.came q.came front back) (cause_left p.came q.came front back hs whole) (p.each other apart))
-      (left_weaker (IsOrder q.came) (IsOrder (p.came ++ q.came)) (IsCause q.came back) (IsCause (p.came ++ q.came) hs) (mid.entries other) (l'.entries other) (order_right p.came q.came front back) (cause_right p.came q.came front back hs whole) (q.each other apart));
+      left_then (IsOrder (p.came ++ q.came)) (IsCause F (p.came ++ q.came) hs) (l.entries other) (mid.entries other) (l'.entries other)
+      (left_weaker (IsOrder p.came) (IsOrder (p.came ++ q.came)) (IsCause F p.came front) (IsCause F (p.came ++ q.came) hs) (l.entries other) (mid.entries other) (order_left p.came q.came front back) (cause_left p.came q.came front back F hs whole) (p.each other apart))
+      (left_weaker (IsOrder q.came) (IsOrder (p.came ++ q.came)) (IsCause F q.came back) (IsCause F (p.came ++ q.came) hs) (mid.entries other) (l'.entries other) (order_right p.came q.came front back) (cause_right p.came q.came front back F hs whole) (q.each other apart));
 }
 
 -- no event
-spared_none : (moment key : ℕ) (l : Ledger) (hs : List Happening) (l' : Ledger) → l'.core ≡ l.core → core_notes hs ≡ [] → ((other : ℕ) → other ≢ key → Left (IsOrder []) (IsCause [] hs) (l.entries other) (l'.entries other)) → Spared moment key l hs l'
-spared_none moment key l hs l' core silent each = record { came = []; timed = All-nil (IsInTurn moment); run = core; told = silent; each = each }
+spared_none : (F : ℕ → Type 0) (moment key : ℕ) (l : Ledger) (hs : List Happening) (l' : Ledger) → l'.core ≡ l.core → core_notes hs ≡ [] → ((other : ℕ) → other ≢ key → Left (IsOrder []) (IsCause F [] hs) (l.entries other) (l'.entries other)) → Spared F moment key l hs l'
+spared_none F moment key l hs l' core silent each = record { came = []; timed = All-nil (IsInTurn moment); run = core; told = silent; each = each }
 
-spared_aside : (moment key : ℕ) (l : Ledger) (hs : List Happening) (l' : Ledger) → Aside key l hs l' → Spared moment key l hs l'
-spared_aside moment key l hs l' p = spared_none moment key l hs l' p.core p.notes (λ other apart. left_same (IsOrder []) (IsCause [] hs) (l.entries other) (l'.entries other) (p.others other apart))
+spared_aside : (F : ℕ → Type 0) (moment key : ℕ) (l : Ledger) (hs : List Happening) (l' : Ledger) → Aside key l hs l' → Spared F moment key l hs l'
+spared_aside F moment key l hs l' p = spared_none F moment key l hs l' p.core p.notes (λ other apart. left_same (IsOrder []) (IsCause F [] hs) (l.entries other) (l'.entries other) (p.others other apart))
 
 -- one event
-pub record Brings (moment key : ℕ) (event : Event) (l : Ledger) (hs : List Happening) (l' : Ledger) : Type 0 where
-  pub spared : Spared moment key l hs l'
+pub record Brings (F : ℕ → Type 0) (moment key : ℕ) (event : Event) (l : Ledger) (hs : List Happening) (l' : Ledger) : Type 0 where
+  pub spared : Spared F moment key l hs l'
   pub it : Came
   pub has : Contains spared.came it
   pub is : it.event ≡ event
 
-pub brings : (moment key : ℕ) (event : Event) (outcome : Outcome) (l : Ledger) (hs : List Happening) (l' : Ledger) → Happens moment event outcome l hs l' → Brings moment key event l hs l'
-brings moment key event outcome l hs l' happens = record { spared = one; it = it; has = contains_first it []; is = refl }
+pub brings : (F : ℕ → Type 0) (moment key : ℕ) (event : Event) (outcome : Outcome) (l : Ledger) (hs : List Happening) (l' : Ledger) → Happens moment event outcome l hs l' → Brings F moment key event l hs l'
+brings F moment key event outcome l hs l' happens = record { spared = one; it = it; has = contains_first it []; is = refl }
   where
     it : Came
     it = record { moment = moment; event = event; outcome = outcome; notes = core_notes hs; state = l'.core; in_turn = true }
@@ -461,13 +474,13 @@ brings moment key event outcome l hs l' happens = record { spared = one; it = it
     order : (device : ℕ) (bytes : List ℕ) → IsOrderBy device outcome l'.core bytes → IsOrder (it ∷ []) device bytes
     order device bytes by = (it, contains_first it [], by)
 
-    each : (other : ℕ) → Left (IsOrder (it ∷ [])) (IsCause (it ∷ []) hs) (l.entries other) (l'.entries other)
+    each : (other : ℕ) → Left (IsOrder (it ∷ [])) (IsCause F (it ∷ []) hs) (l.entries other) (l'.entries other)
     each other =
-        subst (λ (o : Option Entry). Left (IsOrder (it ∷ [])) (IsCause (it ∷ []) hs) o (l'.entries other)) (decided other)
-        (left_weaker (λ device bytes. IsOrderBy device outcome l'.core bytes) (IsOrder (it ∷ [])) (IsRefused happens.back) (IsCause (it ∷ []) hs) (happens.mid.entries other) (l'.entries other) order
-        (λ device id ended told. inl (refused_back hs happens.front happens.back happens.whole device id ended told)) (left_orders outcome l'.core other happens.mid happens.back l' core_kept happens.second))
+        subst (λ (o : Option Entry). Left (IsOrder (it ∷ [])) (IsCause F (it ∷ []) hs) o (l'.entries other)) (decided other)
+        (left_weaker (λ device bytes. IsOrderBy device outcome l'.core bytes) (IsOrder (it ∷ [])) (Denied (λ device bytes. IsOrderBy device outcome l'.core bytes) happens.back) (IsCause F (it ∷ []) hs) (happens.mid.entries other) (l'.entries other) order
+        (λ device id ended d. inl (refused_back hs happens.front happens.back happens.whole device id ended d.0, (d.1.0, order device d.1.0 d.1.1))) (left_orders outcome l'.core other happens.mid happens.back l' core_kept happens.second))
 
-    one : Spared moment key l hs l'
+    one : Spared F moment key l hs l'
     one = record {
       came = it ∷ [];
       timed = All-cons (IsInTurn moment) it [] (refl, refl) (All-nil (IsInTurn moment));
@@ -476,15 +489,106 @@ brings moment key event outcome l hs l' happens = record { spared = one; it = it
       each = λ other apart. each other;
     }
 
+-- ---- the connection served bears the name that it said
+
+abbrev NoHello : Ask → Type 0
+NoHello (ask.Hello device name) = ⊥
+NoHello _ = Unit {0}
+
+fits_kept : (device : ℕ) (n : Entry) (y : Option Entry) → device_of n.progress ≡ Some device → Kept (Some n) y → (f : Entry) → y ≡ Some f → device_of f.progress ≡ Some device
+fits_kept device n y named (e, is, g) f at = ap (λ (x : Entry). device_of x.progress) (one_entry f e (sym at ∙ is)) ∙ (ap device_of (named_stays device n e named g) ∙ named)
+
+asked_here : (key id : ℕ) (what : Ask) (l : Ledger) (hs : List Happening) (l' : Ledger) → (a : Asks key id what l hs l') → l'.entries key ≡ Some a.new
+asked_here key id what l hs l' a = ap (λ (x : Ledger). x.entries key) a.after ∙ here key (Some a.new) l.entries key refl
+
+-- the classes of an ask by the peer
+device_asked : (settings : ServerSettings) (what : Ask) (e new : Entry) → AsksNext settings what e new → (progress : PeerRecord) → e.progress ≡ progress → IsFine what ⊎ DeviceStep settings what e new
+device_asked settings what e new a (Http said closes body) is = inl (step_fine a.comes a.mid what new (client_hears settings (Http said closes body) e a.comes a.mid tt (subst ClientTalk (sym is) tt) (subst (λ (t : PeerRecord). ItemComes settings t e a.comes a.mid) is a.hears)).0 a.steps)
+device_asked settings what e new a (Queue items session) is = inl (step_fine a.comes a.mid what new (client_hears settings (Queue items session) e a.comes a.mid tt (subst ClientTalk (sym is) tt) (subst (λ (t : PeerRecord). ItemComes settings t e a.comes a.mid) is a.hears)).0 a.steps)
+device_asked settings what e new a (Link reports device) is = inr (device_step settings reports device e a.comes a.mid what new is (not_broken e.draining e.broken a.counts) (subst (λ (t : PeerRecord). ItemComes settings t e a.comes a.mid) is a.hears) a.steps)
+
+one_device : (a b : ℕ) → ◌≡◌ {A = Option ℕ} (Some a) (Some b) → a ≡ b
+one_device a b is = cc
+
+hello_bears : (settings : ServerSettings) (device : ℕ) (name : List ℕ) (e new : Entry) → AsksNext settings (ask.Hello device name) e new → device_of new.progress ≡ Some device
+hello_bears settings device name e new a = by (device_asked settings (ask.Hello device name) e new a e.progress refl)
+  where
+    by : IsFine (ask.Hello device name) ⊎ DeviceStep settings (ask.Hello device name) e new → device_of new.progress ≡ Some device
+    by (inl fine) = absurd fine
+    by (inr (inl (fine, grows))) = absurd fine
+    by (inr (inr (inl s))) = let same : ask.Hello s.device s.name ≡ ask.Hello device name = sym s.asks in let its : s.device ≡ device = cc in ap device_of s.after ∙ ap (λ (k : ℕ). Some k) its
+    by (inr (inr (inr s))) = let same : ask.Report s.device s.it ≡ ask.Hello device name = sym s.asks in cc
+
 module _ (moment key : ℕ) where
+  fits_event : (device : ℕ) (event : Event) (outcome : Outcome) (l : Ledger) (hs : List Happening) (l' : Ledger) → Bears key l device → Happens moment event outcome l hs l' → Bears key l' device
+  fits_event device event outcome l hs l' bears it = by (l.entries key) refl
+    where
+      left : Left (IsOrder (brings (λ k. Unit {0}) moment (suc key) event outcome l hs l' it).spared.came) (IsCause (λ k. Unit {0}) (brings (λ k. Unit {0}) moment (suc key) event outcome l hs l' it).spared.came hs) (l.entries key) (l'.entries key)
+      left = (brings (λ k. Unit {0}) moment (suc key) event outcome l hs l' it).spared.each key (λ same. omega (arith, same))
+
+      by : (o : Option Entry) → l.entries key ≡ o → Bears key l' device
+      by None none f at = let gone : l'.entries key ≡ None = left.none none in let never : None ≡ Some f = sym gone ∙ at in cc
+      by (Some n) there f at = fits_kept device n (l'.entries key) (bears n there) (kept_open n (l.entries key) (l'.entries key) there ((happened moment event outcome l hs l' it).kept.each key)) f at
+
+  fits_gone : (device : ℕ) (o : Option ℕ) (l : Ledger) (hs : List Happening) (l' : Ledger) → Bears key l device → IsGone moment o l hs l' → Bears key l' device
+  fits_gone device None l hs l' bears it = subst (λ (x : Ledger). Bears key x device) (sym it.1) bears
+  fits_gone device (Some other) l hs l' bears (outcome, it) = fits_event device (Is.Report other report.Gone) outcome l hs l' bears it
+
+  first_fit : (device : ℕ) (l : Ledger) (hs : List Happening) (l' : Ledger) → Bears key l device → ClosesFirst moment l hs l' → Bears key l' device
+  first_fit device l hs l' bears it = fits_gone device (device_of it.entry.progress) it.closes.mid it.closes.back l' (λ e at. by (key == it.key) e (subst (λ (x : Ledger). x.entries key ≡ Some e) it.closes.first.2 at)) it.closes.second
+    where
+      by : (t : Bool) (e : Entry) → (if t then None else l.entries key) ≡ Some e → device_of e.progress ≡ Some device
+      by true e at = let never : None ≡ Some e = at in cc
+      by false e at = bears e at
+
+  times_fit : (device n : ℕ) (l : Ledger) (hs : List Happening) (l' : Ledger) → Bears key l device → Times n (ClosesFirst moment) l hs l' → Bears key l' device
+  times_fit device zero l hs l' bears it = subst (λ (x : Ledger). Bears key x device) (sym it.1) bears
+  times_fit device (suc n) l hs l' bears it = first_fit device it.mid it.back l' (times_fit device n l it.front it.mid bears it.first) it.second
+
+  settles_fit : (device : ℕ) (l : Ledger) (hs : List Happening) (l' : Ledger) → Bears key l device → Settles moment l hs l' → Bears key l' device
+  settles_fit device l hs l' bears it = times_fit device it.0.0 l hs l' bears it.0.1
+
+  kept_fine : (id : ℕ) (what : Ask) → IsFine what → (l : Ledger) (hs : List Happening) (l' : Ledger) → ActsOn moment key id what l hs l' → KeptAll l l'
+  kept_fine id ask.Nothing fine l hs l' it = (calms_nothing l hs l' it).kept
+  kept_fine id (ask.Broke growth) fine l hs l' it = (calms_tells (Refused (place_of growth) (Some id)) (silent_growth growth id) l hs l' it).kept
+  kept_fine id (ask.Event who event) fine l hs l' (outcome, it) = kept_next l it.mid l' (happened moment event outcome l it.front it.mid it.first).kept (calms_answers key id who (is_query event) (reply_of outcome) it.mid it.back l' it.second).kept
+  kept_fine id (ask.Unread request) fine l hs l' it = (calms_dropped key id request l hs l' it).kept
+  kept_fine id (ask.Lost part) fine l hs l' it = (calms_declines (place_of_part part) key id (silent_part part id) l hs l' it).kept
+  kept_fine id (ask.Hello device name) fine l hs l' it = absurd fine
+  kept_fine id (ask.Report device it) fine l hs l' does = absurd fine
+  kept_fine id (ask.Stranger name) fine l hs l' it = (calms_tells (DeviceRefused id (why.UnknownName name)) refl l hs l' it).kept
+  kept_fine id (ask.Fault device) fine l hs l' it = (calms_tells (DeviceRefused id (why.Fault device)) refl l hs l' it).kept
+
+  acts_by : (device id : ℕ) (what : Ask) (l : Ledger) (front : List Happening) (m : Ledger) (back : List Happening) (l' : Ledger) (a : Asks key id what l front m) → device_of a.entry.progress ≡ Some device → ActsOn moment key id what m back l' → (progress : PeerRecord) → a.entry.progress ≡ progress → Bears key l' device
+  acts_by device id what l front m back l' a named does (Http said closes body) is = let never : None ≡ Some device = sym (ap device_of is) ∙ named in cc
+  acts_by device id what l front m back l' a named does (Queue items session) is = let never : None ≡ Some device = sym (ap device_of is) ∙ named in cc
+  acts_by device id what l front m back l' a named does (Link reports o) is = by (device_step l.core.settings reports o a.entry a.asks.comes a.asks.mid what a.new is (not_broken a.entry.draining a.entry.broken a.asks.counts) (subst (λ (t : PeerRecord). ItemComes l.core.settings t a.entry a.asks.comes a.asks.mid) is a.asks.hears) a.asks.steps)
+    where
+      at : m.entries key ≡ Some a.new
+      at = asked_here key id what l front m a
+
+      by : DeviceStep l.core.settings what a.entry a.new → Bears key l' device
+      by (inl (fine, grows)) = fits_kept device a.new (l'.entries key) (ap device_of (named_stays device a.entry a.new named grows) ∙ named) (kept_open a.new (m.entries key) (l'.entries key) at ((kept_fine id what fine m back l' does).each key))
+      by (inr (inl s)) = absurd (no_both (device_of a.entry.progress) device (ap device_of s.before) named)
+      by (inr (inr s)) =
+          let its : Unanswered moment (Is.Report s.device s.it) m back l' = subst (λ (x : Ask). ActsOn moment key id x m back l') s.asks does in
+          let same : s.device ≡ device = one_device s.device device (sym (ap device_of s.before) ∙ named) in
+          fits_kept device a.new (l'.entries key) (ap device_of s.after ∙ ap (λ (k : ℕ). Some k) same) (kept_open a.new (m.entries key) (l'.entries key) at ((happened moment (Is.Report s.device s.it) its.0 m back l' its.1).kept.each key))
+
+  acts_fit : (device : ℕ) (l : Ledger) (hs : List Happening) (l' : Ledger) → Bears key l device → Acts moment key l hs l' → Bears key l' device
+  acts_fit device l hs l' bears it =
+      let a = it.first.2.first in
+      settles_fit device it.mid it.back l' (acts_by device it.first.0 it.first.1 l it.first.2.front it.first.2.mid it.first.2.back it.mid a (bears a.entry a.there) it.first.2.second a.entry.progress refl) it.second
+
+module _ (F : ℕ → Type 0) (moment key : ℕ) where
   abbrev pub Spares_in : Rel → Type 0
-  Spares_in R = (l : Ledger) (hs : List Happening) (l' : Ledger) → R l hs l' → Spared moment key l hs l'
+  Spares_in R = (l : Ledger) (hs : List Happening) (l' : Ledger) → R l hs l' → Spared F moment key l hs l'
 
   aside_in : {R : Rel} → Asides key R → Spares_in R
-  aside_in aside l hs l' it = spared_aside moment key l hs l' (aside l hs l' it)
+  aside_in aside l hs l' it = spared_aside F moment key l hs l' (aside l hs l' it)
 
   joins : (R S : Rel) → Spares_in R → Spares_in S → Spares_in (Then R S)
-  joins R S r s l hs l' it = spared_then moment key l it.front it.mid it.back l' hs it.whole (r l it.front it.mid it.first) (s it.mid it.back l' it.second)
+  joins R S r s l hs l' it = spared_then F moment key l it.front it.mid it.back l' hs it.whole (r l it.front it.mid it.first) (s it.mid it.back l' it.second)
 
   or_in : (R S : Rel) → Spares_in R → Spares_in S → Spares_in (Or R S)
   or_in R S r s l hs l' (inl it) = r l hs l' it
@@ -502,7 +606,7 @@ module _ (moment key : ℕ) where
   many_in R r l hs l' (n, it) = times_in n R r l hs l' it
 
   pub spares_unanswered : (event : Event) → Spares_in (Unanswered moment event)
-  spares_unanswered event l hs l' (outcome, it) = (brings moment key event outcome l hs l' it).spared
+  spares_unanswered event l hs l' (outcome, it) = (brings F moment key event outcome l hs l' it).spared
 
   -- ---- closings
 
@@ -511,15 +615,15 @@ module _ (moment key : ℕ) where
   spares_gone (Some device) = spares_unanswered (Is.Report device report.Gone)
 
   closes_first : Spares_in (ClosesFirst moment)
-  closes_first l hs l' it = spared_then moment key l it.closes.front it.closes.mid it.closes.back l' hs it.closes.whole closed (spares_gone (device_of it.entry.progress) it.closes.mid it.closes.back l' it.closes.second)
+  closes_first l hs l' it = spared_then F moment key l it.closes.front it.closes.mid it.closes.back l' hs it.closes.whole closed (spares_gone (device_of it.entry.progress) it.closes.mid it.closes.back l' it.closes.second)
     where
-      gone : (other : ℕ) → Left (IsOrder []) (IsCause [] it.closes.front) (l.entries other) (it.closes.mid.entries other)
+      gone : (other : ℕ) → Left (IsOrder []) (IsCause F [] it.closes.front) (l.entries other) (it.closes.mid.entries other)
       gone other =
-          left_at (IsOrder []) (IsCause [] it.closes.front) other it.key None l it.closes.mid (ap (λ (x : Ledger). x.entries) it.closes.first.2)
-          (λ same. subst (λ (o : Option Entry). Left (IsOrder []) (IsCause [] it.closes.front) o None) (sym (ap l.entries same ∙ it.there)) (left_closed (IsOrder []) (IsCause [] it.closes.front) it.entry it.is_broken))
+          left_at (IsOrder []) (IsCause F [] it.closes.front) other it.key None l it.closes.mid (ap (λ (x : Ledger). x.entries) it.closes.first.2)
+          (λ same. subst (λ (o : Option Entry). Left (IsOrder []) (IsCause F [] it.closes.front) o None) (sym (ap l.entries same ∙ it.there)) (left_closed (IsOrder []) (IsCause F [] it.closes.front) it.entry it.is_broken))
 
-      closed : Spared moment key l it.closes.front it.closes.mid
-      closed = spared_none moment key l it.closes.front it.closes.mid (ap (λ (x : Ledger). x.core) it.closes.first.2) (ap core_notes it.closes.first.0) (λ other apart. gone other)
+      closed : Spared F moment key l it.closes.front it.closes.mid
+      closed = spared_none F moment key l it.closes.front it.closes.mid (ap (λ (x : Ledger). x.core) it.closes.first.2) (ap core_notes it.closes.first.0) (λ other apart. gone other)
 
   pub spares_settles : Spares_in (Settles moment)
   spares_settles l hs l' it = many_in (ClosesFirst moment) closes_first l hs l' it.0
@@ -531,38 +635,47 @@ module _ (moment key : ℕ) where
   as_device device (Some d) e there is = let same : d ≡ e = cc in subst (λ (x : Entry). (device_of x.progress ≡ Some device) × (x.ended ≡ true)) same is
 
   -- the old connection of a device that comes again gives way
-  gives_way : (came : List Came) (hs : List Happening) (old device other : ℕ) (o : Option Entry) (l : Ledger) (ks : List Happening) (l' : Ledger) → l.entries old ≡ o → IsDeviceAs true device o → ComesAgain device came → GivesWayAt old o l ks l' → Left (IsOrder came) (IsCause came hs) (l.entries other) (l'.entries other)
+  gives_way : (came : List Came) (hs : List Happening) (old device other : ℕ) (o : Option Entry) (l : Ledger) (ks : List Happening) (l' : Ledger) → l.entries old ≡ o → IsDeviceAs true device o → ComesAgain device came × F device → GivesWayAt old o l ks l' → Left (IsOrder came) (IsCause F came hs) (l.entries other) (l'.entries other)
   gives_way came hs old device other None l ks l' there is again it = absurd is
   gives_way came hs old device other (Some e) l ks l' there is again it =
-      left_at (IsOrder came) (IsCause came hs) other old (Some (given_up e)) l l' (ap (λ (x : Ledger). x.entries) it.1)
+      left_at (IsOrder came) (IsCause F came hs) other old (Some (given_up e)) l l' (ap (λ (x : Ledger). x.entries) it.1)
       (λ same.
-      subst (λ (o : Option Entry). Left (IsOrder came) (IsCause came hs) o (Some (given_up e))) (sym (ap l.entries same ∙ there))
-      (left_out (IsOrder came) (IsCause came hs) e device (Some (given_up e)) is.0 (inr (given_up e, refl, refl)) (inr (is.1, again))))
+      subst (λ (o : Option Entry). Left (IsOrder came) (IsCause F came hs) o (Some (given_up e))) (sym (ap l.entries same ∙ there))
+      (left_out (IsOrder came) (IsCause F came hs) e device (Some (given_up e)) is.0 (inr (given_up e, refl, refl)) (inr (is.1, again.0, again.1))))
 
   way_core : (old : ℕ) (o : Option Entry) (l : Ledger) (hs : List Happening) (l' : Ledger) → GivesWayAt old o l hs l' → (l'.core ≡ l.core) × (core_notes hs ≡ [])
   way_core old None l hs l' it = (ap (λ (x : Ledger). x.core) it.1, ap core_notes it.0)
   way_core old (Some e) l hs l' it = (ap (λ (x : Ledger). x.core) it.1, ap core_notes it.0)
 
-  takes_over : (old device : ℕ) (name : List ℕ) (l : Ledger) (hs : List Happening) (l' : Ledger) → IsDeviceAs true device (l.entries old) → TakesOver moment old device name l hs l' → Spared moment key l hs l'
+  takes_over : (old device : ℕ) (name : List ℕ) (n : Entry) (l : Ledger) (hs : List Happening) (l' : Ledger) → l.entries key ≡ Some n → device_of n.progress ≡ Some device → old ≢ key → (Bears key l' device → F device) → IsDeviceAs true device (l.entries old) → TakesOver moment old device name l hs l' → Spared F moment key l hs l'
   unfolding spared_then
-  takes_over old device name l hs l' is it = record {
+  takes_over old device name n l hs l' there bears apart fits is it = record {
     came = later.came;
     timed = later.timed;
     run = subst (λ (c : State). AreRun c later.came l'.core) way.0 later.run;
     told = no_notes hs it.front it.back it.whole way.1 ∙ later.told;
     each = λ other apart.
-        left_then (IsOrder later.came) (IsCause later.came hs) (l.entries other) (it.mid.entries other) (l'.entries other) (gives_way later.came hs old device other (l.entries old) l it.front it.mid refl is again it.first)
-        (left_weaker (IsOrder later.came) (IsOrder later.came) (IsCause later.came it.back) (IsCause later.came hs) (it.mid.entries other) (l'.entries other) (λ of bytes order. order) behind (later.each other apart));
+        left_then (IsOrder later.came) (IsCause F later.came hs) (l.entries other) (it.mid.entries other) (l'.entries other) (gives_way later.came hs old device other (l.entries old) l it.front it.mid refl is (again, fits now) it.first)
+        (left_weaker (IsOrder later.came) (IsOrder later.came) (IsCause F later.came it.back) (IsCause F later.came hs) (it.mid.entries other) (l'.entries other) (λ of bytes order. order) behind (later.each other apart));
   }
     where
-      gone : Spared moment key it.mid it.second.front it.second.mid
+      gone : Spared F moment key it.mid it.second.front it.second.mid
       gone = spares_gone (Some device) it.mid it.second.front it.second.mid it.second.first
 
-      named : Brings moment key (Is.Report device (report.Hello name)) it.second.mid it.second.back l'
-      named = brings moment key (Is.Report device (report.Hello name)) it.second.second.0 it.second.mid it.second.back l' it.second.second.1
+      named : Brings F moment key (Is.Report device (report.Hello name)) it.second.mid it.second.back l'
+      named = brings F moment key (Is.Report device (report.Hello name)) it.second.second.0 it.second.mid it.second.back l' it.second.second.1
 
-      later : Spared moment key it.mid it.back l'
-      later = spared_then moment key it.mid it.second.front it.second.mid it.second.back l' it.back it.second.whole gone named.spared
+      later : Spared F moment key it.mid it.back l'
+      later = spared_then F moment key it.mid it.second.front it.second.mid it.second.back l' it.back it.second.whole gone named.spared
+
+      first : Kept (it.mid.entries key) (it.second.mid.entries key)
+      first = (happened moment (Is.Report device report.Gone) it.second.first.0 it.mid it.second.front it.second.mid it.second.first.1).kept.each key
+
+      second : Kept (it.second.mid.entries key) (l'.entries key)
+      second = (happened moment (Is.Report device (report.Hello name)) it.second.second.0 it.second.mid it.second.back l' it.second.second.1).kept.each key
+
+      now : Bears key l' device
+      now = fits_kept device n (l'.entries key) bears (kept_open n (it.mid.entries key) (l'.entries key) ((aside_gives_way old l it.front it.mid it.first).others key (λ same. apart (sym same)) ∙ there) (kept_then (it.mid.entries key) (it.second.mid.entries key) (l'.entries key) first second))
 
       way : (it.mid.core ≡ l.core) × (core_notes it.front ≡ [])
       way = way_core old (l.entries old) l it.front it.mid it.first
@@ -570,75 +683,108 @@ module _ (moment key : ℕ) where
       again : ComesAgain device (gone.came ++ named.spared.came)
       again = (named.it, Contains-append_right gone.came named.spared.came named.it named.has, name, named.is)
 
-      behind : (of id : ℕ) (ended : Bool) → IsCause later.came it.back of id ended → IsCause later.came hs of id ended
-      behind of id ended (inl told) = inl (refused_back hs it.front it.back it.whole of id ended told)
+      behind : (of id : ℕ) (ended : Bool) → IsCause F later.came it.back of id ended → IsCause F later.came hs of id ended
+      behind of id ended (inl (told, more)) = inl (refused_back hs it.front it.back it.whole of id ended told, more)
       behind of id ended (inr more) = inr more
 
-  spares_greets : (id device : ℕ) (name : List ℕ) → Spares_in (Greets moment key id device name)
-  spares_greets id device name l hs l' (inl (alone, it)) = spares_unanswered (Is.Report device (report.Hello name)) l hs l' it
-  spares_greets id device name l hs l' (inr (inl (old, has, it))) = takes_over old device name l hs l' has.1 it
-  spares_greets id device name l hs l' (inr (inr (old, has, it))) =
+  spares_greets : (id device : ℕ) (name : List ℕ) (n : Entry) (l : Ledger) (hs : List Happening) (l' : Ledger) → l.entries key ≡ Some n → device_of n.progress ≡ Some device → (Bears key l' device → F device) → Greets moment key id device name l hs l' → Spared F moment key l hs l'
+  spares_greets id device name n l hs l' there bears fits (inl (alone, it)) = spares_unanswered (Is.Report device (report.Hello name)) l hs l' it
+  spares_greets id device name n l hs l' there bears fits (inr (inl (old, has, it))) = takes_over old device name n l hs l' there bears has.0 fits has.1 it
+  spares_greets id device name n l hs l' there bears fits (inr (inr (old, has, it))) =
       aside_in {R = Then (GivesWay key) (Tells (DeviceRefused id (why.Connected device)))} (aside_then key (GivesWay key) (Tells (DeviceRefused id (why.Connected device))) (aside_gives_way key) (aside_tells key (DeviceRefused id (why.Connected device)) refl)) l hs l' it
 
-  spares_does : (id : ℕ) (what : Ask) → Spares_in (ActsOn moment key id what)
-  spares_does id ask.Nothing = aside_in (aside_nothing key)
-  spares_does id (ask.Broke growth.Input) = aside_in (aside_tells key (Refused At.Feed (Some id)) refl)
-  spares_does id (ask.Broke growth.Output) = aside_in (aside_tells key (Refused At.Enqueue (Some id)) refl)
-  spares_does id (ask.Event who event) =
+  spares_does : (id : ℕ) (what : Ask) → NoHello what → Spares_in (ActsOn moment key id what)
+  spares_does id ask.Nothing isnt = aside_in (aside_nothing key)
+  spares_does id (ask.Broke growth.Input) isnt = aside_in (aside_tells key (Refused At.Feed (Some id)) refl)
+  spares_does id (ask.Broke growth.Output) isnt = aside_in (aside_tells key (Refused At.Enqueue (Some id)) refl)
+  spares_does id (ask.Event who event) isnt =
       λ l hs l' it.
-      joins (Happens moment event it.0) (Ans.Answers key id who (is_query event) (reply_of it.0)) (λ a ks b one. (brings moment key event it.0 a ks b one).spared) (aside_in (aside_answers key id who (is_query event) (reply_of it.0))) l hs l' it.1
-  spares_does id (ask.Unread request) = aside_in (aside_dropped key id request)
-  spares_does id (ask.Lost part.File) = aside_in (aside_declines key At.File id refl)
-  spares_does id (ask.Lost part.Job) = aside_in (aside_declines key At.Event id refl)
-  spares_does id (ask.Hello device name) = spares_greets id device name
-  spares_does id (ask.Report device report) = spares_unanswered (Is.Report device report)
-  spares_does id (ask.Stranger name) = aside_in (aside_tells key (DeviceRefused id (why.UnknownName name)) refl)
-  spares_does id (ask.Fault device) = aside_in (aside_tells key (DeviceRefused id (why.Fault device)) refl)
+      joins (Happens moment event it.0) (Ans.Answers key id who (is_query event) (reply_of it.0)) (λ a ks b one. (brings F moment key event it.0 a ks b one).spared) (aside_in (aside_answers key id who (is_query event) (reply_of it.0))) l hs l' it.1
+  spares_does id (ask.Unread request) isnt = aside_in (aside_dropped key id request)
+  spares_does id (ask.Lost part.File) isnt = aside_in (aside_declines key At.File id refl)
+  spares_does id (ask.Lost part.Job) isnt = aside_in (aside_declines key At.Event id refl)
+  spares_does id (ask.Hello device name) isnt = absurd isnt
+  spares_does id (ask.Report device report) isnt = spares_unanswered (Is.Report device report)
+  spares_does id (ask.Stranger name) isnt = aside_in (aside_tells key (DeviceRefused id (why.UnknownName name)) refl)
+  spares_does id (ask.Fault device) isnt = aside_in (aside_tells key (DeviceRefused id (why.Fault device)) refl)
 
   aside_asks : (id : ℕ) (what : Ask) → Asides key (Asks key id what)
   aside_asks id what l hs l' asks = aside_with key (Some asks.new) l hs l' (ap core_notes asks.chosen) (ap (λ (x : Ledger). x.core) asks.after) (ap (λ (x : Ledger). x.entries) asks.after)
 
-  spares_acts_next : Spares_in (ActsNext moment key)
-  spares_acts_next l hs l' (id, what, it) = joins (Asks key id what) (ActsOn moment key id what) (aside_in (aside_asks id what)) (spares_does id what) l hs l' it
+  plain : (id : ℕ) (what : Ask) → NoHello what → Spares_in (Then (Asks key id what) (ActsOn moment key id what))
+  plain id what isnt = joins (Asks key id what) (ActsOn moment key id what) (aside_in (aside_asks id what)) (spares_does id what isnt)
 
-  spares_acts : Spares_in (Acts moment key)
-  spares_acts = joins (ActsNext moment key) (Settles moment) spares_acts_next spares_settles
+  abbrev Ends_in : Rel → Type 0
+  Ends_in R = (l : Ledger) (hs : List Happening) (l' : Ledger) → ((device : ℕ) → Bears key l' device → F device) → R l hs l' → Spared F moment key l hs l'
 
-  spares_serves : Spares_in (Serves moment key)
-  spares_serves l hs l' it = joins (Many (Acts moment key)) (Chooses Rested) (many_in (Acts moment key) spares_acts) (aside_in (aside_chooses key Rested)) l hs l' it.0
+  acts_as : (id : ℕ) (what : Ask) → Ends_in (Then (Asks key id what) (ActsOn moment key id what))
+  acts_as id ask.Nothing l hs l' fits it = plain id ask.Nothing tt l hs l' it
+  acts_as id (ask.Broke growth) l hs l' fits it = plain id (ask.Broke growth) tt l hs l' it
+  acts_as id (ask.Event who event) l hs l' fits it = plain id (ask.Event who event) tt l hs l' it
+  acts_as id (ask.Unread request) l hs l' fits it = plain id (ask.Unread request) tt l hs l' it
+  acts_as id (ask.Lost part) l hs l' fits it = plain id (ask.Lost part) tt l hs l' it
+  acts_as id (ask.Hello device name) l hs l' fits it =
+      spared_then F moment key l it.front it.mid it.back l' hs it.whole (spared_aside F moment key l it.front it.mid (aside_asks id (ask.Hello device name) l it.front it.mid it.first))
+      (spares_greets id device name it.first.new it.mid it.back l' (asked_here key id (ask.Hello device name) l it.front it.mid it.first) (hello_bears l.core.settings device name it.first.entry it.first.new it.first.asks) (fits device) it.second)
+  acts_as id (ask.Report device report) l hs l' fits it = plain id (ask.Report device report) tt l hs l' it
+  acts_as id (ask.Stranger name) l hs l' fits it = plain id (ask.Stranger name) tt l hs l' it
+  acts_as id (ask.Fault device) l hs l' fits it = plain id (ask.Fault device) tt l hs l' it
+
+  spares_acts_next : Ends_in (ActsNext moment key)
+  spares_acts_next l hs l' fits (id, what, it) = acts_as id what l hs l' fits it
+
+  spares_acts : Ends_in (Acts moment key)
+  spares_acts l hs l' fits it = spared_then F moment key l it.front it.mid it.back l' hs it.whole (spares_acts_next l it.front it.mid (λ device fit. fits device (settles_fit moment key device it.mid it.back l' fit it.second)) it.first) (spares_settles it.mid it.back l' it.second)
+
+  spares_each : (n : ℕ) → Ends_in (Times n (Acts moment key))
+  spares_each zero l hs l' fits it = spared_aside F moment key l hs l' (aside_nothing key l hs l' it)
+  spares_each (suc n) l hs l' fits it = spared_then F moment key l it.front it.mid it.back l' hs it.whole (spares_each n l it.front it.mid (λ device fit. fits device (acts_fit moment key device it.mid it.back l' fit it.second)) it.first) (spares_acts it.mid it.back l' fits it.second)
+
+  spares_serves : Ends_in (Serves moment key)
+  spares_serves l hs l' fits it =
+      spared_then F moment key l it.0.front it.0.mid it.0.back l' hs it.0.whole (spares_each it.0.first.0 l it.0.front it.0.mid (λ device fit. fits device (subst (λ (x : Ledger). Bears key x device) (sym it.0.second.1) fit)) it.0.first.1) (spared_aside F moment key it.0.mid it.0.back l' (aside_chooses key Rested it.0.mid it.0.back l' it.0.second))
 
   -- ---- reads, writes and closings that are not at once
 
   spares_fails : Spares_in (Fails moment key)
   spares_fails = joins (Breaks key) (Settles moment) (aside_in (aside_breaks key)) spares_settles
 
-  spares_fed : (e : Entry) (bytes : List ℕ) → Spares_in (FedWhole moment key e bytes)
-  spares_fed e bytes =
-      or_in (Then (Sets key (reading bytes e)) (Serves moment key)) (Then (Drops At.Feed key e) (Settles moment)) (joins (Sets key (reading bytes e)) (Serves moment key) (aside_in (aside_sets key (reading bytes e))) spares_serves)
-      (joins (Drops At.Feed key e) (Settles moment) (aside_in (aside_drops key At.Feed e refl)) spares_settles)
+  last : (R S : Rel) → Spares_in R → Ends_in S → Ends_in (Then R S)
+  last R S r q l hs l' fits it = spared_then F moment key l it.front it.mid it.back l' hs it.whole (r l it.front it.mid it.first) (q it.mid it.back l' fits it.second)
 
-  feeds_at : (bytes : List ℕ) (o : Option Entry) → Spares_in (FeedsAt moment key bytes o)
-  feeds_at bytes None = aside_in (aside_nothing key)
-  feeds_at bytes (Some e) = if_in e.draining (Sets key e) (FedWhole moment key e bytes) (aside_in (aside_sets key e)) (spares_fed e bytes)
+  spares_fed : (e : Entry) (bytes : List ℕ) → Ends_in (FedWhole moment key e bytes)
+  spares_fed e bytes l hs l' fits (inl it) = last (Sets key (reading bytes e)) (Serves moment key) (aside_in (aside_sets key (reading bytes e))) spares_serves l hs l' fits it
+  spares_fed e bytes l hs l' fits (inr it) = joins (Drops At.Feed key e) (Settles moment) (aside_in (aside_drops key At.Feed e refl)) spares_settles l hs l' it
 
-  spares_feeds : (bytes : List ℕ) → Spares_in (FeedsOne moment key bytes)
-  spares_feeds bytes l hs l' it = feeds_at bytes (l.entries key) l hs l' it
+  ends_if : (t : Bool) (R S : Rel) → Ends_in R → Ends_in S → Ends_in (If t R S)
+  ends_if true R S r q l hs l' fits it = r l hs l' fits it
+  ends_if false R S r q l hs l' fits it = q l hs l' fits it
+
+  ends_aside : (R : Rel) → Asides key R → Ends_in R
+  ends_aside R aside l hs l' fits it = spared_aside F moment key l hs l' (aside l hs l' it)
+
+  feeds_at : (bytes : List ℕ) (o : Option Entry) → Ends_in (FeedsAt moment key bytes o)
+  feeds_at bytes None = ends_aside Nothing (aside_nothing key)
+  feeds_at bytes (Some e) = ends_if e.draining (Sets key e) (FedWhole moment key e bytes) (ends_aside (Sets key e) (aside_sets key e)) (spares_fed e bytes)
+
+  spares_feeds : (bytes : List ℕ) → Ends_in (FeedsOne moment key bytes)
+  spares_feeds bytes l hs l' fits it = feeds_at bytes (l.entries key) l hs l' fits it
 
   polls_in : (poll : Poll) → Spares_in (Polls poll)
   polls_in poll = aside_in (aside_polls key poll)
 
-  reads_as : (e : Entry) (answer : WireAnswer (List ℕ)) → Spares_in (ReadsAs moment key e answer)
-  reads_as e (wire.Done bytes) = joins (Polls (Reads e.id (wire.Done bytes))) (FeedsOne moment key bytes) (polls_in (Reads e.id (wire.Done bytes))) (spares_feeds bytes)
-  reads_as e wire.Waiting = polls_in (Reads e.id wire.Waiting)
-  reads_as e wire.End = joins (Polls (Reads e.id wire.End)) (Sets key (record e { ended = true })) (polls_in (Reads e.id wire.End)) (aside_in (aside_sets key (record e { ended = true })))
-  reads_as e wire.Fault = joins (Polls (Reads e.id wire.Fault)) (Fails moment key) (polls_in (Reads e.id wire.Fault)) spares_fails
+  reads_as : (e : Entry) (answer : WireAnswer (List ℕ)) → Ends_in (ReadsAs moment key e answer)
+  reads_as e (wire.Done bytes) l hs l' fits it = last (Polls (Reads e.id (wire.Done bytes))) (FeedsOne moment key bytes) (polls_in (Reads e.id (wire.Done bytes))) (spares_feeds bytes) l hs l' fits it
+  reads_as e wire.Waiting l hs l' fits it = polls_in (Reads e.id wire.Waiting) l hs l' it
+  reads_as e wire.End l hs l' fits it = joins (Polls (Reads e.id wire.End)) (Sets key (record e { ended = true })) (polls_in (Reads e.id wire.End)) (aside_in (aside_sets key (record e { ended = true }))) l hs l' it
+  reads_as e wire.Fault l hs l' fits it = joins (Polls (Reads e.id wire.Fault)) (Fails moment key) (polls_in (Reads e.id wire.Fault)) spares_fails l hs l' it
 
-  reads_at : (o : Option Entry) → Spares_in (ReadsAt moment key o)
-  reads_at None = aside_in (aside_nothing key)
-  reads_at (Some e) = if_in (is_read e) (ReadsOpen moment key e) Nothing (λ l hs l' it. reads_as e it.0 l hs l' it.2) (aside_in (aside_nothing key))
+  reads_at : (o : Option Entry) → Ends_in (ReadsAt moment key o)
+  reads_at None = ends_aside Nothing (aside_nothing key)
+  reads_at (Some e) = ends_if (is_read e) (ReadsOpen moment key e) Nothing (λ l hs l' fits it. reads_as e it.0 l hs l' fits it.2) (ends_aside Nothing (aside_nothing key))
 
-  pub spares_reads : Spares_in (ReadsOne moment key)
-  spares_reads l hs l' it = reads_at (l.entries key) l hs l' it
+  pub spares_reads : Ends_in (ReadsOne moment key)
+  spares_reads l hs l' fits it = reads_at (l.entries key) l hs l' fits it
 
   writes_as : (e : Entry) (offered : List ℕ) (answer : WireAnswer ℕ) → Spares_in (WritesAs moment key e offered answer)
   writes_as e offered (wire.Done n) =
@@ -780,34 +926,34 @@ sound_of : (t : Bool) → (t ≡ true → ⊥) → t ≡ false
 sound_of true never = absurd (never refl)
 sound_of false never = refl
 
-spared : (came : List Came) (hs : List Happening) (x y : Option Entry) → (IsBroken x → ⊥) → (IsBroken y → ⊥) → Left (IsOrder came) (IsCause came hs) x y → IsSpared came hs x y
-spared came hs None y sound after left = left.none refl
-spared came hs (Some e) y sound after left = by (device_of e.progress) refl
+spared : (F : ℕ → Type 0) (came : List Came) (hs : List Happening) (x y : Option Entry) → (IsBroken x → ⊥) → (IsBroken y → ⊥) → Left (IsOrder came) (IsCause F came hs) x y → IsSpared F came hs x y
+spared F came hs None y sound after left = left.none refl
+spared F came hs (Some e) y sound after left = by (device_of e.progress) refl
   where
     unbroken : e.broken ≡ false
     unbroken = sound_of e.broken sound
 
-    of_device : (device : ℕ) → (IsOut y × IsCause came hs device e.id e.ended) ⊎ ((orders : List (List ℕ)) × All (IsOrder came device) orders × (y ≡ Some (owing (concat orders) e))) → ((y ≡ None) × IsCause came hs device e.id e.ended) ⊎ ((orders : List (List ℕ)) × All (IsOrder came device) orders × (y ≡ Some (owing (concat orders) e)))
+    of_device : (device : ℕ) → (IsOut y × IsCause F came hs device e.id e.ended) ⊎ ((orders : List (List ℕ)) × All (IsOrder came device) orders × (y ≡ Some (owing (concat orders) e))) → ((y ≡ None) × IsCause F came hs device e.id e.ended) ⊎ ((orders : List (List ℕ)) × All (IsOrder came device) orders × (y ≡ Some (owing (concat orders) e)))
     of_device device (inl ((inl gone), cause)) = inl (gone, cause)
     of_device device (inl ((inr (d, is, broken)), cause)) = absurd (no_break y d after is broken)
     of_device device (inr more) = inr more
 
-    by : (o : Option ℕ) → device_of e.progress ≡ o → SparedAs came hs o e y
+    by : (o : Option ℕ) → device_of e.progress ≡ o → SparedAs F came hs o e y
     by None progress = left.client e refl unbroken progress
     by (Some device) progress = of_device device (left.device e device refl unbroken progress)
 
-spares : (moment key : ℕ) (l : Ledger) (hs : List Happening) (l' : Ledger) → NoneBroken l → NoneBroken l' → Spared moment key l hs l' → Spares moment key l hs l'
+spares : (moment key : ℕ) (l : Ledger) (hs : List Happening) (l' : Ledger) → NoneBroken l → NoneBroken l' → Spared (Bears key l') moment key l hs l' → Spares moment key l hs l'
 spares moment key l hs l' none after it = record {
   came = it.came;
   timed = it.timed;
   run = it.run;
   told = it.told;
-  each = λ other apart. spared it.came hs (l.entries other) (l'.entries other) (none other) (after other) (it.each other apart);
+  each = λ other apart. spared (Bears key l') it.came hs (l.entries other) (l'.entries other) (none other) (after other) (it.each other apart);
 }
 
 pub spares_all : (moment : ℕ) → SparesAll moment
 spares_all moment = record {
-  reads = λ key l hs l' none it. spares moment key l hs l' none (settled_reads moment key l hs l' none it) (spares_reads moment key l hs l' it);
-  writes = λ key l hs l' none it. spares moment key l hs l' none (settled_writes moment key l hs l' none it) (spares_writes moment key l hs l' it);
-  ends = λ key l hs l' none it. spares moment key l hs l' none (settled_ends moment key l hs l' none it) (spares_ends moment key l hs l' it);
+  reads = λ key l hs l' none it. spares moment key l hs l' none (settled_reads moment key l hs l' none it) (spares_reads (Bears key l') moment key l hs l' (λ device fit. fit) it);
+  writes = λ key l hs l' none it. spares moment key l hs l' none (settled_writes moment key l hs l' none it) (spares_writes (Bears key l') moment key l hs l' it);
+  ends = λ key l hs l' none it. spares moment key l hs l' none (settled_ends moment key l hs l' none it) (spares_ends (Bears key l') moment key l hs l' it);
 }

@@ -34,19 +34,23 @@ IsOrder came device bytes = (it : Came) × Contains came it × IsOrderBy device 
 abbrev pub ComesAgain : ℕ → List Came → Type 0
 ComesAgain device came = (it : Came) × Contains came it × (name : List ℕ) × (it.event ≡ Is.Report device (report.Hello name))
 
--- why a device's connection of this number is closed: the listener was told that memory for its orders was refused; or its input had ended, and the device came again
-abbrev pub IsCause : List Came → List Happening → ℕ → ℕ → Bool → Type 0
-IsCause came hs device id ended = Contains hs (Told (Refused At.Enqueue (Some id))) ⊎ ((ended ≡ true) × ComesAgain device came)
+-- the connection under a key bears the device's name, unless it was closed
+abbrev pub Bears : ℕ → Ledger → ℕ → Type 0
+Bears key l device = (e : Entry) → l.entries key ≡ Some e → device_of e.progress ≡ Some device
+
+-- why a device's connection of this number is closed: an order became due, and the listener was told that memory for it was refused; or its input had ended, and the device came again, on a connection that `Named` holds of
+abbrev pub IsCause : (ℕ → Type 0) → List Came → List Happening → ℕ → ℕ → Bool → Type 0
+IsCause Named came hs device id ended = (Contains hs (Told (Refused At.Enqueue (Some id))) × ((bytes : List ℕ) × IsOrder came device bytes)) ⊎ ((ended ≡ true) × ComesAgain device came × Named device)
 
 -- a client's connection is unchanged; on a device's connection orders become due, or it is closed for a cause
-abbrev pub SparedAs : List Came → List Happening → Option ℕ → Entry → Option Entry → Type 0
-SparedAs came hs None e now = now ≡ Some e
-SparedAs came hs (Some device) e now =
-    ((now ≡ None) × IsCause came hs device e.id e.ended) ⊎ ((orders : List (List ℕ)) × All (IsOrder came device) orders × (now ≡ Some (owing (concat orders) e)))
+abbrev pub SparedAs : (ℕ → Type 0) → List Came → List Happening → Option ℕ → Entry → Option Entry → Type 0
+SparedAs Named came hs None e now = now ≡ Some e
+SparedAs Named came hs (Some device) e now =
+    ((now ≡ None) × IsCause Named came hs device e.id e.ended) ⊎ ((orders : List (List ℕ)) × All (IsOrder came device) orders × (now ≡ Some (owing (concat orders) e)))
 
-abbrev pub IsSpared : List Came → List Happening → Option Entry → Option Entry → Type 0
-IsSpared came hs None now = now ≡ None
-IsSpared came hs (Some e) now = SparedAs came hs (device_of e.progress) e now
+abbrev pub IsSpared : (ℕ → Type 0) → List Came → List Happening → Option Entry → Option Entry → Type 0
+IsSpared Named came hs None now = now ≡ None
+IsSpared Named came hs (Some e) now = SparedAs Named came hs (device_of e.progress) e now
 
 -- The events of an action on the connection under a key are a run of the core, which tells the listener's notes. By these events every other connection is spared.
 pub record Spares (moment key : ℕ) (l : Ledger) (hs : List Happening) (l' : Ledger) : Type 0 where
@@ -54,7 +58,7 @@ pub record Spares (moment key : ℕ) (l : Ledger) (hs : List Happening) (l' : Le
   pub timed : ComeAt true moment came
   pub run : AreRun l.core came l'.core
   pub told : core_notes hs ≡ flat_map (λ (it : Came). it.notes) came
-  pub each : (other : ℕ) → other ≢ key → IsSpared came hs (l.entries other) (l'.entries other)
+  pub each : (other : ℕ) → other ≢ key → IsSpared (Bears key l') came hs (l.entries other) (l'.entries other)
 
 -- the part of a turn that is about the connection under a key spares the others, if none is broken before
 abbrev pub SparesOthers : ℕ → (ℕ → Rel) → Type 0
