@@ -1059,7 +1059,10 @@ def torn_row(day, count=50):
                 faults.append(f"cut at {place} of {len(octets)}: {trial.refused}")
                 continue
             listed = trial.listed()
-        lost = [job for job in told if job.name not in listed or job.id not in (None, listed[job.name]["job-id"][0])]
+        # the oldest of many finished jobs are forgotten
+        many = sum(entry["job-state"][0] >= CANCELED for entry in listed.values()) >= KEPT
+        lost = [job for job in told if (job.name not in listed and not (many and job.final))
+                or (job.name in listed and job.id not in (None, listed[job.name]["job-id"][0]))]
         if lost:
             faults.append(f"cut at {place} of {len(octets)}: {lost[:3]} were told of and are lost")
     tell_row(day, "a torn last line", faults, count)
