@@ -16,6 +16,7 @@
 mod device;
 mod entry;
 mod fault;
+mod hint;
 mod key;
 mod last_table;
 mod place;

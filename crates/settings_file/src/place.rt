@@ -25,6 +25,15 @@ struct Position {
 }
 
 impl Position {
+    /// The position before the first statement.
+    fn start() -> Position {
+        Position {
+            table: Some(LastTable::Root),
+            devices: 0,
+            printers: 0,
+        }
+    }
+
     /// Enters the table of a name.
     fn enter(&mut self, name: &str) {
         self.table = None;
@@ -34,6 +43,30 @@ impl Position {
         } else if name == "printer" {
             self.table = Some(LastTable::Printer(self.printers));
             self.printers = self.printers.saturating_add(1);
+        }
+    }
+
+    /// Takes a statement into account. Returns its key, if it is of a table and may be meant for another key.
+    fn similar_in(
+        &mut self,
+        alloc: Global,
+        table: LastTable,
+        key: &str,
+        statement: &Statement<'_>,
+    ) -> Option<Similar> {
+        match &statement.said {
+            Said::Header(name) => {
+                self.enter(name.as_deref().unwrap_or(""));
+                None
+            }
+            Said::Entry {
+                key: Some(written),
+                ..
+            } if self.table == Some(table) && is_meant(written, key) => Some(Similar {
+                line: statement.line,
+                key: String::from_str(alloc, written).ok()?,
+            }),
+            Said::Entry { .. } => None,
         }
     }
 }
@@ -93,15 +126,47 @@ impl<'a> Place<'a> {
     }
 }
 
+/// A key that may be meant for another.
+#[derive(Drop)]
+pub(crate) struct Similar {
+    pub(crate) line: usize,
+    pub(crate) key: String,
+}
+
+/// Returns whether a key is meant for another: they differ in case, or in `-` for `_`.
+fn is_meant(written: &str, key: &str) -> bool {
+    let (written, key) = (written.as_bytes(), key.as_bytes());
+    written.len() == key.len()
+        && written.iter().zip(key).all(|(one, other)| one.eq_ignore_ascii_case(other)
+            || *one == b'-' && *other == b'_')
+}
+
+/// Finds a key of a table that may be meant for another, which the table lacks.
+pub(crate) fn similar_key(
+    alloc: Global,
+    text: &str,
+    table: LastTable,
+    key: &str,
+) -> Option<Similar> {
+    let mut statements = Statements::of(alloc, text);
+    let mut at = Position::start();
+    for _statement in 0..text.len() {
+        let Some(statement) = statements.next() else {
+            return None;
+        };
+        let found = at.similar_in(alloc, table, key, &statement);
+        if found.is_some() {
+            return found;
+        }
+    }
+    None
+}
+
 /// Finds the places in a text of a table and one of its keys.
 pub(crate) fn place_of<'a>(alloc: Global, text: &'a str, table: LastTable, key: &str) -> Place<'a> {
     let mut place = Place::new();
     let mut statements = Statements::of(alloc, text);
-    let mut at = Position {
-        table: Some(LastTable::Root),
-        devices: 0,
-        printers: 0,
-    };
+    let mut at = Position::start();
     for _statement in 0..text.len() {
         match statements.next() {
             Some(statement) => place.add(&mut at, table, key, &statement),

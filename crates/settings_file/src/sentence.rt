@@ -1,8 +1,9 @@
 //! The sentence about a fault.
 use crate::fault::SettingsFault;
+use crate::hint::Hint;
 use crate::key::Key;
 use crate::last_table::LastTable;
-use crate::place::{Place, place_of};
+use crate::place::{Place, Similar, place_of, similar_key};
 use crate::read::read_settings_telling;
 use crate::wanted::wanted;
 use std::alloc::{AllocError, Global};
@@ -79,7 +80,10 @@ fn sentence(
     let at = At { file, table, place };
     match fault {
         SettingsFault::NotToml => no_toml(alloc, file, text),
-        SettingsFault::Missing(key) => about_missing(alloc, &at, *key),
+        SettingsFault::Missing(key) => {
+            let similar = similar_key(alloc, text, table, key.name());
+            about_missing(alloc, &at, *key, similar)
+        }
         SettingsFault::WrongKind(key) => about_value(alloc, &at, *key),
         SettingsFault::OutOfRange(key) => about_value(alloc, &at, *key),
         SettingsFault::Unknown(name) => about_unknown(alloc, &at, name_of(name.as_bytes())),
@@ -153,21 +157,32 @@ fn number_of(table: LastTable) -> Option<usize> {
     }
 }
 
-/// A value as the text writes it, if it is short enough for a line and has no line feed.
+/// A value as the text writes it, if it is short enough for a line and has no control characters.
 fn shown(value: Option<&str>) -> Option<&str> {
     let value = value?;
-    if value.len() <= MOST_SHOWN && !value.contains('\n') {
+    if value.len() <= MOST_SHOWN && !value.contains(char::is_control) {
         Some(value)
     } else {
         None
     }
 }
 
-/// The sentence about a key that is missing.
-fn about_missing(alloc: Global, at: &At<'_>, key: Key) -> Result<String, AllocError> {
+/// The sentence about a key that is missing, with a key that may be meant for it.
+fn about_missing(
+    alloc: Global,
+    at: &At<'_>,
+    key: Key,
+    similar: Option<Similar>,
+) -> Result<String, AllocError> {
     let wanted = wanted(alloc, key)?;
     let key = key.name();
-    format!(in alloc; "{at}: {key} is missing; it is {wanted}")
+    match similar {
+        Some(Similar { line, key: written }) => {
+            let written = written.escape_debug();
+            format!(in alloc; "{at}: {key} is missing; line {line} has {written}, which is no key")
+        }
+        None => format!(in alloc; "{at}: {key} is missing; it is {wanted}"),
+    }
 }
 
 /// The sentence about a value that the key may not have.
@@ -175,7 +190,10 @@ fn about_value(alloc: Global, at: &At<'_>, key: Key) -> Result<String, AllocErro
     let wanted = wanted(alloc, key)?;
     let key = key.name();
     match shown(at.place.value) {
-        Some(value) => format!(in alloc; "{at}: {key} is {value}, and may be {wanted}"),
+        Some(value) => {
+            let hint = Hint::about(value);
+            format!(in alloc; "{at}: {key} is {value}, and may be {wanted}{hint}")
+        }
         None => format!(in alloc; "{at}: {key} may be {wanted}"),
     }
 }
@@ -183,17 +201,21 @@ fn about_value(alloc: Global, at: &At<'_>, key: Key) -> Result<String, AllocErro
 /// The sentence about an unknown name: that of a key of the table, or else that of a device.
 fn about_unknown(alloc: Global, at: &At<'_>, name: &str) -> Result<String, AllocError> {
     if at.place.value.is_none() {
-        return format!(in alloc; "{at}: there is no device \"{name}\"");
+        return format!(in alloc; "{at}: there is no device {name:?}");
     }
     let kind = kind_of(at.table);
+    let (shown, later) = (name.escape_debug(), Key::Finishings.name());
     match at.table {
-        LastTable::Root => format!(in alloc; "{at}: {name} is no key of the settings"),
-        _ => format!(in alloc; "{at}: {name} is no key of a {kind}"),
+        LastTable::Root => format!(in alloc; "{at}: {shown} is no key of the settings"),
+        LastTable::Device(_) if name == later => {
+            format!(in alloc; "{at}: {shown} is a key of a device in version 2: write version = 2")
+        }
+        _ => format!(in alloc; "{at}: {shown} is no key of a {kind}"),
     }
 }
 
 /// The sentence about a name that an earlier table of the kind has.
 fn about_twice(alloc: Global, at: &At<'_>, name: &str) -> Result<String, AllocError> {
     let kind = kind_of(at.table);
-    format!(in alloc; "{at}: an earlier {kind} has the name \"{name}\"")
+    format!(in alloc; "{at}: an earlier {kind} has the name {name:?}")
 }

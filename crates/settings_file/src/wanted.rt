@@ -39,7 +39,7 @@ fn medium(alloc: Global) -> Result<String, AllocError> {
 fn format(alloc: Global) -> Result<String, AllocError> {
     let most = Limits::FORMAT_BYTES;
     format!(in alloc;
-        "a document format, as \"application/pdf\": at most {most} bytes that print, without space"
+        "a document format, as \"application/pdf\": at most {most} bytes that print, without space, ',' and capitals"
     )
 }
 

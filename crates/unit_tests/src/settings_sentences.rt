@@ -8,7 +8,7 @@ const WHOLE: &str =
     "version = 1\nuri_base = \"ipp://localhost:631\"\n[[device]]\nname = \"window\"\nrate_one = 10\nmedia = [\"iso_a4_210x297mm\"]\nformats = [\"text/plain\"]\n[[printer]]\nname = \"lab\"\ndevices = [\"window\"]\nmedia_default = \"iso_a4_210x297mm\"\nformat_default = \"text/plain\"\n";
 
 /// A text in the whole file, the text in its place, and the sentence about the changed file.
-const ROWS: [(&str, &str, &str); 12] = [
+const ROWS: [(&str, &str, &str); 18] = [
     (
         "rate_one = 10",
         "rate_one = 0",
@@ -60,6 +60,36 @@ const ROWS: [(&str, &str, &str); 12] = [
         "version = 1",
         "extra = 1\nversion = 1",
         "f: line 1: extra is no key of the settings",
+    ),
+    (
+        "version = 1",
+        "\"\\u001b[2J\" = 1\nversion = 1",
+        "f: line 1: \\u{1b}[2J is no key of the settings",
+    ),
+    (
+        "version = 1",
+        "version = \"1\"",
+        "f: line 1: version is \"1\", and may be 1 or 2, without quotation marks",
+    ),
+    (
+        "rate_one = 10",
+        "rate-one = 10",
+        "f: line 3, device \"window\": rate_one is missing; line 5 has rate-one, which is no key",
+    ),
+    (
+        "rate_one = 10",
+        "rate_one = 10\nfinishings = [\"staple\"]",
+        "f: line 6, device \"window\": finishings is a key of a device in version 2: write version = 2",
+    ),
+    (
+        "media = [\"iso_a4_210x297mm\"]",
+        "media = [\"A4\"]",
+        "f: line 6, device \"window\": media is [\"A4\"], and may be a list of at most 16 texts, each a medium's name, as \"iso_a4_210x297mm\": 1 to 64 of a to z, digits, '.', '_' and '-'; A4 is \"iso_a4_210x297mm\"",
+    ),
+    (
+        "format_default = \"text/plain\"",
+        "format_default = \"Text/Plain\"",
+        "f: line 12, printer \"lab\": format_default is \"Text/Plain\", and may be a document format, as \"application/pdf\": at most 64 bytes that print, without space, ',' and capitals",
     ),
 ];
 
