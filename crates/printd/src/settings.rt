@@ -6,6 +6,8 @@ use crate::failure::{cannot, cannot_with};
 use announcements::{Ports, ipp_port, only_printer, printer_named, write_service};
 use command_line::AboutSettings;
 use program::{BUILT_IN_SETTINGS, ExitStatus, read_or_refuse};
+use quotes::Escaped;
+use settings_advice::advice_on;
 use settings_file::{PrinterSettings, Settings, explain};
 use std::io::Write;
 use std::{fs, io};
@@ -20,6 +22,7 @@ fn say_fault(rt: &HostRuntime, file: &str, bytes: &[u8]) -> Result<(), ExitStatu
         io::Error::from(error),
     ))?;
     if let Some(sentence) = told {
+        let sentence = Escaped(sentence.as_bytes());
         eprintln!(rt; "{sentence}").map_err(|error| cannot(rt, "write to standard error", error))?;
     }
     Ok(())
@@ -72,9 +75,29 @@ fn show_built_in(rt: &HostRuntime) -> Result<ExitStatus, ExitStatus> {
     }
 }
 
+/// Writes what the settings of a file allow and hardly mean, in a line of standard error for each.
+fn advise(rt: &HostRuntime, file: &str, settings: &Settings) -> Result<(), ExitStatus> {
+    let advice = advice_on(rt.alloc(), settings).map_err(|error| cannot_with(
+        rt,
+        "read",
+        file,
+        io::Error::from(error),
+    ))?;
+    let file = Escaped(file.as_bytes());
+    for one in &advice {
+        eprintln!(rt; "printd: {file}: warning: {one}").map_err(|error| cannot(
+            rt,
+            "write to standard error",
+            error,
+        ))?;
+    }
+    Ok(())
+}
+
 /// Judges the settings of a file.
 fn judge(rt: &HostRuntime, file: &str) -> Result<ExitStatus, ExitStatus> {
-    let _settings = settings_of(rt, file)?;
+    let settings = settings_of(rt, file)?;
+    advise(rt, file, &settings)?;
     match println!(rt; "ok") {
         Ok(()) => Ok(ExitStatus::Done),
         Err(error) => Err(cannot(rt, "write to standard output", error)),
