@@ -1,3 +1,4 @@
 pub mod Saved
 pub mod Alike
 pub mod Resubmitting
+pub mod Pausing
