@@ -3,6 +3,7 @@ ghost use Rattle.settings_file.specs.Settings.{MeetsLimits};
 
 use crate::failure::{cannot, out_of_memory, say};
 use crate::log_output::LogOutput;
+use crate::serving::announce_doors;
 use crate::settings::settings_in;
 use base_types::{JobId, Limits, Moment, Text};
 use command_line::{Spooling, VERSION};
@@ -135,6 +136,9 @@ fn serve_day(
     } = day;
     let end = end_of_day(files, last);
     let mut server = Server::journaled(alloc, sockets, engine, names);
+    server
+        .date(rt, last)
+        .map_err(|error| cannot(rt, "read the clock", error))?;
     match serve_journaled(alloc, rt, &mut server, turns, last, end, log, files) {
         Ok(Ended::Served) => Ok(None),
         Ok(Ended::Quiet { left }) => Ok(Some(begin_anew(rt, settings, files, server, left)?)),
@@ -169,6 +173,7 @@ pub(crate) fn serve_spooled(
         mut files,
         ..
     } = start_in(rt, spooling, settings, text.text)?;
+    announce_doors(rt, &sockets)?;
     let mut day = Day {
         sockets,
         engine,

@@ -4,8 +4,9 @@ use command_line::VERSION;
 use daemon::Tape;
 use program::ExitStatus;
 use recordings::{put_goes_on, put_start};
+use spool_directory::leads_to;
 use std::alloc::AllocError;
-use std::fs::{File, OpenOptions};
+use std::fs::{File, OpenOptions, metadata};
 use std::io;
 use std::io::{ErrorKind, Write};
 use std::os::unix::fs::OpenOptionsExt;
@@ -32,6 +33,8 @@ pub(crate) struct TapeFiles<'a> {
     next: u32,
     /// The day of the open file, in days since the beginning of 1970.
     day: u64,
+    /// Whether the path of the open file was seen to lead to it no more.
+    missing: bool,
 }
 
 /// The time since the beginning of 1970; 0 where the clock is before 1970.
@@ -72,7 +75,7 @@ fn name_of(rt: &HostRuntime, path: &str, number: u32) -> Result<String, AllocErr
 /// name.
 fn make(rt: &HostRuntime, name: &str) -> io::Result<Option<File>> {
     let packed = format!(in rt.alloc(); "{name}.gz")?;
-    if std::fs::metadata(rt, &packed).is_ok() {
+    if metadata(rt, &packed).is_ok() {
         return Ok(None);
     }
     match OpenOptions::new()
@@ -108,6 +111,7 @@ impl<'a> TapeFiles<'a> {
             file: None,
             next: 0,
             day: 0,
+            missing: false,
         }
     }
 
@@ -119,8 +123,13 @@ impl<'a> TapeFiles<'a> {
         }
     }
 
-    /// Opens the first file, and writes its start. The error is the system's.
+    /// Opens the first file, and writes its start. The error is the system's, or that the path leads to a folder.
     fn open_first(&mut self) -> io::Result<()> {
+        if let Ok(found) = metadata(self.rt, self.path) {
+            if found.is_dir() {
+                return Err(io::Error::from(ErrorKind::IsADirectory));
+            }
+        }
         let began = now(self.rt)?;
         let mut text = Vec::new(self.rt.alloc());
         put_start(
@@ -179,7 +188,25 @@ impl<'a> TapeFiles<'a> {
     /// Appends lines to the file of the day.
     fn append(&mut self, lines: &[u8]) -> io::Result<()> {
         self.turn_over()?;
+        self.watch();
         self.write(lines)
+    }
+
+    /// Reports that the open file was moved or removed, once until it is back.
+    fn watch(&mut self) {
+        let Some(file) = &self.file else {
+            return;
+        };
+        let Ok(name) = name_of(self.rt, self.path, self.next.saturating_sub(1)) else {
+            return;
+        };
+        let missing = !leads_to(self.rt, &name, file).unwrap_or(false);
+        if missing && !self.missing {
+            let _said = eprintln!(self.rt;
+                "printd: the recording {name} was moved or removed; the server records on to that file until midnight of UTC"
+            );
+        }
+        self.missing = missing;
     }
 
     /// Reports that the recording has ended, and why.

@@ -33,6 +33,7 @@ mod starting;
 mod system_error;
 mod telling;
 mod trouble;
+mod watching;
 mod writer;
 
 pub use fault::{FileFault, SpoolFault, Why};
@@ -40,3 +41,4 @@ pub use opening::SpoolDirectory;
 pub use spool_files::{SpoolFiles, SpoolOptions};
 pub use starting::Start;
 pub use system_error::SystemError;
+pub use watching::leads_to;

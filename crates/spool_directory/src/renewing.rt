@@ -91,8 +91,8 @@ impl Directory<'_> {
     ) -> Result<(), ResubmissionFault>
         ensures { OnOk result (KeepsPlayed draft.old.stored.lines engine.old draft.new.stored.lines engine.new) }
     {
-        pause_printers(self.alloc(), names, engine, Moment::start(), draft)?;
-        self.tell_pauses(names, engine);
+        let left = pause_printers(self.alloc(), names, engine, Moment::start(), draft)?;
+        self.tell_unpaused(&left);
         Ok(())
     }
 

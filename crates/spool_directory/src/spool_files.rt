@@ -9,6 +9,7 @@ use crate::fault::SpoolFault;
 use crate::listing::Listing;
 use crate::opening::SpoolDirectory;
 use crate::playing::Ending;
+use crate::watching::Watch;
 use crate::writer::{Tail, Writer};
 use base_types::JobId;
 use journal::{JournaledEngine, Storage, StoredLines};
@@ -77,6 +78,7 @@ impl<'a> SpoolFiles<'a> {
             tail,
             torn: false,
             failing: false,
+            watch: Watch::new(),
         };
         SpoolFiles { writer, stored }
     }

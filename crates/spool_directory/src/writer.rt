@@ -5,6 +5,7 @@ use crate::named::{TraceName, trace_name};
 use crate::opening::SpoolDirectory;
 use crate::spool_files::SpoolOptions;
 use crate::system_error::SystemError;
+use crate::watching::Watch;
 use base_types::JobId;
 use recordings::{put_base, put_goes_on, put_started};
 use std::alloc::{AllocError, Global};
@@ -43,6 +44,7 @@ pub(crate) struct Writer<'a> {
     pub(crate) torn: bool,
     /// Whether the last lines weren't stored.
     pub(crate) failing: bool,
+    pub(crate) watch: Watch,
 }
 
 /// The number behind a file's number.
@@ -81,6 +83,11 @@ pub(crate) fn next_head(
 }
 
 impl Tail {
+    /// The open file.
+    pub(crate) fn file(&self) -> &File {
+        &self.file
+    }
+
     /// A file with a number, of this length, that is begun at a time.
     pub(crate) fn of(file: File, number: u32, length: u64, time: Duration) -> Tail {
         Tail {
@@ -184,6 +191,7 @@ impl Writer<'_> {
     /// first success behind a failure.
     pub(crate) fn append(&mut self, lines: &[u8]) -> bool {
         let stored = self.store(lines);
+        self.watch();
         let failing = stored.is_err();
         match stored {
             Ok(()) if self.failing => self.say_working(),
