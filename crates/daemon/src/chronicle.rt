@@ -1,7 +1,10 @@
 //! The lines of a log for the turns of a server.
+use crate::arrivals::Arrivals;
+use crate::calendar::Calendar;
 use crate::ends::Begun;
 use crate::last_plan::LastPlan;
 use crate::log::Lines;
+use crate::overdue::Overdue;
 use base_types::{Moment, Text};
 use journal::JournaledEngine;
 use server::LoggedNote;
@@ -9,28 +12,51 @@ use sockets::ConnectionEvent;
 use std::alloc::{AllocError, Global};
 
 /// What the lines of a log need beside the turn's own record: the names of a server's devices, the jobs that
-/// they began, and the last plan.
+/// came, those that devices began, the last plan, and the date.
 #[derive(Drop)]
 pub struct Chronicle {
     alloc: Global,
     names: Vec<Text>,
+    arrivals: Arrivals,
     begun: Begun,
+    overdue: Overdue,
     plan: LastPlan,
+    calendar: Option<Calendar>,
+    /// Whether the lines and the comments of the turn have the date.
+    dated: bool,
 }
 
 impl Chronicle {
-    /// Creates a chronicle without a job and without a plan. `names` are those of the devices.
-    pub fn new(alloc: Global, names: Vec<Text>) -> Chronicle {
+    /// Creates a chronicle of an engine, without a plan and without a date. `names` are those of the devices.
+    pub fn new(alloc: Global, names: Vec<Text>, engine: &JournaledEngine) -> Chronicle {
         Chronicle {
             alloc,
             names,
+            arrivals: Arrivals::new(alloc, engine),
             begun: Begun::new(alloc),
+            overdue: Overdue::new(alloc),
             plan: LastPlan::new(alloc),
+            calendar: None,
+            dated: false,
         }
     }
 
-    /// Returns the lines of a turn: connections that came, notes that were heard, jobs that ended, and
-    /// connections that went. The only error is out of memory.
+    /// Has the lines dated. `zero` is the time of moment 0, in ms since the beginning of 1970.
+    pub(crate) fn set_zero(&mut self, zero: u64) {
+        self.calendar = Some(Calendar::new(zero));
+    }
+
+    /// Begins the lines of a turn. They have the date if something happened in the turn, for the first time or
+    /// for the first time of a day.
+    pub(crate) fn begin(&mut self, moment: Moment, happened: bool) {
+        self.dated = match &mut self.calendar {
+            Some(calendar) if happened => calendar.takes_day(moment),
+            _ => false,
+        };
+    }
+
+    /// Returns the lines of a turn: the date, connections that came, jobs that came, notes that were heard,
+    /// jobs that ended or are late, and connections that went. The only error is out of memory.
     pub fn lines(
         &mut self,
         moment: Moment,
@@ -38,22 +64,39 @@ impl Chronicle {
         heard: &[LoggedNote],
         engine: &JournaledEngine,
     ) -> Result<Vec<u8>, AllocError> {
+        let news = self.arrivals.take(engine)?;
         self.begun.add(heard)?;
         let ended = self.begun.take_ended(self.alloc, engine)?;
+        let late = self.overdue.take(engine, self.begun.jobs(), moment)?;
+        let date = self.date()?;
         let mut lines = Lines::new(self.alloc, &self.names, moment);
+        lines.add_date(date.as_deref());
         lines.add_comings(visits);
+        lines.add_arrivals(&news.came, engine);
         lines.add_heard(heard, &mut self.plan);
         lines.add_ended(&ended);
+        lines.add_unbegun(&news.ended, engine);
+        lines.add_late(&late);
         lines.add_goings(visits);
         lines.text()
     }
 
-    /// Returns the connections that came and went in a turn, as comments of a recording. The only error is
-    /// out of memory.
+    /// Returns the date and the connections that came and went in a turn, as comments of a recording. The only
+    /// error is out of memory.
     pub(crate) fn comments(&self, visits: &[ConnectionEvent]) -> Result<Vec<u8>, AllocError> {
+        let date = self.date()?;
         let mut lines = Lines::comments(self.alloc, &self.names);
+        lines.add_date(date.as_deref());
         lines.add_comings(visits);
         lines.add_goings(visits);
         lines.text()
+    }
+
+    /// The time of moment 0, if the turn has it.
+    fn date(&self) -> Result<Option<String>, AllocError> {
+        match &self.calendar {
+            Some(calendar) if self.dated => calendar.zero(self.alloc),
+            _ => Ok(None),
+        }
     }
 }

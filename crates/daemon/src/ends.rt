@@ -97,6 +97,13 @@ impl Begun {
         put_begun(&mut self.started, heard)
     }
 
+    /// The jobs that devices began, and that hadn't ended at the last call of `take_ended`.
+    pub(crate) fn jobs(&self) -> &[Started]
+        ensures { result.now ≡ self.now }
+    {
+        &self.started
+    }
+
     /// Removes and returns the jobs that have left their devices. The only error is out of memory, and none
     /// is removed then.
     pub(crate) fn take_ended<P: Planner + Drop>(

@@ -29,7 +29,7 @@ impl Server {
         ensures filed { (opening : State) (stored : List ℕ) → HasPlayed opening stored engine → (trace : Trace) × IsFiled opening trace result stored }
         ensures calls { calls_of result ≡ sockets.history.calls }
     {
-        let chronicle = Chronicle::new(alloc, names);
+        let chronicle = Chronicle::new(alloc, names, &engine);
         let mut server = Server::over(alloc, sockets, engine, chronicle);
         server.wire.notes.begin(false);
         server.journaled = true;

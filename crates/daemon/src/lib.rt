@@ -13,6 +13,8 @@
 //! Tests stand in `server_tests`.
 #![tactic(auto)]
 
+mod arrivals;
+mod calendar;
 mod chronicle;
 mod clock;
 mod ends;
@@ -23,6 +25,7 @@ mod law;
 mod log;
 mod log_writer;
 mod lookout;
+mod overdue;
 mod pace;
 mod recorder;
 mod run;

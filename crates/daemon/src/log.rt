@@ -1,10 +1,13 @@
 //! [`Lines`] appends the lines of a log: each for a connection, a plan, a job or a refusal.
 use crate::ends::Ended;
 use crate::last_plan::LastPlan;
+use crate::overdue::Late;
 use base_types::{DeviceId, JobId, Moment, Text};
 use dispatcher::{AllocationSite, DeviceRefusal};
-use job_objects::JobState;
+use job_objects::{Job, JobState};
+use journal::JournaledEngine;
 use plan_text::{name_of, put_job_words};
+use quotes::{Quoted, Word};
 use server::LoggedNote;
 use sockets::{CloseReason, ConnectionEvent};
 use std::alloc::{AllocError, Global};
@@ -87,18 +90,72 @@ impl<'a> Lines<'a> {
         }
     }
 
-    /// Adds the lines for jobs that ended.
+    /// Adds the line for the date, if there is one: the time of moment 0.
+    pub(crate) fn add_date(&mut self, zero: Option<&str>) {
+        if let Some(zero) = zero {
+            self.begin("clock ");
+            self.put(zero.as_bytes());
+        }
+    }
+
+    /// Adds the lines for jobs that came.
+    pub(crate) fn add_arrivals(&mut self, came: &[JobId], engine: &JournaledEngine) {
+        for id in came {
+            if let Some(job) = engine.job(*id) {
+                self.add_arrival(job, engine);
+            }
+        }
+    }
+
+    /// Adds the lines for jobs that ended on devices.
     pub(crate) fn add_ended(&mut self, ended: &[Ended]) {
         for one in ended {
             self.add_job(end_word(one.state), one.started.job, one.started.device);
         }
     }
 
+    /// Adds the lines for jobs that ended before any device began them.
+    pub(crate) fn add_unbegun(&mut self, ended: &[JobId], engine: &JournaledEngine) {
+        for id in ended {
+            let word = end_word(engine.job(*id).map(|job| job.state));
+            let id = id.number();
+            self.begin(word);
+            self.append(format!(in self.alloc; " {id}"));
+        }
+    }
+
+    /// Adds the lines for jobs that are late.
+    pub(crate) fn add_late(&mut self, late: &[Late]) {
+        for one in late {
+            let seconds = one.seconds;
+            self.add_job("late", one.started.job, one.started.device);
+            self.append(format!(in self.alloc; " {seconds} s"));
+        }
+    }
+
+    /// Adds the line for a job that came: its printer, its owner, its impressions in all copies, and its name.
+    fn add_arrival(&mut self, job: &Job, engine: &JournaledEngine) {
+        let id = job.id.number();
+        let printer = match engine.settings().printers.get(job.needs.printer.place()) {
+            Some(printer) => printer.name.as_bytes(),
+            None => b"-",
+        };
+        let owner = Word(job.owner.as_bytes());
+        let (pages, copies) = (
+            u64::from(job.needs.impressions),
+            u64::from(job.needs.copies),
+        );
+        let impressions = pages.saturating_mul(copies);
+        let (printer, name) = (Word(printer), Quoted(job.name.as_bytes()));
+        self.begin("job");
+        self.append(format!(in self.alloc; " {id} {printer} {owner} {impressions} {name}"));
+    }
+
     /// Adds what a note needs: a line, or a word in the line of its plan.
     fn add_one(&mut self, heard: &LoggedNote, plan: &mut LastPlan) {
         match heard {
             LoggedNote::Class { priority, total } => self.heed(plan.add_class(*priority, *total)),
-            LoggedNote::Stranded(stranded) => self.heed(plan.add_stranded(*stranded)),
+            LoggedNote::Stranded(stranded) => self.heed(plan.add_stranded(stranded)),
             LoggedNote::Planned => {
                 self.add_plan(plan, false);
                 plan.begin();
@@ -127,7 +184,7 @@ impl<'a> Lines<'a> {
         if plan.take_due(begins) {
             self.begin("plan");
             self.put(plan.totals());
-            self.put(plan.stranded());
+            self.put(plan.news());
         }
     }
 

@@ -50,6 +50,7 @@ pub fn serve<W: Write, T: Tape>(
     requires { MeetsLimits settings }
 {
     let mut server = Server::new(alloc, sockets, settings)?;
+    server.date(clock, Moment::start())?;
     run(alloc, clock, &mut server, turns, log, recording)
 }
 

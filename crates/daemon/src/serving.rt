@@ -8,6 +8,7 @@ ghost use Rattle.daemon.specs.Serving.{calls_of, Idles, Rests, TakesTurn, Serves
 ghost use Rattle.daemon.specs.Journaling.{FilesTurn, NotesEnd, AddsComments};
 
 use crate::chronicle::Chronicle;
+use crate::clock::time_of_zero;
 use crate::lookout::Lookout;
 use crate::recorder::{Recorder, Tape};
 use crate::witness::Witness;
@@ -24,7 +25,7 @@ use settings_file::Settings;
 use sockets::{ConnectionEvent, ConnectionLog, Listening, Sockets};
 use std::alloc::{AllocError, Global};
 use std::io;
-use std::time::Duration;
+use std::time::{Clock, Duration};
 use wires::WireId;
 
 /// A server: its engine, its sockets, the chronicle of its log, and the lookout before its waits.
@@ -67,6 +68,15 @@ fn has_happened(ticks: bool, told: bool, before: usize, after: usize) -> bool
     ticks || told || after != before
 }
 
+/// Returns whether something happened in a turn that a log may show: a tick came, the listener was told something, or
+/// a connection came or went.
+fn shows(ticks: bool, told: bool, visits: &Result<Vec<ConnectionEvent>, AllocError>) -> bool {
+    match visits {
+        Ok(visits) => ticks || told || !visits.is_empty(),
+        Err(_) => ticks || told,
+    }
+}
+
 impl Server {
     /// Creates a server over sockets that listen. Its engine stands at the empty trace. The only error is out of
     /// memory.
@@ -78,7 +88,8 @@ impl Server {
         let names = settings.device_names(alloc)?;
         let planner = Pausable::new(AugmentingPaths::new(alloc));
         let engine = Engine::new(alloc, settings, planner)?;
-        Ok(Server::over(alloc, sockets, engine, Chronicle::new(alloc, names)))
+        let chronicle = Chronicle::new(alloc, names, &engine);
+        Ok(Server::over(alloc, sockets, engine, chronicle))
     }
 
     /// Creates a server of an engine, over sockets that listen.
@@ -105,6 +116,15 @@ impl Server {
     /// The addresses at which the server listens.
     pub fn listening(&self) -> io::Result<Vec<Listening>> {
         self.wire.wire.wire.listening()
+    }
+
+    /// Dates the log and the recording by the system's clock: it is the moment `now` now. The error is the clock's.
+    pub fn date(&mut self, clock: &impl Clock, now: Moment) -> io::Result<()>
+        ensures { Idles self.old self.new }
+    {
+        let zero = time_of_zero(clock, now)?;
+        self.chronicle.set_zero(zero);
+        Ok(())
     }
 
     /// Starts noting each turn for a recording. The server has taken no turn yet.
@@ -184,7 +204,7 @@ impl Server {
         let ticks = self.engine.is_tick_due(moment);
         let before = self.wire.notes.text().len();
         let seen = self.run_turn(pass, moment, listener);
-        let visits = self.visits();
+        let visits = self.visits(moment, ticks, seen.told);
         let after = self.wire.notes.text().len();
         quiet_turns_change_nothing();
         turns_append_to_files();
@@ -217,11 +237,18 @@ impl Server {
         }
     }
 
-    /// Takes the log of connections. The only error is out of memory.
-    fn visits(&mut self) -> Result<Vec<ConnectionEvent>, AllocError>
+    /// Takes the log of connections of a turn, and begins the turn's lines. The only error is out of memory.
+    fn visits(
+        &mut self,
+        moment: Moment,
+        ticks: bool,
+        told: bool,
+    ) -> Result<Vec<ConnectionEvent>, AllocError>
         ensures { Rests self.old self.new }
     {
-        all_of(self.alloc, self.wire.wire.wire.take_visits())
+        let visits = all_of(self.alloc, self.wire.wire.wire.take_visits());
+        self.chronicle.begin(moment, shows(ticks, told, &visits));
+        visits
     }
 
     /// Returns whether the turns are noted.
@@ -261,7 +288,7 @@ impl Server {
         self.wire.notes.end_turn(moment, refused);
     }
 
-    /// Notes the connections that came and went, and the mark of a journal, as comments. If memory is refused, no
+    /// Notes the date, the connections that came and went, and the mark of a journal, as comments. If memory is refused, no
     /// comment is noted, and a journal keeps no lines any more.
     fn note_comments(&mut self, visits: &Result<Vec<ConnectionEvent>, AllocError>)
         ensures idles { Idles self.old self.new }
@@ -284,7 +311,7 @@ impl Server {
         }
     }
 
-    /// The comments on the connections that came and went, and the mark of a journal if it is another.
+    /// The comments on the date, the connections that came and went, and the mark of a journal if it is another.
     fn comments_of(
         &mut self,
         visits: &Result<Vec<ConnectionEvent>, AllocError>,
@@ -298,14 +325,15 @@ impl Server {
         Ok(comments)
     }
 
-    /// The comments on the connections that came and went; none if memory for their log was refused.
+    /// The comments on the date and on the connections that came and went; none on these if memory for their
+    /// log was refused.
     fn visits_of(
         &self,
         visits: &Result<Vec<ConnectionEvent>, AllocError>,
     ) -> Result<Vec<u8>, AllocError> {
         match visits {
-            Ok(visits) if !visits.is_empty() => self.chronicle.comments(visits),
-            _ => Ok(Vec::new(self.alloc)),
+            Ok(visits) => self.chronicle.comments(visits),
+            Err(_) => self.chronicle.comments(&[]),
         }
     }
 

@@ -1,11 +1,11 @@
 //! The destination of a log: standard error, or a file.
 use libc::net::{POLLOUT, poll};
 use libc::types::pollfd;
+use spool_directory::leads_to;
 use std::fs::{File, OpenOptions};
+use std::io;
 use std::io::{ErrorKind, Stderr, Write};
 use std::os::fd::{AsRawFd, RawFd};
-use std::os::unix::fs::MetadataExt;
-use std::{fs, io};
 
 /// The descriptor of standard error.
 const STANDARD_ERROR: RawFd = 2;
@@ -48,16 +48,9 @@ impl<'a> LogFile<'a> {
         Ok(LogFile { rt, path, file })
     }
 
-    /// Returns whether the path leads to the open file.
-    fn is_there(&self) -> io::Result<bool> {
-        let found = fs::metadata(self.rt, self.path)?;
-        let own = self.file.metadata()?;
-        Ok(found.dev() == own.dev() && found.ino() == own.ino())
-    }
-
     /// Opens the file of the path again if it is another file. Where the open fails, the open file is kept.
     fn renew(&mut self) {
-        if let Ok(true) = self.is_there() {
+        if let Ok(true) = leads_to(self.rt, self.path, &self.file) {
             return;
         }
         if let Ok(file) = open(self.rt, self.path) {

@@ -59,7 +59,7 @@ fn announce(rt: &HostRuntime, listening: &[Listening], door: Door) -> io::Result
     Ok(())
 }
 
-/// Writes where all doors listen.
+/// Writes where all doors listen. The error is the system's.
 fn announce_all(rt: &HostRuntime, sockets: &Sockets) -> io::Result<()> {
     let listening = sockets.listening()?;
     announce(rt, &listening, Door::Ipp)?;
@@ -67,8 +67,12 @@ fn announce_all(rt: &HostRuntime, sockets: &Sockets) -> io::Result<()> {
     announce(rt, &listening, Door::Devices)
 }
 
-/// Opens the sockets of all doors, and writes where they listen. An error is reported, and its exit status
-/// returned.
+/// Writes where all doors listen. An error is reported, and its exit status returned.
+pub(crate) fn announce_doors(rt: &HostRuntime, sockets: &Sockets) -> Result<(), ExitStatus> {
+    announce_all(rt, sockets).map_err(|error| cannot(rt, "write to standard output", error))
+}
+
+/// Opens the sockets of all doors. An error is reported, and its exit status returned.
 fn open(rt: &HostRuntime, serving: &Serving<'_>) -> Result<Sockets, ExitStatus> {
     let mut sockets = Sockets::new(rt.alloc(), rt).map_err(|error| cannot(
         rt,
@@ -78,7 +82,6 @@ fn open(rt: &HostRuntime, serving: &Serving<'_>) -> Result<Sockets, ExitStatus> 
     listen_at(rt, &mut sockets, Door::Ipp, &serving.ipp)?;
     listen_at(rt, &mut sockets, Door::Lpd, &serving.lpd)?;
     listen_at(rt, &mut sockets, Door::Devices, &serving.devices)?;
-    announce_all(rt, &sockets).map_err(|error| cannot(rt, "write to standard output", error))?;
     Ok(sockets)
 }
 
@@ -174,10 +177,9 @@ fn serve_settings(
             &mut log,
         );
     }
-    match tape_of(rt, serving, text) {
-        Ok(mut tape) => serve_over(rt, settings, serving, sockets, log.as_mut(), tape.as_mut()),
-        Err(status) => Err(status),
-    }
+    let mut tape = tape_of(rt, serving, text)?;
+    announce_doors(rt, &sockets)?;
+    serve_over(rt, settings, serving, sockets, log.as_mut(), tape.as_mut())
 }
 
 /// The name of the file of the settings in reports.

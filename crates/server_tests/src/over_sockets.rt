@@ -238,7 +238,7 @@ fn log_of_job(rt: &HostRuntime, server: &mut Server, log: &mut Vec<u8>) -> io::R
 fn wanted_log(rt: &HostRuntime, ports: (u16, u16)) -> io::Result<String> {
     let (device, client) = ports;
     Ok(format!(in rt.alloc();
-        "0 open 0 devices 127.0.0.1:{device}\n0 open 1 lpd 127.0.0.1:{client}\n0 plan 50:10\n0 start 1 A\n0 completed 1 A\n0 close 1 left\n"
+        "0 open 0 devices 127.0.0.1:{device}\n0 open 1 lpd 127.0.0.1:{client}\n0 job 1 lab ann 1 \"untitled\"\n0 plan 50:10\n0 start 1 A\n0 completed 1 A\n0 close 1 left\n"
     )?)
 }
 
