@@ -7,8 +7,8 @@ use base_types::Moment;
 use daemon::Chronicle;
 use journal::{JournaledEngine, Pausable};
 use plan_solver::AugmentingPaths;
+use quotes::Escaped;
 use recordings::{Entry, Moved, Script, read_entry};
-use settings_file::Settings;
 use std::alloc::{AllocError, Global};
 use traces::{put_gone, put_out};
 
@@ -24,6 +24,15 @@ pub(crate) enum Step {
     /// In the turn that the line ends, the server made another call than the recorded call. These lines
     /// describe the call.
     Differs(Vec<u8>),
+}
+
+/// The end of a recorded day.
+#[derive(Clone, Copy)]
+pub(crate) enum DayEnd {
+    /// Its last line ends a turn.
+    Whole,
+    /// Lines or bytes of a turn that hasn't ended follow the line of this number, which ended a turn; 0 if none did.
+    WithinTurn { ended: u64 },
 }
 
 /// The listener of a server, and the chronicle for the lines of a log.
@@ -49,6 +58,10 @@ pub(crate) struct Player<'a> {
     printed: Option<Moment>,
     /// Whether the turn that hasn't ended is one in which a restarted server lost its connections.
     restarted: bool,
+    /// The number of the line that ended the last turn; 0 before the first.
+    ended: u64,
+    /// Whether there are lines of a turn that hasn't ended.
+    within: bool,
 }
 
 /// The moment of the turn that a line ends, if it ends one.
@@ -92,14 +105,15 @@ fn put_dated(
 }
 
 impl Audience {
-    /// Creates the audience of a server with these settings, without notes.
+    /// Creates the audience of a server that has only started, without notes.
     pub(crate) fn new(
         alloc: Global,
-        settings: &Settings,
+        engine: &JournaledEngine,
         shows: Shows,
     ) -> Result<Audience, AllocError> {
+        let settings = engine.settings();
         let told = Told::new(alloc, shows, settings.device_names(alloc)?);
-        let chronicle = Chronicle::new(alloc, settings.device_names(alloc)?);
+        let chronicle = Chronicle::new(alloc, settings.device_names(alloc)?, engine);
         Ok(Audience { told, chronicle })
     }
 }
@@ -122,6 +136,18 @@ impl<'a> Player<'a> {
             goings: Vec::new(alloc),
             printed: None,
             restarted: false,
+            ended: 0,
+            within: false,
+        }
+    }
+
+    /// The end of a day whose lines were played, if it is here. `rest` says whether bytes follow that are no whole
+    /// line.
+    pub(crate) fn end(&self, rest: bool) -> DayEnd {
+        if rest || self.within {
+            DayEnd::WithinTurn { ended: self.ended }
+        } else {
+            DayEnd::Whole
         }
     }
 
@@ -149,7 +175,9 @@ impl<'a> Player<'a> {
         entry: Entry,
         output: &mut Vec<u8>,
     ) -> Result<Step, AllocError> {
-        match turn_of(&entry) {
+        let turn = turn_of(&entry);
+        self.within = turn.is_none();
+        match turn {
             Some(moment) => self.take_turn(number, moment, output),
             None if matches!(&entry, Entry::Restarted) => {
                 self.restarted = true;
@@ -170,13 +198,14 @@ impl<'a> Player<'a> {
         let Some(words) = comment.strip_prefix(b" ") else {
             return Ok(());
         };
+        let line = Escaped(words);
+        let text = format!(in self.alloc; "{line}\n")?;
         let kept = if words.starts_with(b"close ") {
             &mut self.goings
         } else {
             &mut self.comings
         };
-        kept.extend_from_slice(words)?;
-        kept.extend_from_slice(b"\n")
+        kept.extend_from_slice(text.as_bytes())
     }
 
     /// Takes the turn that the line of this number ends.
@@ -189,6 +218,7 @@ impl<'a> Player<'a> {
         if let Some(refused) = self.script.refusal() {
             return Ok(Step::Refused(refused));
         }
+        self.ended = number;
         self.turn_engine(moment);
         self.put_turn(moment, output)?;
         match self.script.end_turn() {

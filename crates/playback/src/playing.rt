@@ -2,7 +2,7 @@
 ghost use Rattle.std.specs.Prelude.{IfOk};
 ghost use Rattle.settings_file.specs.Settings.{MeetsLimits};
 
-use crate::player::{Audience, Player, Step};
+use crate::player::{Audience, DayEnd, Player, Step};
 use base_types::{JobId, Limits};
 use journal::{JournaledEngine, Pausable};
 use plan_solver::AugmentingPaths;
@@ -255,16 +255,16 @@ impl<'file, 'output, W: Write> Day<'file, 'output, W> {
         &mut self,
         lines: &mut LineReader<'_, R>,
         player: &mut Player<'_>,
-    ) -> Result<(), Fault> {
+    ) -> Result<DayEnd, Fault> {
         let mut line = Vec::new(self.alloc);
         for _ in 0..u64::MAX {
             let number = lines.passed().saturating_add(1);
             if !lines.read_whole(&mut line)? {
-                return Ok(());
+                break;
             }
             self.play_line(player, number, &line)?;
         }
-        Ok(())
+        Ok(player.end(!line.is_empty()))
     }
 
     /// Plays the lines of the turns on a server that has started.
@@ -273,7 +273,7 @@ impl<'file, 'output, W: Write> Day<'file, 'output, W> {
         lines: &mut LineReader<'_, R>,
         engine: &mut JournaledEngine,
         audience: Audience,
-    ) -> Result<(), Fault> {
+    ) -> Result<DayEnd, Fault> {
         let mut player = Player::new(self.alloc, engine, self.shows, audience);
         self.play_turns(lines, &mut player)
     }
@@ -285,19 +285,19 @@ impl<'file, 'output, W: Write> Day<'file, 'output, W> {
         lines: &mut LineReader<'_, R>,
         settings: Settings,
         first: JobId,
-    ) -> Result<(), Fault>
+    ) -> Result<DayEnd, Fault>
         requires { MeetsLimits settings }
     {
-        let audience = Audience::new(self.alloc, &settings, self.shows)?;
         let planner = Pausable::new(AugmentingPaths::new(self.alloc));
         let Ok(mut engine) = Engine::starting_at(self.alloc, settings, planner, first) else {
             return Err(Fault::OutOfMemory);
         };
+        let audience = Audience::new(self.alloc, &engine, self.shows)?;
         self.play_on(lines, &mut engine, audience)
     }
 
     /// Plays the whole day.
-    fn play_all<R: Read>(&mut self, lines: &mut LineReader<'_, R>) -> Result<(), Fault> {
+    fn play_all<R: Read>(&mut self, lines: &mut LineReader<'_, R>) -> Result<DayEnd, Fault> {
         let (text, first) = read_beginning(self.alloc, self.file, lines)?;
         let settings = settings_of(self.alloc, self.file, &text)?;
         self.play_with(lines, settings, first)
@@ -306,11 +306,23 @@ impl<'file, 'output, W: Write> Day<'file, 'output, W> {
     /// Plays the whole day, and writes the printed text up to its end.
     fn play<R: Read>(&mut self, lines: &mut LineReader<'_, R>) -> Result<(), Fault> {
         let played = self.play_all(lines);
-        if played.is_ok() && self.shows == Shows::Verdict {
-            self.output.extend_from_slice(b"same\n")?;
+        if let (Ok(end), Shows::Verdict) = (&played, self.shows) {
+            self.put_same(*end)?;
         }
         self.put_out(0)?;
-        played
+        played?;
+        Ok(())
+    }
+
+    /// Appends the verdict about a day that played the same.
+    fn put_same(&mut self, end: DayEnd) -> Result<(), AllocError> {
+        let line = match end {
+            DayEnd::Whole => format!(in self.alloc; "same\n")?,
+            DayEnd::WithinTurn { ended } => {
+                format!(in self.alloc; "same, up to line {ended}; the file ends within a turn\n")?
+            }
+        };
+        self.output.extend_from_slice(line.as_bytes())
     }
 }
 

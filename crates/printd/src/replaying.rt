@@ -1,23 +1,14 @@
 //! `printd replay` and `printd log`: a trace, played.
-use crate::failure::{cannot, cannot_with, out_of_memory, say};
+use crate::failure::say;
+use crate::input::{INPUT, open, say_of};
 use crate::judging::failed;
 use crate::noted::{NotedInput, NotedOutput};
 use command_line::Replaying;
 use playback::{Shows, Whole, peek, play};
 use program::ExitStatus;
-use replay::{Replayed, run_replay};
-use std::alloc::AllocError;
-use std::fs::File;
+use replay::run_replay;
 use std::io;
 use std::io::{Input, Read, Write};
-
-/// The name of standard input in reports.
-const INPUT: &str = "<standard input>";
-
-/// Opens a file for reading. An error is reported, and its exit status returned.
-fn open(rt: &HostRuntime, file: &str) -> Result<File, ExitStatus> {
-    File::open(rt, file).map_err(|error| cannot_with(rt, "read", file, error))
-}
 
 /// Plays a trace. An error of opening the file is reported, and its exit status returned.
 pub(crate) fn replay(rt: &HostRuntime, replaying: Replaying<'_>) -> Result<ExitStatus, ExitStatus> {
@@ -47,7 +38,7 @@ fn replay_input<R: Read + Drop>(
     let mut output = NotedOutput::new(io::writer(rt));
     match play_any(rt, name, &mut input, &mut output, replaying) {
         Some(status) => status,
-        None => failed(rt, "play the trace", input, output),
+        None => failed(rt, "play the trace", name, input, output),
     }
 }
 
@@ -75,7 +66,7 @@ fn log_input<R: Read + Drop>(rt: &HostRuntime, name: &str, reader: R) -> ExitSta
     let mut output = NotedOutput::new(io::writer(rt));
     match play_recorded(rt, name, &mut input, &mut output, Shows::Log) {
         Some(status) => status,
-        None => failed(rt, "play the trace", input, output),
+        None => failed(rt, "play the trace", name, input, output),
     }
 }
 
@@ -120,25 +111,8 @@ fn play_written<R: Read, W: Write>(
     if played.status == ExitStatus::Failed {
         return None;
     }
-    if say_objection(rt, name, &played).is_err() {
-        let _status = cannot(rt, "say what is wrong", out_of_memory());
+    if let Some(objection) = &played.objection {
+        say_of(rt, name, objection);
     }
     Some(played.status)
-}
-
-/// Reports the objection to a trace, if there is an objection, behind the name of the file. The only error is
-/// out of memory.
-fn say_objection(rt: &HostRuntime, name: &str, played: &Replayed) -> Result<(), AllocError> {
-    let Some(objection) = &played.objection else {
-        return Ok(());
-    };
-    let sentence = format!(in rt.alloc(); "{objection}")?;
-    match sentence.as_str().strip_prefix(INPUT) {
-        Some(rest) => {
-            let named = format!(in rt.alloc(); "{name}{rest}")?;
-            say(rt, &named);
-        }
-        None => say(rt, &sentence),
-    }
-    Ok(())
 }
