@@ -8,9 +8,9 @@ use Rattle.base_types.specs.declared.report.Report.{Report}
 use Rattle.base_types.specs.Report.{ReportRecord, report_of, SaysReady, SaysStop, SaysPages, SaysDone, SaysFail}
 use Rattle.attachment.specs.declared.state.PrinterState.{PrinterState}
 use Rattle.attachment.specs.declared.state.PrinterState.TheVariants.{Running, Stopped}
-use Rattle.attachment.specs.Life.{Event, Links, Ordered, Came, Canceled, Sent, EndsCopy, Printed, Is, Reported, Leads}
+use Rattle.attachment.specs.Life.{Event, Links, Ordered, Came, Canceled, Sent, EndsCopy, Restarts, Printed, Is, Reported, Leads}
 use Rattle.attachment.specs.Promises.{AnswersOnce, SendsTheJob, HeedsCancel, TellsState}
-use Rattle.attachment.specs.State.{WorkRecord, AttachmentRecord, id_of, sending_of, heeded_of, told_of, IsAfter, Lives, unsaid, due_of, due_in, copy_sent_in, HasRoom, said_by, end_report, fail_report, pages_report, state_report, begun, with_came, with_sent, with_copy, with_cancel, changed}
+use Rattle.attachment.specs.State.{WorkRecord, AttachmentRecord, id_of, sending_of, heeded_of, told_of, IsAfter, Lives, unsaid, due_of, due_in, copy_sent_in, HasRoom, said_by, end_report, fail_report, pages_report, state_report, begun, with_came, with_sent, with_copy, with_restart, with_cancel, changed}
 
 -- ---- one event more
 
@@ -94,6 +94,20 @@ id_canceled (Some work) job = marked_id job work (work.job == job)
 
 pub id_stays : (old : AttachmentRecord) (job : ℕ) → option_map id_of (changed (with_cancel job) old).work ≡ option_map id_of old.work
 id_stays old job = id_canceled old.work job
+
+restarts_by : (work : Option WorkRecord) (printer : PrinterState) (told : Option PrinterState) → Allows (record { work = work; printer = printer; told = told }) Restarts (record { work = option_map with_restart work; printer = printer; told = told })
+restarts_by None printer told = record { answers = refl; sends = refl; heeds = refl; tells = refl }
+restarts_by (Some work) printer told = record { answers = refl; sends = refl; heeds = refl; tells = refl }
+
+pub lives_restarted : (old : AttachmentRecord) → Lives old (Restarts ∷ []) (changed with_restart old)
+lives_restarted old = lives_by old Restarts _ (restarts_by old.work old.printer old.told)
+
+id_restarted : (work : Option WorkRecord) → option_map id_of (option_map with_restart work) ≡ option_map id_of work
+id_restarted None = refl
+id_restarted (Some work) = refl
+
+pub id_stays_restarted : (old : AttachmentRecord) → option_map id_of (changed with_restart old).work ≡ option_map id_of old.work
+id_stays_restarted old = id_restarted old.work
 
 -- ---- the printer
 

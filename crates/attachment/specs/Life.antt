@@ -16,6 +16,8 @@ pub data Event : Type 0 where
   Sent : (octets : List ℕ) → Event
   -- one copy of the job is sent to its end
   EndsCopy : Event
+  -- the printer took none of the job, which is sent again from its start
+  Restarts : Event
   -- the printer reports, or its protocol implies, that the job is printed
   Printed : Event
   -- the printer runs, or stops

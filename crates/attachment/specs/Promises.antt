@@ -3,7 +3,7 @@ use Rattle.std.specs.Prelude.{ℕ, ◌≡◌, ◌+◌, ◌<◌, ◌≤◌, ◌==
 use Rattle.base_types.specs.Report.{SaysReady, SaysStop, SaysPages, SaysDone, SaysFail}
 use Rattle.attachment.specs.declared.state.PrinterState.{PrinterState}
 use Rattle.attachment.specs.declared.state.PrinterState.TheVariants.{Running, Stopped}
-use Rattle.attachment.specs.Life.{Event, Links, Ordered, Came, Canceled, Sent, EndsCopy, Printed, Is, Reported}
+use Rattle.attachment.specs.Life.{Event, Links, Ordered, Came, Canceled, Sent, EndsCopy, Restarts, Printed, Is, Reported}
 
 -- ---- each job is answered once: between a job and the next there is exactly one DONE or FAIL with the job's id, and each PAGES before it has that id too. The state is the job that isn't answered yet.
 
@@ -15,7 +15,7 @@ AnswersOnce asked (Reported (SaysFail job)) next = (asked ≡ Some job) × (next
 AnswersOnce asked (Reported (SaysPages job printed)) next = (asked ≡ Some job) × (next ≡ asked)
 AnswersOnce asked event next = next ≡ asked
 
--- ---- the octets that are sent are the job's: the octets of each copy as they came, in order, and the next copy once the copy before is sent; DONE is reported once the job was sent in all its copies, and is printed.
+-- ---- the octets that are sent are the job's: the octets of each copy as they came, in order, and the next copy once the copy before is sent, from the first copy on if the printer took none; DONE is reported once the job was sent in all its copies, and is printed.
 
 -- a job that is sent: the number of its octets, the octets that have come, the number of octets of this copy that are sent, the number of copies sent before, and whether the job is printed
 pub record Sending : Type 0 where
@@ -37,6 +37,7 @@ JobSends job (Ordered id octets times) next = ⊥
 JobSends job (Came octets) next = (length (job.came ++ octets) ≤ job.octets) × (next ≡ Some (record job { came = job.came ++ octets }))
 JobSends job (Sent octets) next = (job.copies < job.times) × AreNext octets job.sent job.came × (next ≡ Some (record job { sent = job.sent + length octets }))
 JobSends job EndsCopy next = (job.copies < job.times) × (job.sent ≡ job.octets) × (next ≡ Some (record job { sent = 0; copies = job.copies + 1 }))
+JobSends job Restarts next = next ≡ Some (record job { sent = 0; copies = 0 })
 JobSends job Printed next = next ≡ Some (record job { printed = true })
 JobSends job (Reported (SaysDone id)) next = (job.copies ≡ job.times) × (job.printed ≡ true) × (next ≡ None)
 JobSends job (Reported (SaysFail id)) next = next ≡ None

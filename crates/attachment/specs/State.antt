@@ -109,6 +109,9 @@ with_sent count work = record work { sent = work.sent + count }
 abbrev pub with_copy : WorkRecord → WorkRecord
 with_copy work = record work { sent = 0; copies = work.copies + 1 }
 
+abbrev pub with_restart : WorkRecord → WorkRecord
+with_restart work = record work { sent = 0; copies = 0 }
+
 abbrev pub with_cancel : ℕ → WorkRecord → WorkRecord
 with_cancel job work = if work.job == job then record work { canceled = true } else work
 

@@ -1,8 +1,8 @@
 //! An attachment.
 ghost use Rattle.std.specs.Prelude.{ℕ, ◌≡◌, ◌<◌, ◌≤◌, [], ◌∷◌, None, Some, IfSome, OnOk, OnErr, true, take, length, option_map};
 ghost use Rattle.base_types.specs.Report.{report_of};
-ghost use Rattle.attachment.specs.Life.{Links, Ordered, Came, Canceled, Sent, EndsCopy, Printed, Is};
-ghost use Rattle.attachment.specs.State.{IsAfter, Lives, HasRoom, copy_sent_in, is_sent_in, due_in, end_report, fail_report, pages_report, state_report, id_of, said_by, begun, with_came, with_sent, with_copy, with_cancel, changed};
+ghost use Rattle.attachment.specs.Life.{Links, Ordered, Came, Canceled, Sent, EndsCopy, Restarts, Printed, Is};
+ghost use Rattle.attachment.specs.State.{IsAfter, Lives, HasRoom, copy_sent_in, is_sent_in, due_in, end_report, fail_report, pages_report, state_report, id_of, said_by, begun, with_came, with_sent, with_copy, with_restart, with_cancel, changed};
 
 use crate::state::PrinterState;
 use crate::work::Work;
@@ -132,6 +132,14 @@ impl Attachment {
         ensures stays { option_map id_of self.new.work ≡ option_map id_of self.old.work }
     {
         self.pass_copy();
+    }
+
+    /// Has the job sent again from its start: the printer took none of it.
+    pub fn restart(&mut self)
+        ensures life { Lives self.old (Restarts ∷ []) self.new }
+        ensures stays { option_map id_of self.new.work ≡ option_map id_of self.old.work }
+    {
+        self.pass_back();
     }
 
     /// Returns whether the job was sent as often as it is to be.
@@ -288,6 +296,15 @@ impl Attachment {
     {
         if let Some(work) = &mut self.work {
             work.send(count);
+        }
+    }
+
+    /// Goes back to the first copy.
+    fn pass_back(&mut self)
+        ensures { self.new ≡ changed with_restart self.old }
+    {
+        if let Some(work) = &mut self.work {
+            work.restart();
         }
     }
 

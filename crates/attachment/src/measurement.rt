@@ -126,6 +126,19 @@ impl Measurement {
         self.job = None;
     }
 
+    /// The ms that the job should take by the jobs before it, if their times determine that.
+    pub fn expected(&self) -> Option<u64> {
+        let job = self.job?;
+        let setup = self.setup()?;
+        let tally = match job.sides {
+            Sides::One => &self.one_side,
+            Sides::LongEdge | Sides::ShortEdge => &self.two_sides,
+        };
+        let rate = tally.samples.rate(setup)?;
+        let printing = u64::from(rate).saturating_mul(u64::from(job.impressions));
+        Some(u64::from(setup).saturating_add(printing))
+    }
+
     /// The setup, from the one-sided jobs if they determine it, else from the two-sided jobs.
     fn setup(&self) -> Option<u32> {
         self.one_side

@@ -1,7 +1,7 @@
 //! A job in hand.
 ghost use Rattle.std.specs.Prelude.{◌≡◌, ◌≤◌, ◌+◌, ◌==◌, [], true, false, OnOk, OnErr, length};
 ghost use Rattle.base_types.specs.Report.{report_of};
-ghost use Rattle.attachment.specs.State.{begun, with_came, with_sent, with_copy, with_cancel, due_of, copy_sent_of, end_report, fail_report, pages_report};
+ghost use Rattle.attachment.specs.State.{begun, with_came, with_sent, with_copy, with_restart, with_cancel, due_of, copy_sent_of, end_report, fail_report, pages_report};
 
 use base_types::{JobId, Report};
 use std::alloc::{AllocError, Global};
@@ -111,6 +111,14 @@ impl Work {
     {
         self.sent = 0;
         self.copies += 1;
+    }
+
+    /// Goes on with the first copy, of which nothing is sent.
+    pub(crate) fn restart(&mut self)
+        ensures { self.new ≡ with_restart self.old }
+    {
+        self.sent = 0;
+        self.copies = 0;
     }
 
     /// Returns whether the job was sent as often as it is to be.
