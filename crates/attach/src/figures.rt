@@ -39,6 +39,11 @@ impl Figures {
         self.measurement.begin(order.sides, impressions, self.now);
     }
 
+    /// The ms that the job should take, if the jobs before it determine that.
+    pub(crate) fn expected(&self) -> Option<u64> {
+        self.measurement.expected()
+    }
+
     /// Records that this many impressions of the job are printed.
     pub(crate) fn pages(&mut self, printed: u32) {
         self.measurement.pages(printed, self.now);

@@ -3,18 +3,22 @@
 //! [`attach`] connects to the devices' port, connects again after a lost connection, and takes turns by the
 //! clock. The server's orders go to an `attachment`, and the work that the attachment allows goes to one of
 //! the `attach_printers`. The contracts of the reports and of the bytes that are sent are in `attachment` and
-//! `attach_orders`. This crate has the connection to the server, the clock and the log.
+//! `attach_orders`. This crate has the connection to the server, the clock and the log. An [`Adapter`] takes
+//! its turns over any network.
 //!
-//! `tools/clients/try_printers.py` and `tools/clients/try_cups.sh` test the crate by the program.
+//! Tests stand in `attach_tests`. `tools/clients/try_printers.py` and `tools/clients/try_cups.sh` test the
+//! crate by the program.
 #![tactic(auto)]
 
+mod adapter;
 mod clock;
-mod desk;
 mod figures;
 mod line;
 mod log;
+mod overdue;
 mod plan;
 mod run;
 
+pub use adapter::{Adapter, Device};
 pub use plan::{Plan, PlanWords, Target, WordFault, read_plan};
-pub use run::attach;
+pub use run::{attach, try_target};

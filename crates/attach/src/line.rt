@@ -1,12 +1,9 @@
 //! The connection to the server.
 
 use attach_orders::{OrderError, OrderItem, OrderReader, write_report};
-use attach_printers::{Caller, Reached, has_to_wait};
+use attach_printers::{Caller, Network, Reached, Readiness, Stream, has_to_wait};
 use base_types::Report;
-use mio::Poll;
-use mio::event::Event;
 use std::alloc::{AllocError, Global};
-use std::net::Net;
 use text::drop_front;
 
 /// The number of bytes that one read asks for.
@@ -28,17 +25,17 @@ pub(crate) enum Came {
 
 /// The connection to the server, with the bytes that were read and those that are to be written.
 #[derive(Drop)]
-pub(crate) struct ServerLine {
+pub(crate) struct ServerLine<S: Stream> {
     alloc: Global,
-    caller: Caller,
+    caller: Caller<S>,
     reader: OrderReader,
     buffer: Vec<u8>,
     output: Vec<u8>,
 }
 
-impl ServerLine {
+impl<S: Stream> ServerLine<S> {
     /// Creates the record of a server without a connection. The only error is out of memory.
-    pub(crate) fn new(alloc: Global, caller: Caller) -> Result<ServerLine, AllocError> {
+    pub(crate) fn new(alloc: Global, caller: Caller<S>) -> Result<ServerLine<S>, AllocError> {
         Ok(ServerLine {
             alloc,
             caller,
@@ -48,14 +45,14 @@ impl ServerLine {
         })
     }
 
-    /// Takes an event of the poll.
-    pub(crate) fn told(&mut self, event: &Event) {
-        self.caller.told(event);
+    /// Takes the result of a wait.
+    pub(crate) fn told(&mut self, readiness: Readiness) {
+        self.caller.told(readiness);
     }
 
     /// Connects, if there is no connection.
-    pub(crate) fn turn(&mut self, net: &impl Net, poll: &Poll, now: u64) -> Reached {
-        let reached = self.caller.turn(net, poll, now);
+    pub(crate) fn turn<N: Network<Stream = S>>(&mut self, network: &N, now: u64) -> Reached {
+        let reached = self.caller.turn(network, now);
         if reached == Reached::Now {
             self.reader = OrderReader::new(self.alloc);
             self.output.clear();

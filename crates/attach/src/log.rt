@@ -11,6 +11,8 @@ pub(crate) enum Note {
     Linked,
     /// The connection to the server is lost.
     Unlinked,
+    /// The server closed the connection before it accepted the device's name.
+    TurnedAway,
     /// The server can't be reached.
     ServerAway,
     /// The server sent octets that are no order.
@@ -21,6 +23,8 @@ pub(crate) enum Note {
     PrinterBack,
     PrinterStopped,
     PrinterRuns,
+    /// The printer failed this many jobs in a row, the last one by this breach, and isn't tried for a while.
+    Rests(u32, Breach),
     /// The printer's state can't be read.
     Unread(ReplyBreach),
     /// A part of the job isn't passed to the printer.
@@ -39,6 +43,7 @@ impl fmt::Display for Note {
         f.write_str(match *self {
             Note::Linked => "linked",
             Note::Unlinked => "unlinked",
+            Note::TurnedAway => TURNED_AWAY,
             Note::ServerAway => "server away",
             Note::PrinterAway => "printer away",
             Note::PrinterBack => "printer back",
@@ -48,6 +53,13 @@ impl fmt::Display for Note {
             Note::Refused(fault) => return write!(f, "refused {fault}"),
             Note::JobTooEarly(job) => {
                 return write!(f, "refused job {job} before the last was answered");
+            }
+            Note::Rests(failures, breach) => {
+                let advice = breach.advice();
+                return write!(
+                    f,
+                    "printer rests: {failures} jobs failed in a row; {advice}"
+                );
             }
             Note::Unread(breach) => return write!(f, "printer unread {breach}"),
             Note::LeftOut(left_out) => return write!(f, "left out{left_out}"),
@@ -63,22 +75,76 @@ impl fmt::Display for Note {
     }
 }
 
-/// The lines of some turns, each with the ms since the start at its front. No lines, if no log is kept.
+/// What is said of a server that closes the connection at once.
+const TURNED_AWAY: &str =
+    "turned away: the server has no device of this name, or another connection has the name";
+
+/// Returns whether an event needs a person, or is the end of one that does.
+fn is_for_people(note: Note) -> bool {
+    matches!(
+        note,
+        Note::ServerAway
+            | Note::TurnedAway
+            | Note::Linked
+            | Note::PrinterAway
+            | Note::PrinterStopped
+            | Note::PrinterBack
+            | Note::PrinterRuns
+            | Note::Unread(_)
+            | Note::Rests(..)
+    ) || matches!(note, Note::Failed(_, breach) if !matches!(breach, Breach::Canceled))
+}
+
+/// An event that needs a person, or the end of one, in words.
+#[derive(Clone, Copy)]
+struct InWords(Note);
+
+impl fmt::Display for InWords {
+    fn fmt<W: fmt::Write>(&self, f: &mut fmt::Formatter<W>) -> fmt::Result {
+        f.write_str(match self.0 {
+            Note::ServerAway => "the server can't be reached; it is tried again",
+            Note::TurnedAway => TURNED_AWAY,
+            Note::Linked => "the server is there",
+            Note::PrinterAway => "the printer can't be reached; it is tried again",
+            Note::PrinterStopped => "the printer needs someone",
+            Note::PrinterBack | Note::PrinterRuns => "the printer prints again",
+            Note::Unread(breach) => return write!(f, "the printer's state can't be read: {breach}"),
+            Note::Failed(job, breach) => return write!(f, "job {job} failed: {breach}"),
+            Note::Rests(failures, breach) => {
+                let advice = breach.advice();
+                return write!(
+                    f,
+                    "{failures} jobs failed in a row, and the printer rests for 5 minutes; {advice}"
+                );
+            }
+            note => return write!(f, "{note}"),
+        })
+    }
+}
+
+/// The lines of some turns. In a log that is kept, each event has a line, with the ms since the start at its
+/// front. Otherwise only an event that needs a person, or its end, has one, in words.
 #[derive(Drop)]
 pub(crate) struct Log {
     alloc: Global,
+    /// The name of the device.
+    name: String,
     kept: bool,
     now: u64,
+    /// Whether the last line in words is one of trouble with the server.
+    unserved: bool,
     text: Vec<u8>,
 }
 
 impl Log {
     /// Creates an empty log.
-    pub(crate) fn new(alloc: Global, kept: bool) -> Log {
+    pub(crate) fn new(alloc: Global, name: String, kept: bool) -> Log {
         Log {
             alloc,
+            name,
             kept,
             now: 0,
+            unserved: false,
             text: Vec::new(alloc),
         }
     }
@@ -90,9 +156,28 @@ impl Log {
 
     /// Appends a line. If memory is refused, the line is left out.
     pub(crate) fn note(&mut self, note: Note) {
-        if self.kept {
-            let _added = self.add(note);
+        let _added = if self.kept {
+            self.add(note)
+        } else {
+            self.add_words(note)
+        };
+    }
+
+    /// Appends a line in words, if the event needs a person or is the end of that. The only error is out of
+    /// memory.
+    fn add_words(&mut self, note: Note) -> Result<(), AllocError> {
+        let is_end = matches!(note, Note::Linked);
+        if is_end && !std::mem::replace(&mut self.unserved, false) {
+            return Ok(());
         }
+        self.unserved |= matches!(note, Note::ServerAway | Note::TurnedAway);
+        if !is_for_people(note) {
+            return Ok(());
+        }
+        let name = self.name.as_str();
+        let words = InWords(note);
+        let line = format!(in self.alloc; "printd attach {name}: {words}\n")?;
+        self.text.extend_from_slice(line.as_bytes())
     }
 
     /// Appends a line. The only error is out of memory.

@@ -48,7 +48,7 @@ pub struct Plan {
     /// The time for which a printer that has taken all bytes may be silent before the job counts as printed,
     /// in ms.
     pub linger: u64,
-    /// The time for which a printer may neither take nor send bytes, in ms.
+    /// The longest time in which a job may make no progress at the printer, in ms.
     pub timeout: u64,
     /// Whether a printer with AppSocket is sent PJL too.
     pub pjl: bool,

@@ -1,13 +1,10 @@
 //! The run of an adapter.
+use crate::adapter::{Adapter, Device};
 use crate::clock::millis_since;
-use crate::desk::Desk;
-use crate::figures::Figures;
-use crate::line::ServerLine;
-use crate::log::Log;
 use crate::plan::{Plan, Target};
 use attach_printers::{
-    AppSocket, Caller, Folder, Ipp, IppPrinter, Lpd, NetworkPrinter, Pjl, Place, Printer, Protocol,
-    Session,
+    AppSocket, Caller, Folder, Ipp, IppPrinter, Link, Lpd, NetworkPrinter, Peer, Pjl, Place,
+    Printer, Protocol, Readiness, Session, Sockets, try_folder,
 };
 use mio::unix::SourceFd;
 use mio::{Events, Interest, Poll, Token};
@@ -18,11 +15,6 @@ use std::net::Net;
 use std::os::fd::RawFd;
 use std::rt::Files;
 use std::time::{Clock, Duration, Instant};
-
-/// The tokens of the server and of the printer at the poll.
-const SERVER: Token = Token(0);
-
-const PRINTER: Token = Token(1);
 
 /// The token of standard input at the poll, and its descriptor.
 const INPUT: Token = Token(2);
@@ -37,16 +29,11 @@ const LEAVING_PAUSE: u64 = 50;
 /// The most sockets that one wait reports.
 const EVENTS: usize = 8;
 
-/// The name of an adapter's device, its server, the number of its turns, whether it ends with its input, and
-/// what it writes.
-#[derive(Drop)]
-struct Device {
-    name: String,
-    server: Place,
+/// How long an adapter runs: the number of its turns, and whether it ends with its input.
+#[derive(Clone, Copy)]
+struct Life {
     turns: u64,
     until_closed: bool,
-    logs: bool,
-    measures: bool,
 }
 
 /// Runs an adapter by its configuration. It writes a line for each event to the log, and after each job the
@@ -77,34 +64,44 @@ pub fn attach<R: Net + Files + Clock, L: Write, F: Write>(
     let device = Device {
         name,
         server,
-        turns,
-        until_closed,
         logs,
         measures,
+    };
+    let life = Life {
+        turns,
+        until_closed,
     };
     match target {
         Target::Folder(path) => {
             let printer = Folder::new(alloc, path, printer_name, format, ms_per_page);
-            run(alloc, rt, device, printer, log, figures)
+            run(alloc, rt, device, life, printer, log, figures)
         }
         Target::AppSocket(place) if pjl => {
             let printer = network_printer(alloc, place, timeout, Pjl::new(alloc));
-            run(alloc, rt, device, printer, log, figures)
+            run(alloc, rt, device, life, printer, log, figures)
         }
         Target::AppSocket(place) => {
             let printer = network_printer(alloc, place, timeout, AppSocket::new(linger));
-            run(alloc, rt, device, printer, log, figures)
+            run(alloc, rt, device, life, printer, log, figures)
         }
         Target::Lpd(place, queue) => {
             let lpd = Lpd::new(alloc, queue, printer_name);
             let printer = network_printer(alloc, place, timeout, lpd);
-            run(alloc, rt, device, printer, log, figures)
+            run(alloc, rt, device, life, printer, log, figures)
         }
         Target::Ipp(place, address) => {
             let ipp = Ipp::new(IppPrinter::new(alloc, address), format);
             let printer = network_printer(alloc, place, timeout, ipp);
-            run(alloc, rt, device, printer, log, figures)
+            run(alloc, rt, device, life, printer, log, figures)
         }
+    }
+}
+
+/// Tries what can be tried of a configuration before the adapter runs: whether a folder can be written to.
+pub fn try_target<F: Files>(alloc: Global, files: &F, plan: &Plan) -> io::Result<()> {
+    match &plan.target {
+        Target::Folder(path) => try_folder(alloc, files, path.as_str(), plan.name.as_str()),
+        _ => Ok(()),
     }
 }
 
@@ -114,37 +111,35 @@ fn network_printer<P: Protocol>(
     place: Place,
     timeout: u64,
     protocol: P,
-) -> NetworkPrinter<P> {
-    let caller = Caller::new(alloc, place, PRINTER);
+) -> NetworkPrinter<Link, P> {
+    let caller = Caller::new(alloc, place, Peer::Printer);
     NetworkPrinter::new(Session::new(caller, timeout), protocol)
 }
 
 /// Creates the adapter of a device and its printer, and takes its turns.
-fn run<P: Printer, R: Net + Files + Clock, L: Write, F: Write>(
+fn run<P: Printer<Link>, R: Net + Files + Clock, L: Write, F: Write>(
     alloc: Global,
     rt: &R,
     device: Device,
+    life: Life,
     printer: P,
     log: &mut L,
     figures: &mut F,
 ) -> io::Result<()> {
     let mut poll = Poll::new(rt)?;
-    if device.until_closed {
+    if life.until_closed {
         poll.registry()
             .register(&mut SourceFd(&STANDARD_INPUT), INPUT, Interest::READABLE)?;
     }
-    let line = ServerLine::new(alloc, Caller::new(alloc, device.server, SERVER))?;
-    let logs = Log::new(alloc, device.logs);
-    let measures = Figures::new(alloc, device.measures);
-    let mut desk = Desk::new(alloc, device.name, line, printer, logs, measures);
-    take_turns(alloc, rt, &mut desk, &mut poll, device.turns, log, figures)
+    let mut adapter = Adapter::new(alloc, device, printer)?;
+    take_turns(alloc, rt, &mut adapter, &mut poll, life.turns, log, figures)
 }
 
 /// Takes the turns, with waits between them, or those up to the end of the input.
-fn take_turns<P: Printer, R: Net + Files + Clock, L: Write, F: Write>(
+fn take_turns<P: Printer<Link>, R: Net + Files + Clock, L: Write, F: Write>(
     alloc: Global,
     rt: &R,
-    desk: &mut Desk<P>,
+    adapter: &mut Adapter<Link, P>,
     poll: &mut Poll,
     turns: u64,
     log: &mut L,
@@ -154,42 +149,60 @@ fn take_turns<P: Printer, R: Net + Files + Clock, L: Write, F: Write>(
     let start = Instant::now(rt)?;
     for _ in 0..turns {
         let now = millis_since(rt, &start)?;
-        desk.turn(rt, poll, now);
-        let _logged = log.write_all(&desk.take_log());
-        let _written = figures.write_all(&desk.take_figures());
-        poll.poll(&mut events, Some(Duration::from_millis(desk.pause(now))))?;
-        if tell(desk, &events) {
-            desk.give_up(rt, millis_since(rt, &start)?);
-            let left = leave(desk, poll, &mut events);
-            let _last_logged = log.write_all(&desk.take_log());
+        take_turn(alloc, rt, adapter, poll, now);
+        let _logged = log.write_all(&adapter.take_log());
+        let _written = figures.write_all(&adapter.take_figures());
+        poll.poll(&mut events, Some(Duration::from_millis(adapter.pause(now))))?;
+        if tell(adapter, &events) {
+            adapter.give_up(rt, millis_since(rt, &start)?);
+            let left = leave(adapter, poll, &mut events);
+            let _last_logged = log.write_all(&adapter.take_log());
             return left;
         }
     }
     Ok(())
 }
 
+/// Takes a turn.
+fn take_turn<P: Printer<Link>, R: Net + Files>(
+    alloc: Global,
+    rt: &R,
+    adapter: &mut Adapter<Link, P>,
+    poll: &Poll,
+    now: u64,
+) {
+    let network = Sockets {
+        alloc,
+        net: rt,
+        poll,
+    };
+    adapter.turn(rt, &network, now);
+}
+
 /// Hands the events of a wait to the adapter. Returns whether the input has ended.
-fn tell<P: Printer>(desk: &mut Desk<P>, events: &Events<Global>) -> bool {
+fn tell<P: Printer<Link>>(adapter: &mut Adapter<Link, P>, events: &Events<Global>) -> bool {
     let mut ended = false;
     for event in events.iter() {
         ended |= event.token() == INPUT && event.is_read_closed();
-        desk.told(event);
+        if let Some(readiness) = Readiness::of(event) {
+            adapter.told(readiness);
+        }
     }
     ended
 }
 
 /// Writes the last bytes to the server, and waits for a limited time until it has ended the connection too.
-fn leave<P: Printer>(
-    desk: &mut Desk<P>,
+fn leave<P: Printer<Link>>(
+    adapter: &mut Adapter<Link, P>,
     poll: &mut Poll,
     events: &mut Events<Global>,
 ) -> io::Result<()> {
     for _ in 0..LEAVING / LEAVING_PAUSE {
-        if !desk.take_leave() {
+        if !adapter.take_leave() {
             return Ok(());
         }
         poll.poll(events, Some(Duration::from_millis(LEAVING_PAUSE)))?;
-        tell(desk, events);
+        tell(adapter, events);
     }
     Ok(())
 }

@@ -59,6 +59,13 @@ impl StatusReader {
         Ok(None)
     }
 
+    /// The bytes of the message so far; none if it is too long.
+    pub fn message(&self) -> &[u8]
+        ensures { result.now ≡ self.now.message }
+    {
+        &self.message
+    }
+
     /// Ends a message, and returns its status.
     fn end_message(&mut self) -> Option<Status>
         ensures status { result ≡ status_at self.old 12 }

@@ -3,7 +3,7 @@
 pub enum Status {
     /// This many pages of the job are printed.
     Page(u32),
-    /// The job is printed, or was given up.
+    /// A job is printed, or was given up.
     JobEnded,
     /// The printer is in the state of this code.
     Device(u32),

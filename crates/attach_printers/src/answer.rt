@@ -7,6 +7,9 @@ use attach_http::ReplyReader;
 use ipp_codec::{GroupTag, MessageView};
 use ipp_requests::{is_successful, number_in, reply_in};
 
+/// The id of each request, which its reply repeats (RFC 8011, section 4.1.2).
+const REQUEST: u32 = 1;
+
 /// The HTTP status of an IPP reply (RFC 8010, section 4).
 const OK: u32 = 200;
 
@@ -58,7 +61,7 @@ fn more_than(before: u32, impressions: Option<u32>) -> Option<u32>
     }
 }
 
-/// The message of a reply whose status is a success.
+/// The message of a reply to a request, whose status is a success.
 pub(crate) fn message_of(reader: &ReplyReader) -> Result<MessageView<'_>, ReplyBreach> {
     if let Some(fault) = reader.fault() {
         return Err(ReplyBreach::Fault(fault));
@@ -67,6 +70,7 @@ pub(crate) fn message_of(reader: &ReplyReader) -> Result<MessageView<'_>, ReplyB
         return Err(ReplyBreach::Http(reader.status()));
     }
     match reply_in(reader.body()) {
+        Some(reply) if reply.request_id() != REQUEST => Err(ReplyBreach::NotIpp),
         Some(reply) if is_successful(reply.code()) => Ok(reply),
         Some(reply) => Err(ReplyBreach::Ipp(reply.code())),
         None => Err(ReplyBreach::NotIpp),

@@ -3,6 +3,7 @@
 use crate::heard::{Breach, Heard};
 use crate::protocol::Protocol;
 use crate::session::{CALLS, Moved, PIECE, Session};
+use crate::stream::Stream;
 use attach_orders::JobOrder;
 use attachment::Attachment;
 use std::alloc::AllocError;
@@ -13,6 +14,8 @@ pub struct AppSocket {
     linger: u64,
     /// Whether all is sent, and nothing more will be written.
     ends: bool,
+    /// The moment at which the printer last said something.
+    heard: u64,
 }
 
 impl AppSocket {
@@ -22,11 +25,17 @@ impl AppSocket {
         AppSocket {
             linger,
             ends: false,
+            heard: 0,
         }
     }
 
     /// Sends the octets that are due, copy by copy, and ends the writing side behind the last.
-    fn send_all(&mut self, session: &mut Session, attachment: &mut Attachment, now: u64) -> Moved {
+    fn send_all<S: Stream>(
+        &mut self,
+        session: &mut Session<S>,
+        attachment: &mut Attachment,
+        now: u64,
+    ) -> Moved {
         for _ in 0..CALLS {
             if attachment.is_copy_sent() {
                 attachment.end_copy();
@@ -42,6 +51,29 @@ impl AppSocket {
         }
         Moved::Nothing
     }
+
+    /// Drops all bytes of the printer that are there.
+    fn listen<S: Stream>(&mut self, session: &mut Session<S>, now: u64) -> Moved {
+        let mut buffer = [0u8; PIECE];
+        for _ in 0..CALLS {
+            match session.read(&mut buffer) {
+                Moved::Bytes(_) => self.heard = now,
+                moved => return moved,
+            }
+        }
+        Moved::Nothing
+    }
+
+    /// Returns the ms until a printer whose machine has taken all counts as done: it says nothing for `linger`
+    /// ms, or doesn't end for the time that a printer may be silent.
+    fn left<S: Stream>(&self, session: &Session<S>, now: u64) -> u64 {
+        let taken = session.silence(now);
+        let quiet = taken.min(now.saturating_sub(self.heard));
+        let longest = session.timeout().max(self.linger);
+        self.linger
+            .saturating_sub(quiet)
+            .min(longest.saturating_sub(taken))
+    }
 }
 
 impl Protocol for AppSocket {
@@ -51,13 +83,13 @@ impl Protocol for AppSocket {
         order.copies.max(1)
     }
 
-    fn exchange(
+    fn exchange<S: Stream>(
         &mut self,
-        session: &mut Session,
+        session: &mut Session<S>,
         attachment: &mut Attachment,
         now: u64,
     ) -> Result<Heard, AllocError> {
-        match listen(session, now) {
+        match self.listen(session, now) {
             Moved::End if self.ends => return Ok(session.heed_end(now)),
             Moved::End | Moved::Broken => return Ok(Heard::Failed(Breach::Broken)),
             Moved::Bytes(_) | Moved::Nothing => {}
@@ -68,7 +100,7 @@ impl Protocol for AppSocket {
         if !self.ends || session.has_backlog() {
             return Ok(session.wait(now));
         }
-        Ok(if session.silence(now) >= self.linger {
+        Ok(if self.left(session, now) == 0 {
             Heard::Printed(None)
         } else {
             Heard::Nothing
@@ -79,24 +111,14 @@ impl Protocol for AppSocket {
         self.ends = false;
     }
 
-    fn pause(&self, session: &Session, now: u64, has_job: bool) -> Option<u64> {
-        let patience = if self.ends && !session.has_backlog() {
-            self.linger
-        } else {
-            session.timeout()
-        };
-        session.pause(now, has_job, patience)
-    }
-}
-
-/// Drops all bytes of the printer that are there.
-fn listen(session: &mut Session, now: u64) -> Moved {
-    let mut buffer = [0u8; PIECE];
-    for _ in 0..CALLS {
-        match session.read(&mut buffer, now) {
-            Moved::Bytes(_) => {}
-            moved => return moved,
+    fn pause<S: Stream>(&self, session: &Session<S>, now: u64, has_job: bool) -> Option<u64> {
+        if !self.ends || session.has_backlog() {
+            return session.pause(now, has_job, session.timeout());
         }
+        session.pause(
+            now,
+            has_job,
+            session.silence(now).saturating_add(self.left(session, now)),
+        )
     }
-    Moved::Nothing
 }

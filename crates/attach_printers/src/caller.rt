@@ -1,21 +1,21 @@
 //! The caller, which connects to a peer, and connects again when the connection is lost.
-use crate::link::Link;
 use crate::place::Place;
+use crate::stream::{Network, Peer, Readiness, Stream};
 use attachment::Pauses;
-use mio::event::Event;
-use mio::{Poll, Token};
 use std::alloc::Global;
 use std::io;
-use std::net::Net;
 use std::rt::Files;
 
 /// The longest time for making a connection, in ms.
 const CONNECTING: u64 = 20_000;
 
-/// The first and the longest pause after a failed try, in ms.
+/// The first pause after a failed try, in ms.
 const FIRST_PAUSE: u64 = 1_000;
 
-const LONGEST_PAUSE: u64 = 30_000;
+/// The longest pauses between two tries to reach the server and the printer, in ms.
+const SERVER_PAUSE: u64 = 30_000;
+
+const PRINTER_PAUSE: u64 = 60_000;
 
 /// The result of a turn of a caller.
 #[derive(Clone, Copy, PartialEq, Eq)]
@@ -32,30 +32,30 @@ pub enum Reached {
 
 /// A peer, with the connection to it. A failed try is repeated.
 #[derive(Drop)]
-pub struct Caller {
+pub struct Caller<S: Stream> {
     alloc: Global,
     place: Place,
-    token: Token,
+    peer: Peer,
     /// The time of the next try.
     tries: Pauses,
     /// The number of failed tries since there was a connection.
     failures: u32,
     /// The number of the address that is tried: the next one after each failure.
     choice: usize,
-    link: Option<Link>,
+    link: Option<S>,
     open: bool,
     /// The moment at which the connection was begun.
     since: u64,
 }
 
-impl Caller {
-    /// Creates the caller of a peer, without a connection. `token` is that of the connection at the poll.
-    pub fn new(alloc: Global, place: Place, token: Token) -> Caller {
+impl<S: Stream> Caller<S> {
+    /// Creates the caller of a peer, without a connection.
+    pub fn new(alloc: Global, place: Place, peer: Peer) -> Caller<S> {
         Caller {
             alloc,
             place,
-            token,
-            tries: Pauses::new(FIRST_PAUSE, LONGEST_PAUSE),
+            peer,
+            tries: Pauses::new(FIRST_PAUSE, longest_pause(peer)),
             failures: 0,
             choice: 0,
             link: None,
@@ -64,18 +64,18 @@ impl Caller {
         }
     }
 
-    /// Takes an event of the poll, if it has the caller's token.
-    pub fn told(&mut self, event: &Event) {
-        if event.token() != self.token {
+    /// Takes the result of a wait, if it is one of the peer.
+    pub fn told(&mut self, readiness: Readiness) {
+        if readiness.peer != self.peer {
             return;
         }
         if let Some(link) = &mut self.link {
-            link.told(event);
+            link.told(readiness);
         }
     }
 
     /// Connects, if there is no connection and a try is due. `now` is the moment in ms.
-    pub fn turn(&mut self, net: &impl Net, poll: &Poll, now: u64) -> Reached {
+    pub fn turn<N: Network<Stream = S>>(&mut self, network: &N, now: u64) -> Reached {
         if self.open {
             return Reached::Still;
         }
@@ -85,7 +85,7 @@ impl Caller {
                 self.heed(is_open, now)
             }
             None if !self.tries.is_due(now) => Reached::Not,
-            None => match self.begin(net, poll) {
+            None => match network.connect(self.peer, &self.place, self.choice) {
                 Ok(link) => {
                     self.link = Some(link);
                     self.since = now;
@@ -109,16 +109,6 @@ impl Caller {
         }
     }
 
-    /// Begins a connection to the next address of the place.
-    fn begin(&self, net: &impl Net, poll: &Poll) -> io::Result<Link> {
-        let addresses = self.place.addresses(self.alloc, net)?;
-        if addresses.is_empty() {
-            return Err(io::Error::from(io::ErrorKind::NotFound));
-        }
-        let place = self.choice % addresses.len();
-        Link::begin(net, poll, addresses[place], self.token)
-    }
-
     /// Records that a try failed.
     fn miss(&mut self, now: u64) -> Reached {
         self.link = None;
@@ -133,7 +123,7 @@ impl Caller {
     }
 
     /// The connection, if there is one.
-    pub fn link(&mut self) -> Option<&mut Link> {
+    pub fn link(&mut self) -> Option<&mut S> {
         if self.open { self.link.as_mut() } else { None }
     }
 
@@ -156,7 +146,20 @@ impl Caller {
     pub fn close(&mut self) {
         self.link = None;
         self.open = false;
-        self.tries = Pauses::new(FIRST_PAUSE, LONGEST_PAUSE);
+        self.tries = self.first_tries(FIRST_PAUSE);
+    }
+
+    /// Closes the connection, if there is one. The next try is due after `pause` ms.
+    pub fn rest(&mut self, pause: u64, now: u64) {
+        self.link = None;
+        self.open = false;
+        self.tries = self.first_tries(pause);
+        self.tries.tried(now);
+    }
+
+    /// The times of tries whose first pause has so many ms.
+    fn first_tries(&self, pause: u64) -> Pauses {
+        Pauses::new(pause, longest_pause(self.peer))
     }
 
     /// Closes the connection, which has broken. The next try is due after a pause.
@@ -168,7 +171,7 @@ impl Caller {
 
     /// Records that the peer has sent bytes: it is there, and the pauses begin anew.
     pub fn heard(&mut self) {
-        self.tries = Pauses::new(FIRST_PAUSE, LONGEST_PAUSE);
+        self.tries = self.first_tries(FIRST_PAUSE);
     }
 
     /// Returns the ms until the next try, if there is no connection.
@@ -180,5 +183,13 @@ impl Caller {
             ))),
             Some(_) => None,
         }
+    }
+}
+
+/// The longest pause between two tries to reach a peer, in ms.
+fn longest_pause(peer: Peer) -> u64 {
+    match peer {
+        Peer::Server => SERVER_PAUSE,
+        Peer::Printer => PRINTER_PAUSE,
     }
 }

@@ -2,26 +2,41 @@
 use crate::format::{Format, MediaType};
 use crate::heard::{Breach, Heard};
 use crate::printer::Printer;
+use crate::stream::{Network, Readiness, Stream};
 use attach_orders::JobOrder;
-use attachment::Attachment;
+use attachment::{Attachment, Pauses};
 use base_types::Limits;
-use mio::Poll;
-use mio::event::Event;
 use std::alloc::{AllocError, Global};
-use std::net::Net;
+use std::fs::OpenOptions;
+use std::io::{ErrorKind, Write};
+use std::os::unix::fs::OpenOptionsExt;
 use std::rt::Files;
 use std::{fs, io};
 
-/// The files of a job: the file that is written, and the file that the job has once it is printed.
+/// The first and the longest pause between two tries, in ms.
+const FIRST_PAUSE: u64 = 1_000;
+
+const LONGEST_PAUSE: u64 = 60_000;
+
+/// The number of octets of the file with which a folder is tried.
+const PROBE: usize = 4_096;
+
+/// The most names that are tried for a file.
+const NAMES: u32 = 10_000;
+
+/// The files of a job: the file that is written, and the first name of the file that the job has once it is
+/// printed.
 #[derive(Drop)]
 struct Sheet {
     beside: String,
-    whole: String,
+    name: String,
+    ending: &'static str,
     /// The moment at which the job is printed.
     end: u64,
 }
 
-/// A printer that writes each job to a file, which is complete after the time of the job's pages.
+/// A printer that writes each job to a file, which is complete after the time of the job's pages. The files
+/// are readable by their owner alone, and none is written over.
 #[derive(Drop)]
 pub struct Folder {
     alloc: Global,
@@ -32,6 +47,11 @@ pub struct Folder {
     /// The number of copies of the job.
     copies: u32,
     sheet: Option<Sheet>,
+    /// Whether the folder has to be tried before the next job: at the start, and after a failure.
+    doubted: bool,
+    /// Whether the last try failed.
+    away: bool,
+    tries: Pauses,
 }
 
 impl Folder {
@@ -52,6 +72,9 @@ impl Folder {
             ms_per_page,
             copies: 1,
             sheet: None,
+            doubted: true,
+            away: false,
+            tries: Pauses::new(FIRST_PAUSE, LONGEST_PAUSE),
         }
     }
 
@@ -77,7 +100,7 @@ impl Folder {
     fn put(&self, files: &impl Files, job: u32, octets: &[u8], now: u64) -> io::Result<Sheet> {
         let sheet = self.sheet_of(job, octets, now)?;
         fs::create_dir_all(files, self.path.as_str())?;
-        fs::write(files, sheet.beside.as_str(), octets)?;
+        write_file(files, sheet.beside.as_str(), octets)?;
         Ok(sheet)
     }
 
@@ -91,7 +114,8 @@ impl Folder {
         let name = self.name.as_str();
         Ok(Sheet {
             beside: format!(in self.alloc; "{path}/.{job}-{name}.{ending}.part")?,
-            whole: format!(in self.alloc; "{path}/{job}-{name}.{ending}")?,
+            name: format!(in self.alloc; "{path}/{job}-{name}")?,
+            ending,
             end: now.saturating_add(self.time_of(octets.len())),
         })
     }
@@ -103,28 +127,47 @@ impl Folder {
             .saturating_mul(u64::from(self.copies))
             .saturating_mul(u64::from(self.ms_per_page))
     }
+
+    /// Tries the folder, if a try is due.
+    fn try_again(&mut self, files: &impl Files, now: u64) -> Heard {
+        if !self.tries.is_due(now) {
+            return Heard::Nothing;
+        }
+        if try_folder(self.alloc, files, self.path.as_str(), self.name.as_str()).is_ok() {
+            self.doubted = false;
+            self.away = false;
+            return Heard::Back;
+        }
+        self.tries.tried(now);
+        if std::mem::replace(&mut self.away, true) {
+            Heard::Nothing
+        } else {
+            Heard::Away
+        }
+    }
 }
 
-impl Printer for Folder {
+impl<S: Stream> Printer<S> for Folder {
     fn begin(&mut self, order: &JobOrder) {
         self.copies = order.copies;
     }
 
     /// Writes the job once its octets are there, and completes it once its time has passed.
-    fn turn<R: Net + Files>(
+    fn turn<F: Files, N: Network<Stream = S>>(
         &mut self,
-        rt: &R,
-        _poll: &Poll,
+        files: &F,
+        _network: &N,
         attachment: &mut Attachment,
         now: u64,
     ) -> Heard {
         match &self.sheet {
-            None => self.write_job(rt, attachment, now),
+            None if self.doubted => self.try_again(files, now),
+            None => self.write_job(files, attachment, now),
             Some(sheet) if now < sheet.end => Heard::Nothing,
             Some(sheet) => {
-                let renamed = fs::rename(rt, sheet.beside.as_str(), sheet.whole.as_str());
+                let named = keep(self.alloc, files, sheet);
                 take_all(attachment);
-                match renamed {
+                match named {
                     Ok(()) => Heard::Printed(None),
                     Err(_) => Heard::Failed(Breach::Unwritten),
                 }
@@ -132,7 +175,7 @@ impl Printer for Folder {
         }
     }
 
-    fn told(&mut self, _event: &Event) {}
+    fn told(&mut self, _readiness: Readiness) {}
 
     /// Removes the temporary file.
     fn drop_job<F: Files>(&mut self, files: &F) {
@@ -142,6 +185,12 @@ impl Printer for Folder {
         self.sheet = None;
     }
 
+    fn doubt(&mut self, pause: u64, now: u64) {
+        self.doubted = true;
+        self.tries = Pauses::new(pause, LONGEST_PAUSE);
+        self.tries.tried(now);
+    }
+
     fn has_worked(&self) -> bool {
         false
     }
@@ -149,9 +198,64 @@ impl Printer for Folder {
     fn pause(&self, now: u64, _has_job: bool) -> Option<u64> {
         match &self.sheet {
             Some(sheet) => Some(sheet.end.saturating_sub(now)),
+            None if self.doubted => Some(self.tries.left(now)),
             None => None,
         }
     }
+}
+
+/// Tries whether a file can be written into a folder, which is created if it isn't there.
+pub fn try_folder(alloc: Global, files: &impl Files, path: &str, name: &str) -> io::Result<()> {
+    fs::create_dir_all(files, path)?;
+    let probe = format!(in alloc; "{path}/.{name}.part")?;
+    let written = write_file(files, probe.as_str(), &[0; PROBE]);
+    let _removed = fs::remove_file(files, probe.as_str());
+    written
+}
+
+/// Writes octets to a new file, which only its owner can read. A file of the name is removed before.
+fn write_file(files: &impl Files, path: &str, octets: &[u8]) -> io::Result<()> {
+    let _removed = fs::remove_file(files, path);
+    let mut file = OpenOptions::new()
+        .write(true)
+        .create_new(true)
+        .mode(0o600)
+        .open(files, path)?;
+    file.write_all(octets)
+}
+
+/// Gives the temporary file of a job the first of its names that no file has.
+fn keep(alloc: Global, files: &impl Files, sheet: &Sheet) -> io::Result<()> {
+    for number in 1..=NAMES {
+        let name = name_of(alloc, sheet, number)?;
+        match claim(files, name.as_str()) {
+            Ok(()) => return fs::rename(files, sheet.beside.as_str(), name.as_str()),
+            Err(error) if error.kind() == ErrorKind::AlreadyExists => {}
+            Err(error) => return Err(error),
+        }
+    }
+    Err(io::Error::from(ErrorKind::AlreadyExists))
+}
+
+/// The name of a job's file, of this number: from the second on the name has the number.
+fn name_of(alloc: Global, sheet: &Sheet, number: u32) -> Result<String, AllocError> {
+    let name = sheet.name.as_str();
+    let ending = sheet.ending;
+    if number == 1 {
+        format!(in alloc; "{name}.{ending}")
+    } else {
+        format!(in alloc; "{name}-{number}.{ending}")
+    }
+}
+
+/// Creates an empty file, over which the temporary file is then renamed: no other file has its name.
+fn claim(files: &impl Files, path: &str) -> io::Result<()> {
+    OpenOptions::new()
+        .write(true)
+        .create_new(true)
+        .mode(0o600)
+        .open(files, path)?;
+    Ok(())
 }
 
 /// Takes all octets of a job.

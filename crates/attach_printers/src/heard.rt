@@ -23,6 +23,31 @@ pub enum Breach {
     OutOfMemory,
 }
 
+impl Breach {
+    /// Returns whether the printer failed the job by itself.
+    pub fn is_the_printers(self) -> bool {
+        !matches!(
+            self,
+            Breach::Canceled | Breach::Unlinked | Breach::OutOfMemory
+        )
+    }
+
+    /// What a person should look at, where job after job fails so.
+    pub fn advice(self) -> &'static str {
+        match self {
+            Breach::Broken => "look at the printer, and at the protocol of --to",
+            Breach::Refused => "look at the queue's name in --to",
+            Breach::Silent => "look at the printer, and at --pjl and --timeout",
+            Breach::Unwritten => "look at the folder's owner and its free space",
+            Breach::Reply(ReplyBreach::Http(401 | 403 | 426)) => {
+                "the printer wants a password or TLS, which this adapter hasn't"
+            }
+            Breach::Reply(_) => "look at the printer's own page, and at the formats of the device",
+            Breach::Canceled | Breach::Unlinked | Breach::OutOfMemory => "look at the server's log",
+        }
+    }
+}
+
 impl fmt::Display for Breach {
     fn fmt<W: fmt::Write>(&self, f: &mut fmt::Formatter<W>) -> fmt::Result {
         f.write_str(match self {
@@ -42,9 +67,9 @@ impl fmt::Display for Breach {
 #[derive(Clone, Copy)]
 pub enum Heard {
     Nothing,
-    /// The printer can't be reached. This is reported once after it could be.
+    /// The printer can't be reached. This is reported once.
     Away,
-    /// The printer can be reached again.
+    /// The printer can be reached: for the first time, or after it was in doubt.
     Back,
     /// The printer reports that it needs a person: paper is out or jammed, or a cover is open.
     Stops,

@@ -4,6 +4,7 @@ use crate::heard::{Breach, Heard};
 use crate::ipp_printer::IppPrinter;
 use crate::protocol::Protocol;
 use crate::session::{CALLS, Moved, PIECE, Session};
+use crate::stream::Stream;
 use crate::told::Told;
 use attach_orders::JobOrder;
 use attachment::Attachment;
@@ -15,8 +16,12 @@ use std::alloc::AllocError;
 pub struct Ipp {
     printer: IppPrinter,
     format: Option<MediaType>,
-    /// The moment at which the printer last answered, or had no job.
+    /// The moment of the last reply that showed that the job goes on, or at which no reply was due.
     answered: u64,
+    /// Whether the printer is to answer for the job now.
+    owes: bool,
+    /// The moment at which the printer first refused the job because it was busy.
+    busy_since: Option<u64>,
     /// Whether a task has ended in the last turn, and another may begin.
     ended: bool,
 }
@@ -28,15 +33,17 @@ impl Ipp {
             printer,
             format,
             answered: 0,
+            owes: false,
+            busy_since: None,
             ended: false,
         }
     }
 
     /// Reads all bytes of the printer that are there, up to the end of its reply.
-    fn listen(&mut self, session: &mut Session, now: u64) -> Result<Moved, AllocError> {
+    fn listen<S: Stream>(&mut self, session: &mut Session<S>) -> Result<Moved, AllocError> {
         let mut buffer = [0u8; PIECE];
         for _ in 0..CALLS {
-            match session.read(&mut buffer, now) {
+            match session.read(&mut buffer) {
                 Moved::Bytes(count) => self.printer.hear(&buffer[..count])?,
                 moved => return Ok(moved),
             }
@@ -48,9 +55,9 @@ impl Ipp {
     }
 
     /// Sends the bytes that are due: the request, and the job in chunks.
-    fn send_all(
+    fn send_all<S: Stream>(
         &mut self,
-        session: &mut Session,
+        session: &mut Session<S>,
         attachment: &mut Attachment,
         now: u64,
     ) -> Result<Moved, AllocError> {
@@ -65,14 +72,14 @@ impl Ipp {
     }
 
     /// Sends some of the bytes that are due.
-    fn send(
+    fn send<S: Stream>(
         &mut self,
-        session: &mut Session,
+        session: &mut Session<S>,
         attachment: &mut Attachment,
         now: u64,
     ) -> Result<Moved, AllocError> {
         if self.printer.waits_for_octets() {
-            session.rest(now);
+            self.answered = now;
             return Ok(Moved::Nothing);
         }
         let octets = self.printer.octets();
@@ -83,87 +90,135 @@ impl Ipp {
         };
         if let Moved::Bytes(count) = moved {
             self.printer.pass(count)?;
+            self.note_sent(now);
         }
         Ok(moved)
     }
 
-    /// Ends the task: the reply is whole, or isn't valid.
-    fn conclude(&mut self, session: &mut Session, now: u64) -> Result<Heard, AllocError> {
-        session.close();
-        self.answered = now;
-        self.ended = true;
-        Ok(heard_of(self.printer.conclude(now)?))
+    /// Records that the printer took bytes. For a job that is sent they are progress.
+    fn note_sent(&mut self, now: u64) {
+        if !self.printer.has_job() {
+            self.answered = now;
+        }
     }
 
-    /// Ends the task: the connection broke, or no byte came for too long.
-    fn break_off(&mut self, session: &mut Session, breach: Breach, now: u64) -> Heard {
+    /// Ends the task: the reply is whole, or isn't valid.
+    fn conclude<S: Stream>(
+        &mut self,
+        session: &mut Session<S>,
+        attachment: &mut Attachment,
+        now: u64,
+    ) -> Result<Heard, AllocError> {
         session.close();
         self.ended = true;
-        if self
-            .printer
-            .break_off(matches!(breach, Breach::Silent), now)
-        {
-            Heard::Failed(breach)
-        } else {
-            Heard::Nothing
+        let told = self.printer.conclude(now)?;
+        if self.printer.take_answered() {
+            self.answered = now;
         }
+        if self.printer.take_restart() {
+            return Ok(self.restart(session, attachment, now));
+        }
+        Ok(heard_of(told))
+    }
+
+    /// Has the job sent again from its start, unless the printer has been busy for too long.
+    fn restart<S: Stream>(
+        &mut self,
+        session: &Session<S>,
+        attachment: &mut Attachment,
+        now: u64,
+    ) -> Heard {
+        attachment.restart();
+        let since = self.busy_since.unwrap_or(now);
+        self.busy_since = Some(since);
+        if now.saturating_sub(since) < session.timeout() {
+            return Heard::Nothing;
+        }
+        Heard::Failed(self.printer.give_up())
+    }
+
+    /// Ends the task: the connection broke.
+    fn break_off<S: Stream>(&mut self, session: &mut Session<S>, now: u64) -> Heard {
+        session.close();
+        self.ended = true;
+        self.printer.break_off(now)
+    }
+
+    /// Ends the task: the printer didn't answer for too long.
+    fn miss<S: Stream>(&mut self, session: &mut Session<S>, now: u64) -> Heard {
+        session.close();
+        self.ended = true;
+        self.answered = now;
+        self.printer.miss(now)
+    }
+
+    /// Returns whether the printer hasn't answered for too long.
+    fn is_overdue<S: Stream>(&self, session: &Session<S>, now: u64) -> bool {
+        now.saturating_sub(self.answered) >= session.timeout()
     }
 }
 
 impl Protocol for Ipp {
     fn begin(&mut self, order: &JobOrder) {
+        self.busy_since = None;
         self.printer.begin(order);
     }
 
     /// Returns whether there is a task.
     fn wants_connection(&mut self, attachment: &Attachment, now: u64) -> bool {
         self.ended = false;
+        self.owes = self.printer.owes_answer(attachment);
         self.printer.wants_connection(attachment, now)
     }
 
-    /// A job that the printer has fails if the printer can't be asked about it for too long.
-    fn wait(&mut self, session: &Session, heard: Heard, now: u64) -> Heard {
-        if !self.printer.has_job() {
+    /// A job fails if the printer doesn't answer for it for too long. A job that isn't sent yet waits for a
+    /// printer that can't be reached.
+    fn wait<S: Stream>(&mut self, session: &Session<S>, heard: Heard, now: u64) -> Heard {
+        let is_sent = self.printer.has_job();
+        if !self.owes || (session.is_doubted() && !is_sent) {
             self.answered = now;
         }
-        if now.saturating_sub(self.answered) >= session.timeout() {
+        if self.is_overdue(session, now) {
             self.answered = now;
-            return Heard::Failed(Breach::Silent);
+            return Heard::Failed(self.printer.give_up());
         }
         heard
     }
 
     fn open(&mut self, attachment: &Attachment, heard: Heard) -> Result<Heard, AllocError> {
         if matches!(heard, Heard::Back) {
-            self.printer.forget_stop();
+            self.printer.doubt();
         }
         let format = match &self.format {
             Some(format) => format.name.as_str(),
             None => Format::sniffed(attachment.due()).media_type(),
         };
         self.printer.open(format)?;
-        Ok(heard)
+        Ok(match heard {
+            Heard::Back => Heard::Nothing,
+            heard => heard,
+        })
     }
 
-    fn exchange(
+    fn exchange<S: Stream>(
         &mut self,
-        session: &mut Session,
+        session: &mut Session<S>,
         attachment: &mut Attachment,
         now: u64,
     ) -> Result<Heard, AllocError> {
-        match self.listen(session, now)? {
+        match self.listen(session)? {
             Moved::End => self.printer.hear_end(),
-            Moved::Broken => return Ok(self.break_off(session, Breach::Broken, now)),
+            Moved::Broken => return Ok(self.break_off(session, now)),
             Moved::Bytes(_) | Moved::Nothing => {}
         }
         if self.printer.has_reply() {
-            return self.conclude(session, now);
+            return self.conclude(session, attachment, now);
         }
         if self.send_all(session, attachment, now)? == Moved::Broken {
-            return Ok(self.break_off(session, Breach::Broken, now));
+            return Ok(self.break_off(session, now));
         }
-        if session.silence(now) >= session.timeout() {
-            return Ok(self.break_off(session, Breach::Silent, now));
+        if self.is_overdue(session, now) {
+            return Ok(self.miss(session, now));
         }
         Ok(heard_of(self.printer.take_left_out()))
     }
@@ -176,18 +231,28 @@ impl Protocol for Ipp {
         self.printer.drop_job();
     }
 
+    /// The printer's state is asked again after the pause.
+    fn doubt<S: Stream>(&mut self, _session: &mut Session<S>, pause: u64, now: u64) {
+        self.printer.rest(pause, now);
+    }
+
     fn goes_on(&self) -> bool {
         self.ended
     }
 
-    fn pause(&self, session: &Session, now: u64, _has_job: bool) -> Option<u64> {
-        let next = self.printer.pause(now);
+    fn pause<S: Stream>(&self, session: &Session<S>, now: u64, _has_job: bool) -> Option<u64> {
         let is_busy = self.printer.is_busy();
-        match session.pause(now, is_busy, session.timeout()) {
-            Some(pause) if is_busy => Some(pause),
-            Some(pause) => Some(pause.min(next)),
-            None => Some(next),
-        }
+        let next = if is_busy {
+            u64::MAX
+        } else {
+            self.printer.pause(now)
+        };
+        let left = session
+            .timeout()
+            .saturating_sub(now.saturating_sub(self.answered));
+        let patience = if is_busy || self.owes { left } else { u64::MAX };
+        let connection = session.pause(now, is_busy, u64::MAX).unwrap_or(u64::MAX);
+        Some(connection.min(next).min(patience))
     }
 }
 
@@ -197,6 +262,7 @@ fn heard_of(told: Told) -> Heard {
         Told::Nothing => Heard::Nothing,
         Told::Stops => Heard::Stops,
         Told::Runs => Heard::Runs,
+        Told::Back => Heard::Back,
         Told::Pages(count) => Heard::Pages(count),
         Told::LeftOut(left_out) => Heard::LeftOut(left_out),
         Told::Printed(count) => Heard::Printed(count),

@@ -1,7 +1,9 @@
 //! A printer with IPP, without sockets.
 use crate::address::IppAddress;
 use crate::answer::{JobAnswer, JobState, job_answer, message_of};
+use crate::heard::{Breach, Heard};
 use crate::job::JobWish;
+use crate::retry_after::RetryAfter;
 use crate::task::{Stage, Task};
 use crate::told::{LeftOut, ReplyBreach, Told};
 use attach_http::{ReplyFault, ReplyReader};
@@ -17,6 +19,11 @@ use text::drop_front;
 
 /// The time after which the printer's state is asked again, in ms.
 const BETWEEN_STATES: u64 = 10_000;
+
+/// The first and the longest pause after which a state that couldn't be read is asked again, in ms.
+const FIRST_PAUSE: u64 = 1_000;
+
+const LONGEST_PAUSE: u64 = 60_000;
 
 /// The time after which a sent job is first asked about, and the longest time between two such requests, in
 /// ms.
@@ -57,6 +64,7 @@ pub struct IppPrinter {
     /// A job that was given up, and is to be canceled at the printer.
     cancels: Option<i32>,
     reader: ReplyReader,
+    retry_after: RetryAfter,
     /// The bytes that are to be written before all others.
     output: Vec<u8>,
     /// The number of octets of the chunk that are still to be written.
@@ -67,11 +75,23 @@ pub struct IppPrinter {
     /// The times at which the job is asked about.
     looks: Pauses,
     impressions: u32,
-    stopped: bool,
-    /// Whether the printer's state couldn't be read at the last try.
+    /// Whether the printer prints, by its last state. `None` if that isn't known: before the first state, and
+    /// after a failure.
+    prints: Option<bool>,
+    /// Whether it was reported that the printer's state can't be read.
     unread: bool,
+    /// The times at which a state that couldn't be read is asked again.
+    tries: Pauses,
     left_out: Option<LeftOut>,
     media: Option<Vec<Text>>,
+    /// Whether the last task ended with a reply that shows that the job goes on.
+    answered: bool,
+    /// Whether the job is to be sent again from its start.
+    restarts: bool,
+    /// The times at which the job is sent.
+    retries: Pauses,
+    /// The printer's last answer about the job, if that is that it is busy.
+    busy: Option<ReplyBreach>,
 }
 
 impl IppPrinter {
@@ -85,16 +105,22 @@ impl IppPrinter {
             wish: JobWish::none(),
             cancels: None,
             reader: ReplyReader::new(alloc),
+            retry_after: RetryAfter::new(alloc),
             output: Vec::new(alloc),
             chunk: 0,
             state: None,
             ask_at: 0,
             looks: Pauses::new(FIRST_LOOK, BETWEEN_LOOKS),
             impressions: 0,
-            stopped: false,
+            prints: None,
             unread: false,
+            tries: Pauses::new(FIRST_PAUSE, LONGEST_PAUSE),
             left_out: None,
             media: None,
+            answered: false,
+            restarts: false,
+            retries: Pauses::new(FIRST_PAUSE, LONGEST_PAUSE),
+            busy: None,
         }
     }
 
@@ -105,6 +131,9 @@ impl IppPrinter {
         self.looks = Pauses::new(FIRST_LOOK, BETWEEN_LOOKS);
         self.impressions = 0;
         self.left_out = None;
+        self.restarts = false;
+        self.retries = Pauses::new(FIRST_PAUSE, LONGEST_PAUSE);
+        self.busy = None;
     }
 
     /// Drops the job. A job that the printer has is to be canceled there, and then the printer's state is
@@ -136,8 +165,45 @@ impl IppPrinter {
         }
         match self.stage {
             Stage::Printing(job) if self.looks.is_due(now) => Task::Follow(job),
-            Stage::Waits if self.state.is_some() && has_front(attachment) => Task::Print,
+            Stage::Waits if self.can_send(now) && has_front(attachment) => Task::Print,
             _ => Task::Nothing,
+        }
+    }
+
+    /// Returns whether the job may be sent: the printer's state is known, and the pause after a busy printer's
+    /// answer is over.
+    fn can_send(&self, now: u64) -> bool {
+        self.prints.is_some() && self.retries.is_due(now)
+    }
+
+    /// Returns whether the printer is to answer for the job now.
+    pub fn owes_answer(&self, attachment: &Attachment) -> bool {
+        match self.stage {
+            Stage::None => false,
+            Stage::Waits => has_front(attachment),
+            Stage::Sending | Stage::Sent | Stage::Printing(_) => true,
+        }
+    }
+
+    /// Removes and returns whether the job is to be sent again from its start.
+    pub fn take_restart(&mut self) -> bool {
+        std::mem::replace(&mut self.restarts, false)
+    }
+
+    /// Removes and returns whether the last task ended with a reply that shows that the job goes on.
+    pub fn take_answered(&mut self) -> bool {
+        std::mem::replace(&mut self.answered, false)
+    }
+
+    /// Gives up the job, for which the printer hasn't answered for too long. A job that the printer has is
+    /// canceled there once it is dropped.
+    pub fn give_up(&mut self) -> Breach {
+        if !self.has_job() {
+            self.stage = Stage::None;
+        }
+        match self.busy.take() {
+            Some(breach) => Breach::Reply(breach),
+            None => Breach::Silent,
         }
     }
 
@@ -145,6 +211,7 @@ impl IppPrinter {
     /// The only error is out of memory.
     pub fn open(&mut self, format: &str) -> Result<(), AllocError> {
         self.reader = ReplyReader::new(self.alloc);
+        self.retry_after = RetryAfter::new(self.alloc);
         self.chunk = 0;
         self.output.clear();
         self.output = self.request(format)?;
@@ -182,7 +249,7 @@ impl IppPrinter {
         let left_out = self.wish.left_out(&ticket);
         let body = encoded(print_job(self.alloc, self.address.uri.as_bytes(), &ticket))?;
         let front = self.address.front(self.alloc, &body)?;
-        if left_out.is_something() {
+        if left_out.is_something() && self.busy.is_none() {
             self.left_out = Some(left_out);
         }
         Ok(front)
@@ -242,6 +309,7 @@ impl IppPrinter {
     pub fn hear(&mut self, bytes: &[u8]) -> Result<(), AllocError> {
         for byte in bytes {
             self.reader.take(*byte)?;
+            self.retry_after.take(*byte)?;
         }
         Ok(())
     }
@@ -270,9 +338,18 @@ impl IppPrinter {
         self.media.take()
     }
 
-    /// Forgets whether the printer was stopped, since it is there again: that is reported anew.
-    pub fn forget_stop(&mut self) {
-        self.stopped = false;
+    /// Forgets whether the printer prints. Its state is asked at once.
+    pub fn doubt(&mut self) {
+        self.prints = None;
+        self.ask_at = 0;
+    }
+
+    /// Forgets whether the printer prints. Its state is asked after `pause` ms.
+    pub fn rest(&mut self, pause: u64, now: u64) {
+        self.prints = None;
+        self.tries = Pauses::new(pause, LONGEST_PAUSE);
+        self.tries.tried(now);
+        self.ask_at = self.tries.at;
     }
 
     /// Ends the task, and returns its result. The only error is out of memory.
@@ -301,14 +378,22 @@ impl IppPrinter {
 
     /// Ends the task that asks for the printer's state.
     fn end_asking(&mut self, now: u64) -> Result<Told, AllocError> {
-        self.ask_at = now.saturating_add(BETWEEN_STATES);
         match message_of(&self.reader) {
             Ok(reply) => {
                 let stopped = is_stopped(&reply);
                 let media = loaded_media(self.alloc, &reply)?;
+                self.ask_at = now.saturating_add(BETWEEN_STATES);
+                self.answered = self.stage == Stage::Waits;
                 self.keep_state(stopped, media)
             }
-            Err(breach) => Ok(self.miss_state(breach)),
+            Err(breach) => {
+                let is_told = self.miss_state(now);
+                Ok(if is_told {
+                    Told::Unread(breach)
+                } else {
+                    Told::Nothing
+                })
+            }
         }
     }
 
@@ -317,48 +402,60 @@ impl IppPrinter {
         self.state = Some(Vec::from_slice(self.alloc, self.reader.body())?);
         self.media = media;
         self.unread = false;
-        if stopped == self.stopped {
-            return Ok(Told::Nothing);
-        }
-        self.stopped = stopped;
-        Ok(if stopped { Told::Stops } else { Told::Runs })
+        self.tries = Pauses::new(FIRST_PAUSE, LONGEST_PAUSE);
+        let before = std::mem::replace(&mut self.prints, Some(!stopped));
+        Ok(match (stopped, before) {
+            (true, Some(false)) | (false, Some(true)) => Told::Nothing,
+            (true, _) => Told::Stops,
+            (false, Some(false)) => Told::Runs,
+            (false, None) => Told::Back,
+        })
     }
 
-    /// Records that the state couldn't be read. A job that waits for it fails; otherwise that is reported
-    /// once.
-    fn miss_state(&mut self, breach: ReplyBreach) -> Told {
-        if self.stage == Stage::Waits {
-            self.stage = Stage::None;
-            return Told::Failed(breach);
-        }
-        if self.unread {
-            return Told::Nothing;
-        }
-        self.unread = true;
-        Told::Unread(breach)
+    /// Records that the state couldn't be read: it is asked again after a pause. Returns whether that is to be
+    /// reported.
+    fn miss_state(&mut self, now: u64) -> bool {
+        self.tries.tried(now);
+        self.ask_at = self.tries.at.max(self.next_try(now));
+        self.prints = None;
+        !std::mem::replace(&mut self.unread, true)
     }
 
-    /// Ends the task that sends the job. If the printer didn't take the job, its state is asked at once.
+    /// Ends the task that sends the job. If the printer didn't take the job, its state is asked at once. If it
+    /// is busy, the job is sent again after a pause.
     fn end_printing(&mut self, now: u64) -> Told {
         let all_sent = self.stage == Stage::Sent;
         self.stage = Stage::None;
         match job_answer(&self.reader) {
             Ok(_) if !all_sent => self.fail(ReplyBreach::TooEarly, now),
             Ok(answer) => match answer.job {
-                Some(job) => self.heed(job, answer, now),
-                None => self.fail(ReplyBreach::NotIpp, now),
+                Some(job) if job > 0 => self.heed(job, answer, now),
+                _ => self.fail(ReplyBreach::NotIpp, now),
             },
+            Err(breach) if breach.is_busy() => {
+                self.stage = Stage::Waits;
+                self.restarts = true;
+                self.retries.tried(now);
+                self.retries.at = self.retries.at.max(self.next_try(now));
+                self.busy = Some(breach);
+                Told::Nothing
+            }
             Err(breach) => self.fail(breach, now),
         }
     }
 
-    /// Ends the task that asks about the job. If the printer closed its connection, it is asked again.
+    /// Ends the task that asks about the job. If there is no answer about the job, or the printer is busy, it
+    /// is asked again. A job that the printer took and doesn't know any more is printed: some printers forget
+    /// a job at its end.
     fn end_following(&mut self, job: i32, now: u64) -> Told {
         match job_answer(&self.reader) {
-            Ok(answer) => self.heed(job, answer, now),
-            Err(ReplyBreach::Fault(ReplyFault::Ended)) => {
-                self.looks.tried(now);
-                Told::Nothing
+            Ok(answer) if answer.job.unwrap_or(job) == job => self.heed(job, answer, now),
+            Ok(_) => self.follow_later(None, now),
+            Err(breach) if breach.is_no_reply() => self.follow_later(None, now),
+            Err(breach) if breach.is_busy() => self.follow_later(Some(breach), now),
+            Err(breach) if breach.is_not_found() => {
+                self.stage = Stage::None;
+                Told::Printed(None)
             }
             Err(breach) => {
                 self.stage = Stage::None;
@@ -367,9 +464,24 @@ impl IppPrinter {
         }
     }
 
+    /// The moment before which the printer doesn't want to be asked again.
+    fn next_try(&self, now: u64) -> u64 {
+        now.saturating_add(self.retry_after.ms())
+    }
+
+    /// Has the printer asked about the job again.
+    fn follow_later(&mut self, busy: Option<ReplyBreach>, now: u64) -> Told {
+        self.looks.tried(now);
+        self.looks.at = self.looks.at.max(self.next_try(now));
+        self.busy = busy;
+        Told::Nothing
+    }
+
     /// Acts on the printer's answer about the job.
     fn heed(&mut self, job: i32, answer: JobAnswer, now: u64) -> Told {
         self.stage = Stage::None;
+        self.answered = true;
+        self.busy = None;
         match answer.state {
             JobState::Goes => {
                 self.stage = Stage::Printing(job);
@@ -389,32 +501,42 @@ impl IppPrinter {
         Told::Failed(breach)
     }
 
-    /// Ends the task, since the connection broke, or no byte came for too long (`silent`). Returns whether
-    /// the job has failed by that. A job that the printer has is asked about again if the connection only
-    /// broke.
-    pub fn break_off(&mut self, silent: bool, now: u64) -> bool {
+    /// Ends the task, since the connection broke. A job that the printer has is asked about again.
+    pub fn break_off(&mut self, now: u64) -> Heard {
         let task = self.task;
         self.end_task();
         match task {
-            Task::Nothing => false,
-            Task::Ask => {
-                self.ask_at = now.saturating_add(BETWEEN_STATES);
-                self.stage == Stage::Waits
-            }
+            Task::Nothing => Heard::Nothing,
+            Task::Ask if self.miss_state(now) => Heard::Away,
+            Task::Ask => Heard::Nothing,
             Task::Print => {
                 self.stage = Stage::None;
                 self.ask_at = now;
-                true
+                Heard::Failed(Breach::Broken)
             }
             Task::Follow(_) => {
                 self.looks.tried(now);
-                silent
+                Heard::Nothing
             }
             Task::Cancel(_) => {
                 self.cancels = None;
-                false
+                Heard::Nothing
             }
         }
+    }
+
+    /// Ends the task, since the printer didn't answer for too long. A job in hand is given up.
+    pub fn miss(&mut self, now: u64) -> Heard {
+        let task = self.task;
+        self.end_task();
+        if matches!(task, Task::Cancel(_)) {
+            self.cancels = None;
+        }
+        let is_told = task == Task::Ask && self.miss_state(now);
+        if self.stage != Stage::None {
+            return Heard::Failed(self.give_up());
+        }
+        if is_told { Heard::Away } else { Heard::Nothing }
     }
 
     /// Returns whether the printer has a job that isn't printed yet.
@@ -432,6 +554,7 @@ impl IppPrinter {
         let ask = self.ask_at.saturating_sub(now);
         match self.stage {
             Stage::Printing(_) => ask.min(self.looks.left(now)),
+            Stage::Waits => ask.min(self.retries.left(now)),
             _ => ask,
         }
     }

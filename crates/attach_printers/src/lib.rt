@@ -2,8 +2,8 @@
 //!
 //! A [`Printer`] takes a job, and goes on with it in each turn: it sends the octets that an `attachment`
 //! allows, and returns the result. There are two kinds: a [`Folder`], and a [`NetworkPrinter`] with a
-//! [`Protocol`]: [`AppSocket`], [`Pjl`], [`Lpd`] or [`Ipp`]. The sockets are `mio`'s. A [`Caller`] makes a
-//! connection, and tries again after a pause if it can't be made.
+//! [`Protocol`]: [`AppSocket`], [`Pjl`], [`Lpd`] or [`Ipp`]. A [`Caller`] makes a connection, and tries again
+//! after a pause if it can't be made. The connections are those of a [`Network`]: [`Sockets`] has `mio`'s.
 //!
 //! [`IppPrinter`] has the bytes that are written to a printer of IPP, and the effect of its replies on a job
 //! (RFC 8010, RFC 8011), without sockets. It does one task after the other, each on a connection of its own.
@@ -14,7 +14,9 @@
 //!
 //! The functions are proved safe and to end. For each answer of IPP about a job, the impressions that are new
 //! are reported, also those of the last answer. The contracts of the octets that a printer is sent and of the
-//! reports are in `attachment`. The crate is tested by the program.
+//! reports are in `attachment`.
+//!
+//! Tests stand in `attach_tests`.
 #![tactic(auto)]
 
 mod address;
@@ -35,21 +37,23 @@ mod pjl;
 mod place;
 mod printer;
 mod protocol;
+mod retry_after;
 mod send_buffer;
 mod session;
 mod socket_table;
+mod stream;
 mod task;
 mod told;
 
 pub use address::IppAddress;
 pub use app_socket::AppSocket;
 pub use caller::{Caller, Reached};
-pub use folder::Folder;
+pub use folder::{Folder, try_folder};
 pub use format::{Format, MediaType};
 pub use heard::{Breach, Heard};
 pub use ipp::Ipp;
 pub use ipp_printer::IppPrinter;
-pub use link::{Link, has_to_wait};
+pub use link::{Link, Sockets, has_to_wait};
 pub use lpd::Lpd;
 pub use network_printer::NetworkPrinter;
 pub use pjl::Pjl;
@@ -57,4 +61,5 @@ pub use place::Place;
 pub use printer::Printer;
 pub use protocol::Protocol;
 pub use session::Session;
+pub use stream::{Network, Peer, Readiness, Stream};
 pub use told::{LeftOut, ReplyBreach, Told};

@@ -1,8 +1,10 @@
 //! A socket to a peer.
 ghost use Rattle.std.specs.Io.{ReadsAtMost, WritesAtMost};
 
+use crate::place::Place;
 use crate::send_buffer::keep_small;
 use crate::socket_table::unacknowledged;
+use crate::stream::{Network, Peer, Readiness, Stream};
 use mio::event::Event;
 use mio::net::TcpStream;
 use mio::{Interest, Poll, Token};
@@ -11,6 +13,19 @@ use std::io;
 use std::io::{ErrorKind, Read, Write};
 use std::net::{Net, Shutdown, SocketAddr};
 use std::rt::Files;
+
+/// The tokens of the peers at the poll.
+const SERVER: Token = Token(0);
+
+const PRINTER: Token = Token(1);
+
+/// The system's network, whose sockets a poll reports.
+#[derive(Clone, Copy)]
+pub struct Sockets<'a, N: Net> {
+    pub alloc: Global,
+    pub net: &'a N,
+    pub poll: &'a Poll,
+}
 
 /// A socket to a peer, with the events that the poll reported. After a call that would have to wait, none is
 /// made until the poll reports the socket.
@@ -26,14 +41,48 @@ fn waits() -> io::Error {
     io::Error::from(ErrorKind::WouldBlock)
 }
 
+/// The token of a peer.
+fn token_of(peer: Peer) -> Token {
+    match peer {
+        Peer::Server => SERVER,
+        Peer::Printer => PRINTER,
+    }
+}
+
+impl Readiness {
+    /// What an event of the poll reports, if it is one of a peer's socket.
+    pub fn of(event: &Event) -> Option<Readiness> {
+        let peer = if event.token() == SERVER {
+            Peer::Server
+        } else if event.token() == PRINTER {
+            Peer::Printer
+        } else {
+            return None;
+        };
+        Some(Readiness {
+            peer,
+            readable: event.is_readable() || event.is_read_closed() || event.is_error(),
+            writable: event.is_writable() || event.is_write_closed() || event.is_error(),
+        })
+    }
+}
+
+impl<N: Net> Network for Sockets<'_, N> {
+    type Stream = Link;
+
+    fn connect(&self, peer: Peer, place: &Place, choice: usize) -> io::Result<Link> {
+        let addresses = place.addresses(self.alloc, self.net)?;
+        if addresses.is_empty() {
+            return Err(io::Error::from(ErrorKind::NotFound));
+        }
+        let address = addresses[choice % addresses.len()];
+        Link::begin(self.net, self.poll, address, token_of(peer))
+    }
+}
+
 impl Link {
     /// Begins a connection, registered at the poll under `token`.
-    pub(crate) fn begin(
-        net: &impl Net,
-        poll: &Poll,
-        address: SocketAddr,
-        token: Token,
-    ) -> io::Result<Link> {
+    fn begin(net: &impl Net, poll: &Poll, address: SocketAddr, token: Token) -> io::Result<Link> {
         let mut stream = TcpStream::connect(net, address)?;
         let _small = keep_small(&stream);
         poll.registry().register(&mut stream, token, Interest::READABLE | Interest::WRITABLE)?;
@@ -43,15 +92,15 @@ impl Link {
             writable: false,
         })
     }
+}
 
-    /// Takes an event of the poll.
-    pub(crate) fn told(&mut self, event: &Event) {
-        self.readable |= event.is_readable() || event.is_read_closed() || event.is_error();
-        self.writable |= event.is_writable() || event.is_write_closed() || event.is_error();
+impl Stream for Link {
+    fn told(&mut self, readiness: Readiness) {
+        self.readable |= readiness.readable;
+        self.writable |= readiness.writable;
     }
 
-    /// Returns whether the connection is made. The error is why it can't be.
-    pub(crate) fn is_open(&self) -> io::Result<bool> {
+    fn is_open(&self) -> io::Result<bool> {
         if !self.writable {
             return Ok(false);
         }
@@ -63,8 +112,7 @@ impl Link {
         Ok(true)
     }
 
-    /// Reads bytes into `buffer`. Returns 0 at the end of the stream.
-    pub fn read(&mut self, buffer: &mut [u8]) -> io::Result<usize>
+    fn read(&mut self, buffer: &mut [u8]) -> io::Result<usize>
         ensures { ReadsAtMost result buffer.new }
     {
         if !self.readable {
@@ -77,8 +125,7 @@ impl Link {
         read
     }
 
-    /// Writes bytes. Returns how many it took.
-    pub fn write(&mut self, bytes: &[u8]) -> io::Result<usize>
+    fn write(&mut self, bytes: &[u8]) -> io::Result<usize>
         ensures { WritesAtMost result bytes.now }
     {
         if !self.writable {
@@ -91,14 +138,11 @@ impl Link {
         written
     }
 
-    /// Ends the writing side.
-    pub fn end_writing(&self) -> io::Result<()> {
+    fn end_writing(&self) -> io::Result<()> {
         self.stream.shutdown(Shutdown::Write)
     }
 
-    /// Returns whether both sides have ended, and the peer has acknowledged all bytes. The error is why the
-    /// connection broke.
-    pub(crate) fn has_ended(&self) -> io::Result<bool> {
+    fn has_ended(&self) -> io::Result<bool> {
         if let Some(error) = self.stream.take_error()? {
             return Err(error);
         }
@@ -108,13 +152,7 @@ impl Link {
         }
     }
 
-    /// Returns how many written bytes the peer hasn't acknowledged, if the system reports it. The end of the
-    /// writing side counts as a byte.
-    pub(crate) fn unacknowledged(
-        &self,
-        alloc: Global,
-        files: &impl Files,
-    ) -> io::Result<Option<u64>> {
+    fn unacknowledged<F: Files>(&self, alloc: Global, files: &F) -> io::Result<Option<u64>> {
         unacknowledged(alloc, files, &self.stream)
     }
 }

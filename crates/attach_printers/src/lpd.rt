@@ -2,6 +2,7 @@
 use crate::heard::{Breach, Heard};
 use crate::protocol::Protocol;
 use crate::session::{CALLS, Moved, Session};
+use crate::stream::Stream;
 use attach_orders::JobOrder;
 use attachment::Attachment;
 use std::alloc::{AllocError, Global};
@@ -55,13 +56,16 @@ impl Lpd {
     }
 
     /// Takes the next octet of the printer, which acknowledges a written part, or refuses it.
-    fn hear(&mut self, session: &mut Session, now: u64) -> Result<Heard, AllocError> {
+    fn hear<S: Stream>(&mut self, session: &mut Session<S>, now: u64) -> Result<Heard, AllocError> {
         let mut buffer = [0u8; 1];
-        match session.read(&mut buffer, now) {
+        match session.read(&mut buffer) {
             Moved::Nothing => Ok(Heard::Nothing),
             Moved::End | Moved::Broken => Ok(Heard::Failed(Breach::Broken)),
             Moved::Bytes(_) if buffer[0] != 0 => Ok(Heard::Failed(Breach::Refused)),
-            Moved::Bytes(_) => self.acknowledged(),
+            Moved::Bytes(_) => {
+                session.rest(now);
+                self.acknowledged()
+            }
         }
     }
 
@@ -131,9 +135,9 @@ impl Lpd {
     }
 
     /// Sends some bytes of the part; behind the data their end.
-    fn send(
+    fn send<S: Stream>(
         &mut self,
-        session: &mut Session,
+        session: &mut Session<S>,
         attachment: &mut Attachment,
         now: u64,
     ) -> Result<Moved, AllocError> {
@@ -162,9 +166,9 @@ impl Protocol for Lpd {
     }
 
     /// Takes the printer's acknowledgements, and sends the bytes that are due.
-    fn exchange(
+    fn exchange<S: Stream>(
         &mut self,
-        session: &mut Session,
+        session: &mut Session<S>,
         attachment: &mut Attachment,
         now: u64,
     ) -> Result<Heard, AllocError> {

@@ -3,29 +3,27 @@ use crate::heard::{Heard, NO_MEMORY};
 use crate::printer::Printer;
 use crate::protocol::Protocol;
 use crate::session::{Session, Stage};
+use crate::stream::{Network, Readiness, Stream};
 use attach_orders::JobOrder;
 use attachment::Attachment;
 use base_types::Text;
-use mio::Poll;
-use mio::event::Event;
-use std::net::Net;
 use std::rt::Files;
 
 /// A printer on the network, with the connection to it and its protocol.
 #[derive(Drop)]
-pub struct NetworkPrinter<P: Protocol> {
-    session: Session,
+pub struct NetworkPrinter<S: Stream, P: Protocol> {
+    session: Session<S>,
     protocol: P,
 }
 
-impl<P: Protocol> NetworkPrinter<P> {
+impl<S: Stream, P: Protocol> NetworkPrinter<S, P> {
     /// Creates a printer without a connection.
-    pub fn new(session: Session, protocol: P) -> NetworkPrinter<P> {
+    pub fn new(session: Session<S>, protocol: P) -> NetworkPrinter<S, P> {
         NetworkPrinter { session, protocol }
     }
 }
 
-impl<P: Protocol> Printer for NetworkPrinter<P> {
+impl<S: Stream, P: Protocol> Printer<S> for NetworkPrinter<S, P> {
     fn begin(&mut self, order: &JobOrder) {
         self.protocol.begin(order);
     }
@@ -34,15 +32,15 @@ impl<P: Protocol> Printer for NetworkPrinter<P> {
         self.protocol.times(order)
     }
 
-    fn turn<R: Net + Files>(
+    fn turn<F: Files, N: Network<Stream = S>>(
         &mut self,
-        rt: &R,
-        poll: &Poll,
+        files: &F,
+        network: &N,
         attachment: &mut Attachment,
         now: u64,
     ) -> Heard {
         let wanted = self.protocol.wants_connection(attachment, now);
-        let heard = match self.session.reach(rt, poll, wanted, now) {
+        let heard = match self.session.reach(files, network, wanted, now) {
             Stage::Waits(heard) => Ok(self.protocol.wait(&self.session, heard, now)),
             Stage::Opened(heard) => self.protocol.open(attachment, heard),
             Stage::Open => self.protocol.exchange(&mut self.session, attachment, now),
@@ -50,8 +48,8 @@ impl<P: Protocol> Printer for NetworkPrinter<P> {
         heard.unwrap_or(NO_MEMORY)
     }
 
-    fn told(&mut self, event: &Event) {
-        self.session.told(event);
+    fn told(&mut self, readiness: Readiness) {
+        self.session.told(readiness);
     }
 
     fn take_media(&mut self) -> Option<Vec<Text>> {
@@ -61,6 +59,10 @@ impl<P: Protocol> Printer for NetworkPrinter<P> {
     fn drop_job<F: Files>(&mut self, _files: &F) {
         self.protocol.drop_job();
         self.session.close();
+    }
+
+    fn doubt(&mut self, pause: u64, now: u64) {
+        self.protocol.doubt(&mut self.session, pause, now);
     }
 
     fn has_worked(&self) -> bool {

@@ -4,15 +4,22 @@ ghost use Rattle.std.specs.Prelude.{◌≤◌, IfOk, length};
 use crate::heard::{Breach, Heard};
 use crate::protocol::Protocol;
 use crate::session::{CALLS, Moved, PIECE, Session};
+use crate::stream::Stream;
 use attach_orders::JobOrder;
 use attach_pjl::{Status, StatusReader};
 use attachment::Attachment;
 use base_types::Sides;
 use std::alloc::{AllocError, Global};
-use text::drop_front;
+use text::{cut_at, drop_front};
 
 /// The least code of a printer that needs a person: a cover is open, or paper is out or jammed.
 const NEEDS_SOMEONE: u32 = 40_000;
+
+/// The byte that ends a message.
+const FORM_FEED: u8 = 12;
+
+/// The most lines of a message that are searched for the name of a job.
+const LINES: u32 = 64;
 
 /// The part that is sent now, or that all parts are sent.
 #[derive(Clone, Copy)]
@@ -58,16 +65,16 @@ impl Pjl {
 
     /// Returns the next report of the printer about a job, a page or itself. `Nothing` if there is none for
     /// now, or if bytes were moved.
-    fn hear(&mut self, session: &mut Session, now: u64) -> Result<Heard, AllocError> {
+    fn hear<S: Stream>(&mut self, session: &mut Session<S>, now: u64) -> Result<Heard, AllocError> {
         for _ in 0..CALLS {
             if self.input.is_empty() {
-                match self.read_piece(session, now)? {
+                match self.read_piece(session)? {
                     Moved::Bytes(_) => {}
                     Moved::Nothing => return Ok(Heard::Nothing),
                     Moved::End | Moved::Broken => return Ok(Heard::Failed(Breach::Broken)),
                 }
             }
-            match self.read_input()? {
+            match self.read_input(session, now)? {
                 Heard::Nothing => {}
                 heard => return Ok(heard),
             }
@@ -76,31 +83,48 @@ impl Pjl {
     }
 
     /// Reads a piece of the printer's bytes.
-    fn read_piece(&mut self, session: &mut Session, now: u64) -> Result<Moved, AllocError> {
+    fn read_piece<S: Stream>(&mut self, session: &mut Session<S>) -> Result<Moved, AllocError> {
         let mut buffer = [0u8; PIECE];
-        let moved = session.read(&mut buffer, now);
+        let moved = session.read(&mut buffer);
         if let Moved::Bytes(count) = moved {
             self.input.extend_from_slice(&buffer[..count])?;
         }
         Ok(moved)
     }
 
-    /// Reads the printer's bytes up to the first report.
-    fn read_input(&mut self) -> Result<Heard, AllocError> {
-        let read = read_front(&mut self.reader, &self.input, self.part, self.stopped)?;
+    /// Reads the printer's bytes up to the first status, and returns what it reports. Each status that is
+    /// known restarts the printer's time.
+    fn read_input<S: Stream>(
+        &mut self,
+        session: &mut Session<S>,
+        now: u64,
+    ) -> Result<Heard, AllocError> {
+        let name = self.name()?;
+        let read = read_front(&mut self.reader, &self.input, name.as_bytes())?;
         drop_front(&mut self.input, read.0);
-        match read.1 {
+        if read.1 == Status::Other {
+            return Ok(Heard::Nothing);
+        }
+        session.rest(now);
+        let heard = heard_of(read.1, self.part, self.stopped);
+        match heard {
             Heard::Stops => self.stopped = true,
             Heard::Runs => self.stopped = false,
             _ => {}
         }
-        Ok(read.1)
+        Ok(heard)
+    }
+
+    /// The name of the job at the printer. The only error is out of memory.
+    fn name(&self) -> Result<String, AllocError> {
+        let job = self.job;
+        format!(in self.alloc; "printd-{job}")
     }
 
     /// Sends some bytes of the part.
-    fn send(
+    fn send<S: Stream>(
         &mut self,
-        session: &mut Session,
+        session: &mut Session<S>,
         attachment: &mut Attachment,
         now: u64,
     ) -> Result<Moved, AllocError> {
@@ -155,11 +179,11 @@ impl Protocol for Pjl {
         self.sides = order.sides;
     }
 
-    /// Takes a printer without a connection as running.
-    fn wait(&mut self, _session: &Session, heard: Heard, _now: u64) -> Heard {
+    /// Takes a printer without a connection as running, unless it is in doubt.
+    fn wait<S: Stream>(&mut self, session: &Session<S>, heard: Heard, _now: u64) -> Heard {
         let stopped = std::mem::replace(&mut self.stopped, false);
         match heard {
-            Heard::Nothing if stopped => Heard::Runs,
+            Heard::Nothing if stopped && !session.is_doubted() => Heard::Runs,
             heard => heard,
         }
     }
@@ -173,9 +197,9 @@ impl Protocol for Pjl {
         Ok(heard)
     }
 
-    fn exchange(
+    fn exchange<S: Stream>(
         &mut self,
-        session: &mut Session,
+        session: &mut Session<S>,
         attachment: &mut Attachment,
         now: u64,
     ) -> Result<Heard, AllocError> {
@@ -208,24 +232,54 @@ impl Protocol for Pjl {
     }
 }
 
-/// Reads bytes up to the first report. Returns how many were read, and the report.
+/// Reads bytes up to the first status of the printer or of the job of a name. Returns how many were read, and
+/// the status; `Other` if there is none.
 fn read_front(
     reader: &mut StatusReader,
     input: &[u8],
-    part: Part,
-    stopped: bool,
-) -> Result<(usize, Heard), AllocError>
+    name: &[u8],
+) -> Result<(usize, Status), AllocError>
     ensures { IfOk result (λ read. read.0 ≤ length input.now) }
 {
     for (place, byte) in input.iter().enumerate() {
+        let is_of_another = *byte == FORM_FEED && names_another(reader.message(), name);
         if let Some(status) = reader.take(*byte)? {
-            let heard = heard_of(status, part, stopped);
-            if !matches!(heard, Heard::Nothing) {
-                return Ok((place + 1, heard));
+            if status != Status::Other && !(status == Status::JobEnded && is_of_another) {
+                return Ok((place + 1, status));
             }
         }
     }
-    Ok((input.len(), Heard::Nothing))
+    Ok((input.len(), Status::Other))
+}
+
+/// Returns whether a message has the name of another job, in a line such as `NAME="printd-7"`.
+fn names_another(message: &[u8], name: &[u8]) -> bool {
+    let mut rest = message;
+    for _ in 0..LINES {
+        let Some((line, more)) = cut_at(rest, b'\n') else {
+            return is_another(rest, name);
+        };
+        if is_another(line, name) {
+            return true;
+        }
+        rest = more;
+    }
+    false
+}
+
+/// Returns whether a line has a name, and another one.
+fn is_another(line: &[u8], name: &[u8]) -> bool {
+    let line = line.strip_suffix(b"\r").unwrap_or(line);
+    match line.strip_prefix(b"NAME=") {
+        Some(value) => unquoted(value) != name,
+        None => false,
+    }
+}
+
+/// A value without its quotes.
+fn unquoted(value: &[u8]) -> &[u8] {
+    let value = value.strip_prefix(b"\"").unwrap_or(value);
+    value.strip_suffix(b"\"").unwrap_or(value)
 }
 
 /// The report of a status, where this part of the job is sent, and the printer was stopped or not.

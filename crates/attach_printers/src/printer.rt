@@ -1,16 +1,15 @@
 //! The trait of printers.
 use crate::heard::Heard;
+use crate::stream::{Network, Readiness, Stream};
 use attach_orders::JobOrder;
 use attachment::Attachment;
 use base_types::Text;
-use mio::Poll;
-use mio::event::Event;
-use std::net::Net;
 use std::rt::Files;
 
 /// A printer. It has at most one job: after [`Printer::begin`] it goes on with the job in each turn, until a
-/// turn returns that the job is printed or has failed, or the job is dropped.
-pub trait Printer: Drop {
+/// turn returns that the job is printed or has failed, or the job is dropped. A printer is tried before its
+/// first job: the first result is [`Heard::Back`], or that it can't print.
+pub trait Printer<S: Stream>: Drop {
     /// Begins a job.
     fn begin(&mut self, order: &JobOrder);
 
@@ -20,16 +19,16 @@ pub trait Printer: Drop {
     }
 
     /// Goes on with the job of an attachment, if there is one, without blocking. `now` is the moment in ms.
-    fn turn<R: Net + Files>(
+    fn turn<F: Files, N: Network<Stream = S>>(
         &mut self,
-        rt: &R,
-        poll: &Poll,
+        files: &F,
+        network: &N,
         attachment: &mut Attachment,
         now: u64,
     ) -> Heard;
 
-    /// Takes an event of the printer's socket.
-    fn told(&mut self, event: &Event);
+    /// Takes the result of a wait.
+    fn told(&mut self, readiness: Readiness);
 
     /// Removes and returns the loaded media, if the printer reported them anew.
     fn take_media(&mut self) -> Option<Vec<Text>> {
@@ -38,6 +37,10 @@ pub trait Printer: Drop {
 
     /// Drops the job.
     fn drop_job<F: Files>(&mut self, files: &F);
+
+    /// Records that the printer failed a job. It is tried again after `pause` ms, and then after longer pauses,
+    /// until that works: [`Heard::Back`].
+    fn doubt(&mut self, pause: u64, now: u64);
 
     /// Returns whether the last turn moved bytes; then another turn may move more.
     fn has_worked(&self) -> bool;

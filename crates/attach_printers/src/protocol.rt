@@ -1,6 +1,7 @@
 //! The trait of protocols.
 use crate::heard::Heard;
 use crate::session::Session;
+use crate::stream::Stream;
 use attach_orders::JobOrder;
 use attachment::Attachment;
 use base_types::Text;
@@ -22,7 +23,7 @@ pub trait Protocol: Drop {
     }
 
     /// The result of a turn without a connection; `heard` is the result of the try to connect.
-    fn wait(&mut self, _session: &Session, heard: Heard, _now: u64) -> Heard {
+    fn wait<S: Stream>(&mut self, _session: &Session<S>, heard: Heard, _now: u64) -> Heard {
         heard
     }
 
@@ -32,9 +33,9 @@ pub trait Protocol: Drop {
     }
 
     /// Reads from the printer and sends the bytes that are due, without blocking.
-    fn exchange(
+    fn exchange<S: Stream>(
         &mut self,
-        session: &mut Session,
+        session: &mut Session<S>,
         attachment: &mut Attachment,
         now: u64,
     ) -> Result<Heard, AllocError>;
@@ -47,13 +48,18 @@ pub trait Protocol: Drop {
     /// Drops the job, whose connection is closed.
     fn drop_job(&mut self);
 
+    /// Records that the printer failed a job: the printer is tried again after `pause` ms.
+    fn doubt<S: Stream>(&mut self, session: &mut Session<S>, pause: u64, now: u64) {
+        session.doubt(pause, now);
+    }
+
     /// Returns whether there is work to do although no bytes were moved.
     fn goes_on(&self) -> bool {
         false
     }
 
     /// Returns the ms until there is work to do without an event, if there will be.
-    fn pause(&self, session: &Session, now: u64, has_job: bool) -> Option<u64> {
+    fn pause<S: Stream>(&self, session: &Session<S>, now: u64, has_job: bool) -> Option<u64> {
         session.pause(now, has_job, session.timeout())
     }
 }

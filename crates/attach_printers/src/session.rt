@@ -8,11 +8,9 @@ use crate::backlog::Backlog;
 use crate::caller::{Caller, Reached};
 use crate::heard::{Breach, Heard};
 use crate::link::has_to_wait;
+use crate::stream::{Network, Readiness, Stream};
 use attachment::Attachment;
-use mio::Poll;
-use mio::event::Event;
 use std::io;
-use std::net::Net;
 use std::rt::Files;
 use text::drop_front;
 
@@ -43,60 +41,61 @@ pub(crate) enum Moved {
     Broken,
 }
 
-/// The connection to a printer, while it has a job or is away.
+/// The connection to a printer, while it has a job or is in doubt.
 #[derive(Drop)]
-pub struct Session {
-    caller: Caller,
+pub struct Session<S: Stream> {
+    caller: Caller<S>,
     timeout: u64,
-    /// Whether the printer couldn't be reached at the last try.
-    away: bool,
-    /// The moment at which bytes last went or came, or none had to.
+    /// Whether the printer has to be reached before the next job: at the start, and after it couldn't be
+    /// reached or failed a job.
+    doubted: bool,
+    /// The moment at which the printer last took bytes or showed that the job goes on, or had to do neither.
     last: u64,
     worked: bool,
     /// The bytes that wait in this machine once the writing side is ended.
     backlog: Backlog,
 }
 
-impl Session {
-    /// Creates a session without a connection. The printer may neither take nor send bytes for `timeout` ms.
-    pub fn new(caller: Caller, timeout: u64) -> Session {
+impl<S: Stream> Session<S> {
+    /// Creates a session without a connection. A job may make no progress for `timeout` ms.
+    pub fn new(caller: Caller<S>, timeout: u64) -> Session<S> {
         Session {
             caller,
             timeout,
-            away: false,
+            doubted: true,
             last: 0,
             worked: false,
             backlog: Backlog::none(),
         }
     }
 
-    /// Takes an event of the poll.
-    pub(crate) fn told(&mut self, event: &Event) {
-        self.caller.told(event);
+    /// Takes the result of a wait.
+    pub(crate) fn told(&mut self, readiness: Readiness) {
+        self.caller.told(readiness);
     }
 
-    /// Connects, if there is a job or the printer is away, and looks at the waiting bytes of a job that is
+    /// Connects, if there is a job or the printer is in doubt, and looks at the waiting bytes of a job that is
     /// written.
-    pub(crate) fn reach<R: Net + Files>(
+    pub(crate) fn reach<F: Files, N: Network<Stream = S>>(
         &mut self,
-        rt: &R,
-        poll: &Poll,
+        files: &F,
+        network: &N,
         has_job: bool,
         now: u64,
     ) -> Stage {
         self.worked = false;
-        if !has_job && !self.away {
+        if !has_job && !self.doubted {
             return Stage::Waits(Heard::Nothing);
         }
-        match self.caller.turn(rt, poll, now) {
+        match self.caller.turn(network, now) {
             Reached::Not => Stage::Waits(Heard::Nothing),
             Reached::Away => {
-                self.away = true;
+                self.doubted = true;
                 Stage::Waits(Heard::Away)
             }
             Reached::Now => self.open(has_job, now),
             Reached::Still => {
-                self.look(rt, now);
+                self.look(files, now);
                 Stage::Open
             }
         }
@@ -122,22 +121,22 @@ impl Session {
         if !has_job {
             self.caller.close();
         }
-        if !self.away {
+        if !self.doubted {
             return Stage::Opened(Heard::Nothing);
         }
-        self.away = false;
+        self.doubted = false;
         Stage::Opened(Heard::Back)
     }
 
-    /// Reads bytes of the printer.
-    pub(crate) fn read(&mut self, buffer: &mut [u8], now: u64) -> Moved
+    /// Reads bytes of the printer. They restart the printer's time only by [`Session::rest`].
+    pub(crate) fn read(&mut self, buffer: &mut [u8]) -> Moved
         ensures { MovesAtMost result buffer.new }
     {
         let Some(link) = self.caller.link() else {
             return Moved::Broken;
         };
         let read = link.read(buffer);
-        self.heed(read, Moved::End, now)
+        self.heed(read, Moved::End)
     }
 
     /// Writes bytes, if there are any.
@@ -151,18 +150,21 @@ impl Session {
             return Moved::Nothing;
         }
         let written = link.write(bytes);
-        self.heed(written, Moved::Nothing, now)
+        let moved = self.heed(written, Moved::Nothing);
+        if let Moved::Bytes(_) = moved {
+            self.last = now;
+        }
+        moved
     }
 
     /// Records the result of a call. `none` is the result of a call that moved no byte.
-    fn heed(&mut self, call: io::Result<usize>, none: Moved, now: u64) -> Moved
+    fn heed(&mut self, call: io::Result<usize>, none: Moved) -> Moved
         requires { none ≡ End ⊎ none ≡ Nothing }
         ensures { (bytes : List ℕ) → WritesAtMost call bytes → MovesAtMost result bytes }
     {
         match call {
             Ok(0) => none,
             Ok(count) => {
-                self.last = now;
                 self.worked = true;
                 Moved::Bytes(count)
             }
@@ -233,7 +235,7 @@ impl Session {
         }
     }
 
-    /// Restarts the printer's time, since no bytes are to be sent or read for now.
+    /// Restarts the printer's time: it showed that the job goes on, or has nothing to do for now.
     pub(crate) fn rest(&mut self, now: u64) {
         self.last = now;
     }
@@ -254,9 +256,20 @@ impl Session {
 
     /// Closes the connection, if there is one.
     pub(crate) fn close(&mut self) {
-        if !self.away {
+        if !self.doubted {
             self.caller.close();
         }
+    }
+
+    /// Closes the connection, and has the printer reached after `pause` ms, before the next job.
+    pub(crate) fn doubt(&mut self, pause: u64, now: u64) {
+        self.doubted = true;
+        self.caller.rest(pause, now);
+    }
+
+    /// Returns whether the printer has to be reached before the next job.
+    pub(crate) fn is_doubted(&self) -> bool {
+        self.doubted
     }
 
     /// Returns whether the last turn moved bytes.
@@ -267,7 +280,7 @@ impl Session {
     /// Returns the ms until there is work to do without an event, where the printer may be silent for
     /// `patience` ms.
     pub(crate) fn pause(&self, now: u64, has_job: bool, patience: u64) -> Option<u64> {
-        if !has_job && !self.away {
+        if !has_job && !self.doubted {
             return None;
         }
         match self.caller.pause(now) {

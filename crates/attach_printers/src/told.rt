@@ -35,6 +35,24 @@ pub struct LeftOut {
     pub finishings: bool,
 }
 
+impl ReplyBreach {
+    /// Returns whether the printer is busy, and may be asked again later (RFC 9110, section 15.6.4; RFC 8011,
+    /// appendix B.1.5.8).
+    pub(crate) fn is_busy(self) -> bool {
+        matches!(self, ReplyBreach::Http(503) | ReplyBreach::Ipp(0x0507))
+    }
+
+    /// Returns whether the printer doesn't know a job that it was asked about (RFC 8011, appendix B.1.4.7).
+    pub(crate) fn is_not_found(self) -> bool {
+        matches!(self, ReplyBreach::Ipp(0x0406))
+    }
+
+    /// Returns whether there was no reply.
+    pub(crate) fn is_no_reply(self) -> bool {
+        matches!(self, ReplyBreach::Fault(_) | ReplyBreach::NotIpp)
+    }
+}
+
 impl LeftOut {
     /// Returns whether any option is left out.
     pub(crate) fn is_something(self) -> bool {
@@ -59,6 +77,8 @@ pub enum Told {
     Stops,
     /// The printer reports that it prints again.
     Runs,
+    /// The printer's state is read, and it prints: for the first time, or after it was in doubt.
+    Back,
     /// This many impressions of the job are printed.
     Pages(u32),
     /// These options of the job aren't passed on.

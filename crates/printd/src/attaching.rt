@@ -1,6 +1,6 @@
 //! `printd attach`.
-use crate::failure::{cannot, out_of_memory};
-use attach::{PlanWords, WordFault, attach, read_plan};
+use crate::failure::{cannot, cannot_with, out_of_memory};
+use attach::{PlanWords, WordFault, attach, read_plan, try_target};
 use command_line::Attaching;
 use program::ExitStatus;
 use std::io;
@@ -26,6 +26,9 @@ pub(crate) fn run_attach(
         until_closed: attaching.until_closed,
     };
     let plan = read_plan(rt.alloc(), words).map_err(|fault| refuse(rt, fault, words))?;
+    if let Err(error) = try_target(rt.alloc(), rt, &plan) {
+        return Err(cannot_with(rt, "write to", words.to, error));
+    }
     let mut errors = rt.stderr();
     let mut output = rt.stdout();
     match attach(rt.alloc(), rt, plan, &mut errors, &mut output) {

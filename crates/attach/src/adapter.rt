@@ -1,0 +1,501 @@
+//! The turns of an adapter.
+use crate::figures::Figures;
+use crate::line::{Came, ServerLine};
+use crate::log::{Log, Note};
+use crate::overdue::Overdue;
+use attach_orders::{JobOrder, Order, OrderError, OrderItem};
+use attach_printers::{
+    Breach, Caller, Heard, Network, Peer, Place, Printer, Reached, Readiness, Stream,
+};
+use attachment::{Attachment, LoadedMedia, PrinterState};
+use base_types::{JobId, Report, Text};
+use std::alloc::{AllocError, Global};
+use std::rt::Files;
+
+/// The most pieces of the server's stream that a turn reads, and the most items of one piece.
+const PIECES: u32 = 64;
+
+const ITEMS: u32 = 131_072;
+
+/// The longest pause of an adapter, in ms.
+const LONGEST_PAUSE: u64 = 60_000;
+
+/// The pause after a job that the printer failed, in ms.
+const FAILURE_PAUSE: u64 = 1_000;
+
+/// The number of failed jobs in a row after which the printer rests, and for how many ms.
+const FAILURES: u32 = 3;
+
+const REST: u64 = 300_000;
+
+/// The time after which a connection that the server keeps counts as accepted, in ms.
+const ACCEPTED: u64 = 5_000;
+
+/// A device: its name, its server, and what its adapter writes.
+#[derive(Drop)]
+pub struct Device {
+    pub name: String,
+    /// The address of the server's port for devices.
+    pub server: Place,
+    /// Whether a log is written.
+    pub logs: bool,
+    /// Whether the printer's rates and its setup are measured and written.
+    pub measures: bool,
+}
+
+/// An adapter, with its attachment between the server and the printer.
+#[derive(Drop)]
+pub struct Adapter<S: Stream, P: Printer<S>> {
+    alloc: Global,
+    name: String,
+    attachment: Attachment,
+    media: LoadedMedia,
+    line: ServerLine<S>,
+    printer: P,
+    log: Log,
+    figures: Figures,
+    worked: bool,
+    overdue: Overdue,
+    /// The number of jobs that the printer failed since it last printed one.
+    failures: u32,
+    /// Whether the printer was tried.
+    tried: bool,
+    /// Whether the log has it that the printer doesn't print.
+    troubled: bool,
+    /// The moment at which the connection to the server was made, and whether the server sent a byte on it.
+    linked: u64,
+    heard: bool,
+    /// Whether the log has it that the server turned the adapter away.
+    turned_away: bool,
+}
+
+/// Why a turn is stopped.
+#[derive(Clone, Copy)]
+enum Stop {
+    /// The connection to the server ended, or the server sent a line or job that breaks the protocol.
+    Lost,
+    OutOfMemory,
+}
+
+impl From<AllocError> for Stop {
+    fn from(_: AllocError) -> Stop {
+        Stop::OutOfMemory
+    }
+}
+
+impl<S: Stream, P: Printer<S>> Adapter<S, P> {
+    /// Creates the adapter of a device and its printer, which is stopped until it was tried. The only error is
+    /// out of memory.
+    pub fn new(alloc: Global, device: Device, printer: P) -> Result<Adapter<S, P>, AllocError> {
+        let log = Log::new(alloc, device.name.clone()?, device.logs);
+        let mut attachment = Attachment::new(alloc);
+        attachment.set_printer(PrinterState::Stopped);
+        Ok(Adapter {
+            alloc,
+            name: device.name,
+            attachment,
+            media: LoadedMedia::new(alloc),
+            line: ServerLine::new(alloc, Caller::new(alloc, device.server, Peer::Server))?,
+            printer,
+            log,
+            figures: Figures::new(alloc, device.measures),
+            worked: false,
+            overdue: Overdue::none(),
+            failures: 0,
+            tried: false,
+            troubled: false,
+            linked: 0,
+            heard: false,
+            turned_away: false,
+        })
+    }
+
+    /// Takes the result of a wait.
+    pub fn told(&mut self, readiness: Readiness) {
+        self.line.told(readiness);
+        self.printer.told(readiness);
+    }
+
+    /// Removes and returns the lines of the log since the last call.
+    pub fn take_log(&mut self) -> Vec<u8> {
+        self.log.take()
+    }
+
+    /// Removes and returns the measurements since the last call.
+    pub fn take_figures(&mut self) -> Vec<u8> {
+        self.figures.take()
+    }
+
+    /// Takes a turn: connects, reads from the server, goes on with the printer, and sends the reports that
+    /// are due.
+    pub fn turn<F: Files, N: Network<Stream = S>>(&mut self, files: &F, network: &N, now: u64) {
+        self.log.set_now(now);
+        self.figures.set_now(now);
+        self.worked = false;
+        let stop = self.take_turn(files, network, now);
+        if let Err(stop) = stop {
+            self.heed_stop(files, stop, now);
+        }
+    }
+
+    /// Takes the parts of a turn, up to one that stops it.
+    fn take_turn<F: Files, N: Network<Stream = S>>(
+        &mut self,
+        files: &F,
+        network: &N,
+        now: u64,
+    ) -> Result<(), Stop> {
+        self.call_server(network, now)?;
+        self.hear_server(files, now)?;
+        self.turn_printer(files, network, now)?;
+        self.tell_state()?;
+        self.tell_overdue(now)?;
+        self.flush()
+    }
+
+    /// Acts on the reason why a turn was stopped.
+    fn heed_stop<F: Files>(&mut self, files: &F, stop: Stop, now: u64) {
+        match stop {
+            Stop::Lost => self.unlink(files, Breach::Unlinked, now),
+            Stop::OutOfMemory => self.unlink(files, Breach::OutOfMemory, now),
+        }
+    }
+
+    /// Returns the ms until the adapter has work to do without an event.
+    pub fn pause(&self, now: u64) -> u64 {
+        if self.worked || self.printer.has_worked() {
+            return 0;
+        }
+        let line = self.line.pause(now).unwrap_or(LONGEST_PAUSE);
+        let has_job = self.attachment.job().is_some();
+        let printer = self.printer.pause(now, has_job).unwrap_or(LONGEST_PAUSE);
+        let overdue = self.overdue.left(now).unwrap_or(LONGEST_PAUSE);
+        line.min(printer).min(overdue).min(LONGEST_PAUSE)
+    }
+
+    /// Connects to the server, and sends the device's name.
+    fn call_server<N: Network<Stream = S>>(&mut self, network: &N, now: u64) -> Result<(), Stop> {
+        match self.line.turn(network, now) {
+            Reached::Not | Reached::Still => {}
+            Reached::Away => self.log.note(Note::ServerAway),
+            Reached::Now => {
+                self.linked = now;
+                self.heard = false;
+                self.attachment.link();
+                self.media.link();
+                let name = Text::copy_of(self.alloc, self.name.as_bytes())?;
+                self.line.say(&Report::Hello(name))?;
+                self.log.note(Note::Linked);
+            }
+        }
+        Ok(())
+    }
+
+    /// Reads all bytes of the server that are there.
+    fn hear_server<F: Files>(&mut self, files: &F, now: u64) -> Result<(), Stop> {
+        self.turned_away &= !self.is_accepted(now);
+        for _ in 0..PIECES {
+            match self.line.read()? {
+                Came::Nothing => return Ok(()),
+                Came::End => return Err(Stop::Lost),
+                Came::Bytes => self.hear_piece(files, now)?,
+            }
+        }
+        Ok(())
+    }
+
+    /// Acts on the items of a piece.
+    fn hear_piece<F: Files>(&mut self, files: &F, now: u64) -> Result<(), Stop> {
+        self.worked = true;
+        self.heard = true;
+        for _ in 0..ITEMS {
+            match self.line.next_item() {
+                Ok(None) => return Ok(()),
+                Ok(Some(item)) => self.heed(files, item, now)?,
+                Err(OrderError::OutOfMemory) => return Err(Stop::OutOfMemory),
+                Err(OrderError::Fault(fault)) => {
+                    self.log.note(Note::Refused(fault));
+                    return Err(Stop::Lost);
+                }
+            }
+        }
+        Ok(())
+    }
+
+    /// Acts on an item of the server's stream.
+    fn heed<F: Files>(&mut self, files: &F, item: OrderItem, now: u64) -> Result<(), Stop> {
+        match item {
+            OrderItem::Octets => self.take_octets(files, now),
+            OrderItem::Order(order) => self.obey(files, &order, now),
+        }
+    }
+
+    /// Acts on an order of the server.
+    fn obey<F: Files>(&mut self, files: &F, order: &Order, now: u64) -> Result<(), Stop> {
+        match order {
+            Order::Job(order) => self.begin(order, now),
+            Order::Cancel(job) => self.cancel(files, *job, now),
+        }
+    }
+
+    /// Begins a job.
+    fn begin(&mut self, order: &JobOrder, now: u64) -> Result<(), Stop> {
+        let job = order.job.number();
+        if self.attachment.job().is_some() {
+            self.log.note(Note::JobTooEarly(job));
+            return Err(Stop::Lost);
+        }
+        let times = self.printer.times(order);
+        self.attachment.order(order.job, order.octets, times);
+        self.printer.begin(order);
+        self.figures.begin(order);
+        self.overdue = Overdue::begun(self.figures.expected(), now);
+        self.log.note(Note::Began {
+            job,
+            octets: order.octets,
+            copies: order.copies,
+        });
+        Ok(())
+    }
+
+    /// Takes octets of the job, if it is still in hand.
+    fn take_octets<F: Files>(&mut self, files: &F, now: u64) -> Result<(), Stop> {
+        let part = self.line.part();
+        let Some(room) = self.attachment.room() else {
+            return Ok(());
+        };
+        if part.len() > room {
+            return Ok(());
+        }
+        match self.attachment.take(part) {
+            Ok(()) => Ok(()),
+            Err(AllocError) => self.fail(files, Breach::OutOfMemory, now),
+        }
+    }
+
+    /// Gives up the job that the server cancels, if it is in hand.
+    fn cancel<F: Files>(&mut self, files: &F, job: JobId, now: u64) -> Result<(), Stop> {
+        self.attachment.cancel(job);
+        if self.attachment.job() == Some(job) {
+            self.fail(files, Breach::Canceled, now)?;
+        }
+        Ok(())
+    }
+
+    /// Goes on with the printer.
+    fn turn_printer<F: Files, N: Network<Stream = S>>(
+        &mut self,
+        files: &F,
+        network: &N,
+        now: u64,
+    ) -> Result<(), Stop> {
+        match self.printer.turn(files, network, &mut self.attachment, now) {
+            Heard::Nothing => Ok(()),
+            Heard::Away => self.stop(Note::PrinterAway),
+            Heard::Stops => self.stop(Note::PrinterStopped),
+            Heard::Back => Ok(self.run(Note::PrinterBack)),
+            Heard::Runs => Ok(self.run(Note::PrinterRuns)),
+            Heard::LeftOut(left_out) => Ok(self.log.note(Note::LeftOut(left_out))),
+            Heard::Unread(breach) => self.stop(Note::Unread(breach)),
+            Heard::Pages(printed) => self.tell_pages(printed),
+            Heard::Printed(printed) => self.finish(files, printed, now),
+            Heard::Failed(breach) => self.fail(files, breach, now),
+        }
+    }
+
+    /// Records that the printer prints nothing for now.
+    fn stop(&mut self, note: Note) -> Result<(), Stop> {
+        self.figures.leave();
+        self.attachment.set_printer(PrinterState::Stopped);
+        self.tried = true;
+        self.troubled = true;
+        self.log.note(note);
+        self.end_overdue()
+    }
+
+    /// Records that the printer prints. The log has that only if it has trouble before.
+    fn run(&mut self, note: Note) {
+        self.figures.leave();
+        self.attachment.set_printer(PrinterState::Running);
+        self.tried = true;
+        if std::mem::replace(&mut self.troubled, false) {
+            self.log.note(note);
+        }
+    }
+
+    /// Stops the printer, which failed a job, until it was tried again: after a second, and after a longer
+    /// rest if it failed several jobs in a row. The server is told that before the failure, so that it begins
+    /// no other job there.
+    fn distrust(&mut self, breach: Breach, now: u64) -> Result<(), Stop> {
+        self.failures = self.failures.saturating_add(1);
+        self.attachment.set_printer(PrinterState::Stopped);
+        self.tried = true;
+        self.troubled = true;
+        if let Some(report) = self.attachment.tell() {
+            self.line.say(&report)?;
+        }
+        if self.failures < FAILURES {
+            self.printer.doubt(FAILURE_PAUSE, now);
+        } else {
+            self.printer.doubt(REST, now);
+            self.log.note(Note::Rests(self.failures, breach));
+        }
+        Ok(())
+    }
+
+    /// Reports that the printer has printed this many pages of the job.
+    fn tell_pages(&mut self, printed: u32) -> Result<(), Stop> {
+        self.figures.pages(printed);
+        if let Some(report) = self.attachment.pages(printed) {
+            self.line.say(&report)?;
+        }
+        Ok(())
+    }
+
+    /// Reports that the printer has printed the job. If the number of its pages comes only now, that is
+    /// reported first. A job that wasn't sent to its end has failed.
+    fn finish<F: Files>(&mut self, files: &F, printed: Option<u32>, now: u64) -> Result<(), Stop> {
+        if !self.attachment.is_sent() {
+            return self.fail(files, Breach::Broken, now);
+        }
+        if let Some(printed) = printed {
+            self.tell_pages(printed)?;
+        }
+        let report = self.attachment.finish();
+        self.printer.drop_job(files);
+        self.answer(report)
+    }
+
+    /// Reports that the job can't be printed.
+    fn fail<F: Files>(&mut self, files: &F, breach: Breach, now: u64) -> Result<(), Stop> {
+        self.printer.drop_job(files);
+        if let Some(job) = self.attachment.job() {
+            self.log.note(Note::Failed(job.number(), breach));
+        }
+        if breach.is_the_printers() {
+            self.distrust(breach, now)?;
+        }
+        let report = self.attachment.fail();
+        self.answer(report)
+    }
+
+    /// Sends the report that ends a job.
+    fn answer(&mut self, report: Option<Report>) -> Result<(), Stop> {
+        self.worked = true;
+        let Some(report) = report else {
+            return Ok(());
+        };
+        self.end_overdue()?;
+        match &report {
+            Report::Done { job } => {
+                self.failures = 0;
+                self.figures.finish();
+                self.log.note(Note::Done(*job));
+            }
+            _ => self.figures.leave(),
+        }
+        Ok(self.line.say(&report)?)
+    }
+
+    /// Reports the printer's media and state, if the server doesn't know them.
+    fn tell_state(&mut self) -> Result<(), Stop> {
+        if let Some(names) = self.printer.take_media() {
+            self.media.load(names);
+        }
+        if !self.line.is_linked() {
+            return Ok(());
+        }
+        if let Some(report) = self.media.tell()? {
+            self.line.say(&report)?;
+        }
+        if !self.tried {
+            return Ok(());
+        }
+        if let Some(report) = self.attachment.tell() {
+            self.line.say(&report)?;
+        }
+        Ok(())
+    }
+
+    /// Reports that the device is busy, if its job is overdue by the jobs before it.
+    fn tell_overdue(&mut self, now: u64) -> Result<(), Stop> {
+        if let Some(late) = self.overdue.tell(now) {
+            self.line.say(&Report::Busy(late))?;
+        }
+        Ok(())
+    }
+
+    /// Reports that the device isn't busy any more, if the server takes it as busy.
+    fn end_overdue(&mut self) -> Result<(), Stop> {
+        if self.overdue.end() {
+            self.line.say(&Report::Busy(0))?;
+        }
+        Ok(())
+    }
+
+    /// Writes the bytes that are due to the server.
+    fn flush(&mut self) -> Result<(), Stop> {
+        match self.line.flush() {
+            Ok(moved) => {
+                self.worked |= moved;
+                Ok(())
+            }
+            Err(_) => Err(Stop::Lost),
+        }
+    }
+
+    /// Gives up the job in hand, since the adapter ends.
+    pub fn give_up<F: Files>(&mut self, files: &F, now: u64) {
+        self.log.set_now(now);
+        self.figures.leave();
+        let report = self.attachment.fail();
+        self.printer.drop_job(files);
+        if let Some(report) = report {
+            self.tell_given_up(&report);
+        }
+        self.log.note(Note::Ended);
+    }
+
+    /// Reports that a job is given up. If memory for that is refused, the server aborts the job.
+    fn tell_given_up(&mut self, report: &Report) {
+        if let Report::Fail { job } = report {
+            self.log.note(Note::GivenUp(*job));
+        }
+        let _said = self.line.say(report);
+    }
+
+    /// Writes the bytes that are still due to the server, and drops the bytes that come. Returns whether the
+    /// connection is still open.
+    pub fn take_leave(&mut self) -> bool {
+        self.line.take_leave()
+    }
+
+    /// Drops the connection to the server, which is of no more use. The server aborts the job.
+    fn unlink<F: Files>(&mut self, files: &F, breach: Breach, now: u64) {
+        if let Some(job) = self.attachment.job() {
+            self.log.note(Note::Failed(job.number(), breach));
+        }
+        self.line.lose(now);
+        self.figures.leave();
+        self.overdue = Overdue::none();
+        self.printer.drop_job(files);
+        self.attachment.link();
+        self.log.note(Note::Unlinked);
+        self.note_turned_away(now);
+    }
+
+    /// Returns whether the server has accepted the device's name: it sent a byte on the connection, or keeps
+    /// it for a while.
+    fn is_accepted(&mut self, now: u64) -> bool {
+        let kept = now.saturating_sub(self.linked) >= ACCEPTED;
+        self.heard || (kept && self.line.is_linked())
+    }
+
+    /// Notes once that the server closes connections before it accepts the device's name.
+    fn note_turned_away(&mut self, now: u64) {
+        let kept = now.saturating_sub(self.linked) >= ACCEPTED;
+        if !self.heard && !kept && !std::mem::replace(&mut self.turned_away, true) {
+            self.log.note(Note::TurnedAway);
+        }
+    }
+}
