@@ -1,0 +1,95 @@
+//! Folders, in a folder of the test's own.
+use crate::play::{NOTHING, Row, play};
+use crate::script::Step::{Connects, Passes, Sends, Writes};
+use attach_printers::Folder;
+use attach_printers::Peer::Server;
+use std::alloc::AllocError;
+use std::os::unix::fs::{MetadataExt, PermissionsExt};
+use std::test::Fail;
+use std::{fs, io};
+
+/// The folder of the jobs, and a file that is no folder.
+const FOLDER: &str = "attach_tests_printed";
+
+const FILE: &str = "attach_tests_file";
+
+/// Two jobs of the same id, as before and after a restart of the server.
+const TWICE: Row = Row {
+    name: "two jobs of one id",
+    start: NOTHING,
+    steps: &[
+        Connects(Server),
+        Writes(Server, b"HELLO hall\nREADY\n"),
+        Sends(Server, b"JOB 7 5 2 1 iso_a4_210x297mm\nhello"),
+        Passes(2_000),
+        Writes(Server, b"DONE 7\n"),
+        Sends(Server, b"JOB 7 5 1 1 iso_a4_210x297mm\nworld"),
+        Passes(1_000),
+        Writes(Server, b"DONE 7\n"),
+    ],
+    log: "0 linked\n0 job 7 5 2\n2000 done 7\n2000 job 7 5 1\n3000 done 7\n",
+};
+
+/// A folder that can't be written to.
+const AWAY: Row = Row {
+    name: "a folder that can't be written to",
+    start: NOTHING,
+    steps: &[
+        Connects(Server),
+        Writes(Server, b"HELLO hall\nSTOP\n"),
+        Passes(1_000),
+        Passes(2_000),
+        Passes(4_000),
+    ],
+    log: "0 printer away\n0 linked\n",
+};
+
+/// The device's folder.
+fn folder(rt: &HostRuntime, path: &str) -> Result<Folder, AllocError> {
+    let alloc = rt.alloc();
+    let path = String::from_str(alloc, path)?;
+    let name = String::from_str(alloc, "hall")?;
+    Ok(Folder::new(alloc, path, name, None, 1_000))
+}
+
+/// Returns whether a file has these octets, and can be read by its owner alone.
+fn holds(rt: &HostRuntime, path: &str, octets: &[u8]) -> io::Result<bool> {
+    let mode = fs::metadata(rt, path)?.mode() & 0o777;
+    let read = fs::read(rt, path)?;
+    Ok(mode == 0o600 && read.as_slice() == octets)
+}
+
+/// Plays a row in an empty folder. Returns what is wrong.
+fn printed(rt: &HostRuntime) -> io::Result<String> {
+    let _absent = fs::remove_dir_all(rt, FOLDER);
+    let wrong = play(rt.alloc(), rt, TWICE, folder(rt, FOLDER)?)?;
+    if !holds(rt, "attach_tests_printed/7-hall.txt", b"hello")?
+        || !holds(rt, "attach_tests_printed/7-hall-2.txt", b"world")?
+    {
+        return Ok(String::from_str(rt.alloc(), "files")?);
+    }
+    fs::remove_dir_all(rt, FOLDER)?;
+    Ok(wrong)
+}
+
+/// Plays a row at a file that is no folder. Returns what is wrong.
+fn away(rt: &HostRuntime) -> io::Result<String> {
+    fs::write(rt, FILE, b"no folder")?;
+    let wrong = play(rt.alloc(), rt, AWAY, folder(rt, FILE)?)?;
+    fs::remove_file(rt, FILE)?;
+    Ok(wrong)
+}
+
+#[test]
+fn kept_documents(rt: HostRuntime) -> Result<(), Fail> {
+    let wrong = printed(&rt)?;
+    assert!(rt; wrong.is_empty(), "{wrong}");
+    Ok(())
+}
+
+#[test]
+fn folders_that_cant_be_written_to(rt: HostRuntime) -> Result<(), Fail> {
+    let wrong = away(&rt)?;
+    assert!(rt; wrong.is_empty(), "{wrong}");
+    Ok(())
+}
