@@ -2,12 +2,13 @@
 import contextlib
 import re
 import socket
+import stat
 import subprocess
 import threading
 import time
 
 from printer import LATE, RATE_ONE, RATE_TWO, SETUP
-from running import Adapter
+from running import PROGRAM, Adapter
 from scripted_server import Printer, ScriptedServer, attached, free_port
 
 DOCUMENT = bytes(n % 251 for n in range(20_000))
@@ -50,8 +51,10 @@ WAITS = [
     ("socket", "open", [], "DONE 1", 30),
     ("socket", "stall", [], "FAIL 1", 300),
 ]
-# after how many seconds what was away is there, and after how many it is reached: 1 + 2 + 4 + 8 + 16 + 30 + 30
+# after how many seconds what was away is there, and after how many it is reached: a server by pauses of 30 s at
+# most, 1 + 2 + 4 + 8 + 16 + 30 + 30, and a printer by pauses of 60 s at most, 1 + 2 + 4 + 8 + 16 + 32
 AWAY, REACHED = 63, 91
+PRINTER_AWAY, PRINTER_REACHED = 35, 63
 TURNED_AWAY = [1, 2, 4, 8, 16, 30]
 
 
@@ -83,6 +86,64 @@ def play_folder(folder):
     good = 1.9 < took < 2.8 and seen in ([[".1-window.txt.part"], ["1-window.txt"]], [[".1-window.txt.part"]])
     good = good and [path.name for path in kept.iterdir()] == ["1-window.txt"]
     return good, f"{' then '.join(', '.join(names) for names in seen)}; DONE 1 after {took:.1f} s", peak
+
+
+def play_no_folder(folder):
+    """What is said at the start of a folder that can't be written to."""
+    (folder / "file").write_bytes(b"")
+    words = [str(PROGRAM), "attach", "--name", "window", "--to", f"file:{folder / 'file'}", "--turns", "20"]
+    ended = subprocess.run(words, capture_output=True, text=True, timeout=60)
+    said = ended.stderr.strip()
+    return ended.returncode == 3 and str(folder / "file") in said and said.count("\n") == 0, f"status {ended.returncode}, {said[-120:]}", 0
+
+
+def play_kept(folder):
+    """What becomes of the document of an earlier job of the same id, as after a restart of the server."""
+    kept = folder / "kept"
+    with attached(f"file:{kept}", folder) as (server, adapter):
+        moments = [0.0]
+        for document in (b"first", b"second", b"third"):
+            server.bring(1, document)
+            moments.append(server.moment_of("DONE 1", since=moments[-1] + 1e-6) or 1e12)
+        printed, peak = moments[-1] < 1e12, adapter.peak_kib()
+    found = {path.name: path.read_bytes() for path in sorted(kept.iterdir())}
+    modes = {stat.S_IMODE(path.stat().st_mode) for path in kept.iterdir()}
+    wanted = {"1-window.txt": b"first", "1-window-2.txt": b"second", "1-window-3.txt": b"third"}
+    return printed and found == wanted and modes == {0o600}, ", ".join(found), peak
+
+
+def play_folder_lost(folder):
+    """What the server is told where a folder can't be written to for a while, and when it is tried again."""
+    kept = folder / "kept"
+    with attached(f"file:{kept}", folder) as (server, adapter):
+        good = server.moment_of("READY") is not None and server.has_printed(1, b"first")
+        kept.rename(folder / "moved")
+        kept.write_bytes(b"")
+        server.bring(2, b"second")
+        failed = server.moment_of("FAIL 2") or 0
+        time.sleep(4)
+        kept.unlink()
+        ready = server.moment_of("READY", 10, since=failed) or 0
+        good = good and server.has_printed(3, b"third")
+        lines, log, peak = server.lines(), adapter.log.read_text(), adapter.peak_kib()
+    told = ["READY", "DONE 1", "STOP", "FAIL 2", "READY", "DONE 3"]
+    good = good and lines == told and log.count("printer away") == 1 and 6.5 < ready - failed < 8.5
+    return good, f"{', '.join(lines)}; READY after {ready - failed:.1f} s", peak
+
+
+def play_words(folder):
+    """What is said without a log: of a printer that is away, and of a server that is."""
+    port, printer = free_port(), free_port()
+    words = [str(PROGRAM), "attach", "--name", "window", "--server", f"127.0.0.1:{port}", "--to", f"socket://127.0.0.1:{printer}"]
+    with open(folder / "said", "w") as said, subprocess.Popen(words, stderr=said) as process:
+        time.sleep(5)
+        with ScriptedServer(port=port) as server, socket.create_server(("127.0.0.1", printer)):
+            ready = server.moment_of("READY", 20) is not None
+            time.sleep(1)
+        process.terminate()
+    lines = sorted(line.removeprefix("printd attach window: ") for line in (folder / "said").read_text().splitlines())
+    wanted = ["the printer can't be reached; it is tried again", "the printer prints again", "the server can't be reached; it is tried again", "the server is there"]
+    return ready and lines[:4] == wanted, "; ".join(lines), 0
 
 
 def play_copies(to, order, wanted, folder):
@@ -156,15 +217,15 @@ def play_server_away(folder):
 def play_printer_away(to, folder):
     """When a job is printed whose printer comes late, and what the server and the log are told."""
     words = ["--pjl"] if to == "pjl" else []
-    with Printer(to, folder / "kept", late=AWAY) as printer, attached(printer.address, folder, words) as (server, adapter):
+    with Printer(to, folder / "kept", late=PRINTER_AWAY) as printer, attached(printer.address, folder, words) as (server, adapter):
         begun = time.time()
         server.bring(1, DOCUMENT)
-        done = server.moment_of("DONE 1", REACHED + 40)
+        done = server.moment_of("DONE 1", PRINTER_REACHED + 40)
         lines, peak = server.lines(), adapter.peak_kib()
     took, log = (done or 0) - begun, adapter.log.read_text()
     told = [line for line in lines if not line.startswith(("MEDIA", "PAGES"))]
     good = told in (["READY", "STOP", "READY", "DONE 1"], ["STOP", "READY", "DONE 1"]) and log.count("printer away") == 1
-    good = good and REACHED - 1 < took < REACHED + 4
+    good = good and PRINTER_REACHED - 1 < took < PRINTER_REACHED + 4
     return good, f"{', '.join(told)} after {took:.1f} s, {log.count('printer away')} line of it", peak
 
 
@@ -254,6 +315,10 @@ def rows():
     yield "file --format application/pdf", lambda folder: play_front(b"hello", "pdf", ["--format", "application/pdf"], folder)
     yield "file --format image/tiff", lambda folder: play_front(b"hello", "bin", ["--format", "image/tiff"], folder)
     yield "file beside, then whole", play_folder
+    yield "file, a folder that can't be written to", play_no_folder
+    yield "file, documents that are kept", play_kept
+    yield "file, a folder that is lost for a while", play_folder_lost
+    yield "words without a log", play_words
     order = {"copies": 3, "sides": "S"}
     asked = rb"@PJL SET COPIES=3\r\n@PJL SET DUPLEX=ON\r\n@PJL SET BINDING=SHORTEDGE\r\n"
     pjl = [asked, rb"@PJL JOB .*@PJL USTATUS JOB=ON.*@PJL USTATUS PAGE=ON.*@PJL USTATUS DEVICE=ON", rb"@PJL EOJ"]

@@ -24,7 +24,13 @@ is well:
     huge         its reply's body has 100 megabytes
     denied       it answers 401 before the document has come
     failed       it answers 500
-    busy         it answers server-error-busy
+    busy         it answers server-error-busy, twice
+    occupied     it answers 503, with Retry-After, three times
+    waits        it takes the job, and answers 503 and server-error-busy where it is asked for it first
+    lost         it takes the job, prints it, and doesn't know it then
+    others       it takes the job, and answers for another job, and to another request, where it is asked for it first
+    trickle      it takes the job, and never ends its reply where it is asked for it
+    secretive    it takes the job, and closes each connection on which it is asked for it
     aborted      it takes the job, and aborts it
     stuck        it takes the job, and never ends it
     deaf         it takes the job, and doesn't answer where it is asked for it
@@ -108,6 +114,12 @@ def reply(body):
     return b"HTTP/1.1 200 OK\r\nContent-Length: %d\r\n\r\n" % len(body) + body
 
 
+def other_request(group):
+    """A reply to another request, with this group."""
+    body = message(0, group)
+    return body[:4] + struct.pack(">i", 2) + body[8:]
+
+
 def chunked(body):
     """The same in chunks, with extensions and a trailer, behind an interim reply."""
     parts = [body[at : at + 7] for at in range(0, len(body), 7)]
@@ -115,11 +127,16 @@ def chunked(body):
     return b"HTTP/1.1 102 Wait\r\n\r\nHTTP/1.1 200 OK\r\ntransfer-encoding: Chunked\r\n\r\n" + chunks + b"0\r\nx: y\r\n\r\n"
 
 
+# that the printer is busy, by HTTP; a completed job of another id
+UNAVAILABLE = b"HTTP/1.1 503 Service Unavailable\r\nRetry-After: 1\r\nContent-Length: 0\r\n\r\n"
+OTHER_JOB = message(0, b"\x02" + attribute(INTEGER, b"job-id", 99) + attribute(ENUM, b"job-state", 9))
+
+
 class Printer:
     """The jobs, with the fault of each and when it came."""
 
     def __init__(self, folder, faults):
-        self.folder, self.faults, self.jobs, self.ended, self.forgotten = folder, faults, [], {}, 0
+        self.folder, self.faults, self.jobs, self.ended, self.forgotten, self.refused = folder, faults, [], {}, 0, 0
 
     def fault(self, job):
         return self.faults[job - 1] if job <= len(self.faults) else "well"
@@ -221,7 +238,13 @@ def answer_job(printer, connection, pieces, sides):
             time.sleep(3600)
     path.write_bytes(taken)
     printer.jobs[-1] = (time.time(), len(taken), sides)
-    done = message(0x0507 if fault == "busy" else 0, b"" if fault == "busy" else printer.job(number))
+    if printer.refused < {"busy": 2, "occupied": 3}.get(fault, 0):
+        printer.refused += 1
+        if printer.refused < 3:
+            printer.jobs.pop()
+        connection.sendall(UNAVAILABLE if fault == "occupied" else reply(message(0x0507)))
+        return
+    done = message(0, printer.job(number))
     if fault == "mute":
         time.sleep(3600)
     connection.sendall(said_of(fault, done))
@@ -234,6 +257,22 @@ def answer_of_job(printer, connection, operation, job):
         printer.ended[job] = 7
     elif printer.fault(job) == "deaf":
         time.sleep(3600)
+    elif printer.fault(job) == "secretive":
+        return
+    elif printer.fault(job) == "trickle":
+        connection.sendall(b"HTTP/1.1 200 OK\r\n")
+        while True:
+            connection.sendall(b"x: y\r\n")
+            time.sleep(0.5)
+    elif printer.fault(job) == "lost" and printer.pages(job)[0] >= printer.pages(job)[1]:
+        connection.sendall(reply(message(0x0406)))
+        return
+    elif printer.fault(job) in ("waits", "others"):
+        printer.forgotten += 1
+        early = {"waits": [UNAVAILABLE, reply(message(0x0507))], "others": [reply(OTHER_JOB), reply(other_request(printer.job(job)))]}
+        if printer.forgotten <= 2:
+            connection.sendall(early[printer.fault(job)][printer.forgotten - 1])
+            return
     elif printer.fault(job) == "forgetful":
         printer.forgotten += 1
         if printer.forgotten <= 3:

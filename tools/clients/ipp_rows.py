@@ -50,8 +50,8 @@ TICKETS = [
     (NOTHING, EVERYTHING, {}, "left out copies sides media finishings"),
     (NOTHING, {}, {"copies": [1]}, "left out sides media"),
 ]
-# what a printer does with a job, after which it has to be asked for its state at once
-FAULTS = ["busy", "failed", "denied", "early", "closed", "garbage", "aborted", "mute", "deaf"]
+# what a printer does with a job, after which it has to be asked for its state a second later
+FAULTS = ["failed", "denied", "early", "closed", "garbage", "aborted", "mute", "deaf"]
 
 
 def stops(printer, folder, state, reasons, wanted):
@@ -119,7 +119,7 @@ def play_fault(fault, folder):
         failed = server.moment_of("FAIL 1", 30)
         time.sleep(2)
         asked = [request["moment"] - (failed or 0) for request in printer.requests(GET_PRINTER)[early:]]
-        good = failed is not None and any(-0.5 < after < 1 for after in asked) and server.has_printed(2, DOCUMENT)
+        good = failed is not None and any(0.5 < after < 1.8 for after in asked) and server.has_printed(2, DOCUMENT)
         peak = adapter.peak_kib()
     return good, f"FAIL 1; asked {', '.join(f'{after:.2f}' for after in asked) or 'not for 2'} s after it; DONE 2", peak
 

@@ -24,6 +24,8 @@ import sys
 import threading
 import time
 
+from printer import next_job
+
 FIRST = 1000
 GOOD, BAD = b"\0", b"\1"
 # the part that is refused, by its place
@@ -77,7 +79,7 @@ def main():
     folder.mkdir(parents=True, exist_ok=True)
     with socket.create_server(("127.0.0.1", port)) as listener:
         for number in range(1, 1_000_000):
-            connection, _ = listener.accept()
+            connection = next_job(listener)
             fault = faults[number - 1] if number <= len(faults) else "well"
             threading.Thread(target=keep, args=(connection, fault, folder / str(number)), daemon=True).start()
 

@@ -28,6 +28,7 @@ closes. FAULT N of the list is what it does at connection N instead, and after t
 
 It ends with SIGTERM.
 """
+import contextlib
 import pathlib
 import re
 import socket
@@ -47,7 +48,9 @@ JOB_ENDS = b"@PJL EOJ"
 SETUP, RATE_ONE, RATE_TWO = 0.5, 0.2, 0.15
 # what stands before a job's octets
 HEAD = re.compile(rb"@PJL SET DUPLEX=(?:OFF|ON\r\n@PJL SET BINDING=[A-Z]+)\r\n")
-TELLING = ("pjl", "rated", "jam", "given-up", "mute", "names", "boasts")
+TELLING = ("pjl", "rated", "jam", "given-up", "mute", "names", "boasts", "foreign", "unnamed")
+# the name of a job, by its head
+NAME = re.compile(rb'@PJL JOB NAME="([^"]*)"')
 
 
 def rest_of(connection, taken):
@@ -107,6 +110,15 @@ def print_pages(connection, fault, taken):
     return pages
 
 
+def tell_end(connection, fault, pages, taken):
+    """Tells that the job has ended, by its name."""
+    if fault == "foreign":
+        tell(connection, b"JOB", b"END", b'NAME="another"', b"PAGES=3")
+        time.sleep(1)
+    name = [] if fault == "unnamed" else [b'NAME="%s"' % NAME.search(taken)[1]]
+    tell(connection, b"JOB", b"END", *name, b"PAGES=%d" % pages)
+
+
 def serve_telling(connection, fault, taken):
     """Takes a job wrapped in PJL, and tells of it."""
     pages = 0
@@ -114,7 +126,8 @@ def serve_telling(connection, fault, taken):
         for _ in range(2):
             tell(connection, b"JOB", b"START", b'NAME="%s"' % (b"n" * 10_000))
     tell_state(connection, 10001, b"Ready")
-    tell(connection, b"JOB", b"START", b'NAME="a job"')
+    if fault == "foreign":
+        tell(connection, b"JOB", b"END", b'NAME="another"', b"PAGES=3")
     while JOB_ENDS not in taken[-200:] and (part := connection.recv(65536)):
         taken.extend(part)
         if fault not in ("rated", "boasts"):
@@ -124,7 +137,7 @@ def serve_telling(connection, fault, taken):
     if fault in ("rated", "boasts"):
         pages = print_pages(connection, fault, taken)
     if fault != "mute":
-        tell(connection, b"JOB", b"END", b'NAME="a job"', b"PAGES=%d" % pages)
+        tell_end(connection, fault, pages, taken)
     rest_of(connection, taken)
 
 
@@ -172,6 +185,16 @@ def keep(connection, fault, path):
         path.write_bytes(taken)
 
 
+def next_job(listener):
+    """The next connection that brings something. One that is closed before that only tries the printer."""
+    while True:
+        connection, _ = listener.accept()
+        with contextlib.suppress(OSError):
+            if connection.recv(1, socket.MSG_PEEK):
+                return connection
+        connection.close()
+
+
 def main():
     port, folder, faults = int(sys.argv[1]), pathlib.Path(sys.argv[2]), sys.argv[3:]
     folder.mkdir(parents=True, exist_ok=True)
@@ -182,7 +205,7 @@ def main():
         listener.bind(("127.0.0.1", port))
         listener.listen()
         for number in range(1, 1_000_000):
-            connection, _ = listener.accept()
+            connection = next_job(listener)
             fault = faults[number - 1] if number <= len(faults) else "well"
             threading.Thread(target=keep, args=(connection, fault, folder / str(number)), daemon=True).start()
 

@@ -105,7 +105,13 @@ ROWS = [
     Row("ipp", "long", ["fail 1 too long a reply"]),
     Row("ipp", "huge", ["fail 1 too long a reply"]),
     Row("ipp", "denied", ["fail 1 http 401"]),
-    Row("ipp", "busy", ["fail 1 ipp 0x0507"]),
+    Row("ipp", "busy", ["done 1"]),
+    Row("ipp", "occupied", ["fail 1 http 503"]),
+    Row("ipp", "waits", ["done 1"]),
+    Row("ipp", "lost", ["done 1"]),
+    Row("ipp", "others", ["done 1"]),
+    Row("ipp", "trickle", ["fail 1 silent"]),
+    Row("ipp", "secretive", ["fail 1 silent"]),
     Row("ipp", "aborted", ["fail 1 given up"]),
     Row("ipp", "stuck", ["fail 1 canceled"], cancels=True),
     Row("ipp", "stopped", ["printer stopped", "done 1", "printer runs"]),
@@ -117,6 +123,8 @@ ROWS = [
     Row("ipp", "forgetful", ["done 1"]),
     Row("pjl", "names", ["done 1"]),
     Row("pjl", "boasts", ["done 1"]),
+    Row("pjl", "foreign", ["done 1"]),
+    Row("pjl", "unnamed", ["done 1"]),
     *(Row("pjl", f"code-{code}", ["printer stopped", "printer runs", "done 1"]) for code in (40021, 41213, 42000, 43005, 50000)),
     *(Row("pjl", f"code-{code}", ["done 1"]) for code in (10003, 30016, 35075, 39999)),
     *(Row(to, "well", ["done 1"], LARGEST) for to in ("file", "socket", "lpd", "ipp")),
@@ -249,7 +257,8 @@ def play(row, folder):
         with Adapter("window", tap.port, address, folder / "adapter.log", words) as adapter:
             notes = print_two(server, adapter, row, contents)
             peak, told = adapter.peak_kib(), tap.lines_until(2)
-    wanted = [*row.says, "done 2"]
+    failed = any(one.startswith("fail") for one in row.says) and not row.cancels
+    wanted = [*row.says, *(["printer back"] if failed else []), "done 2"]
     good = len(notes) == len(wanted) and all(re.fullmatch(one, note) for one, note in zip(wanted, notes))
     answers = [line for line in told if line.startswith(("DONE", "FAIL"))]
     good = good and answers == ["DONE 1" if "done 1" in notes else "FAIL 1", "DONE 2"]
