@@ -1,9 +1,9 @@
-//! The columns of a list.
+//! The columns of a list, and their names.
 
 /// A column of a list.
 #[derive(Clone, Copy, Debug, PartialEq, Eq)]
 pub enum Column {
-    /// The moment at which the job comes, in ms from the beginning of the list.
+    /// When the job comes.
     Moment,
     /// The impressions of one copy.
     Impressions,
@@ -19,56 +19,66 @@ pub enum Column {
     Printer,
 }
 
-impl Column {
-    /// All columns.
-    const ALL: [Column; 10] = [
-        Column::Moment,
-        Column::Impressions,
-        Column::Octets,
-        Column::Copies,
-        Column::Sides,
-        Column::Media,
-        Column::Format,
-        Column::Finishings,
-        Column::Priority,
-        Column::Printer,
-    ];
+/// The names of the columns, in lower case and without spaces, `-` and `_`.
+const NAMES: [(&str, Column); 19] = [
+    ("moment", Column::Moment),
+    ("time", Column::Moment),
+    ("timestamp", Column::Moment),
+    ("datetime", Column::Moment),
+    ("impressions", Column::Impressions),
+    ("pages", Column::Impressions),
+    ("octets", Column::Octets),
+    ("bytes", Column::Octets),
+    ("copies", Column::Copies),
+    ("sides", Column::Sides),
+    ("duplex", Column::Sides),
+    ("media", Column::Media),
+    ("papersize", Column::Media),
+    ("paper", Column::Media),
+    ("format", Column::Format),
+    ("finishings", Column::Finishings),
+    ("priority", Column::Priority),
+    ("printer", Column::Printer),
+    ("printername", Column::Printer),
+];
 
-    /// The name of the column.
-    fn name(self) -> &'static str {
-        match self {
-            Column::Moment => "moment",
-            Column::Impressions => "impressions",
-            Column::Octets => "octets",
-            Column::Copies => "copies",
-            Column::Sides => "sides",
-            Column::Media => "media",
-            Column::Format => "format",
-            Column::Finishings => "finishings",
-            Column::Priority => "priority",
-            Column::Printer => "printer",
+/// The names that stand for a column only where no other name does: a log with a paper size has the size of
+/// the file as `Size`.
+const SPARE_NAMES: [(&str, Column); 2] = [("date", Column::Moment), ("size", Column::Media)];
+
+/// The column with a name of a table.
+fn column_in(names: &[(&str, Column)], name: &[u8]) -> Option<Column> {
+    for &(known, column) in names {
+        if known.as_bytes() == name {
+            return Some(column);
         }
     }
+    None
+}
 
-    /// The column with a name.
+impl Column {
+    /// The column with a name, which has no upper case, no spaces, `-` and `_`.
     pub(crate) fn named(name: &[u8]) -> Option<Column> {
-        for &column in &Column::ALL {
-            if column.name().as_bytes() == name {
-                return Some(column);
-            }
-        }
-        None
+        column_in(&NAMES, name)
+    }
+
+    /// The column for which a name stands where no other name does.
+    pub(crate) fn named_in_spare(name: &[u8]) -> Option<Column> {
+        column_in(&SPARE_NAMES, name)
     }
 
     /// The words for the values of the column.
     pub(crate) fn wanted(self) -> &'static str {
         match self {
-            Column::Moment => "moment is a number of ms, 0 to 281,474,976,710,656",
+            Column::Moment =>
+                "a moment is a number of ms, 0 to 281,474,976,710,656, or as 08:01:12, 2026-11-28 08:01:12 or 2026-11-28T08:01:12+01:00",
             Column::Impressions => "impressions are 1 to 10,000",
             Column::Octets => "octets are 0 to 16,777,216",
             Column::Copies => "copies are 1 to 999",
-            Column::Sides => "sides is one-sided, two-sided-long-edge or two-sided-short-edge",
-            Column::Media => "media is the name of a medium, of 64 bytes at most",
+            Column::Sides =>
+                "sides is one-sided, two-sided-long-edge or two-sided-short-edge, or says yes or no to two sides",
+            Column::Media =>
+                "no device has this medium, and it is no name of a medium, as iso_a4_210x297mm or A4",
             Column::Format => "format is a media type, of 64 bytes at most",
             Column::Finishings =>
                 "finishings are staple, punch and bind, each once, with a space between two",

@@ -2,7 +2,9 @@
 
 use crate::column::Column;
 use crate::fault::{LineError, ListFault};
-use crate::field::{finishings_named, number_in, up_to};
+use crate::field::{finishings_named, number_in, sides_named, up_to};
+use crate::medium::medium_of;
+use crate::moment::{Stamp, stamp_of};
 use base_types::{Finishings, Limits, Needs, PrinterId, Sides, Text};
 use job_objects::estimated_impressions;
 use settings_file::{PrinterSettings, Settings};
@@ -21,7 +23,7 @@ pub struct ListedJob {
 /// The fields of a job so far. A missing one has its default.
 #[derive(Clone, Copy)]
 pub(crate) struct Draft<'a> {
-    moment: Option<u64>,
+    moment: Option<Stamp>,
     impressions: Option<u32>,
     octets: Option<u32>,
     copies: u32,
@@ -31,6 +33,8 @@ pub(crate) struct Draft<'a> {
     finishings: Finishings,
     priority: u32,
     printer: usize,
+    /// Whether the job names another printer than the only one of the settings.
+    pub(crate) is_of_another: bool,
 }
 
 /// The number in a column's field, if the column allows it.
@@ -64,6 +68,7 @@ impl<'a> Draft<'a> {
             finishings: Finishings::none(),
             priority: u32::from(Limits::DEFAULT_PRIORITY),
             printer: 0,
+            is_of_another: false,
         }
     }
 
@@ -80,10 +85,9 @@ impl<'a> Draft<'a> {
         let taken = match column {
             Column::Impressions | Column::Octets | Column::Copies | Column::Priority =>
                 self.take_number(column, field),
-            Column::Sides | Column::Finishings | Column::Printer => self.take_words(
-                column, field, settings,
-            ),
-            Column::Moment | Column::Media | Column::Format => self.take_other(column, field),
+            Column::Sides | Column::Finishings => self.take_words(column, field),
+            Column::Media | Column::Printer => self.take_named(column, field, settings),
+            Column::Moment | Column::Format => self.take_other(column, field),
         };
         taken.ok_or(ListFault::Field(column))
     }
@@ -101,23 +105,47 @@ impl<'a> Draft<'a> {
     }
 
     /// Takes a field with known words. Returns `None` if the column doesn't allow the field.
-    fn take_words(&mut self, column: Column, field: &[u8], settings: &Settings) -> Option<()> {
+    fn take_words(&mut self, column: Column, field: &[u8]) -> Option<()> {
         match column {
-            Column::Sides => self.sides = Sides::of_keyword(field)?,
-            Column::Finishings => self.finishings = finishings_named(field)?,
-            _ => self.printer = settings.printer_named(field)?.place(),
+            Column::Sides => self.sides = sides_named(field)?,
+            _ => self.finishings = finishings_named(field)?,
         }
         Some(())
     }
 
-    /// Takes a moment, or a field with any word. Returns `None` if the column doesn't allow the field.
+    /// Takes a field with a name that the settings may have. Returns `None` if the column doesn't allow the
+    /// field.
+    fn take_named(&mut self, column: Column, field: &'a [u8], settings: &Settings) -> Option<()> {
+        match column {
+            Column::Media => self.media = Some(medium_of(field, settings)?),
+            _ => self.take_printer(field, settings)?,
+        }
+        Some(())
+    }
+
+    /// Takes the name of a printer. If the settings have one printer alone, each name means it. Returns `None`
+    /// if the name means none.
+    fn take_printer(&mut self, field: &[u8], settings: &Settings) -> Option<()> {
+        match settings.printer_named(field) {
+            Some(printer) => self.printer = printer.place(),
+            None if settings.printers.len() == 1 => self.is_of_another = true,
+            None => return None,
+        }
+        Some(())
+    }
+
+    /// Takes a moment or a format. Returns `None` if the column doesn't allow the field.
     fn take_other(&mut self, column: Column, field: &'a [u8]) -> Option<()> {
         match column {
-            Column::Moment => self.moment = Some(text::number_up_to(field, Limits::LAST_MOMENT)?),
-            Column::Media => self.media = Some(up_to(field, Limits::MEDIA_BYTES)?),
+            Column::Moment => self.moment = Some(stamp_of(field)?),
             _ => self.format = Some(up_to(field, Limits::FORMAT_BYTES)?),
         }
         Some(())
+    }
+
+    /// The moment of the job, if it has one.
+    pub(crate) fn stamp(&self) -> Option<Stamp> {
+        self.moment
     }
 
     /// The impressions of one copy, if the length is given.
@@ -153,19 +181,20 @@ impl<'a> Draft<'a> {
         })
     }
 
-    /// The job of the fields, if it has a moment and a length, and there is a printer.
+    /// The job of the fields, if it has a moment and a length, and there is a printer. Its moment counts from
+    /// the first moment of the form in which the list has them.
     pub(crate) fn job(&self, alloc: Global, settings: &Settings) -> Result<ListedJob, LineError> {
         let Some(moment) = self.moment else {
-            return Err(LineError::Fault(ListFault::NoMoment));
+            return Err(LineError::from(ListFault::NoMoment));
         };
         let Some(impressions) = self.impressions() else {
-            return Err(LineError::Fault(ListFault::NoLength));
+            return Err(LineError::from(ListFault::NoLength));
         };
         let Some(printer) = settings.printers.get(self.printer) else {
-            return Err(LineError::Fault(ListFault::Field(Column::Printer)));
+            return Err(LineError::from(ListFault::Field(Column::Printer)));
         };
         Ok(ListedJob {
-            moment,
+            moment: moment.millis,
             priority: u8::try_from(self.priority).unwrap_or(Limits::DEFAULT_PRIORITY),
             needs: self.needs(alloc, printer, impressions)?,
         })

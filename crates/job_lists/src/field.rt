@@ -1,7 +1,7 @@
 //! The values of fields.
 ghost use Rattle.std.specs.Prelude.{◌≤◌, ◌<◌, ◌^◌, ◌-◌, IfSome};
 
-use base_types::Finishings;
+use base_types::{Finishings, Sides};
 use printer_objects::Finishing;
 
 /// The number of a field, from `least` to `most`.
@@ -42,6 +42,43 @@ pub(crate) fn finishings_named(field: &[u8]) -> Option<Finishings> {
         found = with_word(found, word)?;
     }
     Some(found)
+}
+
+/// Words for the sides of a job, as people, drivers and logs write them.
+const SIDES: [(&str, Sides); 23] = [
+    ("one-sided", Sides::One),
+    ("two-sided-long-edge", Sides::LongEdge),
+    ("two-sided-short-edge", Sides::ShortEdge),
+    ("yes", Sides::LongEdge),
+    ("y", Sides::LongEdge),
+    ("true", Sides::LongEdge),
+    ("1", Sides::LongEdge),
+    ("duplex", Sides::LongEdge),
+    ("two-sided", Sides::LongEdge),
+    ("double-sided", Sides::LongEdge),
+    ("long-edge", Sides::LongEdge),
+    ("duplexnotumble", Sides::LongEdge),
+    ("short-edge", Sides::ShortEdge),
+    ("duplextumble", Sides::ShortEdge),
+    ("no", Sides::One),
+    ("n", Sides::One),
+    ("false", Sides::One),
+    ("0", Sides::One),
+    ("none", Sides::One),
+    ("simplex", Sides::One),
+    ("single-sided", Sides::One),
+    ("not duplex", Sides::One),
+    ("not-duplex", Sides::One),
+];
+
+/// The sides of a word, in upper or lower case.
+pub(crate) fn sides_named(field: &[u8]) -> Option<Sides> {
+    for &(word, sides) in &SIDES {
+        if word.as_bytes().eq_ignore_ascii_case(field) {
+            return Some(sides);
+        }
+    }
+    None
 }
 
 /// A field of at most `most` bytes.

@@ -1,8 +1,10 @@
 //! The jobs of a text.
 
-use crate::column::Column;
 use crate::draft::{Draft, ListedJob};
-use crate::fault::{LineError, ListError, ListFault};
+use crate::fault::{FaultPlace, LineError, ListError, ListFault};
+use crate::head::{FromHead, Head, from_head, name_at};
+use crate::moment::{Clock, Stamp};
+use base_types::Limits;
 use csv::{ByteRecord, Error, ErrorKind, Reader, ReaderBuilder};
 use settings_file::Settings;
 use std::alloc::Global;
@@ -10,140 +12,248 @@ use std::alloc::Global;
 /// The most jobs of a list.
 pub const MOST_JOBS: usize = 100_000;
 
-/// The error of a record that can't be read. A text in memory has no other errors.
-fn unread(error: &Error) -> ListError {
-    match error.kind() {
-        ErrorKind::UnequalLengths { pos: Some(pos), .. } => ListError::Fault {
-            line: pos.line(),
-            fault: ListFault::FieldCount,
-        },
-        _ => ListError::OutOfMemory,
-    }
+/// A list of jobs.
+#[derive(Drop)]
+pub struct JobList {
+    /// The jobs, by rising moment; those of one moment in the order of the list.
+    pub jobs: Vec<ListedJob>,
+    /// The names of the columns that were ignored.
+    pub ignored: Vec<String>,
+    /// Whether a job named another printer than the only one of the settings.
+    pub names_others: bool,
 }
 
-/// Reads the next record. Returns whether there was one.
-fn read_row(reader: &mut Reader<&[u8]>, row: &mut ByteRecord) -> Result<bool, ListError> {
-    match reader.read_byte_record(row) {
-        Ok(found) => Ok(found),
-        Err(error) => Err(unread(&error)),
-    }
-}
-
-/// The line at which a record begins.
-fn line_of(row: &ByteRecord) -> u64 {
-    match row.position() {
-        Some(position) => position.line(),
-        None => 0,
-    }
-}
-
-/// The column of a name, which isn't among the columns yet.
-fn next_column(columns: &[Column], name: &[u8]) -> Result<Column, ListFault> {
-    let column = Column::named(name).ok_or(ListFault::UnknownColumn)?;
-    if columns.contains(&column) {
-        return Err(ListFault::ColumnTwice);
-    }
-    Ok(column)
-}
-
-/// The columns of the first line.
-fn columns_of(alloc: Global, header: &ByteRecord) -> Result<Vec<Column>, LineError> {
-    let mut columns = Vec::new(alloc);
-    for name in header.iter() {
-        let column = next_column(&columns, name)?;
-        columns.push(column)?;
-    }
-    Ok(columns)
-}
-
-/// The job of a line.
-fn job_of(
+/// The lines of a list that were read.
+#[derive(Drop)]
+struct Lines<'a> {
     alloc: Global,
-    columns: &[Column],
-    row: &ByteRecord,
-    settings: &Settings,
-) -> Result<ListedJob, LineError> {
-    let mut draft = Draft::new();
-    for (place, column) in columns.iter().enumerate() {
-        if let Some(field) = row.get(place) {
-            draft.take(*column, field, settings)?;
+    settings: &'a Settings,
+    head: &'a Head<'a>,
+    jobs: Vec<ListedJob>,
+    /// The form of the moments, which the first job has.
+    clock: Option<Clock>,
+    names_others: bool,
+}
+
+/// The records of a list, and the first of them.
+#[derive(Drop)]
+struct Records<'a> {
+    reader: Reader<&'a [u8]>,
+    /// The most records that there are.
+    most: usize,
+    /// The number of lines before the first record.
+    skipped: u64,
+}
+
+/// The fault of a line.
+fn fault_at(line: u64, column: Option<String>, fault: ListFault) -> ListError {
+    ListError::Fault {
+        place: FaultPlace { line, column },
+        fault,
+    }
+}
+
+/// The error of a line of a list with this head.
+fn error_at(alloc: Global, head: &ByteRecord, line: u64, error: LineError) -> ListError {
+    match error {
+        LineError::Fault {
+            place: Some(place),
+            fault,
+        } => match name_at(alloc, head, place) {
+            Ok(name) => fault_at(line, Some(name), fault),
+            Err(_) => ListError::OutOfMemory,
+        },
+        LineError::Fault { place: None, fault } => fault_at(line, None, fault),
+        LineError::OutOfMemory => ListError::OutOfMemory,
+    }
+}
+
+impl<'a> Records<'a> {
+    /// The records of a text from its head on.
+    fn new(alloc: Global, found: FromHead<'a>) -> Records<'a> {
+        let mut builder = ReaderBuilder::new();
+        builder.has_headers(false).delimiter(found.separator);
+        Records {
+            reader: builder.from_reader(alloc, found.text),
+            most: found.text.len(),
+            skipped: found.skipped,
         }
     }
-    draft.job(alloc, settings)
+
+    /// The error of a record that can't be read. A text in memory has no other errors.
+    fn unread(&self, error: &Error) -> ListError {
+        match error.kind() {
+            ErrorKind::UnequalLengths { pos: Some(pos), .. } => {
+                let line = pos.line().saturating_add(self.skipped);
+                fault_at(line, None, ListFault::FieldCount)
+            }
+            _ => ListError::OutOfMemory,
+        }
+    }
+
+    /// Reads the next record. Returns whether there was one.
+    fn read(&mut self, row: &mut ByteRecord) -> Result<bool, ListError> {
+        match self.reader.read_byte_record(row) {
+            Ok(found) => Ok(found),
+            Err(error) => Err(self.unread(&error)),
+        }
+    }
+
+    /// The line at which a record begins.
+    fn line_of(&self, row: &ByteRecord) -> u64 {
+        match row.position() {
+            Some(position) => position.line().saturating_add(self.skipped),
+            None => 0,
+        }
+    }
 }
 
-/// Appends the job of a line. The job comes no earlier than the job before, and the number of jobs is
-/// limited.
-fn add_job(
+/// Returns whether all fields of a record are empty.
+fn is_blank(row: &ByteRecord) -> bool {
+    for field in row.iter() {
+        if !text::trimmed(field).is_empty() {
+            return false;
+        }
+    }
+    true
+}
+
+/// Counts the moments from the first of the list, except where they are numbers, which count from the
+/// beginning of the day.
+fn count_from_first(jobs: &mut [ListedJob], clock: Clock) {
+    let first = match jobs.first() {
+        Some(job) if clock != Clock::Millis => job.moment,
+        _ => 0,
+    };
+    for job in jobs.iter_mut() {
+        job.moment = job.moment.saturating_sub(first).min(Limits::LAST_MOMENT);
+    }
+}
+
+impl<'a> Lines<'a> {
+    /// The job of a line, before it has a place.
+    fn draft_of<'b>(&self, row: &'b ByteRecord) -> Result<Draft<'b>, LineError> {
+        let mut draft = Draft::new();
+        for (place, column) in self.head.columns.iter().enumerate() {
+            if let (Some(column), Some(field)) = (*column, row.get(place)) {
+                let field = text::trimmed(field);
+                if let Err(fault) = draft.take(column, field, self.settings) {
+                    return Err(LineError::Fault {
+                        place: Some(place),
+                        fault,
+                    });
+                }
+            }
+        }
+        Ok(draft)
+    }
+
+    /// Takes the form of a moment, which is that of the moments before.
+    fn take_clock(&mut self, stamp: Option<Stamp>) -> Result<(), ListFault> {
+        let Some(stamp) = stamp else {
+            return Ok(());
+        };
+        if let Some(clock) = self.clock
+            && clock != stamp.clock
+        {
+            return Err(ListFault::OtherClock);
+        }
+        self.clock = Some(stamp.clock);
+        Ok(())
+    }
+
+    /// Adds the job of a line.
+    fn add(&mut self, row: &ByteRecord) -> Result<(), LineError> {
+        if self.jobs.len() >= MOST_JOBS {
+            return Err(LineError::from(ListFault::TooMany));
+        }
+        let draft = self.draft_of(row)?;
+        self.take_clock(draft.stamp())?;
+        self.names_others = self.names_others || draft.is_of_another;
+        let job = draft.job(self.alloc, self.settings)?;
+        self.jobs.push(job)?;
+        Ok(())
+    }
+
+    /// The list of the lines.
+    fn list(self) -> Result<JobList, ListError> {
+        let Lines {
+            alloc,
+            head,
+            jobs,
+            clock,
+            names_others,
+            ..
+        } = self;
+        let Some(clock) = clock else {
+            return Err(ListError::NoJobs);
+        };
+        let mut jobs = jobs;
+        jobs.sort_by_key(|job| job.moment)?;
+        count_from_first(&mut jobs, clock);
+        Ok(JobList {
+            jobs,
+            ignored: head.ignored(alloc)?,
+            names_others,
+        })
+    }
+}
+
+/// Reads the jobs below the head.
+fn read_jobs(
     alloc: Global,
-    jobs: &mut Vec<ListedJob>,
-    columns: &[Column],
-    row: &ByteRecord,
-    settings: &Settings,
-) -> Result<(), LineError> {
-    if jobs.len() >= MOST_JOBS {
-        return Err(LineError::Fault(ListFault::TooMany));
+    records: &mut Records<'_>,
+    header: &ByteRecord,
+    lines: &mut Lines<'_>,
+) -> Result<(), ListError> {
+    let mut row = ByteRecord::new(alloc);
+    for _ in 0..records.most {
+        if !records.read(&mut row)? {
+            return Ok(());
+        }
+        if is_blank(&row) {
+            continue;
+        }
+        if let Err(error) = lines.add(&row) {
+            return Err(error_at(alloc, header, records.line_of(&row), error));
+        }
     }
-    let job = job_of(alloc, columns, row, settings)?;
-    if let Some(before) = jobs.last()
-        && job.moment < before.moment
-    {
-        return Err(LineError::Fault(ListFault::Order));
-    }
-    jobs.push(job)?;
     Ok(())
 }
 
-/// Reads the jobs behind the first line.
-fn read_jobs(
+/// Reads the head, and the jobs below it.
+fn read_records(
     alloc: Global,
-    reader: &mut Reader<&[u8]>,
-    row: &mut ByteRecord,
-    columns: &[Column],
+    records: &mut Records<'_>,
     settings: &Settings,
-) -> Result<Vec<ListedJob>, ListError> {
-    let mut jobs = Vec::new(alloc);
-    for _ in 0..=MOST_JOBS {
-        if !read_row(reader, row)? {
-            break;
-        }
-        let line = line_of(row);
-        if let Err(error) = add_job(alloc, &mut jobs, columns, row, settings) {
-            return Err(error.at(line));
-        }
+) -> Result<JobList, ListError> {
+    let mut header = ByteRecord::new(alloc);
+    if !records.read(&mut header)? {
+        return Err(ListError::Empty);
     }
-    Ok(jobs)
+    let head = match Head::new(alloc, &header) {
+        Ok(head) => head,
+        Err(error) => return Err(error_at(alloc, &header, records.line_of(&header), error)),
+    };
+    let mut lines = Lines {
+        alloc,
+        settings,
+        head: &head,
+        jobs: Vec::new(alloc),
+        clock: None,
+        names_others: false,
+    };
+    read_jobs(alloc, records, &header, &mut lines)?;
+    lines.list()
 }
 
-/// Reads the first line, and the jobs behind it.
-fn read_lines(
-    alloc: Global,
-    reader: &mut Reader<&[u8]>,
-    settings: &Settings,
-) -> Result<Vec<ListedJob>, ListError> {
-    let mut row = ByteRecord::new(alloc);
-    if !read_row(reader, &mut row)? {
-        return Ok(Vec::new(alloc));
-    }
-    match columns_of(alloc, &row) {
-        Ok(columns) => read_jobs(alloc, reader, &mut row, &columns, settings),
-        Err(error) => Err(error.at(1)),
-    }
-}
-
-/// Reads the jobs of a text, in order. The first line has the names of the columns, and each further line is
-/// a job.
+/// Reads the jobs of a text. Its head, the first line with a comma, a semicolon or a tab, has the names of the
+/// columns, and each further line is a job. Lines without any value are passed over.
 ///
 /// # Errors
 ///
-/// The first fault, with its line; or out of memory.
-pub fn read_list(
-    alloc: Global,
-    text: &[u8],
-    settings: &Settings,
-) -> Result<Vec<ListedJob>, ListError> {
-    let mut reader = ReaderBuilder::new()
-        .has_headers(false)
-        .from_reader(alloc, text);
-    read_lines(alloc, &mut reader, settings)
+/// The first fault, with its line; that there are no jobs; or out of memory.
+pub fn read_list(alloc: Global, text: &[u8], settings: &Settings) -> Result<JobList, ListError> {
+    let mut records = Records::new(alloc, from_head(text));
+    read_records(alloc, &mut records, settings)
 }
