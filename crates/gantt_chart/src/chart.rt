@@ -62,6 +62,9 @@ pub struct Chart {
     pub total: u128,
 }
 
+/// The most jobs of a chart whose picture labels each of them.
+const MOST_LABELED: usize = 100;
+
 /// The length of a chart without any bar, in ms.
 const EMPTY: u64 = 60_000;
 
@@ -147,6 +150,24 @@ impl Lane {
 }
 
 impl Chart {
+    /// The number of prints of the chart, or of its arrivals if that is greater.
+    fn jobs(&self) -> usize {
+        let (mut prints, mut arrivals) = (0usize, 0usize);
+        for lane in &self.lanes {
+            if lane.has_arrivals() {
+                arrivals = arrivals.saturating_add(lane.jobs());
+            } else {
+                prints = prints.saturating_add(lane.jobs());
+            }
+        }
+        prints.max(arrivals)
+    }
+
+    /// Returns whether the chart has too many jobs to label each.
+    pub(crate) fn is_crowded(&self) -> bool {
+        self.jobs() > MOST_LABELED
+    }
+
     /// The number of jobs of the chart with this ending.
     fn count_ending(&self, ending: Ending) -> u64 {
         let mut jobs = 0u64;

@@ -16,11 +16,11 @@ pub(crate) const LABEL_PITCH: f64 = 11.0;
 /// The room for the label of a job that came: the label stands near its pin.
 const ARRIVAL_PITCH: f64 = 16.5;
 
-/// The most labels of a lane for which a picture is made wider.
-const LABELS: usize = 600;
+/// The least width of the lanes of a chart whose jobs aren't labeled each.
+const CROWDED_WIDTH: f64 = 1440.0;
 
-/// The most arrivals for whose labels a picture is made wider.
-const ARRIVAL_LABELS: usize = 100;
+/// The room for the words beside the number of jobs that wait.
+const WAITING_WIDTH: f64 = 76.0;
 
 /// The room around everything.
 pub(crate) const MARGIN: f64 = 16.0;
@@ -50,18 +50,6 @@ pub(crate) fn labels_width(lane: &Lane, labels: usize) -> f64 {
     pitch * nearest_usize_to_f64(labels)
 }
 
-/// The number of labels of a lane for which a picture is made wider.
-fn labels_of(lane: &Lane) -> usize {
-    let jobs = lane.jobs();
-    if !lane.has_arrivals() {
-        jobs.min(LABELS)
-    } else if jobs <= ARRIVAL_LABELS {
-        jobs
-    } else {
-        0
-    }
-}
-
 impl Frame {
     /// Creates a frame of the least width, over this span in ms.
     fn empty(span: u64) -> Frame {
@@ -72,11 +60,28 @@ impl Frame {
         }
     }
 
-    /// Widens the frame for a chart.
-    fn fit(&mut self, chart: &Chart) {
+    /// Widens the frame for the names of a chart's lanes.
+    fn fit_names(&mut self, chart: &Chart) {
         for lane in &chart.lanes {
             self.left = self.left.max(2.0 * MARGIN + name_width(lane));
-            self.width = self.width.max(labels_width(lane, labels_of(lane)));
+        }
+    }
+
+    /// Widens the frame for the labels of a chart's jobs.
+    fn fit_labels(&mut self, chart: &Chart) {
+        for lane in &chart.lanes {
+            self.width = self.width.max(labels_width(lane, lane.jobs()));
+        }
+    }
+
+    /// Widens the frame for a chart.
+    fn fit(&mut self, chart: &Chart) {
+        self.fit_names(chart);
+        if chart.is_crowded() {
+            self.left = self.left.max(MARGIN + WAITING_WIDTH);
+            self.width = self.width.max(CROWDED_WIDTH);
+        } else {
+            self.fit_labels(chart);
         }
     }
 

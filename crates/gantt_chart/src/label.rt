@@ -1,6 +1,6 @@
 //! The labels of jobs: in a bar of sufficient width, else below the lane.
 
-use crate::chart::{Bar, Lane, Mark};
+use crate::chart::{Bar, Chart, Lane, Mark};
 use crate::frame::{Frame, LABEL_PITCH, labels_width};
 use crate::length::{ShortTime, digits_of};
 use std::alloc::{AllocError, Global};
@@ -106,10 +106,18 @@ fn push_left(tags: &mut [Tag], right: f64) {
     }
 }
 
-/// The labels below a lane, clear of each other; none where the lane has more labels than fit. The only error
-/// is out of memory.
-pub(crate) fn tags_of(alloc: Global, frame: Frame, lane: &Lane) -> Result<Vec<Tag>, AllocError> {
+/// The labels below a lane, clear of each other; none if the chart has too many jobs, or the lane more labels
+/// than fit. The only error is out of memory.
+pub(crate) fn tags_of(
+    alloc: Global,
+    frame: Frame,
+    chart: &Chart,
+    lane: &Lane,
+) -> Result<Vec<Tag>, AllocError> {
     let mut tags = Vec::new(alloc);
+    if chart.is_crowded() {
+        return Ok(tags);
+    }
     for bar in &lane.bars {
         if let Some(tag) = tag_of(frame, bar) {
             tags.push(tag)?;

@@ -253,7 +253,7 @@ pub(crate) fn put_lane(
     lane: &Lane,
 ) -> Drawing {
     let Drawing { page, bottom: top } = drawing;
-    match tags_of(alloc, frame, lane) {
+    match tags_of(alloc, frame, chart, lane) {
         Ok(tags) => Drawing {
             page: put_tagged(page, frame, chart, lane, &tags, top),
             bottom: bottom_of(&tags, top + ABOVE + f64::from(BAR_HEIGHT)),

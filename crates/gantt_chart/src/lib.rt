@@ -10,6 +10,7 @@
 
 mod chart;
 mod colour;
+mod curve;
 mod day;
 mod ending;
 mod form;
@@ -26,6 +27,7 @@ mod scale;
 mod stranded;
 mod svg;
 mod terminal;
+mod waiting;
 
 pub use chart::{Bar, Chart, ChartJob, Ending, Lane, Mark};
 pub use day::{Arrival, Day, Print, chart_of_day};

@@ -121,6 +121,15 @@ pub(crate) fn put_jobs(page: Page, lane: &Lane, indent: usize) -> Page {
     line.put_entry_if(lane.jobs() == 0, "no job").ended()
 }
 
+/// Appends the number of jobs of a lane.
+pub(crate) fn put_count(page: Page, lane: &Lane, indent: usize) -> Page {
+    let jobs = lane.jobs();
+    let line = Line::new(page, lane.name.as_bytes(), indent)
+        .put("  ")
+        .put_shown(jobs);
+    line.put(if jobs == 1 { " job" } else { " jobs" }).ended()
+}
+
 /// Appends the filling of the class at a place, and its meaning.
 fn put_class(line: Line, place: usize, priority: u8) -> Line {
     let letters = digits_of(u64::from(priority)).saturating_add("# priority ".len());
@@ -159,10 +168,21 @@ fn put_endings(line: Line, chart: &Chart) -> Line {
     line
 }
 
-/// Appends the characters of a chart and their meanings.
-pub(crate) fn put_fillings(page: Page, chart: &Chart, indent: usize) -> Page {
+/// Appends the meaning of the digits of waiting jobs, if there are any.
+fn put_most_waiting(line: Line, most: u64) -> Line {
+    if most == 0 {
+        return line;
+    }
+    let letters = digits_of(most).saturating_add("waiting 1-9: 9 is ".len());
+    line.begin_entry(letters)
+        .put("waiting 1-9: 9 is ")
+        .put_shown(most)
+}
+
+/// Appends the characters of a chart and their meanings, where at most this many jobs wait.
+pub(crate) fn put_fillings(page: Page, chart: &Chart, most: u64, indent: usize) -> Page {
     let line = put_classes(Line::new(page, b"", indent), &chart.classes);
-    put_endings(line, chart)
+    put_most_waiting(put_endings(line, chart), most)
         .put_entry_if(chart.has_arrivals(), "1-9 jobs came, + more")
         .put_entry_if(chart.waits(), "/ not free")
         .ended()

@@ -1,6 +1,7 @@
 //! Charts as a picture in SVG (SVG 1.1, W3C Recommendation of 2011).
 
 use crate::chart::Chart;
+use crate::curve::put_waiting;
 use crate::ending::SHOWN;
 use crate::frame::{Frame, MARGIN};
 use crate::lane::put_lane;
@@ -102,6 +103,7 @@ fn put_notes(drawing: Drawing, notes: &[String]) -> Drawing {
 /// Draws a chart.
 fn put_chart(alloc: Global, drawing: Drawing, frame: Frame, chart: &Chart) -> Drawing {
     let drawing = put_heading(drawing, frame, chart);
+    let drawing = put_waiting(alloc, drawing, frame, chart);
     let drawing = put_lanes(alloc, drawing, frame, chart);
     let drawing = put_scale(drawing, frame);
     let drawing = put_stranded(drawing, &chart.stranded);
@@ -157,6 +159,8 @@ fn have_strips(charts: &[Chart]) -> bool {
 fn put_head(page: Page, width: f64, height: f64) -> Page {
     page.put_whole_length("<svg xmlns=\"http://www.w3.org/2000/svg\" width=\"", width)
         .put_whole_length("\" height=\"", height)
+        .put_whole_length("\" viewBox=\"0 0 ", width)
+        .put_whole_length(" ", height)
         .put(FONT)
         .put(GROUND)
 }

@@ -5,6 +5,7 @@ use crate::ending::{SHOWN, edge_of};
 use crate::length::digits_of;
 use crate::scale::{MOST_MARKS, Scale};
 use crate::terminal::WIDTH;
+use crate::waiting::{Step, most_waiting};
 
 /// The fillings of the classes, from the highest class on; they repeat behind the last filling.
 const FILLINGS: [u8; 6] = [b'#', b'=', b'+', b'-', b':', b'.'];
@@ -115,6 +116,41 @@ pub(crate) fn lane_row(scale: Scale, columns: u16, lane: &Lane) -> Row {
     let mut cells = EMPTY;
     for bar in &lane.bars {
         put_lane_bar(&mut cells, scale, columns, bar);
+    }
+    cells
+}
+
+/// The digit for a number of waiting jobs, in ninths of the most, rounded up; a space for none.
+fn ninths_of(waiting: u64, most: u64) -> u8 {
+    let ninths = waiting.saturating_mul(9).div_ceil(most.max(1));
+    if ninths == 0 {
+        b' '
+    } else {
+        digit_of(ninths.min(9))
+    }
+}
+
+/// Raises cells to a digit.
+fn raise(cells: &mut [u8], from: usize, to: usize, digit: u8) {
+    for place in from..=to {
+        if let Some(cell) = cells.get_mut(place) {
+            *cell = digit.max(*cell);
+        }
+    }
+}
+
+/// The row of the number of jobs that wait, of `columns` columns and one more: the most in each column.
+pub(crate) fn waiting_row(scale: Scale, columns: u16, steps: &[Step]) -> Row {
+    let most = most_waiting(steps);
+    let mut cells = EMPTY;
+    for (place, step) in steps.iter().enumerate() {
+        let until = match steps.get(place.saturating_add(1)) {
+            Some(next) => next.moment,
+            None => step.moment,
+        };
+        let from = usize::from(scale.column(step.moment, columns));
+        let to = usize::from(scale.column(until, columns));
+        raise(&mut cells, from, to, ninths_of(step.waiting, most));
     }
     cells
 }

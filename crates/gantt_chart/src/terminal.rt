@@ -1,12 +1,13 @@
 //! A chart for a terminal of 80 columns.
 
-use crate::chart::{Chart, Lane, longest_span};
+use crate::chart::{Chart, longest_span};
 use crate::legend::put_times;
-use crate::listing::{put_fillings, put_jobs};
+use crate::listing::{put_count, put_fillings, put_jobs};
 use crate::page::Page;
-use crate::row::{lane_row, scale_row};
+use crate::row::{lane_row, scale_row, waiting_row};
 use crate::scale::Scale;
 use crate::stranded::put_sentence;
+use crate::waiting::{Step, most_waiting, waiting_in};
 use base_types::Stranded;
 use std::alloc::{AllocError, Global};
 
@@ -55,9 +56,23 @@ fn put_row(page: Page, name: &[u8], columns: usize, cells: &[u8]) -> Page {
     page.put_letter('\n')
 }
 
+/// The columns of a row behind its name.
+fn columns_of(names: usize) -> u16 {
+    u16::try_from(WIDTH.saturating_sub(names.saturating_add(1))).unwrap_or(0)
+}
+
+/// Appends the row of the jobs that wait, if there is one.
+fn put_waiting(page: Page, steps: &[Step], scale: Scale, names: usize) -> Page {
+    if steps.is_empty() {
+        return page;
+    }
+    let cells = waiting_row(scale, columns_of(names), steps);
+    put_row(page, b"waiting", names, &cells)
+}
+
 /// Appends the rows of the lanes, and the row of the scale.
 fn put_rows(page: Page, chart: &Chart, scale: Scale, names: usize) -> Page {
-    let columns = u16::try_from(WIDTH.saturating_sub(names.saturating_add(1))).unwrap_or(0);
+    let columns = columns_of(names);
     let mut page = page;
     for lane in &chart.lanes {
         let cells = lane_row(scale, columns, lane);
@@ -67,11 +82,16 @@ fn put_rows(page: Page, chart: &Chart, scale: Scale, names: usize) -> Page {
     put_row(page, scale.unit().name().as_bytes(), names, &cells)
 }
 
-/// Appends the jobs of all lanes.
-fn put_lists(page: Page, lanes: &[Lane], names: usize) -> Page {
+/// Appends the jobs of all lanes, or their number where they are too many.
+fn put_lists(page: Page, chart: &Chart, names: usize) -> Page {
+    let is_crowded = chart.is_crowded();
     let mut page = page;
-    for lane in lanes {
-        page = put_jobs(page, lane, names);
+    for lane in &chart.lanes {
+        page = if is_crowded {
+            put_count(page, lane, names)
+        } else {
+            put_jobs(page, lane, names)
+        };
     }
     page
 }
@@ -94,27 +114,41 @@ fn put_notes(page: Page, notes: &[String]) -> Page {
     page
 }
 
-/// Appends a chart, and below it the numbers and lengths of all its jobs.
-fn put_chart(page: Page, chart: &Chart, scale: Scale, names: usize) -> Page {
+/// Appends a chart with the number of jobs that wait above its lanes, and below it its jobs.
+fn put_chart(page: Page, chart: &Chart, steps: &[Step], scale: Scale, names: usize) -> Page {
     let page = page.put(&chart.title).put_letter('\n');
     let page = put_times(page, chart).put("\n\n");
+    let page = put_waiting(page, steps, scale, names);
     let page = put_rows(page, chart, scale, names);
-    let page = put_fillings(page, chart, names).put_letter('\n');
-    let page = put_lists(page, &chart.lanes, names);
+    let page = put_fillings(page, chart, most_waiting(steps), names).put_letter('\n');
+    let page = put_lists(page, chart, names);
     let page = put_stranded(page, &chart.stranded);
     put_notes(page, &chart.notes)
 }
 
-/// Appends charts, with an empty line between two charts.
-fn put_charts(page: Page, charts: &[Chart]) -> Page {
+/// The number of jobs that wait, if the chart has too many jobs to name each; no steps otherwise. The only
+/// error is out of memory.
+fn steps_of(alloc: Global, chart: &Chart) -> Result<Vec<Step>, AllocError> {
+    if chart.is_crowded() {
+        waiting_in(alloc, chart)
+    } else {
+        Ok(Vec::new(alloc))
+    }
+}
+
+/// Charts, with an empty line between two of them.
+fn put_charts(alloc: Global, charts: &[Chart]) -> Page {
     let names = name_columns(charts);
     let scale = Scale::new(longest_span(charts));
-    let mut page = page;
+    let mut page = Page::new(alloc);
     for (place, chart) in charts.iter().enumerate() {
+        let Ok(steps) = steps_of(alloc, chart) else {
+            return page.refused();
+        };
         if place > 0 {
             page = page.put_letter('\n');
         }
-        page = put_chart(page, chart, scale, names);
+        page = put_chart(page, chart, &steps, scale, names);
     }
     page
 }
@@ -122,5 +156,5 @@ fn put_charts(page: Page, charts: &[Chart]) -> Page {
 /// Returns a picture of charts in 80 columns, below one another and over one scale, as whole lines. The only
 /// error is out of memory.
 pub(crate) fn write_text(alloc: Global, charts: &[Chart]) -> Result<String, AllocError> {
-    put_charts(Page::new(alloc), charts).finish()
+    put_charts(alloc, charts).finish()
 }

@@ -1,30 +1,41 @@
 //! `printd draw`.
 
 use crate::failure::{cannot, out_of_memory, say, write_text};
+use crate::input::{INPUT, open};
 use crate::judging::{failed, told};
 use crate::noted::{NotedInput, NotedOutput};
 use crate::settings::read_file;
+use command_line::Drawn;
 use gantt_chart::Form;
 use plan_drawing::run_draw;
 use playback::{Written, as_written};
 use played_days::{DayFault, draw_day};
 use program::ExitStatus;
 use std::io;
+use std::io::{Input, Read};
 
 /// The form of a picture: for a terminal if `text` is set, else SVG.
 pub(crate) fn form_of(text: bool) -> Form {
     if text { Form::Text } else { Form::Svg }
 }
 
-/// Draws the plan of a text from standard input.
-fn draw_plan(rt: &HostRuntime, form: Form) -> ExitStatus {
-    let mut input = NotedInput::new(rt.reader());
+/// Draws the plan of a text from an input with this name, and returns the exit status.
+fn draw_input<R: Read + Drop>(rt: &HostRuntime, name: &str, reader: R, form: Form) -> ExitStatus {
+    let mut input = NotedInput::new(reader);
     let mut output = NotedOutput::new(io::writer(rt));
     let audit = run_draw(rt.alloc(), &mut input, &mut output, form);
     if audit.status == ExitStatus::Failed {
-        return failed(rt, "draw the plan", input, output);
+        return failed(rt, "draw the plan", name, input, output);
     }
-    told(rt, audit)
+    told(rt, name, audit)
+}
+
+/// Draws the plan of a text. An error of opening the file is reported, and its exit status returned.
+fn draw_plan(rt: &HostRuntime, file: Option<&str>, form: Form) -> Result<ExitStatus, ExitStatus> {
+    match file {
+        Some(file) => Ok(draw_input(rt, file, open(rt, file)?, form)),
+        None => Ok(draw_input(rt, INPUT, rt.reader(), form)),
+    }
 }
 
 /// Reports why a trace has no day, and returns the exit status.
@@ -66,14 +77,14 @@ fn draw_trace(rt: &HostRuntime, file: &str, form: Form) -> Result<ExitStatus, Ex
     write_text(rt, &picture)
 }
 
-/// Draws the day of a trace or, without a trace, a plan. An error is reported, and its exit status returned.
+/// Draws a plan or a day. An error is reported, and its exit status returned.
 pub(crate) fn draw(
     rt: &HostRuntime,
-    trace: Option<&str>,
+    drawn: Drawn<'_>,
     form: Form,
 ) -> Result<ExitStatus, ExitStatus> {
-    match trace {
-        Some(file) => draw_trace(rt, file, form),
-        None => Ok(draw_plan(rt, form)),
+    match drawn {
+        Drawn::Plan { file } => draw_plan(rt, file, form),
+        Drawn::Day { trace } => draw_trace(rt, trace, form),
     }
 }
