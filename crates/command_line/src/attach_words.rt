@@ -18,7 +18,7 @@ pub struct Attaching<'a> {
     /// The silence after which the job of a printer that has taken all its octets counts as printed, in
     /// seconds.
     pub linger: u32,
-    /// The longest time in which a printer may neither take nor send any octet, in seconds.
+    /// The longest time in which a job may make no progress at the printer, in seconds.
     pub timeout: u32,
     /// Whether the printer speaks PJL.
     pub pjl: bool,

@@ -54,7 +54,7 @@ pub(crate) fn addresses(
                     alloc,
                     text,
                     door,
-                    "a door is a port, or an address and a port, as 631, 127.0.0.1:631 or [::1]:631",
+                    "write a port, or an address in numbers and a port, as 631, 127.0.0.1:631 or [::1]:631",
                 ));
             }
         }

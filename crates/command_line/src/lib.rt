@@ -17,6 +17,6 @@ mod words_error;
 
 pub use attach_words::Attaching;
 pub use read::{VERSION, read_words};
-pub use simulate_words::Simulating;
-pub use subcommand::{AboutSettings, Log, Replaying, Serving, Spooling, Subcommand};
+pub use simulate_words::{Addition, Simulating};
+pub use subcommand::{AboutSettings, Drawn, Log, Replaying, Serving, Spooling, Subcommand};
 pub use words_error::WordsError;

@@ -4,7 +4,7 @@ use crate::attach_words::attach_words;
 use crate::command::program;
 use crate::doors::{addresses, default_address};
 use crate::simulate_words::simulate_words;
-use crate::subcommand::{AboutSettings, Log, Replaying, Serving, Spooling, Subcommand};
+use crate::subcommand::{AboutSettings, Drawn, Log, Replaying, Serving, Spooling, Subcommand};
 use crate::words::{MOST_TURNS, STANDARD_ERROR};
 use crate::words_error::WordsError;
 use clap::error::ErrorKind;
@@ -100,14 +100,19 @@ fn log_words<'a>(found: &ArgMatches<'a>) -> Subcommand<'a> {
 
 fn check_words<'a>(found: &ArgMatches<'a>) -> Subcommand<'a> {
     Subcommand::Check {
+        file: found.get_str("file"),
         starts: found.get_flag("starts"),
     }
 }
 
 fn draw_words<'a>(found: &ArgMatches<'a>) -> Subcommand<'a> {
+    let file = found.get_str("file");
     Subcommand::Draw {
         text: found.get_flag("text"),
-        trace: found.get_str("trace"),
+        drawn: match found.get_str("trace") {
+            Some(trace) => Drawn::Day { trace },
+            None => Drawn::Plan { file },
+        },
     }
 }
 

@@ -17,19 +17,30 @@ pub enum Subcommand<'a> {
         /// The file of the day; `None` for standard input.
         file: Option<&'a str>,
     },
-    /// Judge the text of a plan from standard input, and write the start of each job if `starts` is set.
+    /// Judge the text of a plan, and write the start of each job if `starts` is set.
     Check {
+        /// The file of the plan; `None` for standard input.
+        file: Option<&'a str>,
         starts: bool,
     },
-    /// Draw the plan of a text from standard input, or the day of a trace, in SVG or for a terminal.
+    /// Draw a plan or a day, in SVG or for a terminal.
     Draw {
         text: bool,
-        trace: Option<&'a str>,
+        drawn: Drawn<'a>,
     },
     /// Play a day of jobs.
     Simulate(Simulating<'a>),
     /// Attach a printer to a server.
     Attach(Attaching<'a>),
+}
+
+/// What `printd draw` draws.
+#[derive(Clone, Copy, Debug, PartialEq, Eq)]
+pub enum Drawn<'a> {
+    /// The plan of this file; `None` for standard input.
+    Plan { file: Option<&'a str> },
+    /// The day of the trace of this file.
+    Day { trace: &'a str },
 }
 
 /// The options of `printd serve`.

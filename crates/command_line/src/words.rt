@@ -93,6 +93,12 @@ const TRACE_READ: ArgumentWords<'static> = ArgumentWords {
     ..FILE_READ
 };
 
+/// The text of a plan that a command reads.
+const PLAN_READ: ArgumentWords<'static> = ArgumentWords {
+    help: "The text of the plan; without it, that of standard input",
+    ..FILE_READ
+};
+
 /// An option with a number of 32 bits.
 const NUMBER: ArgumentWords<'static> = ArgumentWords {
     value_name: Some("N"),
@@ -148,7 +154,7 @@ const SERVE: &[ArgumentWords<'static>] = &[
     ArgumentWords {
         name: "turns",
         parser: ValueParser::Unsigned(1, MOST_TURNS),
-        help: "End after so many turns; without it, serve until told to stop",
+        help: "End after so many rounds of the loop, for a test; without it, serve until told to stop",
         ..LONG_NUMBER
     },
     ArgumentWords {
@@ -238,13 +244,17 @@ const REPLAY: &[ArgumentWords<'static>] = &[
 
 const LOG: &[ArgumentWords<'static>] = &[TRACE_READ];
 
-const CHECK: &[ArgumentWords<'static>] = &[ArgumentWords {
-    name: "starts",
-    help: "With a yes, write when each job starts and ends",
-    ..FLAG
-}];
+const CHECK: &[ArgumentWords<'static>] = &[
+    PLAN_READ,
+    ArgumentWords {
+        name: "starts",
+        help: "With a yes, write when each job starts and ends",
+        ..FLAG
+    },
+];
 
 const DRAW: &[ArgumentWords<'static>] = &[
+    PLAN_READ,
     ArgumentWords {
         name: "text",
         help: "Draw it for a terminal of 80 columns",
@@ -252,6 +262,7 @@ const DRAW: &[ArgumentWords<'static>] = &[
     },
     ArgumentWords {
         name: "trace",
+        excludes: Some("file"),
         help: "Draw the day of this trace: which device printed what, and when",
         ..FILE
     },
@@ -260,15 +271,24 @@ const DRAW: &[ArgumentWords<'static>] = &[
 const SIMULATE: &[ArgumentWords<'static>] = &[
     ArgumentWords {
         name: "settings",
+        action: ArgAction::Append,
         is_required: true,
-        help: "The settings: devices and printers",
+        help: "The settings: devices and printers; several are compared",
         ..FILE
     },
     ArgumentWords {
         name: "jobs",
+        action: ArgAction::Append,
         is_required: true,
-        help: "The jobs, as comma-separated values or a trace",
+        help: "The jobs of a day, as comma-separated values or a trace; of several days the middle one is told",
         ..FILE
+    },
+    ArgumentWords {
+        name: "load",
+        value_name: Some("FACTOR"),
+        default: Some("1"),
+        help: "How many times as fast the jobs come",
+        ..TEXT
     },
     ArgumentWords {
         name: "noise",
@@ -295,8 +315,14 @@ const SIMULATE: &[ArgumentWords<'static>] = &[
         name: "with",
         action: ArgAction::Append,
         value_name: Some("NAME=LIKE"),
-        help: "One device more, of this name, like one of the settings",
+        help: "One device more, of this name, like one of the settings; or \"NAME: rate_one=1000 setup=2000\"",
         ..TEXT
+    },
+    ArgumentWords {
+        name: "each",
+        excludes: Some("draw"),
+        help: "Play each --with and each --without by itself, beside the devices as they are",
+        ..FLAG
     },
     ArgumentWords {
         name: "policy",
@@ -305,6 +331,12 @@ const SIMULATE: &[ArgumentWords<'static>] = &[
         parser: ValueParser::Names(POLICIES),
         help: "A policy of the table; without it, all of them",
         ..TEXT
+    },
+    ArgumentWords {
+        name: "csv",
+        excludes: Some("draw"),
+        help: "Write the figures of each day for a spreadsheet, in ms",
+        ..FLAG
     },
     ArgumentWords {
         name: "draw",
@@ -368,7 +400,7 @@ const ATTACH: &[ArgumentWords<'static>] = &[
         name: "timeout",
         value_name: Some("SECONDS"),
         default: Some("300"),
-        help: "How long a printer may neither take nor say anything",
+        help: "How long a job may make no progress at the printer before it fails",
         ..NUMBER
     },
     ArgumentWords {
@@ -378,7 +410,7 @@ const ATTACH: &[ArgumentWords<'static>] = &[
     },
     ArgumentWords {
         name: "turns",
-        help: "End after so many turns; without it, run until told to stop",
+        help: "End after so many rounds of the loop, for a test; without it, run until told to stop",
         ..LONG_NUMBER
     },
     ArgumentWords {
@@ -422,12 +454,12 @@ const COMMANDS: &[CommandWords<'static>] = &[
     },
     CommandWords {
         name: "check",
-        about: "Judge the text of a plan from standard input: yes, or its first fault",
+        about: "Judge the text of a plan: yes, or its first fault",
         arguments: CHECK,
     },
     CommandWords {
         name: "draw",
-        about: "Draw the plan of a text from standard input, or the day of a trace, as SVG",
+        about: "Draw the plan of a text, or the day of a trace, as SVG",
         arguments: DRAW,
     },
     CommandWords {

@@ -4,20 +4,22 @@
 use gantt_chart::Form;
 use job_lists::{ListedJob, read_list};
 use played_days::{
-    Noise, Policy, Question, Watch, draw_day, listed_jobs, read_day, run_simulation,
+    Comparison, Noise, Policy, Question, Round, Watch, draw_day, listed_jobs, read_day,
+    run_simulation,
 };
 use settings_file::{Settings, read_settings_bytes};
-use std::alloc::Global;
+use std::alloc::{AllocError, Global};
 
 /// A day that is simulated: a file with settings, one with a list of jobs or a trace, and one with the
 /// numbers that were worked out.
+#[derive(Drop)]
 pub struct Day {
     pub settings: &'static str,
     pub jobs: &'static str,
     pub output: &'static str,
 }
 
-pub const DAYS: [Day; 5] = [
+pub const DAYS: [Day; 6] = [
     Day {
         settings: "unlike_devices.toml",
         jobs: "unlike_devices.csv",
@@ -37,6 +39,11 @@ pub const DAYS: [Day; 5] = [
         settings: "classes_of_cups.toml",
         jobs: "classes_of_cups.csv",
         output: "classes_of_cups.table",
+    },
+    Day {
+        settings: "crowded.toml",
+        jobs: "crowded.csv",
+        output: "crowded.table",
     },
     Day {
         settings: "a_day.toml",
@@ -65,6 +72,21 @@ pub const DRAWN: [Drawn; 2] = [
     },
 ];
 
+/// The day with so many jobs that they aren't labeled each, and its picture by the plan and by first-free.
+pub const CROWDED: Day = Day {
+    settings: "crowded.toml",
+    jobs: "crowded.csv",
+    output: "crowded.txt",
+};
+
+/// Files with settings that are compared, and files with the days on which they are.
+pub const SETS: [&str; 2] = ["unlike_devices.toml", "unlike_setups.toml"];
+
+pub const COMPARED_DAYS: [&str; 2] = ["unlike_setups.csv", "one_job.jobs"];
+
+/// The file with the table of the comparison, and the one with the figures of each day.
+pub const COMPARED: [&str; 2] = ["compared.table", "compared.figures"];
+
 /// Is told how far a day has been played, and keeps it to itself.
 #[derive(Drop)]
 struct Quiet {
@@ -81,27 +103,41 @@ impl Watch for Quiet {
 fn jobs_of(alloc: Global, text: &[u8], settings: &Settings) -> Option<Vec<ListedJob>> {
     match read_day(alloc, "day", text) {
         Ok(day) => listed_jobs(alloc, &day, settings).ok(),
-        Err(_) => read_list(alloc, text, settings).ok(),
+        Err(_) => read_list(alloc, text, settings).ok().map(|list| list.jobs),
     }
 }
 
-/// Whether just this is written of a day whose devices keep their estimates.
-pub fn is_played_so(alloc: Global, settings: &[u8], jobs: &[u8], wanted: &[u8]) -> bool {
-    let Ok(settings) = read_settings_bytes(alloc, settings) else {
-        return false;
-    };
-    let Some(jobs) = jobs_of(alloc, jobs, &settings) else {
-        return false;
-    };
-    let question = Question {
+/// What is asked of a day whose devices are all there and keep their estimates.
+fn question_of(policies: &[Policy], drawn: Option<Form>) -> Question<'_> {
+    Question {
         noise: Noise {
             percent: 0,
             seed: 1,
         },
         away: &[],
         added: &[],
-        policies: &Policy::ALL,
-        drawn: None,
+        policies,
+        drawn,
+    }
+}
+
+/// Whether just this is written of a day by all policies, or drawn of it by one.
+pub fn is_played_so(
+    alloc: Global,
+    settings: &[u8],
+    jobs: &[u8],
+    drawn: Option<Form>,
+    wanted: &[u8],
+) -> bool {
+    let Ok(settings) = read_settings_bytes(alloc, settings) else {
+        return false;
+    };
+    let Some(jobs) = jobs_of(alloc, jobs, &settings) else {
+        return false;
+    };
+    let question = match drawn {
+        Some(form) => question_of(&[Policy::FirstFree], Some(form)),
+        None => question_of(&Policy::ALL, None),
     };
     match run_simulation(alloc, settings, &jobs, question, &mut Quiet { come: 0 }) {
         Ok(table) => table.as_bytes() == wanted,
@@ -115,4 +151,43 @@ pub fn is_drawn_so(alloc: Global, trace: &[u8], form: Form, wanted: &[u8]) -> bo
         Ok(picture) => picture.as_bytes() == wanted,
         Err(_) => false,
     }
+}
+
+/// Adds a day on a set of devices to a comparison. Returns whether it could be played.
+pub fn is_compared(
+    alloc: Global,
+    comparison: &mut Comparison,
+    round: Round,
+    settings: &[u8],
+    jobs: &[u8],
+) -> bool {
+    let Ok(settings) = read_settings_bytes(alloc, settings) else {
+        return false;
+    };
+    let Some(jobs) = jobs_of(alloc, jobs, &settings) else {
+        return false;
+    };
+    let question = question_of(&[Policy::FirstFree], None);
+    let mut quiet = Quiet { come: 0 };
+    comparison
+        .play(round, settings, &jobs, question, &mut quiet)
+        .is_ok()
+}
+
+/// The names of the sets. The only error is out of memory.
+fn set_names(alloc: Global) -> Result<Vec<String>, AllocError> {
+    let mut names = Vec::new(alloc);
+    for name in SETS {
+        names.push(String::from_str(alloc, name)?)?;
+    }
+    Ok(names)
+}
+
+/// The table of the comparison, and the figures of each day. The only error is out of memory.
+pub fn compared_texts(alloc: Global, comparison: &Comparison) -> Result<[String; 2], AllocError> {
+    let names = set_names(alloc)?;
+    Ok([
+        comparison.table(&names)?,
+        comparison.csv(&names, &COMPARED_DAYS)?,
+    ])
 }

@@ -25,7 +25,7 @@ pub struct Example {
     pub status: ExitStatus,
 }
 
-pub const EXAMPLES: [Example; 130] = [
+pub const EXAMPLES: [Example; 133] = [
     Example {
         input: "two_devices.trace",
         output: "two_devices.out",
@@ -792,6 +792,24 @@ pub const EXAMPLES: [Example; 130] = [
         input: "recorded_day.trace",
         output: "recorded_day.log",
         program: Program::Log,
+        status: ExitStatus::Done,
+    },
+    Example {
+        input: "late_jobs.trace",
+        output: "recorded_day.out",
+        program: Program::Verify,
+        status: ExitStatus::Done,
+    },
+    Example {
+        input: "late_jobs.trace",
+        output: "late_jobs.log",
+        program: Program::Log,
+        status: ExitStatus::Done,
+    },
+    Example {
+        input: "recorded_day_torn.trace",
+        output: "recorded_day_torn.out",
+        program: Program::Verify,
         status: ExitStatus::Done,
     },
     Example {

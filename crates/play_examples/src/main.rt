@@ -14,7 +14,10 @@ mod many_jobs;
 mod texts;
 
 use crate::cuts::{STREAMS, Stream, stays_in_two_pieces};
-use crate::days::{DAYS, DRAWN, Day, Drawn, is_drawn_so, is_played_so};
+use crate::days::{
+    COMPARED, COMPARED_DAYS, CROWDED, DAYS, DRAWN, Day, Drawn, SETS, compared_texts, is_compared,
+    is_drawn_so, is_played_so,
+};
 use crate::example::{EXAMPLES, Example, Program};
 use crate::many_jobs::CROWDS;
 use crate::texts::each_is_proved;
@@ -22,6 +25,7 @@ use gantt_chart::Form;
 use plan_audit::run_check;
 use plan_drawing::run_draw;
 use playback::Shows;
+use played_days::{Comparison, Round};
 use program::ExitStatus;
 use replay::run_replay;
 use std::process::ExitCode;
@@ -110,13 +114,13 @@ fn play_crowds(rt: &HostRuntime) -> io::Result<bool> {
     Ok(all)
 }
 
-/// Whether what is written of a day that is simulated is as it must be. The error is the system's, of its
-/// files.
-fn is_simulated_so(rt: &HostRuntime, day: &Day) -> io::Result<bool> {
+/// Whether what is written or drawn of a day that is simulated is as it must be. The error is the system's, of
+/// its files.
+fn is_simulated_so(rt: &HostRuntime, day: &Day, drawn: Option<Form>) -> io::Result<bool> {
     let settings = fs::read(rt, day.settings)?;
     let jobs = fs::read(rt, day.jobs)?;
     let wanted = fs::read(rt, day.output)?;
-    Ok(is_played_so(rt.alloc(), &settings, &jobs, &wanted))
+    Ok(is_played_so(rt.alloc(), &settings, &jobs, drawn, &wanted))
 }
 
 /// Whether the picture of a day is as it must be. The error is the system's, of its files.
@@ -126,9 +130,10 @@ fn is_drawn_as_wanted(rt: &HostRuntime, drawn: &Drawn) -> io::Result<bool> {
     Ok(is_drawn_so(rt.alloc(), &trace, drawn.form, &wanted))
 }
 
-/// Draws the days of traces: whether each is as it must be.
+/// Draws the day of many jobs, and the days of traces: whether each is as it must be.
 fn draw_days(rt: &HostRuntime) -> io::Result<bool> {
-    let mut all = true;
+    let mut all = is_simulated_so(rt, &CROWDED, Some(Form::Text))?;
+    tell(rt, CROWDED.output, all)?;
     for drawn in &DRAWN {
         let as_wanted = is_drawn_as_wanted(rt, drawn)?;
         tell(rt, drawn.picture, as_wanted)?;
@@ -141,8 +146,44 @@ fn draw_days(rt: &HostRuntime) -> io::Result<bool> {
 fn play_days(rt: &HostRuntime) -> io::Result<bool> {
     let mut all = true;
     for day in &DAYS {
-        let as_wanted = is_simulated_so(rt, day)?;
+        let as_wanted = is_simulated_so(rt, day, None)?;
         tell(rt, day.output, as_wanted)?;
+        all = all && as_wanted;
+    }
+    Ok(all)
+}
+
+/// Adds the days of a comparison on the set of devices at a place, whose settings are in a file. Returns whether
+/// they could be played. The error is the system's, of its files.
+fn compare_on(
+    rt: &HostRuntime,
+    comparison: &mut Comparison,
+    set: usize,
+    file: &str,
+) -> io::Result<bool> {
+    let settings = fs::read(rt, file)?;
+    let mut all = true;
+    for (day, jobs) in COMPARED_DAYS.iter().enumerate() {
+        let jobs = fs::read(rt, *jobs)?;
+        let round = Round { set, day };
+        all = all && is_compared(rt.alloc(), comparison, round, &settings, &jobs);
+    }
+    Ok(all)
+}
+
+/// Compares sets of devices on several days: whether the table and the figures are as they must be.
+fn compare_sets(rt: &HostRuntime) -> io::Result<bool> {
+    let mut comparison = Comparison::new(rt.alloc());
+    let mut all = true;
+    for (set, file) in SETS.iter().enumerate() {
+        all = all && compare_on(rt, &mut comparison, set, file)?;
+    }
+    for (file, text) in COMPARED
+        .iter()
+        .zip(&compared_texts(rt.alloc(), &comparison)?)
+    {
+        let as_wanted = fs::read(rt, *file)?.as_slice() == text.as_bytes();
+        tell(rt, file, as_wanted)?;
         all = all && as_wanted;
     }
     Ok(all)
@@ -172,10 +213,11 @@ fn play_cuts(rt: &HostRuntime) -> io::Result<bool> {
 fn play_all(rt: &HostRuntime) -> io::Result<bool> {
     let files = play_files(rt)?;
     let days = play_days(rt)?;
+    let compared = compare_sets(rt)?;
     let drawn = draw_days(rt)?;
     let crowds = play_crowds(rt)?;
     let cuts = play_cuts(rt)?;
-    Ok(files && days && drawn && crowds && cuts)
+    Ok(files && days && compared && drawn && crowds && cuts)
 }
 
 fn main(rt: HostRuntime) -> ExitCode {

@@ -3,6 +3,7 @@
 ghost use Rattle.std.specs.Prelude.{IfOk};
 ghost use Rattle.settings_file.specs.Settings.{MeetsLimits};
 
+use crate::device_words::{DeviceWords, like_in};
 use crate::fault::{DayFault, refused};
 use crate::planned::report_to;
 use crate::settings_text::text_with;
@@ -17,13 +18,16 @@ use std::alloc::{AllocError, Global};
 #[derive(Clone, Copy)]
 pub struct Added<'a> {
     pub name: &'a str,
-    /// The name of the device whose settings it has.
-    pub like: &'a str,
+    /// The name of the device that it is like. If neither this nor the words say it, that is the first of the
+    /// settings.
+    pub like: Option<&'a str>,
+    /// Words about how it differs, as `rate_one=1000 setup=2000`.
+    pub words: &'a str,
 }
 
 /// The words about a further device with which the settings aren't valid.
 const NO_MORE: &str =
-    " more: a name has 1 to 32 letters, digits, _ and -, and there are 32 devices at most";
+    " more: a name has 1 to 32 letters, digits, _ and -, there are 32 devices at most, and a device has at most 16 media and formats";
 
 /// The fault of the device with a name, by the words before and behind the name.
 fn device_fault(alloc: Global, before: &str, name: &str, behind: &str) -> DayFault {
@@ -50,16 +54,25 @@ fn settings_in(alloc: Global, text: &[u8], name: &str) -> Result<Settings, DayFa
     }
 }
 
+/// The place of the device that a further one is like, or the fault that there is none.
+fn place_of_like(alloc: Global, settings: &Settings, added: Added<'_>) -> Result<usize, DayFault> {
+    match added.like.or(like_in(added.words)) {
+        Some(name) => known(alloc, settings, name),
+        None => Ok(0),
+    }
+}
+
 /// Settings with a further device. It is behind all others, and belongs to each printer that has the device
-/// whose settings it has.
+/// that it is like.
 fn with_device(alloc: Global, settings: &Settings, added: Added<'_>) -> Result<Settings, DayFault>
     ensures { IfOk result MeetsLimits }
 {
-    let like = known(alloc, settings, added.like)?;
+    let like = place_of_like(alloc, settings, added)?;
     if settings.device_named(added.name.as_bytes()).is_some() {
         return Err(device_fault(alloc, "have a device", added.name, " already"));
     }
-    let text = text_with(alloc, settings, like, added.name)?;
+    let words = DeviceWords::read(alloc, added.name, added.words, settings)?;
+    let text = text_with(alloc, settings, like, added.name, &words)?;
     settings_in(alloc, &text, added.name)
 }
 
@@ -98,12 +111,26 @@ fn places_of(alloc: Global, settings: &Settings, names: &[&str]) -> Result<Vec<u
     Ok(places)
 }
 
-/// Makes all devices of a core ready, except those with some names, which are away.
+/// Returns whether all devices of some settings are at these places.
+fn are_all(settings: &Settings, places: &[usize]) -> bool {
+    for place in 0..settings.devices.len() {
+        if !places.contains(&place) {
+            return false;
+        }
+    }
+    true
+}
+
+/// Makes all devices of a core ready, except those with some names, which are away. At least one device is to
+/// be ready.
 pub(crate) fn make_ready(
     alloc: Global,
     core: &mut Core<AugmentingPaths>,
     away: &[&str],
 ) -> Result<(), DayFault> {
     let places = places_of(alloc, core.settings(), away)?;
+    if are_all(core.settings(), &places) {
+        return Err(refused(Page::new(alloc).put("all devices are away: none prints a job")));
+    }
     Ok(make_all_ready(core, &places)?)
 }

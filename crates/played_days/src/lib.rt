@@ -13,6 +13,9 @@
 //! gets requests and reports. A `Queue` is used for the policies: it has the waiting jobs, in the order of
 //! their priorities and then in that of the policy.
 //!
+//! A [`Comparison`] has the figures of several days, each played on several sets of devices, as a table with
+//! their ranges and as comma-separated values. [`hasten`] lets the jobs of a list come faster.
+//!
 //! Nothing is proved of a day, except that its functions are safe and end. The contract of a server is in
 //! `server`, and the lines are those of `traces`. The crate reads no clock and no command line. Its rows are
 //! traces and days of `play_examples`.
@@ -20,13 +23,17 @@
 
 mod bytes;
 mod chart;
+mod comparison;
 mod day;
 mod day_job;
+mod device_words;
 mod fault;
+mod figures;
 mod fleet;
 mod floor;
 mod job;
 mod list;
+mod load;
 mod outcome;
 mod picture;
 mod planned;
@@ -43,6 +50,7 @@ mod summary;
 mod table;
 
 pub use chart::draw_day;
+pub use comparison::{Comparison, Round};
 pub use day::Noise;
 pub use day_job::{DayJob, Member};
 pub use fault::DayFault;
@@ -50,6 +58,7 @@ pub use fleet::Added;
 pub use floor::Watch;
 pub use job::{RecordedJob, RecordedPrint};
 pub use list::listed_jobs;
+pub use load::hasten;
 pub use policy::Policy;
 pub use queue::{Queue, Start};
 pub use read::{RecordedDay, read_day};

@@ -2,16 +2,17 @@
 ghost use Rattle.settings_file.specs.Settings.{MeetsLimits};
 
 use crate::day::{Day, Noise};
-use crate::fault::DayFault;
+use crate::fault::{DayFault, refused};
 use crate::fleet::{Added, make_ready, with_devices};
 use crate::floor::Watch;
-use crate::outcome::play_all;
+use crate::outcome::{Outcome, play_all};
 use crate::picture::picture_of;
 use crate::policy::Policy;
-use crate::table::table_of;
+use crate::summary::{Waits, waits_of};
+use crate::table::{put_stranded, table_of};
 use base_types::Text;
 use dispatcher::Core;
-use gantt_chart::Form;
+use gantt_chart::{Form, Page};
 use job_lists::ListedJob;
 use plan_solver::AugmentingPaths;
 use settings_file::Settings;
@@ -50,6 +51,30 @@ fn stage_of(
     Ok(Stage { names, day })
 }
 
+/// Tests that some device can print some job.
+fn check_day(alloc: Global, day: &Day) -> Result<(), DayFault> {
+    if day.jobs.is_empty() {
+        return Err(refused(Page::new(alloc).put("there are no jobs to play")));
+    }
+    if day.stranded.len() == day.jobs.len() {
+        return Err(refused(put_stranded(Page::new(alloc), &day.stranded)));
+    }
+    Ok(())
+}
+
+/// The day of a list with a core whose devices are ready from now on, except those that are away.
+fn ready_stage(
+    alloc: Global,
+    core: &mut Core<AugmentingPaths>,
+    listed: &[ListedJob],
+    question: Question<'_>,
+) -> Result<Stage, DayFault> {
+    make_ready(alloc, core, question.away)?;
+    let stage = stage_of(alloc, core, listed, question.noise)?;
+    check_day(alloc, &stage.day)?;
+    Ok(stage)
+}
+
 /// Plays a day with a core whose devices are ready, except those that are away. Returns the table of the
 /// outcomes, or a picture.
 fn play_with<W: Watch>(
@@ -59,8 +84,7 @@ fn play_with<W: Watch>(
     question: Question<'_>,
     watch: &mut W,
 ) -> Result<String, DayFault> {
-    make_ready(alloc, core, question.away)?;
-    let stage = stage_of(alloc, core, listed, question.noise)?;
+    let stage = ready_stage(alloc, core, listed, question)?;
     Ok(play_on(alloc, core, listed, &stage, question, watch)?)
 }
 
@@ -100,7 +124,8 @@ fn play_settings<W: Watch>(
 ///
 /// # Errors
 ///
-/// A device isn't there, a further device can't be made, or memory was refused.
+/// A device isn't there or none is, a further device can't be made, no device can print any of the jobs, or
+/// memory was refused.
 pub fn run_simulation<W: Watch>(
     alloc: Global,
     settings: Settings,
@@ -112,4 +137,70 @@ pub fn run_simulation<W: Watch>(
 {
     let settings = with_devices(alloc, settings, question.added)?;
     play_settings(alloc, settings, listed, question, watch)
+}
+
+/// The figures of a day.
+#[derive(Drop)]
+pub(crate) struct Figures {
+    /// The name of each rule, and the times of its day: first those of the plan.
+    pub(crate) rules: Vec<(&'static str, Waits)>,
+    /// The number of jobs that no device can print.
+    pub(crate) stranded: usize,
+}
+
+/// The names and times of outcomes. The only error is out of memory.
+fn rules_of(
+    alloc: Global,
+    day: &Day,
+    outcomes: &[Outcome],
+) -> Result<Vec<(&'static str, Waits)>, AllocError> {
+    let mut rules = Vec::with_capacity(alloc, outcomes.len())?;
+    for outcome in outcomes {
+        rules.push((outcome.name, waits_of(alloc, day, &outcome.prints)?))?;
+    }
+    Ok(rules)
+}
+
+/// Plays a day with a core whose devices are ready, except those that are away. Returns its figures.
+fn figures_with<W: Watch>(
+    alloc: Global,
+    core: &mut Core<AugmentingPaths>,
+    listed: &[ListedJob],
+    question: Question<'_>,
+    watch: &mut W,
+) -> Result<Figures, DayFault> {
+    let Stage { day, .. } = ready_stage(alloc, core, listed, question)?;
+    let outcomes = play_all(alloc, core, listed, &day, question.policies, watch)?;
+    Ok(Figures {
+        rules: rules_of(alloc, &day, &outcomes)?,
+        stranded: day.stranded.len(),
+    })
+}
+
+/// Plays the jobs of a list on the devices of some settings. Returns their figures.
+fn figures_in<W: Watch>(
+    alloc: Global,
+    settings: Settings,
+    listed: &[ListedJob],
+    question: Question<'_>,
+    watch: &mut W,
+) -> Result<Figures, DayFault>
+    requires { MeetsLimits settings }
+{
+    let mut core = Core::new(alloc, settings, AugmentingPaths::new(alloc))?;
+    figures_with(alloc, &mut core, listed, question, watch)
+}
+
+/// Plays as [`run_simulation`] does, with its errors. Returns the figures.
+pub(crate) fn figures_of<W: Watch>(
+    alloc: Global,
+    settings: Settings,
+    listed: &[ListedJob],
+    question: Question<'_>,
+    watch: &mut W,
+) -> Result<Figures, DayFault>
+    requires { MeetsLimits settings }
+{
+    let settings = with_devices(alloc, settings, question.added)?;
+    figures_in(alloc, settings, listed, question, watch)
 }

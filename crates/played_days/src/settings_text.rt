@@ -1,6 +1,7 @@
 //! The text of settings (`docs/SETTINGS.md`), with a further device.
 
 use crate::bytes::Bytes;
+use crate::device_words::DeviceWords;
 use base_types::{Finishings, Text};
 use settings_file::{DeviceSettings, PrinterSettings, Settings};
 use std::alloc::{AllocError, Global};
@@ -87,6 +88,18 @@ fn put_device(output: Bytes, name: &[u8], device: &DeviceSettings) -> Bytes {
     put_finishings(output, device.finishings)
 }
 
+/// Appends the table of the further device.
+fn put_added(output: Bytes, like: Like<'_>) -> Bytes {
+    let (words, device) = (like.words, like.device);
+    let output = put_named(output.put(b"[[device]]\n"), "name", like.name);
+    let output = put_number(output, "rate_one", words.rate_one(device));
+    let output = put_rate_two(output, words.rate_two(device));
+    let output = put_number(output, "setup", words.setup(device));
+    let output = put_texts(output, "media", words.media(device));
+    let output = put_texts(output, "formats", words.formats(device));
+    put_finishings(output, words.finishings(device))
+}
+
 /// Appends the tables of the devices.
 fn put_devices(output: Bytes, devices: &[DeviceSettings]) -> Bytes {
     let mut output = output;
@@ -96,17 +109,18 @@ fn put_devices(output: Bytes, devices: &[DeviceSettings]) -> Bytes {
     output
 }
 
-/// A further device: the device whose settings it has, and that device's place.
+/// A further device: the device that it is like, that device's place, and words about how it differs.
 #[derive(Clone, Copy)]
 struct Like<'a> {
     place: usize,
     device: &'a DeviceSettings,
+    words: &'a DeviceWords,
     /// The name of the further device.
     name: &'a [u8],
 }
 
-/// Appends the name of a printer's device, and behind the device whose settings the further one has, the name
-/// of the further one.
+/// Appends the name of a printer's device, and behind the device that the further one is like, the name of the
+/// further one.
 fn put_member(output: Bytes, settings: &Settings, place: usize, like: Like<'_>) -> Bytes {
     let output = match settings.devices.get(place) {
         Some(device) => put_listed(output, device.name.as_bytes()),
@@ -119,8 +133,8 @@ fn put_member(output: Bytes, settings: &Settings, place: usize, like: Like<'_>) 
     }
 }
 
-/// Appends the names of a printer's devices, with that of the further one if the printer has the device whose
-/// settings that has.
+/// Appends the names of a printer's devices, with that of the further one if the printer has the device that it
+/// is like.
 fn put_members(
     output: Bytes,
     settings: &Settings,
@@ -173,17 +187,18 @@ fn put_head(output: Bytes, settings: &Settings) -> Bytes {
 /// Appends the settings with the further device.
 fn put_settings(output: Bytes, settings: &Settings, like: Like<'_>) -> Bytes {
     let output = put_devices(put_head(output, settings), &settings.devices);
-    let output = put_device(output, like.name, like.device);
+    let output = put_added(output, like);
     put_printers(output, settings, like)
 }
 
-/// The text of settings with a further device, with the settings of the device at a place; without it if
-/// there is no such device. The only error is out of memory.
+/// The text of settings with a further device, which is like the device at a place except for what the words
+/// say; without it if there is no such device. The only error is out of memory.
 pub(crate) fn text_with(
     alloc: Global,
     settings: &Settings,
     place: usize,
     name: &str,
+    words: &DeviceWords,
 ) -> Result<Vec<u8>, AllocError> {
     let output = Bytes::new(alloc);
     match settings.devices.get(place) {
@@ -195,6 +210,7 @@ pub(crate) fn text_with(
                 Like {
                     place,
                     device,
+                    words,
                     name,
                 },
             )

@@ -30,7 +30,7 @@ const BESIDE: usize = 4;
 const STRANDED: usize = 10;
 
 /// Appends this many spaces.
-fn put_spaces(page: Page, count: usize) -> Page {
+pub(crate) fn put_spaces(page: Page, count: usize) -> Page {
     let mut page = page;
     for _ in 0..count {
         page = page.put_letter(' ');
@@ -39,12 +39,12 @@ fn put_spaces(page: Page, count: usize) -> Page {
 }
 
 /// Appends a text, right-aligned to a width.
-fn put_right(page: Page, text: &str, columns: usize) -> Page {
+pub(crate) fn put_right(page: Page, text: &str, columns: usize) -> Page {
     put_spaces(page, columns.saturating_sub(text.len())).put(text)
 }
 
 /// Appends a text, left-aligned to a width.
-fn put_left(page: Page, text: &str, columns: usize) -> Page {
+pub(crate) fn put_left(page: Page, text: &str, columns: usize) -> Page {
     put_spaces(page.put(text), columns.saturating_sub(text.len()))
 }
 
@@ -63,13 +63,13 @@ fn put_time(page: Page, millis: u64, columns: usize) -> Page {
 }
 
 /// Appends a count, right-aligned to a width.
-fn put_count(page: Page, count: usize, columns: usize) -> Page {
+pub(crate) fn put_count(page: Page, count: usize, columns: usize) -> Page {
     let digits = digits_of(count as u64);
     put_spaces(page, columns.saturating_sub(digits)).put_shown(count)
 }
 
 /// A part of a whole in per cent, rounded down.
-fn percent_of(part: u64, whole: u64) -> u128 {
+pub(crate) fn percent_of(part: u64, whole: u64) -> u128 {
     u128::from(part)
         .saturating_mul(100)
         .checked_div(u128::from(whole))
@@ -178,16 +178,16 @@ fn put_stranded_job(page: Page, place: usize, stranded: &Stranded) -> Page {
 
 /// Appends the number of jobs that no device can print, and the places of the first of them, each with its
 /// cause.
-fn put_stranded(page: Page, stranded: &[Stranded]) -> Page {
+pub(crate) fn put_stranded(page: Page, stranded: &[Stranded]) -> Page {
     let mut page = page
-        .put("\nno device can print ")
+        .put("no device can print ")
         .put_shown(stranded.len())
         .put(" of the jobs");
     let told = stranded.len().min(STRANDED);
     for (place, one) in stranded[..told].iter().enumerate() {
         page = put_stranded_job(page, place, one);
     }
-    page.put_letter('\n')
+    page
 }
 
 /// The table of a day's figures, as it was played in several ways, in whole lines. The only error is out of
@@ -200,5 +200,7 @@ pub(crate) fn table_of(
 ) -> Result<String, AllocError> {
     let page = put_all_waits(alloc, Page::new(alloc), day, outcomes);
     let page = put_all_devices(page, names, outcomes);
-    put_stranded(page, &day.stranded).finish()
+    put_stranded(page.put_letter('\n'), &day.stranded)
+        .put_letter('\n')
+        .finish()
 }

@@ -1,20 +1,20 @@
 //! `printd simulate`.
-ghost use Rattle.settings_file.specs.Settings.{MeetsLimits};
 
 use crate::drawing::{form_of, refuse_day, written_trace};
 use crate::failure::{cannot, out_of_memory, say, write_text};
 use crate::settings::{read_file, settings_of};
 use command_line::Simulating;
 use gantt_chart::Form;
-use job_lists::{ListError, ListedJob, read_list};
+use job_lists::{JobList, ListError, ListedJob, read_list};
 use played_days::{
-    Added, DayFault, Noise, Policy, Question, Watch, listed_jobs, read_day, run_simulation,
+    Added, Comparison, DayFault, Noise, Policy, Question, Round, Watch, hasten, listed_jobs,
+    read_day, run_simulation,
 };
 use program::ExitStatus;
 use settings_file::Settings;
 use std::alloc::AllocError;
-use std::fs;
 use std::os::unix::fs::FileTypeExt;
+use std::{fs, slice};
 use traces::split_settings;
 
 /// The work of the command, in reports.
@@ -70,8 +70,12 @@ fn added_of<'a>(
     simulating: &'a Simulating<'_>,
 ) -> Result<Vec<Added<'a>>, AllocError> {
     let mut added = Vec::new(rt.alloc());
-    for (name, like) in simulating.with.iter().zip(&simulating.like) {
-        added.push(Added { name, like })?;
+    for addition in &simulating.with {
+        added.push(Added {
+            name: addition.name,
+            like: addition.like,
+            words: addition.words,
+        })?;
     }
     Ok(added)
 }
@@ -118,12 +122,52 @@ fn drawn_of(simulating: &Simulating<'_>) -> Option<Form> {
 
 /// Reports why a list is not read, and returns the exit status.
 fn refuse_list(rt: &HostRuntime, file: &str, error: &ListError) -> ExitStatus {
-    match error {
-        ListError::Fault { line, fault } => {
-            let _said = eprintln!(rt; "printd: {file}: line {line}: {fault}");
-            ExitStatus::Refused
+    if matches!(error, ListError::OutOfMemory) {
+        return cannot(rt, PLAY, out_of_memory());
+    }
+    let _said = eprintln!(rt; "printd: {file}: {error}");
+    ExitStatus::Refused
+}
+
+/// The names of the ignored columns, in one line. The only error is out of memory.
+fn names_in_line(rt: &HostRuntime, names: &[String]) -> Result<String, AllocError> {
+    let mut line = String::new(rt.alloc());
+    for name in names {
+        if !line.is_empty() {
+            line.push_str(", ")?;
         }
-        ListError::OutOfMemory => cannot(rt, PLAY, out_of_memory()),
+        line.push_str(name)?;
+    }
+    Ok(line)
+}
+
+/// Reports what of a list isn't used.
+fn tell_unused(rt: &HostRuntime, file: &str, list: &JobList) {
+    if let Ok(names) = names_in_line(rt, &list.ignored)
+        && !names.is_empty()
+    {
+        let _said = eprintln!(rt; "printd: {file}: ignored columns: {names}");
+    }
+    if list.names_others {
+        let _said = eprintln!(rt;
+            "printd: {file}: the settings have one printer, which gets the jobs of all printers"
+        );
+    }
+}
+
+/// The jobs of a list, for some settings. An error is reported, and its exit status returned.
+fn jobs_of_list(
+    rt: &HostRuntime,
+    file: &str,
+    text: &[u8],
+    settings: &Settings,
+) -> Result<Vec<ListedJob>, ExitStatus> {
+    match read_list(rt.alloc(), text, settings) {
+        Ok(list) => {
+            tell_unused(rt, file, &list);
+            Ok(list.jobs)
+        }
+        Err(error) => Err(refuse_list(rt, file, &error)),
     }
 }
 
@@ -150,45 +194,241 @@ fn jobs_of(
         let text = written_trace(rt, file, text)?;
         jobs_of_trace(rt, file, &text, settings).map_err(|fault| refuse_day(rt, PLAY, &fault))
     } else {
-        read_list(rt.alloc(), &text, settings).map_err(|error| refuse_list(rt, file, &error))
+        jobs_of_list(rt, file, &text, settings)
     }
 }
 
-/// Plays jobs with these settings, and returns the text of the results. An error is reported, and its exit
-/// status returned.
-fn played(
+/// The jobs of a file, which come as fast as the load says. An error is reported, and its exit status returned.
+fn loaded_jobs(
     rt: &HostRuntime,
-    simulating: &Simulating<'_>,
-    settings: Settings,
-    jobs: &[ListedJob],
-) -> Result<String, ExitStatus>
-    requires { MeetsLimits settings }
-{
-    let added = added_of(rt, simulating).map_err(|_| cannot(rt, PLAY, out_of_memory()))?;
-    let policies = policies_of(rt, simulating).map_err(|_| cannot(rt, PLAY, out_of_memory()))?;
-    let question = Question {
+    file: &str,
+    settings: &Settings,
+    load: u32,
+) -> Result<Vec<ListedJob>, ExitStatus> {
+    let mut jobs = jobs_of(rt, file, settings)?;
+    hasten(&mut jobs, load);
+    Ok(jobs)
+}
+
+/// A set of devices: the settings of a file, with further devices and without those that are away.
+#[derive(Clone, Copy)]
+struct DeviceSet<'a> {
+    file: &'a str,
+    added: &'a [Added<'a>],
+    away: &'a [&'a str],
+}
+
+/// The files of a day and of the settings for which it is played.
+#[derive(Clone, Copy)]
+struct Files<'a, 'b> {
+    settings: &'a str,
+    jobs: &'b str,
+}
+
+/// What is asked of a day on a set of devices.
+fn question_of<'a>(
+    simulating: &'a Simulating<'_>,
+    policies: &'a [Policy],
+    set: DeviceSet<'a>,
+) -> Question<'a> {
+    Question {
         noise: Noise {
             percent: simulating.noise,
             seed: simulating.seed,
         },
-        away: &simulating.without,
-        added: &added,
-        policies: &policies,
+        away: set.away,
+        added: set.added,
+        policies,
         drawn: drawn_of(simulating),
-    };
+    }
+}
+
+/// Plays the day of a file on a set of devices, and returns the text of the results. An error is reported, and
+/// its exit status returned.
+fn play_one(
+    rt: &HostRuntime,
+    simulating: &Simulating<'_>,
+    policies: &[Policy],
+    set: DeviceSet<'_>,
+    file: &str,
+) -> Result<String, ExitStatus> {
+    let settings = settings_of(rt, set.file)?;
+    let jobs = loaded_jobs(rt, file, &settings, simulating.load)?;
+    let question = question_of(simulating, policies, set);
     let mut progress = Progress::new(rt);
-    let played = run_simulation(rt.alloc(), settings, jobs, question, &mut progress);
+    let played = run_simulation(rt.alloc(), settings, &jobs, question, &mut progress);
     progress.end();
     played.map_err(|fault| refuse_day(rt, PLAY, &fault))
 }
 
-/// Runs `printd simulate`: plays the jobs of a list. An error is reported, and its exit status returned.
+/// Adds the figures of the day of a file on a set of devices, whose settings are in another. An error is reported,
+/// and its exit status returned.
+fn compare_one(
+    rt: &HostRuntime,
+    simulating: &Simulating<'_>,
+    comparison: &mut Comparison,
+    question: Question<'_>,
+    round: Round,
+    files: Files<'_, '_>,
+) -> Result<(), ExitStatus> {
+    let settings = settings_of(rt, files.settings)?;
+    let jobs = loaded_jobs(rt, files.jobs, &settings, simulating.load)?;
+    let mut progress = Progress::new(rt);
+    let played = comparison.play(round, settings, &jobs, question, &mut progress);
+    progress.end();
+    played.map_err(|fault| refuse_day(rt, PLAY, &fault))
+}
+
+/// The sets of devices that are played: for each file of settings one or, with `--each`, the settings as they
+/// are and then one for each change. The only error is out of memory.
+fn sets_of<'a>(
+    rt: &HostRuntime,
+    simulating: &'a Simulating<'_>,
+    added: &'a [Added<'a>],
+) -> Result<Vec<DeviceSet<'a>>, AllocError> {
+    let mut sets = Vec::new(rt.alloc());
+    for file in &simulating.settings {
+        if simulating.each {
+            add_each(&mut sets, file, added, &simulating.without)?;
+        } else {
+            sets.push(DeviceSet {
+                file,
+                added,
+                away: &simulating.without,
+            })?;
+        }
+    }
+    Ok(sets)
+}
+
+/// Adds the settings of a file as they are, and with each change.
+fn add_each<'a>(
+    sets: &mut Vec<DeviceSet<'a>>,
+    file: &'a str,
+    added: &'a [Added<'a>],
+    away: &'a [&'a str],
+) -> Result<(), AllocError> {
+    let plain = DeviceSet {
+        file,
+        added: &[],
+        away: &[],
+    };
+    sets.push(plain)?;
+    for device in added {
+        sets.push(DeviceSet {
+            added: slice::from_ref(device),
+            ..plain
+        })?;
+    }
+    for device in away {
+        sets.push(DeviceSet {
+            away: slice::from_ref(device),
+            ..plain
+        })?;
+    }
+    Ok(())
+}
+
+/// The name of a set of devices. The only error is out of memory.
+fn name_of(rt: &HostRuntime, set: DeviceSet<'_>) -> Result<String, AllocError> {
+    let mut name = String::from_str(rt.alloc(), set.file)?;
+    for device in set.added {
+        name.push_str(" with ")?;
+        name.push_str(device.name)?;
+    }
+    for device in set.away {
+        name.push_str(" without ")?;
+        name.push_str(device)?;
+    }
+    Ok(name)
+}
+
+/// The names of sets of devices. The only error is out of memory.
+fn names_of(rt: &HostRuntime, sets: &[DeviceSet<'_>]) -> Result<Vec<String>, AllocError> {
+    let mut names = Vec::with_capacity(rt.alloc(), sets.len())?;
+    for set in sets {
+        names.push(name_of(rt, *set)?)?;
+    }
+    Ok(names)
+}
+
+/// Plays each day on the set of devices at a place. An error is reported, and its exit status returned.
+fn compare_on(
+    rt: &HostRuntime,
+    simulating: &Simulating<'_>,
+    policies: &[Policy],
+    comparison: &mut Comparison,
+    place: usize,
+    set: DeviceSet<'_>,
+) -> Result<(), ExitStatus> {
+    let question = question_of(simulating, policies, set);
+    for (day, file) in simulating.jobs.iter().enumerate() {
+        let files = Files {
+            settings: set.file,
+            jobs: file,
+        };
+        let round = Round { set: place, day };
+        compare_one(rt, simulating, comparison, question, round, files)?;
+    }
+    Ok(())
+}
+
+/// Plays each day on each set of devices. An error is reported, and its exit status returned.
+fn compare_all(
+    rt: &HostRuntime,
+    simulating: &Simulating<'_>,
+    policies: &[Policy],
+    sets: &[DeviceSet<'_>],
+) -> Result<Comparison, ExitStatus> {
+    let mut comparison = Comparison::new(rt.alloc());
+    for (place, set) in sets.iter().enumerate() {
+        compare_on(rt, simulating, policies, &mut comparison, place, *set)?;
+    }
+    Ok(comparison)
+}
+
+/// Plays each day on each set of devices, and returns the text of the figures. An error is reported, and its exit
+/// status returned.
+fn compare(
+    rt: &HostRuntime,
+    simulating: &Simulating<'_>,
+    policies: &[Policy],
+    sets: &[DeviceSet<'_>],
+) -> Result<String, ExitStatus> {
+    let comparison = compare_all(rt, simulating, policies, sets)?;
+    let names = names_of(rt, sets).map_err(|_| cannot(rt, PLAY, out_of_memory()))?;
+    let text = if simulating.csv {
+        comparison.csv(&names, &simulating.jobs)
+    } else {
+        comparison.table(&names)
+    };
+    text.map_err(|_| cannot(rt, PLAY, out_of_memory()))
+}
+
+/// Plays the days, and returns the text of the results. An error is reported, and its exit status returned.
+fn play(
+    rt: &HostRuntime,
+    simulating: &Simulating<'_>,
+    policies: &[Policy],
+    sets: &[DeviceSet<'_>],
+) -> Result<String, ExitStatus> {
+    if let ([set], [file]) = (sets, simulating.jobs.as_slice())
+        && !simulating.csv
+    {
+        return play_one(rt, simulating, policies, *set, file);
+    }
+    compare(rt, simulating, policies, sets)
+}
+
+/// Runs `printd simulate`: plays the jobs of lists and traces. An error is reported, and its exit status
+/// returned.
 pub(crate) fn run_simulate(
     rt: &HostRuntime,
     simulating: &Simulating<'_>,
 ) -> Result<ExitStatus, ExitStatus> {
-    let settings = settings_of(rt, simulating.settings)?;
-    let jobs = jobs_of(rt, simulating.jobs, &settings)?;
-    let text = played(rt, simulating, settings, &jobs)?;
+    let added = added_of(rt, simulating).map_err(|_| cannot(rt, PLAY, out_of_memory()))?;
+    let policies = policies_of(rt, simulating).map_err(|_| cannot(rt, PLAY, out_of_memory()))?;
+    let sets = sets_of(rt, simulating, &added).map_err(|_| cannot(rt, PLAY, out_of_memory()))?;
+    let text = play(rt, simulating, &policies, &sets)?;
     write_text(rt, &text)
 }
