@@ -1,5 +1,6 @@
 //! Reports about failures of the program.
 use program::ExitStatus;
+use quotes::Escaped;
 use std::fmt::Display;
 use std::io;
 use std::io::{ErrorKind, Write};
@@ -9,6 +10,7 @@ fn reason(error: &io::Error) -> &'static str {
     match error.kind() {
         ErrorKind::NotFound => "no such file",
         ErrorKind::PermissionDenied => "permission denied",
+        ErrorKind::AlreadyExists => "a file has that name",
         ErrorKind::AddrInUse => "the address is in use",
         ErrorKind::AddrNotAvailable => "this machine does not have that address",
         ErrorKind::IsADirectory => "it is a folder",
@@ -26,9 +28,14 @@ pub(crate) fn out_of_memory() -> io::Error {
     io::Error::from(ErrorKind::OutOfMemory)
 }
 
-/// Writes a line to standard error. A failure of the write is ignored.
+/// Writes a line to standard error, with control characters escaped: it may have text of files and names of files. A
+/// failure of the write is ignored.
 pub(crate) fn say<T: Display>(rt: &HostRuntime, what: &T) {
-    let _said = eprintln!(rt; "printd: {what}");
+    let Ok(text) = format!(in rt.alloc(); "{what}") else {
+        return;
+    };
+    let line = Escaped(text.as_bytes());
+    let _said = eprintln!(rt; "printd: {line}");
 }
 
 /// Reports in a line of standard error what failed and why, and returns the exit status. Writes nothing where
@@ -36,6 +43,7 @@ pub(crate) fn say<T: Display>(rt: &HostRuntime, what: &T) {
 pub(crate) fn cannot(rt: &HostRuntime, what: &str, error: io::Error) -> ExitStatus {
     if error.kind() != ErrorKind::BrokenPipe {
         let reason = reason(&error);
+        let what = Escaped(what.as_bytes());
         let _said = match error.raw_os_error() {
             Some(code) => {
                 eprintln!(rt; "printd: cannot {what}: {reason} (the system's error {code})")

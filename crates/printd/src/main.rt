@@ -10,6 +10,7 @@
 mod attaching;
 mod drawing;
 mod failure;
+mod input;
 mod judging;
 mod log_output;
 mod noted;
@@ -88,8 +89,8 @@ fn run(rt: &HostRuntime, asked: &Subcommand<'_>) -> Result<ExitStatus, ExitStatu
         Subcommand::Settings(about) => run_settings(rt, *about),
         Subcommand::Replay(replaying) => replay(rt, *replaying),
         Subcommand::Log { file } => log(rt, *file),
-        Subcommand::Check { starts } => Ok(check(rt, *starts)),
-        Subcommand::Draw { text, trace } => draw(rt, *trace, form_of(*text)),
+        Subcommand::Check { file, starts } => check(rt, *file, *starts),
+        Subcommand::Draw { text, drawn } => draw(rt, *drawn, form_of(*text)),
         Subcommand::Simulate(simulating) => run_simulate(rt, simulating),
         Subcommand::Attach(attaching) => run_attach(rt, *attaching),
     }

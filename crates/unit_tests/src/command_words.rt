@@ -5,7 +5,7 @@ use std::alloc::{AllocError, Global};
 use std::test::Fail;
 
 /// Lines of words that are read, and the subcommand of each.
-const READ: [(&str, &str); 25] = [
+const READ: [(&str, &str); 27] = [
     (
         "printd replay",
         "Replay(Replaying { file: None, plans: false, verify: false })",
@@ -14,25 +14,42 @@ const READ: [(&str, &str); 25] = [
         "printd replay --plans",
         "Replay(Replaying { file: None, plans: true, verify: false })",
     ),
-    ("printd check", "Check { starts: false }"),
-    ("printd check --starts", "Check { starts: true }"),
-    ("printd draw", "Draw { text: false, trace: None }"),
-    ("printd draw --text", "Draw { text: true, trace: None }"),
+    ("printd check", "Check { file: None, starts: false }"),
+    (
+        "printd check a.plan --starts",
+        "Check { file: Some(\"a.plan\"), starts: true }",
+    ),
+    (
+        "printd draw",
+        "Draw { text: false, drawn: Plan { file: None } }",
+    ),
+    (
+        "printd draw --text a.plan",
+        "Draw { text: true, drawn: Plan { file: Some(\"a.plan\") } }",
+    ),
     (
         "printd draw --trace a.trace --text",
-        "Draw { text: true, trace: Some(\"a.trace\") }",
+        "Draw { text: true, drawn: Day { trace: \"a.trace\" } }",
     ),
     (
         "printd simulate --settings a.toml --jobs b.csv",
-        "Simulate(Simulating { settings: \"a.toml\", jobs: \"b.csv\", noise: 0, seed: 1, without: [], with: [], like: [], policies: [], draw: None, text: false })",
+        "Simulate(Simulating { settings: [\"a.toml\"], jobs: [\"b.csv\"], load: 1000, noise: 0, seed: 1, without: [], with: [], each: false, policies: [], csv: false, draw: None, text: false })",
     ),
     (
         "printd simulate --settings a --jobs b --noise 20 --seed 7 --without A --without B --with C=D --draw first-free --text",
-        "Simulate(Simulating { settings: \"a\", jobs: \"b\", noise: 20, seed: 7, without: [\"A\", \"B\"], with: [\"C\"], like: [\"D\"], policies: [], draw: Some(\"first-free\"), text: true })",
+        "Simulate(Simulating { settings: [\"a\"], jobs: [\"b\"], load: 1000, noise: 20, seed: 7, without: [\"A\", \"B\"], with: [Addition { name: \"C\", like: Some(\"D\"), words: \"\" }], each: false, policies: [], csv: false, draw: Some(\"first-free\"), text: true })",
     ),
     (
         "printd simulate --settings a --jobs b --policy shortest-first --policy ends-first",
-        "Simulate(Simulating { settings: \"a\", jobs: \"b\", noise: 0, seed: 1, without: [], with: [], like: [], policies: [\"shortest-first\", \"ends-first\"], draw: None, text: false })",
+        "Simulate(Simulating { settings: [\"a\"], jobs: [\"b\"], load: 1000, noise: 0, seed: 1, without: [], with: [], each: false, policies: [\"shortest-first\", \"ends-first\"], csv: false, draw: None, text: false })",
+    ),
+    (
+        "printd simulate --settings a --settings b --jobs c --jobs d --load 1.5 --with E:rate_one=7 --each --csv",
+        "Simulate(Simulating { settings: [\"a\", \"b\"], jobs: [\"c\", \"d\"], load: 1500, noise: 0, seed: 1, without: [], with: [Addition { name: \"E\", like: None, words: \"rate_one=7\" }], each: true, policies: [], csv: true, draw: None, text: false })",
+    ),
+    (
+        "printd simulate --settings a --jobs b --load 0.025 --draw",
+        "Simulate(Simulating { settings: [\"a\"], jobs: [\"b\"], load: 25, noise: 0, seed: 1, without: [], with: [], each: false, policies: [], csv: false, draw: Some(\"round-robin\"), text: false })",
     ),
     ("printd settings", "Settings(BuiltIn)"),
     (
@@ -91,8 +108,9 @@ const READ: [(&str, &str); 25] = [
 ];
 
 /// Lines of words that are refused: an unknown word, a word without the word that it needs, an invalid port,
-/// an invalid address, turns out of their range, an unknown policy, and two words that exclude each other.
-const REFUSED: [&str; 14] = [
+/// an invalid address, turns out of their range, an unknown policy, a load out of its range, a device without
+/// words, several days that are drawn, and words that exclude each other.
+const REFUSED: [&str; 21] = [
     "printd",
     "printd reply",
     "printd settings --avahi",
@@ -105,6 +123,13 @@ const REFUSED: [&str; 14] = [
     "printd serve --turns 1000000000001",
     "printd simulate --settings a --jobs b --policy best",
     "printd simulate --settings a --jobs b --policy ends-first --draw",
+    "printd draw a.plan --trace a.trace",
+    "printd simulate --settings a --jobs b --load 0",
+    "printd simulate --settings a --jobs b --load 100.001",
+    "printd simulate --settings a --jobs b --load 1.0005",
+    "printd simulate --settings a --jobs b --with C",
+    "printd simulate --settings a --jobs b --jobs c --draw",
+    "printd simulate --settings a --jobs b --csv --draw",
     "printd attach --name window",
     "printd attach --to file:printed",
 ];

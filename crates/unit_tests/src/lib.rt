@@ -25,6 +25,10 @@ mod plan_sentences;
 #[cfg(test)]
 mod plan_texts;
 #[cfg(test)]
+mod quoted_bytes;
+#[cfg(test)]
 mod settings_sentences;
+#[cfg(test)]
+mod settings_warnings;
 #[cfg(test)]
 mod text_bytes;
