@@ -1,10 +1,11 @@
 #!/usr/bin/env bash
-# Tries a package in a Debian of its own: boots it, installs the package, prints, upgrades, removes and purges it.
+# Tries a package in a Debian of its own: boots it, installs the package, prints, keeps jobs over restarts and
+# upgrades, removes and purges it.
 #   tools/try_package.sh PACKAGE [FOLDER]      FOLDER keeps the Debian for the next time; /var/tmp/printd-debian
 # It runs as root; the Debian has namespaces of its own, with no network but the loopback. It needs Debian's
 # debootstrap and cups-client, and the first time a mirror of Debian.
 set -eu -o pipefail
-[ $# -ge 1 ] || { sed -n 2,5p "$0" >&2; exit 2; }
+[ $# -ge 1 ] || { sed -n 2,6p "$0" >&2; exit 2; }
 package=$(realpath "$1")
 debian=$(realpath -m "${2:-/var/tmp/printd-debian}")
 
@@ -43,6 +44,11 @@ disown "$outside"
 sent=$(mktemp -d)
 trap 'kill -KILL "$outside" 2> /dev/null; rm -rf "$sent"' EXIT
 
+fail() {
+    echo "try_package: $1" >&2
+    exit 1
+}
+
 # Waits until a command says what is wanted.
 until_says() {
     local tries wanted=$1
@@ -53,8 +59,7 @@ until_says() {
         fi
         sleep 0.2
     done
-    echo "try_package: after $tries tries this doesn't say '$wanted': $*" >&2
-    exit 1
+    fail "after $tries tries this doesn't say '$wanted': $*"
 }
 
 first_process() {
@@ -65,6 +70,11 @@ inside() {
     nsenter -t "$(first_process)" -m -n -p -i -u -C -r -w env -i PATH=/usr/sbin:/usr/bin:/sbin:/bin LC_ALL=C "$@"
 }
 
+# Runs a client of the machine outside over the network inside.
+client() {
+    nsenter -t "$(first_process)" -n timeout 10 "$@"
+}
+
 # Runs apt-get, whose words are shown where it fails.
 install_or_remove() {
     if ! inside apt-get -y -qq -o Dpkg::Use-Pty=0 "$@" > "$sent/apt.log" 2>&1; then
@@ -73,52 +83,151 @@ install_or_remove() {
     fi
 }
 
-# Prints a file by a client outside, over the network inside, to the package's own adapter, which keeps it.
-print_once() {
-    echo "hello $1" > "$sent/hello"
-    nsenter -t "$(first_process)" -n timeout 10 lp -h "$1" -d lab "$sent/hello"
-    until_says "hello $1" inside cat "/run/printed/$2-window.txt"
+# What the journal has of a unit.
+journal() {
+    inside journalctl --no-pager -o cat -u "$@"
+}
+
+main_process() {
+    inside systemctl show --value -p MainPID "$1"
+}
+
+# Shows the exposure of a unit by systemd's count, which may be 2.5 at most.
+exposure() {
+    inside systemd-analyze security --no-pager --threshold=25 "$1" > "$sent/exposure" ||
+        fail "$1 is more exposed than 2.5"
+    tail -n 1 "$sent/exposure"
+}
+
+# What LPD says of the printer and its jobs.
+queue() {
+    inside bash -c 'exec 3<> /dev/tcp/127.0.0.1/515; printf "\003lab\n" >&3; cat <&3'
+}
+
+# Sends the text as a job of alice to an address.
+send() {
+    echo "$2" > "$sent/$2"
+    client lp -h "$1" -U alice -d lab "$sent/$2"
+}
+
+until_printed() {
+    until_says "$2" inside cat "/var/lib/printd-attach/printed/$1-window.txt"
+}
+
+try_install() {
+    install_or_remove install /opt/printd.deb
+    until_says active inside systemctl is-active printd
+    inside systemctl is-enabled printd
+    inside dpkg --verify printd
+    inside printd --version
+    exposure printd
+}
+
+try_adapter() {
+    if inside systemctl start printd-attach@window 2> /dev/null; then
+        fail "an adapter starts without a file"
+    fi
+    journal printd-attach@window -n 1 --grep /etc/printd/attach/window
+    inside cp /etc/printd/attach/window.example /etc/printd/attach/window
+    inside systemctl enable --quiet --now printd-attach@window
+    until_says active inside systemctl is-active printd-attach@window
+    exposure printd-attach@window
+    send 127.0.0.1:631 first
+    until_printed 1 first
+    send '[::1]:631' second
+    until_printed 2 second
+    journal printd
+}
+
+try_restart() {
+    client cupsdisable -U root -h 127.0.0.1:631 lab
+    send 127.0.0.1:631 third
+    until_says $'lab stopped\n3 pending alice 6 third' queue
+    inside systemctl restart printd
+    until_says $'lab stopped\n3 pending alice 6 third' queue
+    queue
+}
+
+try_faulty_settings() {
+    local server tries
+    server=$(main_process printd)
+    inside sed -i 's/^uri_base/base/' /etc/printd.toml
+    if inside systemctl reload printd 2> /dev/null; then
+        fail "it reloads settings that have a fault"
+    fi
+    journal printd -n 1 --grep refused
+    [ "$(main_process printd)" = "$server" ] || fail "a reload of settings with a fault ended the server"
+    install_or_remove install --reinstall /opt/printd.deb
+    grep 'the old server goes on' "$sent/apt.log"
+    [ "$(main_process printd)" = "$server" ] || fail "an upgrade over settings with a fault ended the server"
+    for tries in 1 2 3 4 5 6 7 8; do
+        if inside systemctl restart printd 2> /dev/null; then
+            fail "it starts with settings that have a fault"
+        fi
+    done
+    echo "refused $tries times; corrected:"
+    inside sed -i 's/^base/uri_base/' /etc/printd.toml
+    inside systemctl restart printd
+    until_says $'lab stopped\n3 pending alice 6 third' queue
+    queue
+}
+
+try_upgrade() {
+    local server adapter
+    server=$(main_process printd)
+    adapter=$(main_process printd-attach@window)
+    install_or_remove install --reinstall /opt/printd.deb
+    until_says $'lab stopped\n3 pending alice 6 third' queue
+    queue
+    [ "$(main_process printd)" != "$server" ] || fail "an upgrade leaves the old server"
+    [ "$(main_process printd-attach@window)" != "$adapter" ] || fail "an upgrade leaves the old adapter"
+}
+
+try_other_settings() {
+    inside sh -c 'echo "# edited" >> /etc/printd.toml'
+    inside systemctl reload printd
+    until_says $'lab stopped\n4 pending alice 6 third' queue
+    journal printd -n 1 --grep 'job 3 of "alice" is now 4'
+    queue
+    client cupsenable -U root -h 127.0.0.1:631 lab
+    until_printed 4 third
+}
+
+try_disabled() {
+    inside systemctl disable --quiet --now printd
+    install_or_remove install --reinstall /opt/printd.deb
+    until_says "# edited" inside tail -n 1 /etc/printd.toml
+    until_says disabled inside systemctl is-enabled printd
+    inside systemctl enable --quiet --now printd
+}
+
+try_removal() {
+    local left
+    install_or_remove remove printd
+    until_says inactive inside systemctl is-active printd
+    until_says inactive inside systemctl is-active printd-attach@window
+    inside test -e /etc/printd.toml
+    inside test -e /var/lib/printd-attach/printed/4-window.txt
+    install_or_remove purge printd
+    left=$(inside find /etc /lib /usr /var/lib -xdev -name '*printd*')
+    [ -z "$left" ] || fail "purge leaves $left"
 }
 
 until_says running inside systemctl is-system-running
 echo "-- apt install"
-install_or_remove install /opt/printd.deb
-until_says active inside systemctl is-active printd
-inside systemctl is-enabled printd
-inside dpkg --verify printd
-inside printd --version
-
-echo "-- lp, to the addresses of IPv4 and IPv6"
-inside timeout 60 printd attach --name window --to file:/run/printed &
-disown
-sleep 1
-print_once 127.0.0.1:631 1
-print_once '[::1]:631' 2
-inside journalctl -u printd --no-pager -o cat
-
-echo "-- settings with a fault"
-inside sed -i 's/^uri_base/base/' /etc/printd.toml
-if inside systemctl restart printd 2> /dev/null; then
-    echo "try_package: it starts with settings that have a fault" >&2
-    exit 1
-fi
-inside journalctl -u printd --no-pager -o cat -n 1 --grep refused
-inside sed -i 's/^base/uri_base/' /etc/printd.toml
-inside systemctl restart printd
-until_says active inside systemctl is-active printd
-
-echo "-- again, as an upgrade, with settings that were edited and a unit that was disabled"
-inside sh -c 'echo "# edited" >> /etc/printd.toml'
-inside systemctl disable --quiet --now printd
-install_or_remove install --reinstall /opt/printd.deb
-until_says "# edited" inside tail -n 1 /etc/printd.toml
-until_says disabled inside systemctl is-enabled printd
-inside systemctl enable --quiet --now printd
-
+try_install
+echo "-- an adapter without and with its file; lp, to the addresses of IPv4 and IPv6"
+try_adapter
+echo "-- a restart, with a job that waits at a paused printer"
+try_restart
+echo "-- settings with a fault: reload, upgrade, restart"
+try_faulty_settings
+echo "-- an upgrade"
+try_upgrade
+echo "-- settings that were edited"
+try_other_settings
+echo "-- an upgrade with a unit that was disabled"
+try_disabled
 echo "-- apt remove, apt purge"
-install_or_remove remove printd
-until_says inactive inside systemctl is-active printd
-inside test -e /etc/printd.toml
-install_or_remove purge printd
-inside find /etc /lib /usr /var/lib -xdev -name '*printd*'
-echo "installed, printed, kept the settings, removed"
+try_removal
+echo "all as expected"
