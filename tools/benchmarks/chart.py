@@ -60,6 +60,6 @@ def chart(title, ratios):
             drawn += bar(one, place, y)
         y += ROW + 8
     height = y + 32
-    head = f'<svg xmlns="http://www.w3.org/2000/svg" width="{LEFT + WIDTH + 60}" height="{height}" font-family="Liberation Sans, Arial, Helvetica, sans-serif" font-size="12">'
+    head = f'<svg xmlns="http://www.w3.org/2000/svg" width="{LEFT + WIDTH + 60}" height="{height}" viewBox="0 0 {LEFT + WIDTH + 60} {height}" font-family="Liberation Sans, Arial, Helvetica, sans-serif" font-size="12">'
     ground = ['<rect width="100%" height="100%" fill="#fff"/>', text(16, 32, title, ' font-size="16" font-weight="bold"')]
     return "\n".join([head, *ground, *axis(first, last, place, height), *drawn, "</svg>"]) + "\n"

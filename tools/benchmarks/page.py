@@ -1,4 +1,4 @@
-"""docs/BENCHMARKS.md with a section for each version, the chart, and the three figures of docs/RUNNING.md."""
+"""docs/BENCHMARKS.md with the newest section, the chart, and the three figures of docs/RUNNING.md."""
 import datetime
 import os
 import pathlib
@@ -10,8 +10,11 @@ from running import TOP
 from tables import figure, table
 
 PAGE, RUNNING, PICTURE = TOP / "docs/BENCHMARKS.md", TOP / "docs/RUNNING.md", TOP / "docs/pictures/benchmarks.svg"
-SECTIONS = "<!-- bench: sections, the newest first -->\n"
+SECTIONS = "<!-- bench: the newest section -->\n"
 BEGIN, END = "<!-- bench: begin -->\n", "<!-- bench: end -->\n"
+
+# The beginning of the title of a section with the planners alone.
+PLANNERS = "The planners of "
 
 UNPROVED = "unproved: with checks of its memory and its arithmetic, which take most of the time"
 
@@ -89,7 +92,7 @@ def head_with(version, quick, more, part=""):
 def planners_head(quick):
     """The head of a section that has the planners alone."""
     rows = [["scipy", package("python3-scipy")], ["LEMON", package("liblemon-dev")]]
-    return head_with(own_version(), quick, rows, "The planners of ")
+    return head_with(own_version(), quick, rows, PLANNERS)
 
 
 def head_of(program, quick, earlier):
@@ -109,10 +112,10 @@ def section(head, tables):
 
 
 def with_section(page, head, text):
-    """The page with a section at the head of its sections, in place of one of the same version and commit."""
+    """The page with a section in place of the one of the same tables."""
     before, marker, rest = page.partition(SECTIONS)
     old = [one for one in re.split(r"^(?=## )", rest.lstrip("\n"), flags=re.M) if one.strip()]
-    kept = [one for one in old if not one.startswith(f"## {head.part}{head.version} ({head.commit}, ")]
+    kept = [one for one in old if one.startswith(f"## {PLANNERS}") != bool(head.part)]
     return before + marker + "\n" + "\n".join([text, *(one.rstrip("\n") + "\n" for one in kept)])
 
 
