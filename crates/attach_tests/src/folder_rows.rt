@@ -8,8 +8,10 @@ use std::os::unix::fs::{MetadataExt, PermissionsExt};
 use std::test::Fail;
 use std::{fs, io};
 
-/// The folder of the jobs, and a file that is no folder.
+/// The folders of the jobs, and a file that is no folder.
 const FOLDER: &str = "attach_tests_printed";
+
+const FORMATS_FOLDER: &str = "attach_tests_formats";
 
 const FILE: &str = "attach_tests_file";
 
@@ -29,6 +31,55 @@ const TWICE: Row = Row {
     ],
     log: "0 linked\n0 job 7 5 2\n2000 done 7\n2000 job 7 5 1\n3000 done 7\n",
 };
+
+/// Documents of the formats that are known by their first octets, and of none.
+const FORMATS: Row = Row {
+    name: "formats",
+    start: NOTHING,
+    steps: &[
+        Connects(Server),
+        Writes(Server, b"HELLO hall\nREADY\n"),
+        Sends(Server, b"JOB 1 5 1 1 iso_a4_210x297mm\n%PDF-"),
+        Passes(1_000),
+        Writes(Server, b"DONE 1\n"),
+        Sends(Server, b"JOB 2 5 1 1 iso_a4_210x297mm\n%!PS-"),
+        Passes(1_000),
+        Writes(Server, b"DONE 2\n"),
+        Sends(Server, b"JOB 3 5 1 1 iso_a4_210x297mm\n\x1bE\x1b&l"),
+        Passes(1_000),
+        Writes(Server, b"DONE 3\n"),
+        Sends(Server, b"JOB 4 5 1 1 iso_a4_210x297mm\nRaS2\0"),
+        Passes(1_000),
+        Writes(Server, b"DONE 4\n"),
+        Sends(Server, b"JOB 5 7 1 1 iso_a4_210x297mm\nUNIRAST"),
+        Passes(1_000),
+        Writes(Server, b"DONE 5\n"),
+        Sends(Server, b"JOB 6 5 1 1 iso_a4_210x297mm\n\xff\xd8\xff\xe0\0"),
+        Passes(1_000),
+        Writes(Server, b"DONE 6\n"),
+        Sends(Server, b"JOB 7 5 1 1 iso_a4_210x297mm\n\x89PNG\r"),
+        Passes(1_000),
+        Writes(Server, b"DONE 7\n"),
+        Sends(Server, b"JOB 8 5 1 1 iso_a4_210x297mm\n\0\0\0\0\0"),
+        Passes(1_000),
+        Writes(Server, b"DONE 8\n"),
+    ],
+    log: "0 linked\n0 job 1 5 1\n1000 done 1\n1000 job 2 5 1\n2000 done 2\n2000 job 3 5 1\n3000 done 3\n\
+3000 job 4 5 1\n4000 done 4\n4000 job 5 7 1\n5000 done 5\n5000 job 6 5 1\n6000 done 6\n\
+6000 job 7 5 1\n7000 done 7\n7000 job 8 5 1\n8000 done 8\n",
+};
+
+/// The files of these documents.
+const FILES: [(&str, &[u8]); 8] = [
+    ("attach_tests_formats/1-hall.pdf", b"%PDF-"),
+    ("attach_tests_formats/2-hall.ps", b"%!PS-"),
+    ("attach_tests_formats/3-hall.pcl", b"\x1bE\x1b&l"),
+    ("attach_tests_formats/4-hall.pwg", b"RaS2\0"),
+    ("attach_tests_formats/5-hall.urf", b"UNIRAST"),
+    ("attach_tests_formats/6-hall.jpg", b"\xff\xd8\xff\xe0\0"),
+    ("attach_tests_formats/7-hall.png", b"\x89PNG\r"),
+    ("attach_tests_formats/8-hall.bin", b"\0\0\0\0\0"),
+];
 
 /// A folder that can't be written to.
 const AWAY: Row = Row {
@@ -72,6 +123,27 @@ fn printed(rt: &HostRuntime) -> io::Result<String> {
     Ok(wrong)
 }
 
+/// Returns whether the files of all formats are there.
+fn holds_formats(rt: &HostRuntime) -> io::Result<bool> {
+    for &(path, octets) in &FILES {
+        if !holds(rt, path, octets)? {
+            return Ok(false);
+        }
+    }
+    Ok(true)
+}
+
+/// Plays documents of all formats in an empty folder. Returns what is wrong.
+fn sorted(rt: &HostRuntime) -> io::Result<String> {
+    let _absent = fs::remove_dir_all(rt, FORMATS_FOLDER);
+    let wrong = play(rt.alloc(), rt, FORMATS, folder(rt, FORMATS_FOLDER)?)?;
+    if !holds_formats(rt)? {
+        return Ok(String::from_str(rt.alloc(), "files")?);
+    }
+    fs::remove_dir_all(rt, FORMATS_FOLDER)?;
+    Ok(wrong)
+}
+
 /// Plays a row at a file that is no folder. Returns what is wrong.
 fn away(rt: &HostRuntime) -> io::Result<String> {
     fs::write(rt, FILE, b"no folder")?;
@@ -83,6 +155,13 @@ fn away(rt: &HostRuntime) -> io::Result<String> {
 #[test]
 fn kept_documents(rt: HostRuntime) -> Result<(), Fail> {
     let wrong = printed(&rt)?;
+    assert!(rt; wrong.is_empty(), "{wrong}");
+    Ok(())
+}
+
+#[test]
+fn formats_of_documents(rt: HostRuntime) -> Result<(), Fail> {
+    let wrong = sorted(&rt)?;
     assert!(rt; wrong.is_empty(), "{wrong}");
     Ok(())
 }

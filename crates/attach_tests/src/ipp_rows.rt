@@ -11,13 +11,13 @@ use std::test::Fail;
 const TIMEOUT: u64 = 3_000;
 
 /// The operations (RFC 8011, section 5.4.15).
-const PRINT_JOB: u16 = 0x0002;
+pub(crate) const PRINT_JOB: u16 = 0x0002;
 
 const CANCEL_JOB: u16 = 0x0008;
 
 const GET_JOB: u16 = 0x0009;
 
-const GET_PRINTER: u16 = 0x000B;
+pub(crate) const GET_PRINTER: u16 = 0x000B;
 
 const JOB: &[u8] = b"JOB 7 5 1 1 iso_a4_210x297mm\nhello";
 
@@ -25,14 +25,15 @@ const JOB: &[u8] = b"JOB 7 5 1 1 iso_a4_210x297mm\nhello";
 const DOCUMENT: &[u8] = b"\r\n5\r\nhello\r\n0\r\n\r\n";
 
 /// The groups of printers that print, and that are stopped.
-const IDLE: &[u8] = b"\x04\x23\0\x0dprinter-state\0\x04\0\0\0\x03";
+pub(crate) const IDLE: &[u8] = b"\x04\x23\0\x0dprinter-state\0\x04\0\0\0\x03";
 
 const STOPPED: &[u8] = b"\x04\x23\0\x0dprinter-state\0\x04\0\0\0\x05";
 
 /// The groups of job 12: it is printed now, it is completed, it is aborted.
 const PRINTS: &[u8] = b"\x02\x21\0\x06job-id\0\x04\0\0\0\x0c\x23\0\x09job-state\0\x04\0\0\0\x05";
 
-const COMPLETED: &[u8] = b"\x02\x21\0\x06job-id\0\x04\0\0\0\x0c\x23\0\x09job-state\0\x04\0\0\0\x09\
+pub(crate) const COMPLETED: &[u8] =
+    b"\x02\x21\0\x06job-id\0\x04\0\0\0\x0c\x23\0\x09job-state\0\x04\0\0\0\x09\
 \x21\0\x19job-impressions-completed\0\x04\0\0\0\x01";
 
 const ABORTED: &[u8] = b"\x02\x21\0\x06job-id\0\x04\0\0\0\x0c\x23\0\x09job-state\0\x04\0\0\0\x08";
@@ -288,8 +289,8 @@ const ROWS: [Row; 13] = [
     },
 ];
 
-/// What is wrong with a row.
-fn played(rt: &HostRuntime, row: Row) -> Result<String, AllocError> {
+/// What is wrong with a row of a printer with IPP.
+pub(crate) fn played(rt: &HostRuntime, row: Row) -> Result<String, AllocError> {
     let alloc = rt.alloc();
     let address = IppAddress {
         uri: String::from_str(alloc, "ipp://printer:631/ipp/print")?,
