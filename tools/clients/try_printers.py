@@ -8,8 +8,8 @@ adapter between them. A first job meets the fault of the row, and a second one h
 by the same adapter; each job has to be answered once. Then servers that misbehave: the lines that one writes to
 an adapter are no lines of a server, or are cut; on the connection after that it brings a job. Then adapters that
 are told to end (SIGTERM to printd-attach): the server has to hear of the job in hand. Then words that make no
-sense, before which nothing may be opened. Then what any printer is promised (attach_rows.py), and what one of IPP
-is asked and tells (ipp_rows.py). A line says what the log has of the row, and what the server was told; last
+sense, before which nothing may be opened. Then jobs of a server with a good printer and a broken one. Then what any
+printer is promised (attach_rows.py), and what one of IPP is asked and tells (ipp_rows.py). A line says what the log has of the row, and what the server was told; last
 comes the most memory that the adapter had. Several rows are played at a time. Ends with status 1 where a row isn't
 as it is wanted here. PRINTD names the program; without it, it is the one that ./printd built.
 """
@@ -34,7 +34,7 @@ import ipp_rows  # noqa: E402
 from ipp_printer import CANCEL_JOB, CHARSET, INTEGER, LANGUAGE, PRINT_JOB, attribute  # noqa: E402
 from printer import document_of  # noqa: E402
 from running import PROGRAM, TOP, Adapter, EndingAdapter, Running  # noqa: E402
-from scripted_server import A4, Printer, Tap, attached  # noqa: E402
+from scripted_server import A4, Printer, Tap, attached, free_port  # noqa: E402
 
 URI = 0x45
 NAME = 0x42
@@ -46,6 +46,8 @@ LARGEST = 16 << 20
 MOST_KIB = 24 << 10
 # how many rows are played at a time
 ROWS_AT_A_TIME = 8
+# how many jobs a good device has beside a broken one
+BESIDE = 12
 # how long a printer may be silent in these rows, in seconds, and where that isn't what is tried
 PATIENCE = ("--timeout", "3", "--linger", "2")
 LONG_PATIENCE = ("--timeout", "60", "--linger", "2")
@@ -383,6 +385,37 @@ def play_words(words, folder):
     return ended.returncode == 2 and said != ["nothing"] and not os.listdir(folder), f"status {ended.returncode}, {said[0][:100]}", 0
 
 
+def play_beside(to, fault, folder):
+    """What becomes of jobs where one device of two breaks each job that it gets: the other prints all but three at most."""
+    settings = (TOP / "examples/office.toml").read_text().replace('devices = ["window"]', 'devices = ["window", "hall"]')
+    device = settings[settings.index("[[device]]") : settings.index("# A printer is")]
+    (folder / "two.toml").write_text(settings.replace("[[printer]]", device.replace('"window"', '"hall"') + "[[printer]]"))
+    with contextlib.ExitStack() as stack:
+        log = folder / "server.log"
+        server = stack.enter_context(Running(folder / "two.toml", ["--log"], log.open("wb")))
+        address = f"socket://127.0.0.1:{free_port()}" if fault == "away" else stack.enter_context(Printer(to, folder / "kept", [fault] * BESIDE)).address
+        broken = stack.enter_context(Adapter("window", server.devices, address, folder / "broken.log", PATIENCE))
+        stack.enter_context(Adapter("hall", server.devices, f"file:{folder / 'good'}", folder / "good.log", ("--ms-per-page", "200")))
+        for _ in range(BESIDE):
+            ask(server, PRINT_JOB, contents=attach_rows.DOCUMENT)
+        end = time.monotonic() + 60
+        while time.monotonic() < end and len(ends_of(log)) < BESIDE:
+            time.sleep(0.1)
+        peak = broken.peak_kib()
+    ends = ends_of(log)
+    printed = [job for job, (word, device) in ends.items() if (word, device) == ("completed", "hall")]
+    failed = [job for job, (word, device) in ends.items() if (word, device) == ("aborted", "window")]
+    whole = all((folder / f"good/{job}-hall.bin").read_bytes() == attach_rows.DOCUMENT for job in printed)
+    good = whole and len(printed) + len(failed) == BESIDE and len(failed) <= (0 if fault == "away" else 3)
+    return good, f"{len(printed)} printed, {len(failed)} failed", peak
+
+
+def ends_of(log):
+    """How each job ended, and on which device, by the server's log."""
+    lines = (line.split() for line in log.read_text().splitlines())
+    return {int(words[2]): (words[1], words[3]) for words in lines if len(words) == 4 and words[1] in ("completed", "aborted")}
+
+
 def play_settings(key, folder):
     """What is said of settings in which a name is longer than it may be."""
     name = "window" if key == "device" else "lab"
@@ -408,6 +441,8 @@ def rows():
         yield "words " + " ".join(words)[:60], lambda folder, words=words: play_words(words, folder)
     for key in ("device", "printer"):
         yield f"settings, a name of 33 bytes, {key}", lambda folder, key=key: play_settings(key, folder)
+    for to, fault in (("socket", "away"), ("socket", "reset"), ("pjl", "early"), ("lpd", "refused"), ("ipp", "denied"), ("ipp", "aborted")):
+        yield f"a good device beside {to} {fault}", lambda folder, bad=(to, fault): play_beside(*bad, folder)
     yield "ipp media that the settings lack", play_media
     yield "lpd, clients with long names", play_long_names
     yield from attach_rows.rows()
