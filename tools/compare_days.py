@@ -3,10 +3,10 @@
 
     tools/compare_days.py [--seeds N] [--processes N] [--write] [PRINTD]
 
-The days are those of tools/make_day.py, each at three loads and with the seeds 1 to 20. The first table has what
-`printd simulate` prints of the times to paper: of each figure the middle of the days, and of some the least and the
-greatest. The second one has what a change makes of the planned day: a higher priority for the longest tenth of the
-jobs, and one device more. --write puts both tables into docs/COMPARE.md.
+The days are those of tools/make_day.py, each at three loads and with the seeds 1 to 20. The first tables have times to
+paper as `printd simulate` prints them: of each figure the middle of the days. The last one has what a change makes of the
+planned day: a higher priority for the longest tenth of the jobs, and one device more. --write puts them into
+docs/COMPARE.md, and all figures, with the least and the greatest, into docs/compare/policies.csv and changes.csv.
 
 PRINTD is the program; without it, it is the proved one or the one that ./printd builds. --processes says how many days
 are played at a time, where it isn't one for each processor. All of it takes a proved program half a minute of a
@@ -15,6 +15,7 @@ processor, and the one that ./printd builds about forty minutes.
 import argparse
 import collections
 import concurrent.futures
+import csv
 import os
 import pathlib
 import re
@@ -24,8 +25,16 @@ import tempfile
 import typing
 
 TOP = pathlib.Path(__file__).resolve().parent.parent
-PAGE = TOP / "docs/COMPARE.md"
+PAGE, FOLDER = TOP / "docs/COMPARE.md", TOP / "docs/compare"
 POLICIES = ["planned", "round-robin", "first-free", "shortest-queue", "ends-first", "shortest-first"]
+POLICY_COLUMNS = [
+    "day", "load", "jobs", "jobs_least", "jobs_greatest", "busy_percent", "rule", "mean", "mean_least", "mean_greatest",
+    "percent_of_planned", "percent_least", "percent_greatest", "median", "95_of_100", "worst", "worst_least", "worst_greatest",
+    "days_of_a_lesser_mean", "days_of_a_lesser_worst",
+]
+CHANGE_COLUMNS = [
+    "day", "load", "change", "mean", "mean_least", "mean_greatest", "95_of_100", "95_least", "95_greatest", "worst", "worst_least", "worst_greatest",
+]
 LENGTHS = {"ms": 1, "s": 1000, "m": 60_000, "h": 3_600_000, "d": 86_400_000}
 
 
@@ -125,7 +134,7 @@ def play_all(processes, program, days, seeds):
 def changes_of(day):
     """The changes of a planned day, each with its words for both programs; one policy is played beside it."""
     alone = ("--policy", "first-free")
-    return [("priority 60 for the longest tenth", ("--urgent", "10"), alone), (f"one device more, `{day.more}`", (), (*alone, "--with", day.more))]
+    return [("priority 60 for the longest tenth", ("--urgent", "10"), alone), (f"one device more, {day.more}", (), (*alone, "--with", day.more))]
 
 
 def middle(found):
@@ -133,26 +142,37 @@ def middle(found):
     return sorted(found)[(len(found) - 1) // 2]
 
 
-def spread(found):
+def three(found):
     """The middle of some numbers or times, the least and the greatest."""
-    return f"{middle(found)} ({min(found)} to {max(found)})"
+    return [str(one) for one in (middle(found), min(found), max(found))]
 
 
-def percents(found):
-    """The middle of some numbers in per cent, the least and the greatest."""
-    return f"{middle(found)} % ({min(found)} to {max(found)})"
-
-
-def policy_row(load, policy, runs):
-    """The row of a policy at a load."""
+def policy_row(day, load, policy, runs):
+    """The figures of a policy at a load, by the names of their columns."""
     ours, planned = [run.rows[policy] for run in runs], [run.rows["planned"] for run in runs]
-    figures = [spread([row.mean for row in ours]), "100 %", middle([row.median for row in ours]), middle([row.late for row in ours]),
-               spread([row.worst for row in ours]), "", ""]
-    if policy != "planned":
-        figures[1] = percents([row.percent for row in ours])
-        figures[5] = sum(row.percent < 100 for row in ours)
-        figures[6] = sum(row.worst.millis < other.worst.millis for row, other in zip(ours, planned))
-    return [str(load), policy, *map(str, figures)]
+    lesser = [sum(row.percent < 100 for row in ours), sum(row.worst.millis < other.worst.millis for row, other in zip(ours, planned))]
+    cells = [
+        day.name, str(load), *three([row.jobs for row in planned]), str(middle([run.busy for run in runs])), policy,
+        *three([row.mean for row in ours]), *three([row.percent for row in ours]),
+        str(middle([row.median for row in ours])), str(middle([row.late for row in ours])), *three([row.worst for row in ours]),
+        *(["", ""] if policy == "planned" else map(str, lesser)),
+    ]
+    return dict(zip(POLICY_COLUMNS, cells))
+
+
+def of_planned(before, after, field):
+    """What a change makes of a figure of each planned day, in per cent."""
+    pairs = [(getattr(run.rows["planned"], field).millis, getattr(other.rows["planned"], field).millis) for run, other in zip(before, after)]
+    return three([round(100 * new / old) for old, new in pairs])
+
+
+def change_rows(day, load, found):
+    """The figures of the changes of a day at a load, by the names of their columns."""
+    before = found[day, load, "as it is"]
+    for change, _, _ in changes_of(day):
+        after = found[day, load, change]
+        cells = [day.name, str(load), change, *(cell for field in ("mean", "late", "worst") for cell in of_planned(before, after, field))]
+        yield dict(zip(CHANGE_COLUMNS, cells))
 
 
 def table(head, rows, words):
@@ -160,39 +180,27 @@ def table(head, rows, words):
     return "".join(f"| {' | '.join(row)} |\n" for row in lines)
 
 
-def load_words(load, runs):
-    """What a load is, in words."""
-    jobs = spread([run.rows["planned"].jobs for run in runs])
-    return f"{jobs} jobs at load {load}, for which the devices print {middle([run.busy for run in runs])} % of the time"
+def by_place(rows):
+    """Rows of figures by their day and load."""
+    places = collections.defaultdict(list)
+    for row in rows:
+        places[f"{row['day']}, {row['load']}"].append(row)
+    return places.items()
 
 
-def policy_table(day, found):
-    """The days of one kind at each load, by each policy."""
-    head = ["Load", "Rule", "mean", "of planned", "median", "95 of 100", "worst", "days of a lesser mean", "days of a lesser worst"]
-    runs = {load: found[day, load, "as it is"] for load in day.loads}
-    rows = [policy_row(load, policy, runs[load]) for load in day.loads for policy in POLICIES]
-    loads = "; ".join(load_words(load, runs[load]) for load in day.loads)
-    return f"`{day.name}`, on the devices of `examples/{day.settings}.toml`: {loads}.\n\n{table(head, rows, 2)}"
+def policy_tables(rows):
+    """The means of the policies in per cent of the planned ones, and their worst times."""
+    means = [[place, same[0]["jobs"], same[0]["busy_percent"], same[0]["mean"], *(row["percent_of_planned"] for row in same[1:])] for place, same in by_place(rows)]
+    worst = [[place, *(row["worst"] for row in same)] for place, same in by_place(rows)]
+    return (f"The mean: planned, and by each rule in per cent of that.\n\n{table(['Day, load', 'jobs', 'busy %', *POLICIES], means, 1)}\n"
+            f"The worst time:\n\n{table(['Day, load', *POLICIES], worst, 1)}")
 
 
-def of_planned(before, after, field):
-    """What a change makes of a figure of each planned day, in per cent."""
-    pairs = [(getattr(run.rows["planned"], field).millis, getattr(other.rows["planned"], field).millis) for run, other in zip(before, after)]
-    return percents([round(100 * new / old) for old, new in pairs])
-
-
-def change_rows(day, load, found):
-    """The rows of the changes of a day at a load."""
-    before = found[day, load, "as it is"]
-    for change, _, _ in changes_of(day):
-        after = found[day, load, change]
-        yield [f"`{day.name}`, {load}", change, *(of_planned(before, after, field) for field in ("mean", "late", "worst"))]
-
-
-def change_table(found):
-    """What changes make of the planned days, at their own load and at the greatest."""
-    rows = [row for day in DAYS for load in day.loads[1:] for row in change_rows(day, load, found)]
-    return table(["Day, load", "Change", "mean", "95 of 100", "worst"], rows, 2)
+def change_table(rows):
+    """What changes make of the planned days, in per cent."""
+    figures = ["mean", "95_of_100", "worst"]
+    cells = [[place, *(row[name] for row in same for name in figures)] for place, same in by_place(rows)]
+    return table(["Day, load", *(f"{change}: {name.replace('_', ' ')}" for change in ("priority", "device") for name in figures)], cells, 1)
 
 
 def write(name, text):
@@ -203,6 +211,14 @@ def write(name, text):
     if not (mark and end):
         sys.exit(f"compare_days: {PAGE} has no place for the {name}")
     PAGE.write_text(f"{before}{mark}\n{text}\n{end}{after}")
+
+
+def write_file(name, rows):
+    """Writes all figures as comma-separated values."""
+    with (FOLDER / f"{name}.csv").open("w", newline="") as file:
+        writer = csv.DictWriter(file, rows[0].keys(), lineterminator="\n")
+        writer.writeheader()
+        writer.writerows(rows)
 
 
 def program_of(given):
@@ -229,11 +245,14 @@ def main():
     days = [(day, load, ("as it is", (), ())) for day in DAYS for load in day.loads]
     days += [(day, load, change) for day in DAYS for load in day.loads[1:] for change in changes_of(day)]
     found = play_all(words.processes, program_of(words.program), days, range(1, words.seeds + 1))
-    tables = {"policies": "\n".join(policy_table(day, found) for day in DAYS), "changes": change_table(found)}
-    print("\n".join(tables.values()), end="")
+    policies = [policy_row(day, load, policy, found[day, load, "as it is"]) for day in DAYS for load in day.loads for policy in POLICIES]
+    changes = [row for day in DAYS for load in day.loads[1:] for row in change_rows(day, load, found)]
+    tables = {"policies": (policy_tables(policies), policies), "changes": (change_table(changes), changes)}
+    print("\n".join(text for text, _ in tables.values()), end="")
     if words.write:
-        for name, text in tables.items():
+        for name, (text, rows) in tables.items():
             write(name, text)
+            write_file(name, rows)
 
 
 if __name__ == "__main__":
