@@ -53,7 +53,7 @@ def load_ratios(load, found):
 
 def beside_cups(sizes):
     """The loads on each server; and how many jobs a second ours takes, or why that isn't known."""
-    head = ["Load", "Server", "requests a second", "us of a processor for one", "middle, ms", "99 of 100, ms", "taken", "resident at the end, MiB",
+    head = ["Load", "Server", "requests a second", "µs of a processor for one", "middle, ms", "99 of 100, ms", "taken", "resident at the end, MiB",
             "better than `cupsd`, requests a second", "better than `cupsd`, processor time"]
     rows, ratios, jobs = [], [], ""
     for load in LOADS:
@@ -74,7 +74,7 @@ def in_turn(sizes):
         return lambda: one_by_one(kind, sizes.in_turn, PAUSE)
 
     found = middles(all_rounds({kind.name: of_kind(kind) for kind in kinds}, sizes.rounds))
-    head = ["Server", "us, at once after the one before", "us, after a pause of 20 ms"]
+    head = ["Server", "µs, at once after the one before", "µs, after a pause of 20 ms"]
     rows = [reason(3, [name], one) if isinstance(one, str) else [name, figure(one.at_once), figure(one.paused)] for name, one in found.items()]
     return Table(f"{sizes.in_turn} Print-Jobs of 5 octets, one after the other", table(head, rows))
 

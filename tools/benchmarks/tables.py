@@ -32,9 +32,15 @@ def figure(number):
     return f"{number:.{1 if number >= 10 else 2 if number >= 0.1 else 3}f}"
 
 
+def without_repeats(rows):
+    """Rows of which those that begin as the row above have an empty first cell."""
+    above = [None, *(row[0] for row in rows)]
+    return [["", *row[1:]] if row[0] == before else row for row, before in zip(rows, above)]
+
+
 def table(head, rows, words=1):
     """A table, whose first columns have words and whose others have figures."""
-    lines = [head, ["---"] * words + ["---:"] * (len(head) - words), *rows]
+    lines = [head, ["---"] * words + ["---:"] * (len(head) - words), *(without_repeats(rows) if words > 1 else rows)]
     return "".join(f"| {' | '.join(row)} |\n" for row in lines)
 
 
