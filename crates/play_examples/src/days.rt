@@ -183,11 +183,14 @@ fn set_names(alloc: Global) -> Result<Vec<String>, AllocError> {
     Ok(names)
 }
 
+/// The load at which jobs come as they are listed, in thousandths.
+const OWN_LOAD: u32 = 1000;
+
 /// The table of the comparison, and the figures of each day. The only error is out of memory.
 pub fn compared_texts(alloc: Global, comparison: &Comparison) -> Result<[String; 2], AllocError> {
     let names = set_names(alloc)?;
     Ok([
         comparison.table(&names)?,
-        comparison.csv(&names, &COMPARED_DAYS)?,
+        comparison.csv(&names, &COMPARED_DAYS, OWN_LOAD)?,
     ])
 }

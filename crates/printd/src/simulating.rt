@@ -155,16 +155,26 @@ fn tell_unused(rt: &HostRuntime, file: &str, list: &JobList) {
     }
 }
 
+/// Whether what of a list isn't used is reported: once, for the first set of devices.
+#[derive(Clone, Copy)]
+enum Reports {
+    Unused,
+    Faults,
+}
+
 /// The jobs of a list, for some settings. An error is reported, and its exit status returned.
 fn jobs_of_list(
     rt: &HostRuntime,
     file: &str,
     text: &[u8],
     settings: &Settings,
+    reports: Reports,
 ) -> Result<Vec<ListedJob>, ExitStatus> {
     match read_list(rt.alloc(), text, settings) {
         Ok(list) => {
-            tell_unused(rt, file, &list);
+            if matches!(reports, Reports::Unused) {
+                tell_unused(rt, file, &list);
+            }
             Ok(list.jobs)
         }
         Err(error) => Err(refuse_list(rt, file, &error)),
@@ -188,13 +198,14 @@ fn jobs_of(
     rt: &HostRuntime,
     file: &str,
     settings: &Settings,
+    reports: Reports,
 ) -> Result<Vec<ListedJob>, ExitStatus> {
     let text = read_file(rt, file)?;
     if split_settings(&text).is_some() {
         let text = written_trace(rt, file, text)?;
         jobs_of_trace(rt, file, &text, settings).map_err(|fault| refuse_day(rt, PLAY, &fault))
     } else {
-        jobs_of_list(rt, file, &text, settings)
+        jobs_of_list(rt, file, &text, settings, reports)
     }
 }
 
@@ -204,8 +215,9 @@ fn loaded_jobs(
     file: &str,
     settings: &Settings,
     load: u32,
+    reports: Reports,
 ) -> Result<Vec<ListedJob>, ExitStatus> {
-    let mut jobs = jobs_of(rt, file, settings)?;
+    let mut jobs = jobs_of(rt, file, settings, reports)?;
     hasten(&mut jobs, load);
     Ok(jobs)
 }
@@ -253,7 +265,7 @@ fn play_one(
     file: &str,
 ) -> Result<String, ExitStatus> {
     let settings = settings_of(rt, set.file)?;
-    let jobs = loaded_jobs(rt, file, &settings, simulating.load)?;
+    let jobs = loaded_jobs(rt, file, &settings, simulating.load, Reports::Unused)?;
     let question = question_of(simulating, policies, set);
     let mut progress = Progress::new(rt);
     let played = run_simulation(rt.alloc(), settings, &jobs, question, &mut progress);
@@ -272,7 +284,12 @@ fn compare_one(
     files: Files<'_, '_>,
 ) -> Result<(), ExitStatus> {
     let settings = settings_of(rt, files.settings)?;
-    let jobs = loaded_jobs(rt, files.jobs, &settings, simulating.load)?;
+    let reports = if round.set == 0 {
+        Reports::Unused
+    } else {
+        Reports::Faults
+    };
+    let jobs = loaded_jobs(rt, files.jobs, &settings, simulating.load, reports)?;
     let mut progress = Progress::new(rt);
     let played = comparison.play(round, settings, &jobs, question, &mut progress);
     progress.end();
@@ -398,7 +415,7 @@ fn compare(
     let comparison = compare_all(rt, simulating, policies, sets)?;
     let names = names_of(rt, sets).map_err(|_| cannot(rt, PLAY, out_of_memory()))?;
     let text = if simulating.csv {
-        comparison.csv(&names, &simulating.jobs)
+        comparison.csv(&names, &simulating.jobs, simulating.load)
     } else {
         comparison.table(&names)
     };
