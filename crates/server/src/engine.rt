@@ -1,10 +1,11 @@
 //! The engine of a server.
-ghost use Rattle.std.specs.Prelude.{◌≡◌, ◌==◌, [], IfOk, IfSome, slice_get, count_by, is_some};
+ghost use Rattle.std.specs.Prelude.{◌≡◌, ◌==◌, ℕ, [], IfOk, IfSome, IsTrue, IsFalse, slice_get, count_by, is_some, true, false};
 ghost use Rattle.std.specs.Option.{option_copied};
 ghost use Rattle.settings_file.specs.Settings.{MeetsLimits};
 ghost use Rattle.print_room.specs.Opening.{opening};
 ghost use Rattle.spool.specs.Jobs.{job_at};
 ghost use Rattle.spool.specs.Calls.{paused_at, unfinished_jobs};
+ghost use Rattle.connections.specs.Slots.{is_of};
 ghost use Rattle.server.specs.Polls.{both};
 ghost use Rattle.server.specs.State.{EngineState};
 ghost use Rattle.server.specs.Refinement.{StandsAt, RefinesTurn};
@@ -110,6 +111,17 @@ impl<P: Planner + Drop> Engine<P> {
             }
         }
         self.connections.len() > named
+    }
+
+    /// Returns whether a device has a connection. No memory is taken.
+    pub fn is_connected(&self, device: DeviceId) -> bool
+        ensures yes { IsTrue result → (key : ℕ) × (is_of self.now.slots device key ≡ true) }
+        ensures no { IsFalse result → (key : ℕ) → is_of self.now.slots device key ≡ false }
+    {
+        match key_of(&self.connections, device) {
+            Some(_) => true,
+            None => false,
+        }
     }
 
     /// The settings that the engine was made with.
