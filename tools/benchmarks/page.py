@@ -106,7 +106,8 @@ def head_of(program, quick, earlier):
 
 def section(head, tables):
     """A section of the page."""
-    rows = "".join(f"| {name} | {value} |\n" for name, value in head.rows)
+    titled = (head.version, head.commit, head.date)
+    rows = "".join(f"| {name} | {value} |\n" for name, value in head.rows if value not in titled)
     parts = [f"## {head.title()}\n\n| What | Here |\n|---|---|\n{rows}"]
     return "\n".join([*parts, *(f"### {one.title}\n\n{one.text}" for one in tables)])
 

@@ -37,11 +37,13 @@ def shown(name):
 def load_row(load, name, found):
     """The row of a server under a load."""
     if isinstance(found[name], str):
-        return reason(10, [load[0], shown(name)], found[name])
+        return reason(9, [load[0], shown(name)], found[name])
     one = middle(found[name])
+    taken = round(one.taken * 100)
+    server = shown(name) if taken == 100 else f"{shown(name)}, {taken} % taken"
     times = [ratios_to(found[name], found[Cupsd.name], better) for better in (by_rate, by_time)]
-    return [load[0], shown(name), figure(one.rate), figure(one.used), figure(one.p50 / 1000), figure(one.p99 / 1000), f"{one.taken * 100:.0f} %",
-            f"{one.resident / 1024:.1f}", *(spread(it) if it and name != Cupsd.name else "" for it in times)]
+    return [load[0], server, figure(one.rate), figure(one.used), figure(one.p50 / 1000), figure(one.p99 / 1000), f"{one.resident / 1024:.1f}",
+            *(spread(it) if it and name != Cupsd.name else "" for it in times)]
 
 
 def load_ratios(load, found):
@@ -53,7 +55,7 @@ def load_ratios(load, found):
 
 def beside_cups(sizes):
     """The loads on each server; and how many jobs a second ours takes, or why that isn't known."""
-    head = ["Load", "Server", "requests a second", "µs of a processor for one", "middle, ms", "99 of 100, ms", "taken", "resident at the end, MiB",
+    head = ["Load", "Server", "requests a second", "µs of a processor for one", "middle, ms", "99 of 100, ms", "resident at the end, MiB",
             "better than `cupsd`, requests a second", "better than `cupsd`, processor time"]
     rows, ratios, jobs = [], [], ""
     for load in LOADS:

@@ -53,4 +53,4 @@ def spread(numbers):
     """The middle of some ratios, and the least and the greatest of them."""
     if len(numbers) == 1:
         return figure(numbers[0])
-    return f"{figure(statistics.median(numbers))} ({figure(min(numbers))} to {figure(max(numbers))})"
+    return f"{figure(statistics.median(numbers))} ({figure(min(numbers))}–{figure(max(numbers))})"
