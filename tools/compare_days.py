@@ -27,6 +27,8 @@ import typing
 TOP = pathlib.Path(__file__).resolve().parent.parent
 PAGE, FOLDER = TOP / "docs/COMPARE.md", TOP / "docs/compare"
 POLICIES = ["planned", "round-robin", "first-free", "shortest-queue", "ends-first", "shortest-first"]
+# those whose worst times the page has
+OF_WORST = ["planned", "round-robin", "ends-first", "shortest-first"]
 POLICY_COLUMNS = [
     "day", "load", "jobs", "jobs_least", "jobs_greatest", "busy_percent", "rule", "mean", "mean_least", "mean_greatest",
     "percent_of_planned", "percent_least", "percent_greatest", "median", "95_of_100", "worst", "worst_least", "worst_greatest",
@@ -191,9 +193,9 @@ def by_place(rows):
 def policy_tables(rows):
     """The means of the policies in per cent of the planned ones, and their worst times."""
     means = [[place, same[0]["jobs"], same[0]["busy_percent"], same[0]["mean"], *(row["percent_of_planned"] for row in same[1:])] for place, same in by_place(rows)]
-    worst = [[place, *(row["worst"] for row in same)] for place, same in by_place(rows)]
+    worst = [[place, *(row["worst"] for policy, row in zip(POLICIES, same) if policy in OF_WORST)] for place, same in by_place(rows)]
     return (f"The mean: planned, and by each rule in per cent of that.\n\n{table(['Day, load', 'jobs', 'busy %', *POLICIES], means, 1)}\n"
-            f"The worst time:\n\n{table(['Day, load', *POLICIES], worst, 1)}")
+            f"The worst time:\n\n{table(['Day, load', *OF_WORST], worst, 1)}")
 
 
 def change_table(rows):
