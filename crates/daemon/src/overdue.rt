@@ -1,12 +1,10 @@
 //! The jobs that devices have for much longer than estimated.
-use base_types::{Activity, JobId, Moment};
+use base_types::{JobId, Moment};
 use dispatcher::Started;
 use plan_prices::Planner;
+use queue_views::{is_overdue, lateness};
 use server::Engine;
 use std::alloc::{AllocError, Global};
-
-/// The least lateness that is reported, in ms.
-const LEAST: u64 = 60_000;
 
 /// The ms of a second.
 const SECOND: u64 = 1000;
@@ -34,19 +32,6 @@ struct Reported {
 pub(crate) struct Overdue {
     alloc: Global,
     reported: Vec<Reported>,
-}
-
-/// The ms by which a job of a running device is late: those since its estimated end.
-fn lateness<P: Planner + Drop>(engine: &Engine<P>, started: Started, now: Moment) -> u64 {
-    let Some(device) = engine.device(started.device) else {
-        return 0;
-    };
-    match device.activity {
-        Activity::Running(Some(printing)) if printing.job == started.job => {
-            now.millis().saturating_sub(printing.end)
-        }
-        _ => 0,
-    }
 }
 
 impl Overdue {
@@ -92,7 +77,7 @@ impl Overdue {
                 return Ok(due);
             }
         }
-        if lateness < started.time.max(LEAST) {
+        if !is_overdue(lateness, started.time) {
             return Ok(false);
         }
         self.reported.push(Reported {
