@@ -6,16 +6,25 @@
 //! is proved of it, except that it is safe and ends. The contract of a server over a wire is in `server`, and
 //! the content of a line in `recordings`.
 //!
+//! A [`Follower`] plays the turns of a day one after the other as their bytes arrive, and lets its caller look at the
+//! queue after each.
+//!
 //! The rows of the crate are recorded traces of `play_examples`.
 #![tactic(auto)]
 
+mod arriving;
 mod beginning;
 mod difference;
+mod fault;
+mod follower;
 mod listener;
 mod player;
 mod playing;
+mod turning;
 mod written;
 
 pub use beginning::{Peeked, Whole, peek};
+pub use fault::DayFault;
+pub use follower::Follower;
 pub use playing::{Played, Shows, play};
 pub use written::{Written, as_written};

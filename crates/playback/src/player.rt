@@ -3,10 +3,10 @@
 use crate::difference::put_difference;
 use crate::listener::Told;
 use crate::playing::Shows;
+use crate::turning::take_turn;
 use base_types::Moment;
 use daemon::Chronicle;
-use journal::{JournaledEngine, Pausable};
-use plan_solver::AugmentingPaths;
+use journal::JournaledEngine;
 use quotes::Escaped;
 use recordings::{Entry, Moved, Script, read_entry};
 use std::alloc::{AllocError, Global};
@@ -65,7 +65,7 @@ pub(crate) struct Player<'a> {
 }
 
 /// The moment of the turn that a line ends, if it ends one.
-fn turn_of(entry: &Entry) -> Option<Moment> {
+pub(crate) fn turn_of(entry: &Entry) -> Option<Moment> {
     match entry {
         Entry::Turn(moment) => Some(*moment),
         _ => None,
@@ -231,18 +231,17 @@ impl<'a> Player<'a> {
         }
     }
 
-    /// Has the server take a turn. In a turn in which a restarted server lost its connections no plan is made.
+    /// Has the server take a turn.
     fn turn_engine(&mut self, moment: Moment) {
-        let mut paused = Pausable::paused(AugmentingPaths::new(self.alloc));
         self.audience.told.set_unplanned(self.restarted);
-        if self.restarted {
-            self.engine.swap_planner(&mut paused);
-        }
-        self.engine
-            .turn(&mut self.script, &mut self.audience.told, moment);
-        if self.restarted {
-            self.engine.swap_planner(&mut paused);
-        }
+        take_turn(
+            self.alloc,
+            self.engine,
+            &mut self.script,
+            &mut self.audience.told,
+            moment,
+            self.restarted,
+        );
         self.restarted = false;
     }
 

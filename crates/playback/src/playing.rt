@@ -1,7 +1,7 @@
 //! The reading and playing of a recorded day.
-ghost use Rattle.std.specs.Prelude.{IfOk};
 ghost use Rattle.settings_file.specs.Settings.{MeetsLimits};
 
+use crate::fault::{DayFault, settings_of};
 use crate::player::{Audience, DayEnd, Player, Step};
 use base_types::{JobId, Limits};
 use journal::{JournaledEngine, Pausable};
@@ -9,7 +9,7 @@ use plan_solver::AugmentingPaths;
 use program::ExitStatus;
 use recordings::{GOES_ON, LineReader, read_start};
 use server::Engine;
-use settings_file::{Settings, SettingsFault, explain, read_settings_bytes};
+use settings_file::Settings;
 use std::alloc::{AllocError, Global};
 use std::io;
 use std::io::{ErrorKind, Read, Write};
@@ -65,11 +65,12 @@ impl From<io::Error> for Fault {
     }
 }
 
-/// The fault with a sentence.
-fn said(status: ExitStatus, sentence: Result<String, AllocError>) -> Fault {
-    match sentence {
-        Ok(sentence) => Fault::Said(status, sentence),
-        Err(_) => Fault::OutOfMemory,
+impl From<DayFault> for Fault {
+    fn from(fault: DayFault) -> Fault {
+        match fault {
+            DayFault::Said(status, sentence) => Fault::Said(status, sentence),
+            DayFault::OutOfMemory => Fault::OutOfMemory,
+        }
     }
 }
 
@@ -105,7 +106,7 @@ fn read_front<R: Read>(alloc: Global, lines: &mut LineReader<'_, R>) -> io::Resu
 }
 
 /// The id of the first job, if a line is the first of a recording.
-fn first_in(line: &[u8]) -> Option<JobId> {
+pub(crate) fn first_in(line: &[u8]) -> Option<JobId> {
     match read_start(line) {
         Some(start) => Some(start.first),
         None => None,
@@ -132,44 +133,13 @@ fn read_beginning<R: Read>(
         Front::Settings(_) => read_first(alloc, lines)?,
         _ => None,
     };
-    let sentence = match (front, first) {
+    let fault = match (front, first) {
         (Front::Settings(text), Some(first)) => return Ok((text, first)),
-        (Front::Settings(_), None) => format!(in alloc;
-            "{file}: this is no recorded day: the line behind \".\" isn't recorded and a number"
-        ),
-        (Front::GoesOn, _) => format!(in alloc;
-            "{file}: this goes on where another file ends, which its first line names: play both, the earlier first, as one"
-        ),
-        (Front::Neither, _) => format!(in alloc;
-            "{file}: no line is \".\" alone, as the one behind the settings is"
-        ),
+        (Front::Settings(_), None) => DayFault::no_start(alloc, file),
+        (Front::GoesOn, _) => DayFault::goes_on(alloc, file),
+        (Front::Neither, _) => DayFault::no_stop(alloc, file),
     };
-    Err(said(ExitStatus::Refused, sentence))
-}
-
-/// The fault of the settings of a file.
-fn settings_refused(alloc: Global, file: &str, settings: &[u8], fault: &SettingsFault) -> Fault {
-    if matches!(fault, SettingsFault::OutOfMemory) {
-        return Fault::OutOfMemory;
-    }
-    match explain(alloc, file, settings) {
-        Ok(Some(sentence)) => Fault::Said(ExitStatus::Refused, sentence),
-        Ok(None) => said(
-            ExitStatus::Refused,
-            format!(in alloc; "{file}: the settings are refused"),
-        ),
-        Err(_) => Fault::OutOfMemory,
-    }
-}
-
-/// Reads the settings of a file.
-fn settings_of(alloc: Global, file: &str, text: &[u8]) -> Result<Settings, Fault>
-    ensures { IfOk result MeetsLimits }
-{
-    match read_settings_bytes(alloc, text) {
-        Ok(settings) => Ok(settings),
-        Err(fault) => Err(settings_refused(alloc, file, text, &fault)),
-    }
+    Err(Fault::from(fault))
 }
 
 /// A recorded day that is played, and its printed text.
@@ -206,26 +176,13 @@ impl<'file, 'output, W: Write> Day<'file, 'output, W> {
         let (alloc, file) = (self.alloc, self.file);
         match step {
             Step::Played => Ok(()),
-            Step::Bad => Err(said(
-                ExitStatus::Refused,
-                format!(in alloc; "{file}: line {number}: this is no line of a recorded day"),
-            )),
-            Step::Refused(line) => Err(said(
-                ExitStatus::No,
-                format!(in alloc;
-                    "{file}: line {line}: memory was refused to the server here, and what follows isn't played"
-                ),
-            )),
+            Step::Bad => Err(Fault::from(DayFault::bad_line(alloc, file, number))),
+            Step::Refused(line) => Err(Fault::from(DayFault::refused(alloc, file, line))),
             Step::Differs(lines) if self.shows == Shows::Verdict => {
                 self.output.extend_from_slice(&lines)?;
                 Err(Fault::Differs)
             }
-            Step::Differs(_) => Err(said(
-                ExitStatus::No,
-                format!(in alloc;
-                    "{file}: line {number}: in this turn the server does something else than was recorded"
-                ),
-            )),
+            Step::Differs(_) => Err(Fault::from(DayFault::differs(alloc, file, number))),
         }
     }
 
