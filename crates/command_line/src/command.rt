@@ -1,7 +1,7 @@
 //! The commands of the program in the form of `clap`, made from the tables in `words`.
 
 use crate::read::VERSION;
-use crate::words::{ArgumentWords, CommandWords, command_words};
+use crate::words::{ArgumentWords, CommandWords, plan_words, server_words};
 use clap::{Arg, Command};
 use std::alloc::{AllocError, Global};
 
@@ -61,12 +61,23 @@ fn command_of<'a>(alloc: Global, words: &CommandWords<'a>) -> Result<Command<'a>
     }
 }
 
-fn commands<'a>(alloc: Global) -> Result<Vec<Command<'a>>, AllocError> {
-    let words = command_words();
-    let mut commands = Vec::with_capacity(alloc, words.len())?;
+/// Appends commands. The only error is out of memory.
+fn add_commands<'a>(
+    alloc: Global,
+    commands: &mut Vec<Command<'a>>,
+    words: &'a [CommandWords<'a>],
+) -> Result<(), AllocError> {
     for command in words {
         commands.push(command_of(alloc, command)?)?;
     }
+    Ok(())
+}
+
+/// All commands. The only error is out of memory.
+fn commands<'a>(alloc: Global) -> Result<Vec<Command<'a>>, AllocError> {
+    let mut commands = Vec::new(alloc);
+    add_commands(alloc, &mut commands, server_words())?;
+    add_commands(alloc, &mut commands, plan_words())?;
     Ok(commands)
 }
 

@@ -9,6 +9,7 @@
 mod attach_words;
 mod command;
 mod doors;
+mod page_words;
 mod read;
 mod simulate_words;
 mod subcommand;
@@ -16,6 +17,7 @@ mod words;
 mod words_error;
 
 pub use attach_words::Attaching;
+pub use page_words::Paging;
 pub use read::{VERSION, read_words};
 pub use simulate_words::{Addition, Simulating};
 pub use subcommand::{AboutSettings, Drawn, Log, Replaying, Serving, Spooling, Subcommand};

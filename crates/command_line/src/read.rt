@@ -3,6 +3,7 @@
 use crate::attach_words::attach_words;
 use crate::command::program;
 use crate::doors::{addresses, default_address};
+use crate::page_words::page_words;
 use crate::simulate_words::simulate_words;
 use crate::subcommand::{AboutSettings, Drawn, Log, Replaying, Serving, Spooling, Subcommand};
 use crate::words::{MOST_TURNS, STANDARD_ERROR};
@@ -98,6 +99,13 @@ fn log_words<'a>(found: &ArgMatches<'a>) -> Subcommand<'a> {
     }
 }
 
+/// The files of `printd jobs`. The only error is out of memory.
+fn jobs_words<'a>(alloc: Global, found: &ArgMatches<'a>) -> Result<Subcommand<'a>, WordsError> {
+    Ok(Subcommand::Jobs {
+        files: Vec::from_slice(alloc, found.get_strs("file").unwrap_or(&[]))?,
+    })
+}
+
 fn check_words<'a>(found: &ArgMatches<'a>) -> Subcommand<'a> {
     Subcommand::Check {
         file: found.get_str("file"),
@@ -146,6 +154,8 @@ fn meaning<'a>(
         "settings" => Ok(Subcommand::Settings(settings_words(found))),
         "replay" => Ok(Subcommand::Replay(replay_words(found))),
         "log" => Ok(log_words(found)),
+        "jobs" => jobs_words(alloc, found),
+        "page" => Ok(Subcommand::Page(page_words(alloc, found)?)),
         "check" => Ok(check_words(found)),
         "draw" => Ok(draw_words(found)),
         "simulate" => simulate_words(alloc, found).map(Subcommand::Simulate),

@@ -1,5 +1,6 @@
 //! The subcommands of the program.
 use crate::attach_words::Attaching;
+use crate::page_words::Paging;
 use crate::simulate_words::Simulating;
 use std::net::SocketAddr;
 
@@ -17,6 +18,13 @@ pub enum Subcommand<'a> {
         /// The file of the day; `None` for standard input.
         file: Option<&'a str>,
     },
+    /// Write the jobs of a recorded day as comma-separated values.
+    Jobs {
+        /// The files of the day, in their order; at least one.
+        files: Vec<&'a str>,
+    },
+    /// Write the page of a recorded day's queue.
+    Page(Paging<'a>),
     /// Judge the text of a plan, and write the start of each job if `starts` is set.
     Check {
         /// The file of the plan; `None` for standard input.

@@ -244,6 +244,58 @@ const REPLAY: &[ArgumentWords<'static>] = &[
 
 const LOG: &[ArgumentWords<'static>] = &[TRACE_READ];
 
+const JOBS: &[ArgumentWords<'static>] = &[ArgumentWords {
+    action: ArgAction::Append,
+    is_required: true,
+    help: "The recorded day; several files, as the *.trace of a spool, are played in their order",
+    ..FILE_READ
+}];
+
+const PAGE: &[ArgumentWords<'static>] = &[
+    ArgumentWords {
+        action: ArgAction::Append,
+        help: "The recorded day, or its files in order; without one, that of standard input",
+        ..FILE_READ
+    },
+    ArgumentWords {
+        name: "follow",
+        value_name: Some("FILE-OR-DIR"),
+        needs: Some("to"),
+        excludes: Some("file"),
+        help: "Follow a recording or a spool as it grows, and write the page anew as it changes, once a second at most",
+        ..TEXT
+    },
+    ArgumentWords {
+        name: "at",
+        value_name: Some("TIME"),
+        excludes: Some("follow"),
+        help: "When: in ms since the start, a clock time, or a date with a time; without it, at the end of the day",
+        ..TEXT
+    },
+    ArgumentWords {
+        name: "to",
+        help: "The file of the page, in place of standard output",
+        ..FILE
+    },
+    ArgumentWords {
+        name: "metrics",
+        help: "Write metrics for Prometheus to this file, too: NAME.prom in the folder of node_exporter's textfile collector",
+        ..FILE
+    },
+    ArgumentWords {
+        name: "names",
+        help: "Show the owners and the titles of jobs",
+        ..FLAG
+    },
+    ArgumentWords {
+        name: "zone",
+        value_name: Some("ZONE"),
+        default: Some("UTC"),
+        help: "The zone of clock times, as Europe/Berlin or +02:00",
+        ..TEXT
+    },
+];
+
 const CHECK: &[ArgumentWords<'static>] = &[
     PLAN_READ,
     ArgumentWords {
@@ -430,8 +482,8 @@ const ATTACH: &[ArgumentWords<'static>] = &[
     },
 ];
 
-/// The commands, in the order of help.
-const COMMANDS: &[CommandWords<'static>] = &[
+/// The commands for a server and its recorded days, in the order of help.
+const SERVER_COMMANDS: &[CommandWords<'static>] = &[
     CommandWords {
         name: "serve",
         about: "Serve print clients and devices over the network",
@@ -452,6 +504,20 @@ const COMMANDS: &[CommandWords<'static>] = &[
         about: "Write the log's lines of a recorded day",
         arguments: LOG,
     },
+    CommandWords {
+        name: "jobs",
+        about: "Print the jobs of a recorded day as comma-separated values",
+        arguments: JOBS,
+    },
+    CommandWords {
+        name: "page",
+        about: "Write a page of HTML with the queue of a recorded day, at its end or at a moment",
+        arguments: PAGE,
+    },
+];
+
+/// The commands for plans, days of jobs and printers, in the order of help after those.
+const PLAN_COMMANDS: &[CommandWords<'static>] = &[
     CommandWords {
         name: "check",
         about: "Judge the text of a plan: yes, or its first fault",
@@ -474,8 +540,13 @@ const COMMANDS: &[CommandWords<'static>] = &[
     },
 ];
 
-/// The commands of the program, for words of any lifetime. A `Command` owns memory, and the lifetime of what
+/// The commands of a server, for words of any lifetime. A `Command` owns memory, and the lifetime of what
 /// it refers to can't be made shorter later.
-pub(crate) fn command_words<'a>() -> &'a [CommandWords<'a>] {
-    COMMANDS
+pub(crate) fn server_words<'a>() -> &'a [CommandWords<'a>] {
+    SERVER_COMMANDS
+}
+
+/// The commands for plans, days and printers, likewise.
+pub(crate) fn plan_words<'a>() -> &'a [CommandWords<'a>] {
+    PLAN_COMMANDS
 }
