@@ -1,30 +1,39 @@
 //! The program.
 //!
 //! `printd serve` is the server over sockets. `printd settings` shows or judges settings. `printd replay`
-//! plays a trace and writes the happenings of the server. `printd log` writes the log of a recorded day.
+//! plays a trace and writes the happenings of the server. `printd log` writes the log of a recorded day, and
+//! `printd jobs` its jobs as comma-separated values.
+//! `printd page` writes its queue at a moment as a page of HTML.
 //! `printd check` reads the text of a plan and writes the verdict on it. `printd draw` draws a plan or the
 //! day of a trace. `printd simulate` plays a day of jobs. `printd attach` is a device of a server, whose jobs
 //! a printer prints.
 #![tactic(auto)]
 
 mod attaching;
+mod chain;
 mod drawing;
 mod failure;
+mod following;
 mod input;
+mod jobs;
 mod judging;
 mod log_output;
 mod noted;
+mod page;
 mod replaying;
 mod serving;
 mod settings;
 mod simulating;
 mod spooling;
 mod tape;
+mod zone;
 
 use crate::attaching::run_attach;
 use crate::drawing::{draw, form_of};
 use crate::failure::{cannot, out_of_memory};
+use crate::jobs::run_jobs;
 use crate::judging::check;
+use crate::page::run_page;
 use crate::replaying::{log, replay};
 use crate::serving::run_serve;
 use crate::settings::run_settings;
@@ -89,6 +98,8 @@ fn run(rt: &HostRuntime, asked: &Subcommand<'_>) -> Result<ExitStatus, ExitStatu
         Subcommand::Settings(about) => run_settings(rt, *about),
         Subcommand::Replay(replaying) => replay(rt, *replaying),
         Subcommand::Log { file } => log(rt, *file),
+        Subcommand::Jobs { files } => run_jobs(rt, files),
+        Subcommand::Page(paging) => run_page(rt, paging),
         Subcommand::Check { file, starts } => check(rt, *file, *starts),
         Subcommand::Draw { text, drawn } => draw(rt, *drawn, form_of(*text)),
         Subcommand::Simulate(simulating) => run_simulate(rt, simulating),

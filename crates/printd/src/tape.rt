@@ -13,7 +13,7 @@ use std::os::unix::fs::OpenOptionsExt;
 use std::time::{Duration, SystemTime};
 
 /// The most files of one name.
-const MOST_FILES: u32 = 1_000_000;
+pub(crate) const MOST_FILES: u32 = 1_000_000;
 
 /// The seconds of a day.
 const DAY: u64 = 86_400;
@@ -61,7 +61,7 @@ fn point_of(path: &str) -> usize {
 
 /// The name of the file with this number. The first file has the path itself; the next file of `day.trace` is
 /// `day.1.trace`.
-fn name_of(rt: &HostRuntime, path: &str, number: u32) -> Result<String, AllocError> {
+pub(crate) fn name_of(rt: &HostRuntime, path: &str, number: u32) -> Result<String, AllocError> {
     if number == 0 {
         return String::from_str(rt.alloc(), path);
     }

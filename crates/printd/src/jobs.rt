@@ -1,0 +1,168 @@
+//! `printd jobs`: the jobs of recorded days.
+use crate::failure::{cannot, cannot_with, out_of_memory, say};
+use crate::input::open;
+use account_tables::AccountTable;
+use playback::{DayFault, Follower, peek};
+use program::ExitStatus;
+use recordings::{GOES_ON, fill};
+use std::alloc::AllocError;
+use std::fs::File;
+use std::io::Write;
+use std::{io, mem};
+
+/// The number of bytes that one read asks for.
+const CHUNK: usize = 65_536;
+
+/// Why the jobs of a file aren't written.
+#[derive(Drop)]
+enum Trouble {
+    Day(DayFault),
+    /// The file can't be read.
+    Read(io::Error),
+}
+
+/// The days of some files, of which the last is played, and the rows of the days before.
+#[derive(Drop)]
+struct Days<'a> {
+    rt: &'a HostRuntime,
+    follower: Follower,
+    table: AccountTable,
+    /// Whether a file of the day was begun.
+    has_begun: bool,
+}
+
+impl From<DayFault> for Trouble {
+    fn from(fault: DayFault) -> Trouble {
+        Trouble::Day(fault)
+    }
+}
+
+impl From<io::Error> for Trouble {
+    fn from(error: io::Error) -> Trouble {
+        Trouble::Read(error)
+    }
+}
+
+impl From<AllocError> for Trouble {
+    fn from(_error: AllocError) -> Trouble {
+        Trouble::Day(DayFault::OutOfMemory)
+    }
+}
+
+/// A follower of a day of which nothing has arrived, which keeps accounts.
+fn new_follower(rt: &HostRuntime) -> Follower {
+    let mut follower = Follower::new(rt.alloc());
+    follower.keep_accounts();
+    follower
+}
+
+impl Days<'_> {
+    /// Creates the days of no files.
+    fn new(rt: &HostRuntime) -> Result<Days<'_>, AllocError> {
+        Ok(Days {
+            rt,
+            follower: new_follower(rt),
+            table: AccountTable::new(rt.alloc())?,
+            has_begun: false,
+        })
+    }
+
+    /// Plays the turns of these bytes.
+    fn play(&mut self, bytes: &[u8]) -> Result<(), DayFault> {
+        self.follower.add(bytes)?;
+        for _ in 0..u64::MAX {
+            if self.follower.turn()?.is_none() {
+                break;
+            }
+        }
+        Ok(())
+    }
+
+    /// Plays a file of this name: it goes on with the day of the file before, or begins another day.
+    fn play_file(&mut self, name: &str, file: &mut File) -> Result<(), Trouble> {
+        let peeked = peek(self.rt.alloc(), file)?;
+        if self.has_begun && !peeked.bytes.starts_with(GOES_ON) {
+            self.end_day()?;
+        }
+        self.has_begun = true;
+        self.follower.begin_file(name)?;
+        self.play(&peeked.bytes)?;
+        self.play_rest(file)
+    }
+
+    /// Plays the bytes of a file that weren't read.
+    fn play_rest(&mut self, file: &mut File) -> Result<(), Trouble> {
+        let mut chunk = vec![in self.rt.alloc(); 0; CHUNK]?;
+        for _ in 0..u64::MAX {
+            let count = fill(file, &mut chunk)?;
+            if count == 0 {
+                break;
+            }
+            self.play(&chunk[..count])?;
+        }
+        match self.follower.missing() {
+            Some(fault) => Err(Trouble::Day(fault)),
+            None => Ok(()),
+        }
+    }
+
+    /// Adds the rows of the day.
+    fn end_day(&mut self) -> Result<(), AllocError> {
+        let ended = mem::replace(&mut self.follower, new_follower(self.rt));
+        match ended.into_accounts()? {
+            Some(day) => self.table.add_day(&day),
+            None => Ok(()),
+        }
+    }
+
+    /// The table of all days.
+    fn finish(self) -> Result<Vec<u8>, AllocError> {
+        let mut days = self;
+        days.end_day()?;
+        days.table.finish()
+    }
+}
+
+/// Reports why the jobs of a file aren't written, and returns the exit status.
+fn tell(rt: &HostRuntime, name: &str, trouble: Trouble) -> ExitStatus {
+    match trouble {
+        Trouble::Read(error) => cannot_with(rt, "read", name, error),
+        Trouble::Day(DayFault::OutOfMemory) => cannot_with(rt, "play", name, out_of_memory()),
+        Trouble::Day(DayFault::Said(status, sentence)) => {
+            say(rt, &sentence);
+            status
+        }
+    }
+}
+
+/// Plays the files, up to the first that can't be played. That is reported, and its exit status returned.
+fn play_all(
+    rt: &HostRuntime,
+    days: &mut Days<'_>,
+    files: &[&str],
+) -> Result<ExitStatus, ExitStatus> {
+    for name in files {
+        let mut file = open(rt, name)?;
+        if let Err(trouble) = days.play_file(name, &mut file) {
+            return Ok(tell(rt, name, trouble));
+        }
+    }
+    Ok(ExitStatus::Done)
+}
+
+/// Reports refused memory, and returns the exit status.
+fn no_memory(rt: &HostRuntime, _error: AllocError) -> ExitStatus {
+    cannot(rt, "write the jobs", out_of_memory())
+}
+
+/// Writes the jobs of the days of some files, up to the first line that can't be played. An error is reported, and its
+/// exit status returned.
+pub(crate) fn run_jobs(rt: &HostRuntime, files: &[&str]) -> Result<ExitStatus, ExitStatus> {
+    let mut days = Days::new(rt).map_err(|error| no_memory(rt, error))?;
+    let status = play_all(rt, &mut days, files)?;
+    let table = days.finish().map_err(|error| no_memory(rt, error))?;
+    match io::writer(rt).write_all(&table) {
+        Ok(()) => Ok(status),
+        Err(error) => Err(cannot(rt, "write to standard output", error)),
+    }
+}
