@@ -19,7 +19,7 @@ pub struct Day {
     pub output: &'static str,
 }
 
-pub const DAYS: [Day; 6] = [
+pub const DAYS: [Day; 7] = [
     Day {
         settings: "unlike_devices.toml",
         jobs: "unlike_devices.csv",
@@ -49,6 +49,11 @@ pub const DAYS: [Day; 6] = [
         settings: "a_day.toml",
         jobs: "a_day.trace",
         output: "a_day.table",
+    },
+    Day {
+        settings: "recorded_jobs.toml",
+        jobs: "recorded_jobs.csv",
+        output: "recorded_jobs.table",
     },
 ];
 

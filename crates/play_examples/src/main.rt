@@ -7,12 +7,15 @@
 //! or of a day looks stands in its rows alone.
 #![tactic(auto)]
 
+mod accounts;
 mod cuts;
 mod days;
 mod example;
 mod many_jobs;
+mod pages;
 mod texts;
 
+use crate::accounts::{ACCOUNTED, is_accounted_so};
 use crate::cuts::{STREAMS, Stream, stays_in_two_pieces};
 use crate::days::{
     COMPARED, COMPARED_DAYS, CROWDED, DAYS, DRAWN, Day, Drawn, SETS, compared_texts, is_compared,
@@ -20,6 +23,7 @@ use crate::days::{
 };
 use crate::example::{EXAMPLES, Example, Program};
 use crate::many_jobs::CROWDS;
+use crate::pages::{PAGED, is_paged_so};
 use crate::texts::each_is_proved;
 use gantt_chart::Form;
 use plan_audit::run_check;
@@ -209,15 +213,43 @@ fn play_cuts(rt: &HostRuntime) -> io::Result<bool> {
     Ok(all)
 }
 
+/// Writes the pages of days: whether each is as it must be. The error is the system's, of its files.
+fn write_pages(rt: &HostRuntime) -> io::Result<bool> {
+    let mut all = true;
+    for paged in &PAGED {
+        let day = fs::read(rt, paged.day)?;
+        let wanted = fs::read(rt, paged.body)?;
+        let as_wanted = is_paged_so(rt.alloc(), &day, paged, &wanted);
+        tell(rt, paged.body, as_wanted)?;
+        all = all && as_wanted;
+    }
+    Ok(all)
+}
+
+/// Writes the jobs of days as tables: whether each is as it must be. The error is the system's, of its files.
+fn write_accounts(rt: &HostRuntime) -> io::Result<bool> {
+    let mut all = true;
+    for accounted in &ACCOUNTED {
+        let day = fs::read(rt, accounted.day)?;
+        let wanted = fs::read(rt, accounted.table)?;
+        let as_wanted = is_accounted_so(rt.alloc(), &day, &wanted);
+        tell(rt, accounted.table, as_wanted)?;
+        all = all && as_wanted;
+    }
+    Ok(all)
+}
+
 /// Plays them all: whether each is as it must be.
 fn play_all(rt: &HostRuntime) -> io::Result<bool> {
     let files = play_files(rt)?;
     let days = play_days(rt)?;
     let compared = compare_sets(rt)?;
     let drawn = draw_days(rt)?;
+    let pages = write_pages(rt)?;
+    let accounts = write_accounts(rt)?;
     let crowds = play_crowds(rt)?;
     let cuts = play_cuts(rt)?;
-    Ok(files && days && compared && drawn && crowds && cuts)
+    Ok(files && days && compared && drawn && pages && accounts && crowds && cuts)
 }
 
 fn main(rt: HostRuntime) -> ExitCode {

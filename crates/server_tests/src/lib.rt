@@ -4,6 +4,8 @@
 #[cfg(test)]
 mod between_turns;
 #[cfg(test)]
+mod clock_times;
+#[cfg(test)]
 mod core_runs;
 #[cfg(test)]
 mod device_sessions;

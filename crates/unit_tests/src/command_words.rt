@@ -5,7 +5,7 @@ use std::alloc::{AllocError, Global};
 use std::test::Fail;
 
 /// Lines of words that are read, and the subcommand of each.
-const READ: [(&str, &str); 27] = [
+const READ: [(&str, &str); 32] = [
     (
         "printd replay",
         "Replay(Replaying { file: None, plans: false, verify: false })",
@@ -13,6 +13,11 @@ const READ: [(&str, &str); 27] = [
     (
         "printd replay --plans",
         "Replay(Replaying { file: None, plans: true, verify: false })",
+    ),
+    ("printd jobs a.trace", "Jobs { files: [\"a.trace\"] }"),
+    (
+        "printd jobs 000001.trace 000002.trace 000003.trace",
+        "Jobs { files: [\"000001.trace\", \"000002.trace\", \"000003.trace\"] }",
     ),
     ("printd check", "Check { file: None, starts: false }"),
     (
@@ -94,6 +99,18 @@ const READ: [(&str, &str); 27] = [
     ),
     ("printd log day.trace", "Log { file: Some(\"day.trace\") }"),
     (
+        "printd page",
+        "Page(Paging { files: [], follow: None, at: None, to: None, metrics: None, names: false, zone: \"UTC\" })",
+    ),
+    (
+        "printd page a.trace b.trace --at 09:10 --to queue.html --names --zone Europe/Berlin",
+        "Page(Paging { files: [\"a.trace\", \"b.trace\"], follow: None, at: Some(\"09:10\"), to: Some(\"queue.html\"), metrics: None, names: true, zone: \"Europe/Berlin\" })",
+    ),
+    (
+        "printd page --follow spool --to queue.html --metrics printd.prom",
+        "Page(Paging { files: [], follow: Some(\"spool\"), at: None, to: Some(\"queue.html\"), metrics: Some(\"printd.prom\"), names: false, zone: \"UTC\" })",
+    ),
+    (
         "printd replay --verify day.trace",
         "Replay(Replaying { file: Some(\"day.trace\"), plans: false, verify: true })",
     ),
@@ -110,7 +127,7 @@ const READ: [(&str, &str); 27] = [
 /// Lines of words that are refused: an unknown word, a word without the word that it needs, an invalid port,
 /// an invalid address, turns out of their range, an unknown policy, a load out of its range, a device without
 /// words, several days that are drawn, and words that exclude each other.
-const REFUSED: [&str; 21] = [
+const REFUSED: [&str; 25] = [
     "printd",
     "printd reply",
     "printd settings --avahi",
@@ -130,6 +147,10 @@ const REFUSED: [&str; 21] = [
     "printd simulate --settings a --jobs b --with C",
     "printd simulate --settings a --jobs b --jobs c --draw",
     "printd simulate --settings a --jobs b --csv --draw",
+    "printd jobs",
+    "printd page --follow day.trace",
+    "printd page --follow day.trace --to a.html day.trace",
+    "printd page --follow day.trace --to a.html --at 5",
     "printd attach --name window",
     "printd attach --to file:printed",
 ];

@@ -19,11 +19,15 @@ mod job_ids;
 mod job_list_lines;
 #[cfg(test)]
 mod job_states;
+#[cfg(test)]
+mod jobs_as_rows;
 mod measured_jobs;
 #[cfg(test)]
 mod plan_sentences;
 #[cfg(test)]
 mod plan_texts;
+#[cfg(test)]
+mod queue_metrics;
 #[cfg(test)]
 mod quoted_bytes;
 #[cfg(test)]

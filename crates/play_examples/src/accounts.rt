@@ -1,0 +1,51 @@
+//! Accounts: the table of the jobs of each recorded day must be what its file says.
+
+use account_tables::AccountTable;
+use playback::Follower;
+use std::alloc::Global;
+
+/// A recorded day, and the file with the table of its jobs.
+pub struct Accounted {
+    pub day: &'static str,
+    pub table: &'static str,
+}
+
+pub const ACCOUNTED: [Accounted; 2] = [
+    Accounted {
+        day: "recorded_day.trace",
+        table: "recorded_jobs.csv",
+    },
+    Accounted {
+        day: "markup_in_names.trace",
+        table: "markup_in_names.rows",
+    },
+];
+
+/// The follower of a day that has been played, if it can be played.
+fn followed(alloc: Global, day: &[u8]) -> Option<Follower> {
+    let mut follower = Follower::new(alloc);
+    follower.keep_accounts();
+    follower.add(day).ok()?;
+    for _ in 0..u64::MAX {
+        if follower.turn().ok()?.is_none() {
+            break;
+        }
+    }
+    Some(follower)
+}
+
+/// The table of a day.
+fn table_of(alloc: Global, day: &[u8]) -> Option<Vec<u8>> {
+    let accounts = followed(alloc, day)?.into_accounts().ok()??;
+    let mut table = AccountTable::new(alloc).ok()?;
+    table.add_day(&accounts).ok()?;
+    table.finish().ok()
+}
+
+/// Whether the table of a day is just this.
+pub fn is_accounted_so(alloc: Global, day: &[u8], wanted: &[u8]) -> bool {
+    match table_of(alloc, day) {
+        Some(table) => table.as_slice() == wanted,
+        None => false,
+    }
+}

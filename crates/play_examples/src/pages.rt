@@ -1,0 +1,89 @@
+//! Pages: the body of the page of each recorded day must be what its file says.
+
+use base_types::Moment;
+use jiff::tz::{Offset, TimeZone};
+use playback::Follower;
+use queue_pages::{PageOptions, write_page};
+use std::alloc::Global;
+
+/// A page of a recorded day: the file of the day, its moment in ms, and the file with the page's body. Without a moment
+/// it is that at the day's end.
+pub struct Paged {
+    pub day: &'static str,
+    pub at: Option<u64>,
+    pub names: bool,
+    /// The hours by which the page's clock is ahead of UTC.
+    pub ahead: i8,
+    pub body: &'static str,
+}
+
+pub const PAGED: [Paged; 4] = [
+    Paged {
+        day: "late_jobs.trace",
+        at: Some(150_000),
+        names: true,
+        ahead: 0,
+        body: "late_jobs.page",
+    },
+    Paged {
+        day: "recorded_day.trace",
+        at: None,
+        names: false,
+        ahead: 0,
+        body: "recorded_day.page",
+    },
+    Paged {
+        day: "two_printers_day.trace",
+        at: None,
+        names: false,
+        ahead: 2,
+        body: "two_printers_day.page",
+    },
+    Paged {
+        day: "markup_in_names.trace",
+        at: None,
+        names: true,
+        ahead: 0,
+        body: "markup_in_names.page",
+    },
+];
+
+/// The follower of a day that has been played up to a moment, if it can be played.
+fn followed(alloc: Global, day: &[u8], at: Option<Moment>) -> Option<Follower> {
+    let mut follower = Follower::new(alloc);
+    if let Some(at) = at {
+        follower.stop_after(at);
+    }
+    follower.add(day).ok()?;
+    for _ in 0..u64::MAX {
+        if follower.turn().ok()?.is_none() {
+            break;
+        }
+    }
+    Some(follower)
+}
+
+/// The page of a day.
+fn page_of(alloc: Global, day: &[u8], paged: &Paged) -> Option<String> {
+    let at = paged.at.and_then(Moment::new);
+    let follower = followed(alloc, day, at)?;
+    let view = follower.view_at(at.unwrap_or(Moment::start())).ok()??;
+    let options = PageOptions {
+        zone: TimeZone::fixed(Offset::from_hours(paged.ahead).ok()?),
+        names: paged.names,
+        refresh: None,
+        quiet_since: None,
+    };
+    write_page(alloc, &view, &options).ok()
+}
+
+/// Whether the page of a day has just this body.
+pub fn is_paged_so(alloc: Global, day: &[u8], paged: &Paged, wanted: &[u8]) -> bool {
+    let Some(page) = page_of(alloc, day, paged) else {
+        return false;
+    };
+    match page.as_str().split_once("</head>\n") {
+        Some((_, body)) => body.as_bytes() == wanted,
+        None => false,
+    }
+}
