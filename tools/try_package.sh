@@ -139,12 +139,28 @@ try_adapter() {
     journal printd
 }
 
+# What everybody may read of the page and the metrics.
+page_has() {
+    inside setpriv --reuid=65534 --regid=65534 --clear-groups grep -c "$1" "/run/printd-page/$2"
+}
+
+try_page() {
+    until_says disabled inside systemctl is-enabled printd-page
+    inside systemctl enable --quiet --now printd-page
+    until_says active inside systemctl is-active printd-page
+    exposure printd-page
+    until_says 1 page_has '<h1>lab</h1>' queue.html
+    until_says 1 page_has '^printd_jobs_finished_total{printer="lab",state="completed"} 2$' printd.prom
+    inside grep '^printd_device_state.*1$' /run/printd-page/printd.prom
+}
+
 try_restart() {
     client cupsdisable -U root -h 127.0.0.1:631 lab
     send 127.0.0.1:631 third
     until_says $'lab stopped\n3 pending alice 6 third' queue
     inside systemctl restart printd
     until_says $'lab stopped\n3 pending alice 6 third' queue
+    until_says 1 page_has '^printd_jobs{printer="lab",state="paused"} 1$' printd.prom
     queue
 }
 
@@ -173,14 +189,16 @@ try_faulty_settings() {
 }
 
 try_upgrade() {
-    local server adapter
+    local server adapter page
     server=$(main_process printd)
     adapter=$(main_process printd-attach@window)
+    page=$(main_process printd-page)
     install_or_remove install --reinstall /opt/printd.deb
     until_says $'lab stopped\n3 pending alice 6 third' queue
     queue
     [ "$(main_process printd)" != "$server" ] || fail "an upgrade leaves the old server"
     [ "$(main_process printd-attach@window)" != "$adapter" ] || fail "an upgrade leaves the old adapter"
+    [ "$(main_process printd-page)" != "$page" ] || fail "an upgrade leaves the old page"
 }
 
 try_other_settings() {
@@ -206,6 +224,7 @@ try_removal() {
     install_or_remove remove printd
     until_says inactive inside systemctl is-active printd
     until_says inactive inside systemctl is-active printd-attach@window
+    until_says inactive inside systemctl is-active printd-page
     inside test -e /etc/printd.toml
     inside test -e /var/lib/printd-attach/printed/4-window.txt
     install_or_remove purge printd
@@ -218,6 +237,8 @@ echo "-- apt install"
 try_install
 echo "-- an adapter without and with its file; lp, to the addresses of IPv4 and IPv6"
 try_adapter
+echo "-- the page of the queue and its metrics"
+try_page
 echo "-- a restart, with a job that waits at a paused printer"
 try_restart
 echo "-- settings with a fault: reload, upgrade, restart"
