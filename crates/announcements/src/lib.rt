@@ -7,8 +7,8 @@
 //! port that the base of URIs names. The crate speaks to no daemon and opens no file. An announcement says
 //! what the settings say, and not what a device does at the moment.
 //!
-//! `tools/clients/try_avahi.sh` shows that Avahi reads such a file, and that clients find the printer by it.
-//! The rows of the crate are in `unit_tests`.
+//! `tools/clients/try_avahi.sh` shows that Avahi reads such a file, and that clients find the printer by
+//! it. Tests: `unit_tests`.
 #![tactic(auto)]
 
 mod ability;

@@ -6,8 +6,8 @@
 //! `attach_orders`. This crate has the connection to the server, the clock and the log. An [`Adapter`] takes
 //! its turns over any network.
 //!
-//! Tests stand in `attach_tests`. `tools/clients/try_printers.py` and `tools/clients/try_cups.sh` test the
-//! crate by the program.
+//! Tests: `attach_tests`, and with the program `tools/clients/try_printers.py` and
+//! `tools/clients/try_cups.sh`.
 #![tactic(auto)]
 
 mod adapter;

@@ -7,7 +7,7 @@
 //! opens no connection and keeps no job. The server's side is in `device_link`. `docs/DEVICES.md` describes
 //! the protocol.
 //!
-//! Tests stand in `unit_tests`.
+//! Tests: `unit_tests`.
 #![tactic(auto)]
 
 mod fault;

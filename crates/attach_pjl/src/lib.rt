@@ -4,7 +4,7 @@
 //! stream: each message up to its form feed, whatever else is between, of any length. The crate sends
 //! nothing, and doesn't apply a status to a job.
 //!
-//! Tests stand in `unit_tests`.
+//! Tests: `unit_tests`.
 #![tactic(auto)]
 
 mod law;

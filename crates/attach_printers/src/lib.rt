@@ -16,7 +16,7 @@
 //! are reported, also those of the last answer. The contracts of the octets that a printer is sent and of the
 //! reports are in `attachment`.
 //!
-//! Tests stand in `attach_tests`.
+//! Tests: `attach_tests`.
 #![tactic(auto)]
 
 mod address;

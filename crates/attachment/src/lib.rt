@@ -18,7 +18,7 @@
 //! settings. If the samples are on a line, the result is that line ([`setup_is_found`], [`rate_is_found`]).
 //! [`Measurement`] takes the samples of jobs while they are printed, and is written as lines of the settings.
 //!
-//! Tests stand in `unit_tests`.
+//! Tests: `unit_tests`.
 #![tactic(auto)]
 
 mod attachment;

@@ -7,7 +7,7 @@
 //! lengths are limits of the server. The crate makes no decisions: the crates above change jobs and devices,
 //! and `text` has functions on any bytes. Rows of the crates above run its calls.
 //!
-//! Tests stand in `unit_tests`.
+//! Tests: `unit_tests`.
 #![tactic(auto)]
 
 mod device;

@@ -5,9 +5,9 @@
 //! server, one at a time ([`Connection::next`]). Bytes that are due wait in a [`send_queues::SendQueue`]
 //! until a wire takes them.
 //!
-//! Its contracts are relations on an entry: all bytes that were read, the part of them that was acted on, all
-//! bytes that were due and all bytes that were taken (`specs/Entry.antt`). The rows of the crate are sessions
-//! of `server_tests` and traces of `play_examples`.
+//! Its contracts are relations on an entry: all bytes that were read, the part of them that was acted
+//! on, all bytes that were due and all bytes that were taken (`specs/Entry.antt`). Examples: the
+//! sessions of `server_tests`, and the traces in `crates/play_examples/data`.
 #![tactic(auto)]
 
 mod ask;

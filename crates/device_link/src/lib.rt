@@ -6,7 +6,7 @@
 //! their lines. The crate opens no connection, and doesn't apply a report to a job or a device.
 //! `docs/DEVICES.md` describes the protocol for authors of adapters.
 //!
-//! The rows of the crate are traces of `play_examples`.
+//! Examples: the traces in `crates/play_examples/data`.
 #![tactic(auto)]
 
 mod fault;

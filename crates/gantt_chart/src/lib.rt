@@ -5,7 +5,7 @@
 //! ends. No function of the crate decides when a job starts. A [`Page`] is a text under way, also for texts
 //! beside a chart.
 //!
-//! The rows of the crate are plans and days of `play_examples`.
+//! Examples: the plans and days in `crates/play_examples/data`.
 #![tactic(auto)]
 
 mod chart;

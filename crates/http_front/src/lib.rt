@@ -6,7 +6,7 @@
 //! request whose body is too short for an IPP message. The crate reads nothing else of the bodies, and
 //! replies to no request by itself.
 //!
-//! The rows of the crate are traces of `play_examples`.
+//! Examples: the traces in `crates/play_examples/data`.
 #![tactic(auto)]
 
 mod after;

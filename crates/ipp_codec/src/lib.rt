@@ -5,7 +5,7 @@
 //! spelling of a message. The crate doesn't know the meaning of attributes and operations: a value is a tag
 //! and bytes, or a collection of members.
 //!
-//! Tests stand in `unit_tests`.
+//! Tests: `unit_tests`.
 #![tactic(auto)]
 
 mod decoder;

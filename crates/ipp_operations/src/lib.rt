@@ -7,7 +7,7 @@
 //! [`lpd_ack`] and [`lpd_queue_text`] determine each byte that an LPD client (RFC 1179) is sent.
 //!
 //! The crate doesn't apply an event, and reads from no wire. `docs/IPP.md` has the rules for authors of
-//! clients. The rows of the crate are traces of `play_examples`.
+//! clients. Examples: the traces in `crates/play_examples/data`.
 #![tactic(auto)]
 
 mod attributes;

@@ -5,7 +5,7 @@
 //! first attribute of its name in the first group of its kind. The crate sends nothing, and doesn't apply a
 //! reply to a job.
 //!
-//! Tests stand in `unit_tests`.
+//! Tests: `unit_tests`.
 #![tactic(auto)]
 
 mod group;

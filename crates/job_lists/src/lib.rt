@@ -5,7 +5,7 @@
 //! records, and `jiff` reads clock times and dates. The crate opens no file. A job may need what no device
 //! has.
 //!
-//! Tests stand in `unit_tests`.
+//! Tests: `unit_tests`.
 #![tactic(auto)]
 
 mod column;

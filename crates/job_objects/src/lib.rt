@@ -4,7 +4,7 @@
 //! leaves the job unchanged otherwise. The crate takes no memory, holds no documents and has no list of jobs;
 //! the spool has those.
 //!
-//! Tests stand in `unit_tests`.
+//! Tests: `unit_tests`.
 #![tactic(auto)]
 
 mod impressions;

@@ -6,7 +6,7 @@
 //! Each attribute has one value; only `finishings` may have several. The parser of requests drops all but the
 //! first of several attributes of a name.
 //!
-//! The rows of the crate are traces of `play_examples`.
+//! Examples: the traces in `crates/play_examples/data`.
 #![tactic(auto)]
 
 mod request_attribute;

@@ -8,11 +8,11 @@
 //! this is an order, and that it drops no job and repeats none ([`listing_is_ordered`]). The values of
 //! attributes are determined by `printer_objects`.
 //!
-//! For LPD the contracts determine the jobs that an operand names, and that they are listed in the same order
-//! ([`queue_listing`]). A removal cancels exactly the jobs that its agent may remove, by rising id
-//! ([`remove`]). The operators of the settings have no special right there: `root` may remove any job, others
-//! their own. No other call changes a room, and each call's only error is out of memory. The rows of the
-//! crate are traces of `play_examples`.
+//! For LPD the contracts determine the jobs that an operand names, and that they are listed in the same
+//! order ([`queue_listing`]). A removal cancels exactly the jobs that its agent may remove, by rising id
+//! ([`remove`]). The operators of the settings have no special right there: `root` may remove any job,
+//! others their own. No other call changes a room, and each call's only error is out of memory.
+//! Examples: the traces in `crates/play_examples/data`.
 #![tactic(auto)]
 
 mod entry;

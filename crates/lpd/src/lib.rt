@@ -7,7 +7,7 @@
 //! control file, once all files that the control file prints are there: with one document for each print
 //! line, whose memory the job and the session share. The crate writes no replies, and doesn't print.
 //!
-//! The rows of the crate are traces of `play_examples`.
+//! Examples: the traces in `crates/play_examples/data`.
 #![tactic(auto)]
 
 mod command;

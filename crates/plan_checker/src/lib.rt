@@ -6,7 +6,7 @@
 //! as given. The order of the classes isn't checked, nor whether a job is named twice among the stranded. The
 //! crate finds no plans, and reads no text.
 //!
-//! The rows of the crate are plans of `play_examples`.
+//! Examples: the plans in `crates/play_examples/data`.
 #![tactic(auto)]
 
 mod beside;

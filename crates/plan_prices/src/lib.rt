@@ -5,7 +5,7 @@
 //! room is generic in its planner, so its plans are best by the contract and not by one algorithm. The crate
 //! neither finds a way nor checks one: `plan_solver` finds ways, and `plan_checker` checks them.
 //!
-//! The rows of the crate are plans of `play_examples`; tests stand in `unit_tests`.
+//! Examples: the plans in `crates/play_examples/data`; tests: `unit_tests`.
 #![tactic(auto)]
 
 mod able;

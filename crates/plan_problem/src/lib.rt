@@ -6,7 +6,7 @@
 //! [`ClassProblem`] made of jobs and devices has a time exactly if the device is able. The crate makes no
 //! plans.
 //!
-//! The rows of the crate are traces of `play_examples`, and tests of `unit_tests`.
+//! Examples: the traces in `crates/play_examples/data`; tests: `unit_tests`.
 #![tactic(auto)]
 
 mod able_device;

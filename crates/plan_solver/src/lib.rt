@@ -7,7 +7,7 @@
 //! `AugmentingPaths` keeps its last classes, and begins with the part of one that is left. That part is a
 //! hint: it is tested before it is used, and no contract depends on it.
 //!
-//! Tests stand in `unit_tests`.
+//! Tests: `unit_tests`.
 #![tactic(auto)]
 
 mod adapt;

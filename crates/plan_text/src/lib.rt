@@ -7,7 +7,7 @@
 //! A played trace and a server's log have one line for a plan. [`put_class_word`] and [`put_stranded_word`]
 //! append the words of that line, and [`put_job_words`] those of a job and its device.
 //!
-//! Tests stand in `unit_tests`.
+//! Tests: `unit_tests`.
 #![tactic(auto)]
 
 mod cut;

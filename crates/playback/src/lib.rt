@@ -9,7 +9,7 @@
 //! A [`Follower`] plays the turns of a day one after the other as their bytes arrive, and lets its caller look at the
 //! queue after each.
 //!
-//! The rows of the crate are recorded traces of `play_examples`.
+//! Examples: the recorded traces in `crates/play_examples/data`.
 #![tactic(auto)]
 
 mod arriving;

@@ -1,10 +1,10 @@
 //! A print room: its printers, devices and jobs, the reports of devices, and the dispatch that plans the jobs
 //! and starts them.
 //!
-//! The main call is [`PrintRoom::dispatch`]: whenever a plan is made, each priority class has the least total
-//! of completion times, and each free device begins the first job of its list. The contract of each other
-//! call determines the state after it. The core decides which call a request needs, and when a dispatch
-//! follows. The crate makes no replies. The rows of the crate are traces of `play_examples`.
+//! The main call is [`PrintRoom::dispatch`]: whenever a plan is made, each priority class has the least
+//! total of completion times, and each free device begins the first job of its list. The contract of
+//! each other call determines the state after it. The core decides which call a request needs, and when
+//! a dispatch follows. The crate makes no replies. Examples: the traces in `crates/play_examples/data`.
 #![tactic(auto)]
 
 mod activity;

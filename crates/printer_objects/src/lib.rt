@@ -7,7 +7,7 @@
 //! no clock: its arguments have the data of the values, such as whether a job keeps the printer busy
 //! ([`keeps_busy`]). Only the functions that make attributes take memory.
 //!
-//! The rows of the crate are traces of `play_examples`.
+//! Examples: the traces in `crates/play_examples/data`.
 #![tactic(auto)]
 
 mod attribute;

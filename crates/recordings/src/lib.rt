@@ -10,7 +10,7 @@
 //! data files in a session of LPD. It reads with the readers of the server, so it finds the same heads as the
 //! server. Bytes that the server drops behind a fault are left out too.
 //!
-//! The rows of the crate are recorded traces of `play_examples`.
+//! Examples: the recorded traces in `crates/play_examples/data`.
 #![tactic(auto)]
 
 mod blanked;

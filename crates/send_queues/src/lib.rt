@@ -5,7 +5,7 @@
 //! aren't copied: their octets are shared with the spool. Up to [`RESERVED_BYTES`] waiting bytes need no
 //! memory beyond what was reserved at the start.
 //!
-//! The rows of the crate are sessions of `server_tests` and traces of `play_examples`.
+//! Examples: the sessions of `server_tests`, and the traces in `crates/play_examples/data`.
 #![tactic(auto)]
 
 mod queue;

@@ -6,7 +6,7 @@
 //!
 //! Calls between turns need no wire: [`Engine::serve_body`], [`Engine::report`] and [`Engine::tick`].
 //!
-//! Tests stand in `server_tests`.
+//! Tests: `server_tests`.
 #![tactic(auto)]
 
 mod acting;

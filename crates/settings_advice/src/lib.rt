@@ -4,7 +4,7 @@
 //! which no device can print a job that asks for nothing, a device that no printer has, and devices whose names
 //! differ in case alone. Such settings are served as they are.
 //!
-//! The rows of the crate are in `unit_tests`.
+//! Tests: `unit_tests`.
 #![tactic(auto)]
 
 mod advice;

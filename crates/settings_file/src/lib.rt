@@ -10,7 +10,7 @@
 //! The crate `toml` reads the text, so a key that is written twice isn't TOML, and the order of the keys in a
 //! table makes no difference.
 //!
-//! The rows of the crate are traces of `play_examples`. The tests of the sentences are in `unit_tests`.
+//! Examples: the traces in `crates/play_examples/data`. Tests of the sentences: `unit_tests`.
 #![tactic(auto)]
 
 mod device;

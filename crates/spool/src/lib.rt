@@ -7,7 +7,7 @@
 //! jobs to devices is not of this crate; the spool has only a flag for each job that says whether a device
 //! has it.
 //!
-//! The rows of the crate are traces of `play_examples`.
+//! Examples: the traces in `crates/play_examples/data`.
 #![tactic(auto)]
 
 mod asker;

@@ -7,8 +7,8 @@
 //! The connections of a trace have numbers of the trace's own. [`Peers`] has them, and the peers, which are
 //! in memory ([`wires::MemoryWire`]) and send the bytes of the trace. `docs/TRACES.md` describes each line.
 //!
-//! The playing of a trace, and so the order of the printed lines, is in other crates. The rows of the crate
-//! are traces of `play_examples`.
+//! The playing of a trace, and so the order of the printed lines, is in other crates. Examples: the
+//! traces in `crates/play_examples/data`.
 #![tactic(auto)]
 
 mod line;
