@@ -5,11 +5,11 @@ use Rattle.std.specs.Option.{option_map_or, option_and_then, option_or}
 use Rattle.std.specs.Str.{bytes_eq}
 use Rattle.text.specs.Digits.{number_up_to}
 
--- the octets behind a front of a text; `None` where the text has another front
+-- the octets after a prefix of a text; `None` where the text has another front
 abbrev pub behind : List ℕ → List ℕ → Option (List ℕ)
 behind front text = if bytes_eq (take (length front) text) front then Some (drop (length front) text) else None
 
--- the octets behind the scheme and `://`; the scheme ends at the first colon
+-- the octets after the scheme and `://`; the scheme ends at the first colon
 abbrev pub behind_scheme : List ℕ → Option (List ℕ)
 behind_scheme uri = option_and_then (λ colon. behind (codes "://") (drop colon uri)) (position (λ byte. byte == 58) uri)
 
@@ -17,7 +17,7 @@ behind_scheme uri = option_and_then (λ colon. behind (codes "://") (drop colon 
 abbrev pub authority_of : List ℕ → List ℕ
 authority_of uri = option_map_or (before_first (λ byte. byte == 47)) (behind_scheme uri) []
 
--- the octets behind the last colon, if there is a colon
+-- the octets after the last colon, if there is a colon
 abbrev pub behind_colon : List ℕ → Option (List ℕ)
 behind_colon [] = None
 behind_colon (byte ∷ bytes) = option_or (behind_colon bytes) (if byte == 58 then Some bytes else None)

@@ -21,7 +21,7 @@ device_at settings place = slice_get settings.devices place
 abbrev pub is_among : List (List ℕ) → List ℕ → Bool
 is_among found entry = list_any (λ other. bytes_eq other entry) found
 
--- the entries found with this entry behind them, unless the entry is among them
+-- the entries found with this entry after them, unless the entry is among them
 abbrev pub with_entry : List (List ℕ) → List ℕ → List (List ℕ)
 with_entry found entry = if is_among found entry then found else found ++ entry ∷ []
 

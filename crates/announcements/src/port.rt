@@ -9,7 +9,7 @@ use text::{find_byte, number_up_to};
 /// The port of IPP where a URI names no port (RFC 3510, section 3.2).
 const IPP_PORT: u16 = 631;
 
-/// The port of a base of URIs: the port behind its host, else 631.
+/// The port of a base of URIs: the port after its host, else 631.
 pub fn ipp_port(uri_base: &[u8]) -> u16
     ensures { result ≡ ipp_port uri_base.now }
 {
@@ -19,7 +19,7 @@ pub fn ipp_port(uri_base: &[u8]) -> u16
     }
 }
 
-/// The octets behind the scheme and `://`; `None` where there is no scheme.
+/// The octets after the scheme and `://`; `None` where there is no scheme.
 fn behind_scheme(uri: &[u8]) -> Option<&[u8]>
     ensures { option_copied result ≡ behind_scheme uri.now }
 {
@@ -48,7 +48,7 @@ fn up_to_slash(rest: &[u8]) -> &[u8]
     }
 }
 
-/// The octets behind the last colon, if there is a colon.
+/// The octets after the last colon, if there is a colon.
 fn behind_colon(authority: &[u8]) -> Option<&[u8]>
     ensures { option_copied result ≡ behind_colon authority.now }
 {
@@ -62,7 +62,7 @@ fn behind_colon(authority: &[u8]) -> Option<&[u8]>
     }
 }
 
-/// The port behind a host; `None` where there is no valid port.
+/// The port after a host; `None` where there is no valid port.
 fn port_named(authority: &[u8]) -> Option<u16>
     ensures { result ≡ port_named authority.now }
 {

@@ -10,7 +10,7 @@ use base_types::Text;
 use settings_file::{PrinterSettings, Settings};
 use std::alloc::{AllocError, Global};
 
-/// The most octets of a string of TXT (RFC 6763, section 6.1) behind `pdl=`.
+/// The most octets of a string of TXT (RFC 6763, section 6.1) after `pdl=`.
 const PDL_ROOM: usize = 251;
 
 /// The strings of a printer for one of its protocols. The only error is out of memory.

@@ -124,7 +124,7 @@ impl<S: Stream> ServerLine<S> {
         }
     }
 
-    /// Writes the bytes that are still due, ends the writing side of the connection behind them, and drops
+    /// Writes the bytes that are still due, ends the writing side of the connection after them, and drops
     /// the bytes that come. Returns whether the server may still send bytes.
     pub(crate) fn take_leave(&mut self) -> bool {
         if self.flush().is_err() {

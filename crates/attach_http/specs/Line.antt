@@ -20,7 +20,7 @@ bare text = strip_carriage_return text
 abbrev pub is_digit : ℕ → Bool
 is_digit byte = nat_le 48 byte && nat_le byte 57
 
--- the reason may be missing; else it is behind a space
+-- the reason may be missing; else it is after a space
 abbrev pub begins_reason : List ℕ → Bool
 begins_reason [] = true
 begins_reason (first ∷ rest) = first == 32
@@ -58,7 +58,7 @@ framed_body framed.Chunked = awaits.Line line.Size
 abbrev pub body_of : ℕ → Framing → Awaited
 body_of status framing = if (status == 204) || (status == 304) then awaits.Nothing else framed_body framing
 
--- the state behind a head; another reply is behind an interim one (RFC 9110, section 15.2)
+-- the state after a head; another reply is after an interim one (RFC 9110, section 15.2)
 abbrev pub after_head : ℕ → Framing → Reached
 after_head status framing =
     if nat_lt status 200 then record { awaited = awaits.Line line.Status; status = 0; framing = framed.Untold }
@@ -71,7 +71,7 @@ field_found at (Err fault) = record { awaited = awaits.Broken fault; status = at
 abbrev pub after_field : Reached → List ℕ → Reached
 after_field at text = field_found at (with_line at.framing text)
 
--- the state behind the size of a chunk; the last chunk has the size 0; all chunks together are within the limit of a body
+-- the state after the size of a chunk; the last chunk has the size 0; all chunks together are within the limit of a body
 abbrev pub sized : ℕ → ℕ → Awaited
 sized size body = if size == 0 then awaits.Line line.Trailer else if nat_le size (1048576 - body) then awaits.Chunk size else awaits.Broken TooLong
 
@@ -87,7 +87,7 @@ abbrev pub after_trailer : List ℕ → Awaited
 after_trailer [] = awaits.Nothing
 after_trailer (byte ∷ bytes) = awaits.Line line.Trailer
 
--- the state behind a field; the empty line ends the head
+-- the state after a field; the empty line ends the head
 abbrev pub field_read : Reached → List ℕ → Reached
 field_read at [] = after_head at.status at.framing
 field_read at (byte ∷ bytes) = after_field at (byte ∷ bytes)
@@ -95,7 +95,7 @@ field_read at (byte ∷ bytes) = after_field at (byte ∷ bytes)
 abbrev pub awaiting : Reached → Awaited → Reached
 awaiting at awaited = record { awaited = awaited; status = at.status; framing = at.framing }
 
--- the state behind a line, where the body so far has `body` bytes
+-- the state after a line, where the body so far has `body` bytes
 abbrev pub line_read : Line → List ℕ → Reached → ℕ → Reached
 line_read line.Status text at body = status_read (bare text)
 line_read line.Field text at body = field_read at (bare text)

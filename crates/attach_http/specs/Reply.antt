@@ -32,7 +32,7 @@ with_awaited awaited reply = record reply { awaited = awaited }
 
 -- ---- lines
 
--- the room behind a line: the lines of a head share theirs, and so do those of a trailer; each line of a chunk's size has its own
+-- the room after a line: the lines of a head share theirs, and so do those of a trailer; each line of a chunk's size has its own
 abbrev pub room_behind : Awaited → ℕ → ℕ
 room_behind (awaits.Line Status) rest = rest
 room_behind (awaits.Line Field) rest = rest
@@ -71,7 +71,7 @@ counted_left count = if nat_le count 1 then awaits.Nothing else awaits.Counted (
 abbrev pub chunk_left : ℕ → Awaited
 chunk_left count = if nat_le count 1 then awaits.Line ChunkEnd else awaits.Chunk (count - 1)
 
--- the state behind a byte of a body without a length, within the limit of a body
+-- the state after a byte of a body without a length, within the limit of a body
 abbrev pub body_grown : Reply → ℕ → Reply
 body_grown reply byte =
     if nat_le 1048576 (length reply.body) then with_awaited (awaits.Broken TooLong) reply
@@ -87,11 +87,11 @@ byte_read awaits.UntilEnd reply byte = body_grown reply byte
 byte_read awaits.Nothing reply byte = reply
 byte_read (awaits.Broken fault) reply byte = reply
 
--- the state behind the next byte
+-- the state after the next byte
 abbrev pub after_byte : Reply → ℕ → Reply
 after_byte reply byte = byte_read reply.awaited reply byte
 
--- the state behind bytes
+-- the state after bytes
 abbrev pub behind : Reply → List ℕ → Reply
 behind reply [] = reply
 behind reply (byte ∷ bytes) = behind (after_byte reply byte) bytes

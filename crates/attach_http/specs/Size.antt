@@ -1,4 +1,4 @@
--- The line of a chunk's size (RFC 9112, section 7.1): hexadecimal digits, and extensions behind a semicolon.
+-- The line of a chunk's size (RFC 9112, section 7.1): hexadecimal digits, and extensions after a semicolon.
 use Rattle.std.specs.Prelude.{ℕ, ◌+◌, ◌-◌, ◌*◌, ◌&&◌, nat_le, nat_lt, min, if◌then◌else◌, List, [], ◌∷◌, length, Option, Some, None}
 use Rattle.std.specs.Option.{option_map_or}
 use Rattle.text.specs.Trimmed.{without_parameters}
@@ -10,7 +10,7 @@ hex_digit byte =
     else if nat_le 65 byte && nat_le byte 70 then Some (byte - 65 + 10)
     else None
 
--- the number of hexadecimal digits behind those of a value; at most 2^24
+-- the number of hexadecimal digits after those of a value; at most 2^24
 abbrev pub hex_from : ℕ → List ℕ → Option ℕ
 hex_from value [] = Some value
 hex_from value (byte ∷ bytes) = option_map_or (λ digit. hex_from (min (value * 16 + digit) 16777216) bytes) (hex_digit byte) None

@@ -60,7 +60,7 @@ pub(crate) enum Awaited {
     Broken(ReplyFault),
 }
 
-/// The state behind a line.
+/// The state after a line.
 #[derive(Clone, Copy)]
 pub(crate) struct Reached {
     pub(crate) awaited: Awaited,

@@ -8,7 +8,7 @@ use text::{decimal, find_byte, trimmed};
 /// The longest body, in bytes.
 const BODY: u32 = 1_048_576;
 
-/// The framing behind a line of the head, or the fault of the line.
+/// The framing after a line of the head, or the fault of the line.
 pub(crate) fn with_line(framing: Framing, line: &[u8]) -> Result<Framing, ReplyFault>
     ensures { result ≡ with_line framing line.now }
 {
@@ -18,7 +18,7 @@ pub(crate) fn with_line(framing: Framing, line: &[u8]) -> Result<Framing, ReplyF
     }
 }
 
-/// The framing behind a field of a name and a value.
+/// The framing after a field of a name and a value.
 #[tactic(auto, unfolding(crate::specs::Field::with_field))]
 fn with_field(framing: Framing, name: &[u8], value: &[u8]) -> Result<Framing, ReplyFault>
     ensures { result ≡ with_field framing name.now value.now }
@@ -32,7 +32,7 @@ fn with_field(framing: Framing, name: &[u8], value: &[u8]) -> Result<Framing, Re
     }
 }
 
-/// The framing behind a length. A transfer coding overrides it; two lengths have to be equal.
+/// The framing after a length. A transfer coding overrides it; two lengths have to be equal.
 fn with_length(framing: Framing, length: Option<u32>) -> Result<Framing, ReplyFault>
     ensures { result ≡ with_length framing length }
 {
@@ -65,7 +65,7 @@ fn differs(told: Option<u32>, count: u32) -> bool
     }
 }
 
-/// The framing behind a transfer coding.
+/// The framing after a transfer coding.
 #[tactic(auto, unfolding(crate::specs::Field::with_coding))]
 fn with_coding(value: &[u8]) -> Result<Framing, ReplyFault>
     ensures { result ≡ with_coding value.now }

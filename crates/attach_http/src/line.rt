@@ -1,4 +1,4 @@
-//! The state of a reader behind each line of a reply.
+//! The state of a reader after each line of a reply.
 ghost use Rattle.std.specs.Prelude.{◌≡◌};
 ghost use Rattle.attach_http.specs.Line.{status_in, status_behind, begins_reason, status_of, status_read, after_status, body_of, after_head, after_field, after_size, after_empty, after_trailer, bare, line_read};
 
@@ -9,7 +9,7 @@ use crate::size::size_in;
 /// The longest body, in bytes.
 const BODY: usize = 1_048_576;
 
-/// The state behind a line, without its line feed, where the body so far has `body` bytes.
+/// The state after a line, without its line feed, where the body so far has `body` bytes.
 pub(crate) fn line_read(line: Line, text: &[u8], at: Reached, body: usize) -> Reached
     ensures { result ≡ line_read line text.now at body }
 {
@@ -38,7 +38,7 @@ fn bare(line: &[u8]) -> &[u8]
     line.strip_suffix(b"\r").unwrap_or(line)
 }
 
-/// The state behind the status line.
+/// The state after the status line.
 fn status_read(text: &[u8]) -> Reached
     ensures { result ≡ status_read text.now }
 {
@@ -52,7 +52,7 @@ fn status_read(text: &[u8]) -> Reached
     }
 }
 
-/// The state behind a status: fields follow.
+/// The state after a status: fields follow.
 fn after_status(status: u32) -> Reached
     ensures { result ≡ after_status status }
 {
@@ -72,7 +72,7 @@ fn status_in(text: &[u8]) -> Option<u32>
     status_behind(rest)
 }
 
-/// The status behind a minor version and a space, and before another space or the end.
+/// The status after a minor version and a space, and before another space or the end.
 fn status_behind(text: &[u8]) -> Option<u32>
     ensures { result ≡ status_behind text.now }
 {
@@ -85,7 +85,7 @@ fn status_behind(text: &[u8]) -> Option<u32>
     status_of(*hundreds, *tens, *ones)
 }
 
-/// Returns whether a reason may follow a status: there is none, or it is behind a space.
+/// Returns whether a reason may follow a status: there is none, or it is after a space.
 fn begins_reason(text: &[u8]) -> bool
     ensures { result ≡ begins_reason text.now }
 {
@@ -106,7 +106,7 @@ fn status_of(hundreds: u8, tens: u8, ones: u8) -> Option<u32>
     Some(high + u32::from(tens - b'0') * 10 + u32::from(ones - b'0'))
 }
 
-/// The state behind the head with a status and a framing (RFC 9112, section 6.3).
+/// The state after the head with a status and a framing (RFC 9112, section 6.3).
 fn after_head(status: u32, framing: Framing) -> Reached
     ensures { result ≡ after_head status framing }
 {
@@ -124,7 +124,7 @@ fn after_head(status: u32, framing: Framing) -> Reached
     }
 }
 
-/// The body behind the head of a final status.
+/// The body after the head of a final status.
 fn body_of(status: u32, framing: Framing) -> Awaited
     ensures { result ≡ body_of status framing }
 {
@@ -139,7 +139,7 @@ fn body_of(status: u32, framing: Framing) -> Awaited
     }
 }
 
-/// The state behind a field.
+/// The state after a field.
 fn after_field(at: Reached, text: &[u8]) -> Reached
     ensures { result ≡ after_field at text.now }
 {
@@ -153,7 +153,7 @@ fn after_field(at: Reached, text: &[u8]) -> Reached
     }
 }
 
-/// The part behind the size of a chunk, where the body so far has `body` bytes.
+/// The part after the size of a chunk, where the body so far has `body` bytes.
 fn after_size(size: Option<u32>, body: usize) -> Awaited
     ensures { result ≡ after_size size body }
 {
@@ -165,7 +165,7 @@ fn after_size(size: Option<u32>, body: usize) -> Awaited
     }
 }
 
-/// The part behind the end of a chunk.
+/// The part after the end of a chunk.
 fn after_empty(text: &[u8]) -> Awaited
     ensures { result ≡ after_empty text.now }
 {
@@ -176,7 +176,7 @@ fn after_empty(text: &[u8]) -> Awaited
     }
 }
 
-/// The part behind a line of the trailer.
+/// The part after a line of the trailer.
 fn after_trailer(text: &[u8]) -> Awaited
     ensures { result ≡ after_trailer text.now }
 {

@@ -134,7 +134,7 @@ impl ReplyReader {
         self.settle(reached);
     }
 
-    /// The state behind the line.
+    /// The state after the line.
     fn line_read(&self, line: Line) -> Reached
         ensures { result ≡ line_read line self.now.line (reached_of self.now) (length self.now.body) }
     {
@@ -180,7 +180,7 @@ impl ReplyReader {
         self.awaited = awaited;
     }
 
-    /// Begins a line, with the state behind the last one.
+    /// Begins a line, with the state after the last one.
     fn settle(&mut self, reached: Reached)
         ensures { self.new ≡ settled reached self.old }
     {
@@ -213,7 +213,7 @@ fn room_behind(awaited: Awaited, rest: usize) -> usize
     }
 }
 
-/// The part behind a byte of a counted body.
+/// The part after a byte of a counted body.
 fn counted_left(count: u32) -> Awaited
     ensures { result ≡ counted_left count }
 {
@@ -224,7 +224,7 @@ fn counted_left(count: u32) -> Awaited
     }
 }
 
-/// The part behind a byte of a chunk.
+/// The part after a byte of a chunk.
 fn chunk_left(count: u32) -> Awaited
     ensures { result ≡ chunk_left count }
 {

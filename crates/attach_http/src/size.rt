@@ -7,7 +7,7 @@ use text::without_parameters;
 /// The greatest size. A greater size in a line counts as this size, which is far above the limit of a body.
 const MOST: u32 = 16_777_216;
 
-/// The size in a line: hexadecimal digits. Extensions behind a semicolon are ignored.
+/// The size in a line: hexadecimal digits. Extensions after a semicolon are ignored.
 #[tactic(auto, unfolding(crate::specs::Size::size_in))]
 pub(crate) fn size_in(line: &[u8]) -> Option<u32>
     ensures { result ≡ size_in line.now }
@@ -19,7 +19,7 @@ pub(crate) fn size_in(line: &[u8]) -> Option<u32>
     hex_from(0, word)
 }
 
-/// The number of hexadecimal digits behind those of a value.
+/// The number of hexadecimal digits after those of a value.
 fn hex_from(value: u32, word: &[u8]) -> Option<u32>
     requires { value ≤ 16777216 }
     ensures { result ≡ hex_from value word.now }

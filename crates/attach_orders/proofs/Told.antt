@@ -39,7 +39,7 @@ hello_told name is = record {
   says = one_said (codes "HELLO") name (lacks_by (isnt 32) 32 refl (codes "HELLO") refl) (lacks_by is_name_byte 32 refl name (name_all name is)) ∙ rw is refl;
 }
 
--- the names behind the first
+-- the names after the first
 abbrev joined : List ℕ → List (List ℕ) → List ℕ
 joined name names = name ++ listed 44 names
 

@@ -6,6 +6,6 @@ use Rattle.text.proofs.Splits.{parts}
 use Rattle.attach_orders.specs.declared.order.JobNumbers.{JobNumbers}
 use Rattle.attach_orders.specs.Line.{described}
 
--- behind a job's numbers, three words and more describe nothing
+-- after a job's numbers, three words and more describe nothing
 pub nothing_described : (p : ℕ → Bool) (xs : List ℕ) (numbers : Option JobNumbers) (sides media finishings : List ℕ) → described numbers (sides ∷ media ∷ finishings ∷ slice_split p xs) ≡ None
 nothing_described p xs numbers sides media finishings = let it = parts p xs in rw it.cut refl

@@ -187,7 +187,7 @@ letters_lack true false true = (lacks_by (isnt 10) 10 refl (codes " SB") refl, l
 letters_lack true true false = (lacks_by (isnt 10) 10 refl (codes " SP") refl, lit≤ tt)
 letters_lack true true true = (lacks_by (isnt 10) 10 refl (codes " SPB") refl, lit≤ tt)
 
--- a line of words: the first word, and the text behind its space
+-- a line of words: the first word, and the text after its space
 abbrev behind : List ℕ → List ℕ → List ℕ
 behind word rest = word ++ (32 ∷ rest)
 

@@ -45,7 +45,7 @@ abbrev pub begins_with : ℕ → List ℕ → Bool
 begins_with letter [] = false
 begins_with letter (first ∷ rest) = first == letter
 
--- the bytes behind the letter, if the word begins with it; else the word
+-- the bytes after the letter, if the word begins with it; else the word
 abbrev pub after_letter : ℕ → List ℕ → List ℕ
 after_letter letter [] = []
 after_letter letter (first ∷ rest) = if first == letter then rest else first ∷ rest
@@ -75,7 +75,7 @@ job_said (Some numbers) (Some sides) media (Some finishings) =
 unfoldable pub cancel_said : List ℕ → List ℕ → Option Order
 cancel_said word job = if bytes_eq word (codes "CANCEL") then option_map Cancel (id_in job) else None
 
--- the sides, the medium and the finishings, if there are any, behind the numbers of a job
+-- the sides, the medium and the finishings, if there are any, after the numbers of a job
 abbrev pub described : Option JobNumbers → List (List ℕ) → Option Order
 described numbers (sides ∷ media ∷ []) = job_said numbers (sides_in sides) media (Some no_finishings)
 described numbers (sides ∷ media ∷ finishings ∷ []) = job_said numbers (sides_in sides) media (finishings_in finishings)

@@ -11,7 +11,7 @@ use Rattle.text.specs.Parts.{words_of}
 abbrev pub hello_line : List ℕ → List ℕ
 hello_line name = codes "HELLO " ++ (name ++ codes "\n")
 
--- the names, the first behind the separator and each other behind a comma
+-- the names, the first after the separator and each other after a comma
 abbrev pub listed : ℕ → List (List ℕ) → List ℕ
 listed separator [] = []
 listed separator (name ∷ names) = (separator ∷ name) ++ listed 44 names

@@ -24,7 +24,7 @@ pub(crate) fn read_line(alloc: Global, line: &[u8]) -> Result<Option<Order>, All
     }
 }
 
-/// Splits a text at its first space: the word before it, and the text behind it, if there is a space.
+/// Splits a text at its first space: the word before it, and the text after it, if there is a space.
 #[tactic(auto, using(text::proofs::Cuts::parts_cut, text::proofs::Cuts::parts_uncut))]
 fn split_word(text: &[u8]) -> (&[u8], Option<&[u8]>)
     ensures { words_of text.now ≡ result.0.now ∷ option_map_or (λ more. words_of more.now) result.1 [] }
@@ -67,7 +67,7 @@ fn read_numbers(
     read_sheets(alloc, numbers_in(word, job, octets, copies), operands)
 }
 
-/// Reads the sides, the medium and the finishings, behind the numbers.
+/// Reads the sides, the medium and the finishings, after the numbers.
 #[tactic(auto, using(crate::proofs::Words::nothing_described))]
 fn read_sheets(
     alloc: Global,
@@ -220,7 +220,7 @@ fn finishings_in(word: &[u8]) -> Option<Finishings>
     })
 }
 
-/// Returns whether a word begins with a letter, and the bytes behind the letter, or the word.
+/// Returns whether a word begins with a letter, and the bytes after the letter, or the word.
 fn letter_taken(letter: u8, word: &[u8]) -> (bool, &[u8])
     ensures begins { result.0 ≡ begins_with letter word.now }
     ensures rest { result.1.now ≡ after_letter letter word.now }

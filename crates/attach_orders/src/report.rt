@@ -53,7 +53,7 @@ fn media_text(alloc: Global, names: &[Text]) -> Result<Vec<u8>, AllocError>
     Ok(line)
 }
 
-/// Appends names, the first behind a space and each other behind a comma.
+/// Appends names, the first after a space and each other after a comma.
 fn put_names(line: &mut Vec<u8>, names: &[Text]) -> Result<(), AllocError>
     ensures { OnOk result (line.new.items ≡ line.old.items ++ listed 32 names.now) }
 {

@@ -22,7 +22,7 @@ pub fn read_message(message: &[u8]) -> Status
     read_lines(bare(first), bare(second))
 }
 
-/// Splits a text at its first line feed: the line before it, and the text behind it, if there is a line feed.
+/// Splits a text at its first line feed: the line before it, and the text after it, if there is a line feed.
 #[tactic(auto, using(text::proofs::Cuts::parts_cut, text::proofs::Cuts::parts_uncut))]
 fn split_line(text: &[u8]) -> (&[u8], Option<&[u8]>)
     ensures { texts_of text.now ≡ result.0.now ∷ option_map_or (λ more. texts_of more.now) result.1 [] }

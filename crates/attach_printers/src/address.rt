@@ -33,7 +33,7 @@ impl IppAddress {
         Ok(bytes)
     }
 
-    /// The front of a request whose body comes in chunks (RFC 9112, section 7.1), with the first chunk. The
+    /// The beginning of a request whose body comes in chunks (RFC 9112, section 7.1), with the first chunk. The
     /// only error is out of memory.
     pub(crate) fn front(&self, alloc: Global, body: &[u8]) -> Result<Vec<u8>, AllocError> {
         let head = self.head(alloc)?;

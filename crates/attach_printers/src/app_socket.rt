@@ -29,7 +29,7 @@ impl AppSocket {
         }
     }
 
-    /// Sends the octets that are due, copy by copy, and ends the writing side behind the last.
+    /// Sends the octets that are due, copy by copy, and ends the writing side after the last.
     fn send_all<S: Stream>(
         &mut self,
         session: &mut Session<S>,

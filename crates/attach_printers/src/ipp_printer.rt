@@ -234,7 +234,7 @@ impl IppPrinter {
         self.address.request(self.alloc, &encoded(body)?)
     }
 
-    /// The front of the request that sends the job. The only error is out of memory.
+    /// The beginning of the request that sends the job. The only error is out of memory.
     fn document_front(&mut self, format: &str) -> Result<Vec<u8>, AllocError> {
         let job = self.wish.job();
         let name = format!(in self.alloc; "printd-{job}")?;

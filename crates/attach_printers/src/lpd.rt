@@ -134,7 +134,7 @@ impl Lpd {
         line.repeat(self.alloc, self.copies as usize)
     }
 
-    /// Sends some bytes of the part; behind the data their end.
+    /// Sends some bytes of the part; after the data their end.
     fn send<S: Stream>(
         &mut self,
         session: &mut Session<S>,

@@ -162,7 +162,7 @@ impl Pjl {
         Vec::from_slice(self.alloc, text.as_bytes())
     }
 
-    /// The bytes behind a job. The only error is out of memory.
+    /// The bytes after a job. The only error is out of memory.
     fn foot(&self) -> Result<Vec<u8>, AllocError> {
         let job = self.job;
         let text = format!(in self.alloc;

@@ -173,7 +173,7 @@ impl<S: Stream> Session<S> {
         }
     }
 
-    /// Writes a front of a text, and removes the bytes that went.
+    /// Writes a prefix of a text, and removes the bytes that went.
     pub(crate) fn write_front(&mut self, text: &mut Vec<u8>, now: u64) -> Moved {
         let moved = self.write(text, now);
         if let Moved::Bytes(count) = moved {

@@ -13,11 +13,11 @@ use std::os::unix::fs::MetadataExt;
 use std::rt::Files;
 use std::{fs, io};
 
-/// The tables of the sockets of IPv4 and of IPv6: a line for each socket, behind a line of headings.
+/// The tables of the sockets of IPv4 and of IPv6: a line for each socket, after a line of headings.
 const TABLES: [&str; 2] = ["/proc/self/net/tcp", "/proc/self/net/tcp6"];
 
 /// The index of the word in a line with the waiting bytes, to be sent and to be read, and the number of words
-/// behind it at which the socket's number is.
+/// after it at which the socket's number is.
 const WAITING: usize = 4;
 
 const NUMBER_BEHIND: usize = 4;

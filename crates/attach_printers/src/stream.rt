@@ -28,7 +28,7 @@ pub trait Network {
     type Stream: Stream;
 
     /// Begins a connection to a peer at one of the addresses of a place: the address of number `choice`,
-    /// counted again from the first behind the last.
+    /// counted again from the first after the last.
     fn connect(&self, peer: Peer, place: &Place, choice: usize) -> io::Result<Self::Stream>;
 }
 

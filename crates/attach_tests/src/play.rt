@@ -30,7 +30,7 @@ const LAST_TURNS: usize = 3;
 #[derive(Clone, Copy)]
 pub(crate) struct Row {
     pub(crate) name: &'static str,
-    /// The first steps, and the steps behind them.
+    /// The first steps, and the steps after them.
     pub(crate) start: &'static [Step],
     pub(crate) steps: &'static [Step],
     pub(crate) log: &'static str,

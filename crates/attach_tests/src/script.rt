@@ -42,7 +42,7 @@ pub(crate) enum Step {
 #[derive(Drop)]
 pub(crate) struct Script {
     alloc: Global,
-    /// The first steps, and the steps behind them.
+    /// The first steps, and the steps after them.
     start: &'static [Step],
     steps: &'static [Step],
     /// The number of the next step, and of its bytes that have gone.
@@ -265,7 +265,7 @@ fn whole_body(message: &[u8]) -> Option<&[u8]> {
     }
 }
 
-/// The number at the front of a text.
+/// The number at the beginning of a text.
 fn number(text: &[u8]) -> u64 {
     let mut number = 0u64;
     for byte in text {

@@ -26,7 +26,7 @@ pub record Sending : Type 0 where
   pub copies : ℕ
   pub printed : Bool
 
--- the octets are the next octets of a list behind the first `count`
+-- the octets are the next octets of a list after the first `count`
 abbrev pub AreNext : List ℕ → ℕ → List ℕ → Type 0
 AreNext octets count came = take (length octets) (drop count came) ≡ octets
 

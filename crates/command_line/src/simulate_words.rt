@@ -59,7 +59,7 @@ fn all_of<'a>(
     Vec::from_slice(alloc, found.get_strs(name).unwrap_or(&[]))
 }
 
-/// An additional device by its text: its name, and behind `=` that of the device that it is like, or behind
+/// An additional device by its text: its name, and after `=` that of the device that it is like, or after
 /// `:` words about it.
 fn addition_of(text: &str) -> Option<Addition<'_>> {
     if let Some((name, words)) = text.split_once(":") {
@@ -94,7 +94,7 @@ fn additions<'a>(alloc: Global, found: &ArgMatches<'a>) -> Result<Vec<Addition<'
     Ok(all)
 }
 
-/// The thousandths that up to three digits behind a point mean.
+/// The thousandths that up to three digits after a point mean.
 fn thousandths_of(digits: &str) -> Option<u32> {
     let number = digits.parse::<u32>().ok()?;
     match digits.len() {

@@ -30,7 +30,7 @@ pub(crate) struct CommandWords<'a> {
 /// An argument of a command.
 pub(crate) struct ArgumentWords<'a> {
     pub(crate) name: &'a str,
-    /// Whether the argument is found by its place, and not by its name behind two dashes.
+    /// Whether the argument is found by its place, and not by its name after two dashes.
     pub(crate) is_positional: bool,
     /// Whether the argument is a flag, has one value, or may be given several times.
     pub(crate) action: ArgAction,

@@ -1,9 +1,9 @@
--- Behind the last entry of a slab each key is free.
+-- After the last entry of a slab each key is free.
 use Rattle.std.proofs.Common.{◌≡◌, ◌≤◌, ℕ, zero, suc, ◌+◌, List, [], ◌∷◌, ◌++◌, length, refl, ap, arith, Option, Some, None}
 use Rattle.std.specs.Prelude.{slice_index_or}
 use Rattle.slab.specs.Slab.{entries_from}
 
--- a list's first element, and the elements behind it
+-- a list's first element, and the elements after it
 abbrev first_of : {A : Type 0} → A → List A → A
 first_of other [] = other
 first_of other (x ∷ xs) = x
@@ -40,7 +40,7 @@ within (Some x ∷ slots) from [] last are =
     omega (arith, first)
 within (Some x ∷ slots) from (y ∷ front) last are = omega (arith, within slots (from + 1) front last (ap rest_of are))
 
--- behind the last entry each key is free
+-- after the last entry each key is free
 pub none_behind : {T : Type 0} → (slots : List (Option T)) (from : ℕ) (front : List (ℕ × T)) (last : ℕ × T) (key : ℕ) → entries_from from slots ≡ front ++ last ∷ [] → last.0 + 1 ≤ from + key → slice_index_or slots key None ≡ None
 none_behind [] from front last zero are behind = refl
 none_behind [] from front last (suc key) are behind = refl

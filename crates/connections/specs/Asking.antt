@@ -24,7 +24,7 @@ use Rattle.connections.specs.Session.{is_queue}
 use Rattle.connections.specs.Entry.{PeerRecord, Http as OfIpp, Queue as OfLpd, Link as OfDevice, Entry, with_progress, reading, finishing, broken, owing, needs_memory}
 use Rattle.connections.specs.Steps.{StepsIpp, closes_after, body_after, StepsLpd, StepsDevice, refused, faulty, no_memory, due_bytes}
 
--- ---- the next item of a stream, behind the items that were acted on
+-- ---- the next item of a stream, after the items that were acted on
 
 -- the next item of an IPP client
 pub record IppItemComes (e : Entry) (said : List HttpElement) (closes : Bool) (body : List ℕ) (what : Step) (mid : Entry) : Type 0 where

@@ -133,7 +133,7 @@ pub record IsIn (door : Door) (id : ℕ) (old new : List (Option ConnectionState
   pub others : (other : ℕ) → other ≢ key → slice_index_or new other None ≡ slice_index_or old other None
   pub count : count_by is_some new ≡ count_by is_some old + 1
 
--- a front of the waiting bytes is offered to the wire, if any bytes wait
+-- a prefix of the waiting bytes is offered to the wire, if any bytes wait
 pub record Offers {W : Type 0} (polled : W → Poll → W → Type 0) (key : ℕ) (old : List (Option ConnectionState)) (wire : W) (answer : Offered) (new : List (Option ConnectionState)) (wire' : W) : Type 0 where
   pub before : ConnectionState
   pub left : List ℕ

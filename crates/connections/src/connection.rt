@@ -287,7 +287,7 @@ impl Connection {
         self.broken
     }
 
-    /// Offers a front of the waiting bytes to the wire, which may take some of them.
+    /// Offers a prefix of the waiting bytes to the wire, which may take some of them.
     pub fn offer<W: Wire>(&mut self, wire: &mut W) -> Offered
         ensures offers { OffersFront W.polled self.old.id self.old.output wire.old result self.new.output wire.new }
         ensures rest { self.new ≡ record self.old { output = self.new.output } }

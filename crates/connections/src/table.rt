@@ -222,7 +222,7 @@ pub fn close<W: Wire>(
     connection.device()
 }
 
-/// Offers a front of the waiting bytes of the connection under a key to the wire, which may take some of
+/// Offers a prefix of the waiting bytes of the connection under a key to the wire, which may take some of
 /// them.
 pub fn offer<W: Wire>(connections: &mut Slab<Connection>, key: usize, wire: &mut W) -> Offered
     ensures { OffersAt W.polled key connections.old.slots wire.old result connections.new.slots wire.new }

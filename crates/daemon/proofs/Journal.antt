@@ -70,7 +70,7 @@ text_of moment polls lines comments are said = record {
   whole = sym (append_assoc lines comments (turn_line moment));
 }
 
--- the law that a turn's text behind a file is the file of a longer trace
+-- the law that a turn's text after a file is the file of a longer trace
 abbrev pub Grows : Type 0
 Grows = (trace : Trace) (file : List ℕ) (moment : ℕ) (hs : List Happening) (text : List ℕ) → IsFile trace file → IsTurnText moment (calls_in hs) text → IsFile (trace ++ Turned moment hs ∷ []) (file ++ text)
 
@@ -301,10 +301,10 @@ kept_lines None is = absurd cc
 pub keeps_same : (a b : Server) (x y : List ℕ) → Rests a b → y ≡ x → KeepsFiled a x b y
 keeps_same a b x y rests is opening trace filed = ([], subst (λ (t : Trace). IsFiled opening t b y) (sym (append-nil trace)) (subst (λ (t : List ℕ). IsFiled opening trace b t) (sym is) (rested opening trace a b x rests filed)))
 
--- a turn and what is stored behind it
+-- a turn and what is stored after it
 pub files_keep : (a b c : Server) (x y : List ℕ) → FilesTurn a b → KeepsFiled b x c y → KeepsFiled a x c y
 files_keep a b c x y files keeps = keeps_then a b c x x y (files x) keeps
 
--- a turn behind what is stored
+-- a turn after what is stored
 pub keep_files : (a b c : Server) (x y : List ℕ) → KeepsFiled a x b y → FilesTurn b c → KeepsFiled a x c y
 keep_files a b c x y keeps files = keeps_then a b c x y y keeps (files y)

@@ -14,7 +14,7 @@ use Rattle.journal.specs.File.{IsFile}
 use Rattle.daemon.specs.declared.serving.Server.{Server}
 use Rattle.daemon.specs.Serving.{calls_of}
 
--- The engine stands at this trace, and the trace has a file: the stored lines, and the kept lines behind them. If memory for a line was refused, no lines are kept.
+-- The engine stands at this trace, and the trace has a file: the stored lines, and the kept lines after them. If memory for a line was refused, no lines are kept.
 pub record IsFiled (opening : State) (trace : Trace) (server : Server) (stored : List ℕ) : Type 0 where
   pub journaled : server.journaled ≡ true
   pub whole : server.wire.notes.heads ≡ false
@@ -33,7 +33,7 @@ FilesTurn old new = (stored : List ℕ) → KeepsFiled old stored new stored
 abbrev pub AddsComments : NoteState → NoteState → Type 0
 AddsComments old new = (new.heads ≡ old.heads) × ((new.lines ≡ None) ⊎ ((comments : List ℕ) × (are_comments comments ≡ true) × (new.lines ≡ with_note comments old.lines)))
 
--- the end of a turn is noted behind comments, or the notes are lost
+-- the end of a turn is noted after comments, or the notes are lost
 abbrev pub NotesEnd : ℕ → NoteState → NoteState → Type 0
 NotesEnd moment old new = (new.heads ≡ old.heads) × ((new.lines ≡ None) ⊎ ((comments : List ℕ) × (are_comments comments ≡ true) × (new.lines ≡ with_note (comments ++ turn_line moment) old.lines)))
 

@@ -19,7 +19,7 @@ pub(crate) fn moment_since(clock: &impl Clock, start: &Instant) -> io::Result<Mo
     Ok(Moment::new(millis.min(Limits::LAST_MOMENT)).unwrap_or(Moment::start()))
 }
 
-/// Returns the moment that is as many ms behind `from` as passed since a start, at most [`Limits::LAST_MOMENT`]. The
+/// Returns the moment that is as many ms after `from` as passed since a start, at most [`Limits::LAST_MOMENT`]. The
 /// error is the clock's.
 pub(crate) fn moment_after(
     clock: &impl Clock,

@@ -26,7 +26,7 @@ pub enum Ended {
     Quiet { left: u64 },
 }
 
-/// Serves with a journal. It takes a given number of rounds, each at the ms since the first, behind the moment
+/// Serves with a journal. It takes a given number of rounds, each at the ms since the first, after the moment
 /// `from` of the last turn in the journal, and writes a log if one is given. A round is a turn in which nothing is
 /// sent and, if bytes wait then that a socket may take, a turn in which nothing comes, once all lines are stored.
 ///

@@ -14,12 +14,12 @@ use std::alloc::{AllocError, Global};
 use std::net::SocketAddr;
 use wires::{Door, WireId};
 
-/// Lines with the same word at the front of each.
+/// Lines with the same word at the beginning of each.
 #[derive(Drop)]
 pub(crate) struct Lines<'a> {
     alloc: Global,
     names: &'a [Text],
-    /// The ms since the start, at the front of each line. `None` if each line is a comment of a recording.
+    /// The ms since the start, at the beginning of each line. `None` if each line is a comment of a recording.
     millis: Option<u64>,
     text: Vec<u8>,
     /// Whether memory for some of the text was refused.

@@ -23,7 +23,7 @@ use Rattle.text.proofs.Splits.{parts, split_before, split_nowhere, first_is_long
 heard_first_of : (greeted : Bool) (line : List ℕ) (texts next : List ℕ) (more : List (List ℕ)) (parts : List (List ℕ)) → length line < DEVICE_LINE_BYTES → parts ≡ next ∷ more → parsed_in greeted (line ∷ parts) ≡ parsed_after (report_in greeted line) (parsed_in true parts)
 heard_first_of greeted line texts next more parts short cut = rw cut (search (rules, short))
 
--- a whole line is heard before the bytes behind it
+-- a whole line is heard before the bytes after it
 pub heard_line : (greeted : Bool) (bytes coming : List ℕ) (count : ℕ) → first_line_of DEVICE_LINE_BYTES bytes ≡ Front.Whole count → parsed_in greeted (texts_of (bytes ++ coming)) ≡ parsed_after (report_in greeted (take count bytes)) (parsed_in true (texts_of (drop (count + 1) bytes ++ coming)))
 heard_line greeted bytes coming count line =
     let later = parts (λ byte. byte == 10) (drop (count + 1) bytes ++ coming) in
@@ -165,7 +165,7 @@ report_falls bytes count line =
     let within : count < length bytes = search (rules, position-Some (λ byte. byte == 10) bytes count 0 at.0) in
     omega (arith, within, length-drop (count + 1) bytes)
 
--- the answer for a fault at the front of the bytes that are left
+-- the answer for a fault at the beginning of the bytes that are left
 fault_stands : (old : LinkState) (fault : LinkFault) → ((left : List ℕ) → IsLeft old.fault old.greeted old.rest left → parsed_in old.greeted (texts_of left) ≡ silence (Faulty fault)) → Answers old (Err (Fault fault)) (record old { fault = Some fault })
 fault_stands old fault faulty = (
   refl,

@@ -1,4 +1,4 @@
--- The report in a line of a device. A line is a word and its operands behind single spaces; a carriage return at its end is dropped.
+-- The report in a line of a device. A line is a word and its operands after single spaces; a carriage return at its end is dropped.
 use Rattle.std.specs.Prelude.{ℕ, nat_lt, Bool, true, false, if◌then◌else◌, List, [], ◌∷◌, length, Option, Some, None, option_map, codes}
 use Rattle.std.specs.Option.{option_and_then}
 use Rattle.std.specs.List.{list_all}

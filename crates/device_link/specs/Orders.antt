@@ -20,7 +20,7 @@ abbrev pub finishings_letters : Finishings → List ℕ
 finishings_letters finishings =
     letter_if finishings.staple (codes "S") ++ (letter_if finishings.punch (codes "P") ++ letter_if finishings.bind (codes "B"))
 
--- the word of a job's finishings, behind a space; empty for a job without finishings
+-- the word of a job's finishings, after a space; empty for a job without finishings
 abbrev pub finishings_word : Finishings → List ℕ
 finishings_word finishings =
     if finishings.staple || (finishings.punch || finishings.bind) then codes " " ++ finishings_letters finishings

@@ -43,7 +43,7 @@ parsed_in greeted (line ∷ next ∷ more) =
 abbrev pub device_reports : List ℕ → ParsedLines
 device_reports stream = parsed_in false (texts_of stream)
 
--- a whole line at the front is a report, and these bytes are behind it
+-- a whole line at the front is a report, and these bytes are after it
 pub record ParsesAtFront (greeted : Bool) (bytes : List ℕ) (report : ReportRecord) (rest : List ℕ) : Type 0 where
   pub count : ℕ
   pub line : first_line_of DEVICE_LINE_BYTES bytes ≡ Whole count
@@ -71,7 +71,7 @@ abbrev pub parsed_on : Option LinkFault → Bool → List ℕ → ParsedLines
 parsed_on (Some fault) greeted bytes = silence (Faulty fault)
 parsed_on None greeted bytes = parsed_in greeted (texts_of bytes)
 
--- the reports that a reader's state says of its bytes and of these behind them
+-- the reports that a reader's state says of its bytes and of these after them
 abbrev pub ahead : LinkState → List ℕ → ParsedLines
 ahead reader coming = parsed_on reader.fault reader.greeted (reader.rest ++ coming)
 
@@ -103,15 +103,15 @@ Answers old (Err OutOfMemory) new = new ≡ old
 
 -- ---- laws
 
--- the reports that a stream says first are a front of the reports of the stream with more bytes behind it
+-- the reports that a stream says first are a prefix of the reports of the stream with more bytes after it
 abbrev pub FirstStays : Type 0
 FirstStays = (stream more : List ℕ) (first : List ReportRecord) → ParsesFirst stream first → (later : ParsedLines) × (device_reports (stream ++ more) ≡ with_front first later)
 
--- two fronts of a stream's reports are equal if their lengths are equal
+-- two prefixes of a stream's reports are equal if their lengths are equal
 abbrev pub FirstIsOne : Type 0
 FirstIsOne = (stream : List ℕ) (one other : List ReportRecord) → ParsesFirst stream one → ParsesFirst stream other → length one ≡ length other → one ≡ other
 
--- a stream says no report behind all of its reports
+-- a stream says no report after all of its reports
 abbrev pub NoneFollows : Type 0
 NoneFollows = (stream : List ℕ) (reports : List ReportRecord) (said : ReportRecord) (ending : Ending) → ParsesFirst stream (reports ++ said ∷ []) → device_reports stream ≡ record { reports = reports; ending = ending } → ⊥
 

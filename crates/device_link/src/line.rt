@@ -67,7 +67,7 @@ fn read_words(alloc: Global, line: &[u8]) -> Result<Option<Report>, AllocError>
     Ok(read_two(word, first, second))
 }
 
-/// Splits a text at its first space: the word before it, and the text behind it, if there is a space.
+/// Splits a text at its first space: the word before it, and the text after it, if there is a space.
 #[tactic(auto, using(text::proofs::Cuts::parts_cut, text::proofs::Cuts::parts_uncut))]
 fn split_word(text: &[u8]) -> (&[u8], Option<&[u8]>)
     ensures { words_of text.now ≡ result.0.now ∷ option_map_or (λ more. words_of more.now) result.1 [] }

@@ -50,7 +50,7 @@ fn sides_word(sides: Sides) -> &'static str
     }
 }
 
-/// The word of a line for the finishings of a job, behind a space; empty for a job without finishings.
+/// The word of a line for the finishings of a job, after a space; empty for a job without finishings.
 fn finishings_word(alloc: Global, finishings: Finishings) -> Result<Vec<u8>, AllocError>
     ensures { IfOk result (λ word. word.items ≡ finishings_word finishings) }
 {

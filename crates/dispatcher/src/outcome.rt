@@ -12,7 +12,7 @@ pub enum Outcome {
     Dropped,
     /// The event was a query. Its effects.
     Queried(Effects),
-    /// The event's effects. Memory for the dispatch behind it was refused, and the dispatch changed nothing.
+    /// The event's effects. Memory for the dispatch after it was refused, and the dispatch changed nothing.
     Undispatched(Effects),
     /// The event's effects. No job is ready, and no plan was made.
     Idle(Effects),

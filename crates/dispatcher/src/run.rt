@@ -78,7 +78,7 @@ impl<P: Planner + Drop> Core<P> {
         }
     }
 
-    /// Takes the steps of events, one after the other, each with a dispatch behind it unless it is a query.
+    /// Takes the steps of events, one after the other, each with a dispatch after it unless it is a query.
     /// Returns the outcome of each event. The listener is told of the cancels and of each plan with the jobs
     /// that began.
     ///

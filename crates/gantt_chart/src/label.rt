@@ -96,7 +96,7 @@ fn push_right(tags: &mut [Tag], left: f64) {
     }
 }
 
-/// Moves each label to the left until it is clear of the label behind it.
+/// Moves each label to the left until it is clear of the label after it.
 fn push_left(tags: &mut [Tag], right: f64) {
     let mut most = right;
     for place in (0..tags.len()).rev() {

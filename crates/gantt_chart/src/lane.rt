@@ -45,7 +45,7 @@ fn extent_of(frame: Frame, bar: &Bar, y: f64) -> Extent {
     }
 }
 
-/// Appends the lines of the scale behind a lane.
+/// Appends the lines of the scale after a lane.
 fn put_grid(page: Page, frame: Frame, top: f64, bottom: f64) -> Page {
     let mut page = page;
     for place in 0..=MOST_MARKS {

@@ -25,7 +25,7 @@ struct Pen {
 }
 
 impl Pen {
-    /// The place for the entry behind this entry.
+    /// The place for the entry after this entry.
     fn next(self) -> Pen {
         if self.x + 2.0 * ENTRY_WIDTH > self.right {
             Pen {

@@ -90,7 +90,7 @@ impl fmt::Display for ShortTime {
 }
 
 impl Page {
-    /// Appends two numbers, each with the text behind it.
+    /// Appends two numbers, each with the text after it.
     fn put_two(self, one: u128, behind_one: &str, other: u128, behind_other: &str) -> Page {
         self.put_shown(one)
             .put(behind_one)

@@ -89,7 +89,7 @@ fn letters_of(number: u32, time: ShortTime, words: &str) -> usize {
     letters.saturating_add(1).saturating_add(words.len())
 }
 
-/// Appends the number of a job, a time in ms and, behind a space, the words, if there are any.
+/// Appends the number of a job, a time in ms and, after a space, the words, if there are any.
 fn put_entry(line: Line, number: u32, millis: u64, words: &str) -> Line {
     let time = ShortTime(millis);
     let line = line

@@ -49,24 +49,24 @@ impl Page {
         page
     }
 
-    /// Appends a text, and behind it a number.
+    /// Appends a text, and after it a number.
     pub(crate) fn put_number(self, before: &str, number: u64) -> Page {
         self.put(before).put_shown(number)
     }
 
-    /// Appends a text, and behind it a length to this many decimal places.
+    /// Appends a text, and after it a length to this many decimal places.
     fn put_rounded(self, before: &str, length: f64, places: usize) -> Page {
         let mut page = self.put(before);
         page.is_refused = page.is_refused || write!(page.text, "{length:.places$}").is_err();
         page
     }
 
-    /// Appends a text, and behind it a length to a tenth.
+    /// Appends a text, and after it a length to a tenth.
     pub(crate) fn put_length(self, before: &str, length: f64) -> Page {
         self.put_rounded(before, length, 1)
     }
 
-    /// Appends a text, and behind it a length without decimal places.
+    /// Appends a text, and after it a length without decimal places.
     pub(crate) fn put_whole_length(self, before: &str, length: f64) -> Page {
         self.put_rounded(before, length, 0)
     }

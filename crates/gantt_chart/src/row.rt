@@ -7,7 +7,7 @@ use crate::scale::{MOST_MARKS, Scale};
 use crate::terminal::WIDTH;
 use crate::waiting::{Step, most_waiting};
 
-/// The fillings of the classes, from the highest class on; they repeat behind the last filling.
+/// The fillings of the classes, from the highest class on; they repeat after the last filling.
 const FILLINGS: [u8; 6] = [b'#', b'=', b'+', b'-', b':', b'.'];
 
 /// The filling of waits.

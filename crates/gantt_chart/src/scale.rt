@@ -38,7 +38,7 @@ const STEPS: [u64; 32] = [
     31_536_000_000,
 ];
 
-/// The most marks behind the first mark.
+/// The most marks after the first mark.
 pub(crate) const MOST_MARKS: u64 = 12;
 
 /// The unit of the marks.
@@ -115,7 +115,7 @@ impl Scale {
         Unit::of(self.step)
     }
 
-    /// The mark at a place; `None` behind the end of the span. The first mark is the moment 0.
+    /// The mark at a place; `None` after the end of the span. The first mark is the moment 0.
     pub(crate) fn mark(self, place: u64) -> Option<ScaleMark> {
         let moment = self.step.checked_mul(place)?;
         if moment > self.span {
@@ -130,7 +130,7 @@ impl Scale {
         nearest_u64_to_f64(moment.min(self.span)) / nearest_u64_to_f64(self.span.max(1))
     }
 
-    /// The column of a moment, among this number of columns from left to right; the end of the span is behind
+    /// The column of a moment, among this number of columns from left to right; the end of the span is after
     /// the last column.
     pub(crate) fn column(self, moment: u64, columns: u16) -> u16 {
         let passed = u128::from(moment.min(self.span)) * u128::from(columns);

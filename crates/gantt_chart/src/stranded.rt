@@ -3,7 +3,7 @@
 use crate::page::Page;
 use base_types::{Cause, Stranded};
 
-/// The meaning of a cause, behind its word in the text of a plan.
+/// The meaning of a cause, after its word in the text of a plan.
 fn meaning(cause: Cause) -> &'static str {
     match cause {
         Cause::NoDevice => "NoDevice, its printer has no device",

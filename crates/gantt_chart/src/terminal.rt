@@ -56,7 +56,7 @@ fn put_row(page: Page, name: &[u8], columns: usize, cells: &[u8]) -> Page {
     page.put_letter('\n')
 }
 
-/// The columns of a row behind its name.
+/// The columns of a row after its name.
 fn columns_of(names: usize) -> u16 {
     u16::try_from(WIDTH.saturating_sub(names.saturating_add(1))).unwrap_or(0)
 }

@@ -172,7 +172,7 @@ ends_shorter : (end : LineEnd) (text middle : List ℕ) → Newline end text mid
 ends_shorter crlf text middle x = omega (arith, ap (λ (t : List ℕ). length t) x)
 ends_shorter lf text middle x = omega (arith, ap (λ (t : List ℕ). length t) x)
 
--- behind a line end
+-- after a line end
 blank_later : (text : List ℕ) (end : LineEnd) (middle : List ℕ) → Newline end text middle → Decided (Begins Blank middle) → Decided (Begins Blank text)
 blank_later text end middle reads (inl x) = inl (end ∷ x.0, x.1, (reads ∙ ap (λ (m : List ℕ). print_end end ++ m) x.2.0 ∙ sym (append_assoc (print_end end) (print_blank x.0) x.1), x.2.1))
 blank_later text end middle reads (inr none) = inr (

@@ -1,4 +1,4 @@
--- The result of one step of a reader, by the front of its bytes.
+-- The result of one step of a reader, by the beginning of its bytes.
 use Rattle.std.specs.Prelude.{ℕ, ◌≡◌, ◌+◌, ◌-◌, ◌<◌, ◌≤◌, ◌==◌, nat_le, Bool, true, false, List, [], ◌∷◌, ◌++◌, length, take, drop, Option, Some, None, Result, Ok, Err}
 use Rattle.std.proofs.Common.{rules, arith, refl, subst, sym, ap}
 use Rattle.std.proofs.lemmas.List.{length-drop}
@@ -25,7 +25,7 @@ use Rattle.http_front.specs.Stream.{HttpElement, is_last, HasHead, Invites, Ends
 use Rattle.http_front.proofs.Steps.{advance}
 use Rattle.http_front.proofs.Sections.{section_within, section_some}
 
--- the reader behind this number of bytes
+-- the reader after this number of bytes
 abbrev pub behind : HttpState → ℕ → Awaited → HttpState
 behind old count next = record { part = []; rest = drop count old.rest; awaited = next }
 

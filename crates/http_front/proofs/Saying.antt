@@ -63,7 +63,7 @@ end_more begins place (byte ∷ xs) ys end is = by (begins && nat_lt 0 (empty_li
         ap (λ (n : ℕ). if begins && nat_lt 0 n then Some (place + n) else empty_line_end (byte == 10) (place + 1) (xs ++ ys)) more
         ∙ (ap (λ (t : Bool). if t then Some (place + empty_line (byte ∷ xs)) else empty_line_end (byte == 10) (place + 1) (xs ++ ys)) same ∙ it)
 
-    -- the case of a line that isn't empty, with more bytes behind it
+    -- the case of a line that isn't empty, with more bytes after it
     none : (zs : List ℕ) → xs ≡ zs → Later → begins && nat_lt 0 (empty_line (byte ∷ xs)) ≡ false → empty_line_end (byte == 10) (place + 1) xs ≡ Some end → empty_line_end begins place (byte ∷ (xs ++ ys)) ≡ Some end
     none [] same more out it = absurd (nothing (empty_line_end (byte == 10) (place + 1) xs) (ap (empty_line_end (byte == 10) (place + 1)) same) it)
       where

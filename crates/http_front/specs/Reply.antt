@@ -36,7 +36,7 @@ own_field status =
 abbrev pub opening : ℕ → List ℕ
 opening status = status_line status ++ (own_field status ++ codes "Content-Length: ")
 
--- the head's bytes behind the length
+-- the head's bytes after the length
 abbrev pub ending : Bool → List ℕ
 ending true = codes "\r\nConnection: close\r\n\r\n"
 ending false = codes "\r\n\r\n"

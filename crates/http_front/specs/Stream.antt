@@ -41,7 +41,7 @@ elements_of item.BodyPart part = map HasByte part
 elements_of item.BodyEnd part = EndsBody ∷ []
 elements_of (item.Refuse refusal) part = IsRefused refusal ∷ []
 
--- a step at the front of the bytes: its elements, the bytes behind it, and the part that is awaited next; or a wait for more bytes
+-- a step at the beginning of the bytes: its elements, the bytes after it, and the part that is awaited next; or a wait for more bytes
 pub data Front : Type 0 where
   Goes : (said : List HttpElement) (rest : List ℕ) (next : Awaited) → Front
   Waits : Front
@@ -49,7 +49,7 @@ pub data Front : Type 0 where
 abbrev pub refused : HttpRejection → List ℕ → Front
 refused refusal rest = Goes (IsRefused refusal ∷ []) rest Nothing
 
--- the exchange closes the connection, or its body is too short for an IPP message: bytes behind it are dropped
+-- the exchange closes the connection, or its body is too short for an IPP message: bytes after it are dropped
 abbrev pub is_last : Bool → ℕ → Bool
 is_last closes count = closes || nat_lt count IPP_HEADER_BYTES
 
@@ -66,7 +66,7 @@ body_left (Size room closes) = 0
 body_left (Trailer last) = 0
 body_left Nothing = 0
 
--- the part that is awaited behind `count` more bytes of a body or of a chunk
+-- the part that is awaited after `count` more bytes of a body or of a chunk
 abbrev pub past_body : ℕ → Awaited → Awaited
 past_body count (Body left following) = Body (left - count) following
 past_body count Head = Head
@@ -82,7 +82,7 @@ abbrev pub begun : Result Request HttpRejection → List ℕ → Front
 begun (Ok request) rest = Goes (HasHead request.closes ∷ []) rest (after_head request)
 begun (Err refusal) rest = refused refusal rest
 
--- the part that is awaited behind a body; behind the last body nothing is awaited, and bytes are dropped
+-- the part that is awaited after a body; after the last body nothing is awaited, and bytes are dropped
 abbrev pub after_body : Bool → Awaited
 after_body last = if last then Nothing else Head
 
@@ -123,7 +123,7 @@ byte_of count next (byte ∷ bytes) = Goes (HasByte byte ∷ []) bytes (Body (co
 abbrev pub body_front : ℕ → Following → List ℕ → Front
 body_front count next bytes = if count == 0 then following next bytes else byte_of count next bytes
 
--- the step behind the size of a chunk: the last chunk has size 0; the chunks together have at most `room` bytes
+-- the step after the size of a chunk: the last chunk has size 0; the chunks together have at most `room` bytes
 abbrev pub sized : Option ℕ → ℕ → Bool → List ℕ → Front
 sized None room closes rest = refused BadRequest rest
 sized (Some size) room closes rest =
@@ -142,7 +142,7 @@ trailer_front last bytes (Whole count) = Goes (EndsBody ∷ []) (drop count byte
 trailer_front last bytes TooLong = refused BadRequest bytes
 trailer_front last bytes Unfinished = Waits
 
--- the step at the front of the bytes, by the part that is awaited
+-- the step at the beginning of the bytes, by the part that is awaited
 abbrev pub FrontIs : Awaited → List ℕ → Front → Type 0
 FrontIs Head bytes front = AtHead bytes front
 FrontIs (Invitation framing closes) bytes front = front ≡ Goes (Invites ∷ []) bytes (body_by framing closes)
@@ -173,7 +173,7 @@ OneParse = (stream : List ℕ) (given said : List HttpElement) → Exchanges str
 abbrev pub SomeParse : Type 0
 SomeParse = (stream : List ℕ) → (said : List HttpElement) × Exchanges stream said
 
--- the elements of a stream are a front of the elements of the stream with more bytes behind it
+-- the elements of a stream are a prefix of the elements of the stream with more bytes after it
 abbrev pub StaysInFront : Type 0
 StaysInFront = (stream more : List ℕ) (given said : List HttpElement) → Exchanges stream given → Exchanges (stream ++ more) said → (later : List HttpElement) × (said ≡ given ++ later)
 
@@ -193,11 +193,11 @@ pub record ParsesFirst (stream : List ℕ) (said : List HttpElement) : Type 0 wh
   pub left : List ℕ
   pub leads : Leads Head stream said next left
 
--- the elements that a stream says first are a front of the elements of the stream with more bytes behind it
+-- the elements that a stream says first are a prefix of the elements of the stream with more bytes after it
 abbrev pub FirstStays : Type 0
 FirstStays = (stream more : List ℕ) (first said : List HttpElement) → ParsesFirst stream first → Exchanges (stream ++ more) said → (later : List HttpElement) × (said ≡ first ++ later)
 
--- two fronts of the elements of a stream are equal if their lengths are equal
+-- two prefixes of the elements of a stream are equal if their lengths are equal
 abbrev pub FirstIsOne : Type 0
 FirstIsOne = (stream : List ℕ) (one other : List HttpElement) → ParsesFirst stream one → ParsesFirst stream other → length one ≡ length other → one ≡ other
 
@@ -230,7 +230,7 @@ pub record HasRead (stream : List ℕ) (given : List HttpElement) (reader : Http
   pub leads : Leads Head stream given reader.awaited left
   pub kept : IsOver reader ⊎ (left ≡ reader.rest)
 
--- the elements that a reader has given are a front of the elements of its stream
+-- the elements that a reader has given are a prefix of the elements of its stream
 abbrev pub GivesTheFront : Type 0
 GivesTheFront = (stream : List ℕ) (given : List HttpElement) (reader : HttpState) → HasRead stream given reader → (later : List HttpElement) × Exchanges stream (given ++ later)
 

@@ -28,7 +28,7 @@ pub record IsSizeLine (line : List ℕ) (size : ℕ) : Type 0 where
   pub ends : length line ≡ place + 1
   pub is : IsSizeOf line (Some size)
 
--- bytes of a body, behind a line with their count
+-- bytes of a body, after a line with their count
 pub record Piece : Type 0 where
   pub line : List ℕ
   pub octets : List ℕ
@@ -44,7 +44,7 @@ ArePieces room (piece ∷ pieces) = IsSizeLine piece.line (length piece.octets) 
 abbrev pub octets_of : List Piece → List ℕ
 octets_of pieces = flat_map (λ (piece : Piece). piece.octets) pieces
 
--- the lines behind the last chunk, up to and with the first empty line
+-- the lines after the last chunk, up to and with the first empty line
 abbrev pub IsTrailer : List ℕ → Type 0
 IsTrailer trailer = section_in HTTP_TRAILER_BYTES trailer ≡ Whole (length trailer)
 

@@ -16,7 +16,7 @@ pub(crate) fn after_head(request: Request) -> Awaited
 }
 
 /// Returns whether an exchange is the last: it closes the connection, or its body has too few bytes for an
-/// IPP message. The bytes behind the last exchange are dropped.
+/// IPP message. The bytes after the last exchange are dropped.
 pub(crate) fn is_last(closes: bool, length: u32) -> bool
     ensures { result ≡ is_last closes length }
 {
@@ -43,7 +43,7 @@ pub(crate) fn after_body(last: bool) -> Awaited
     Awaited::Head
 }
 
-/// What the reader awaits behind `count` more bytes of a body or of a chunk.
+/// What the reader awaits after `count` more bytes of a body or of a chunk.
 pub(crate) fn past_body(count: u32, awaited: Awaited) -> Awaited
     ensures { result ≡ past_body count awaited }
 {

@@ -22,7 +22,7 @@ pub(crate) struct Request {
 pub(crate) enum Following {
     /// The end of the body. Whether the exchange is the last.
     Close(bool),
-    /// The end of a chunk. The most bytes that the chunks behind it may have together; whether the connection
+    /// The end of a chunk. The most bytes that the chunks after it may have together; whether the connection
     /// closes after the reply.
     Chunk(u32, bool),
 }
@@ -36,7 +36,7 @@ pub(crate) enum Awaited {
     Invitation(Framing, bool),
     /// This many bytes of the body.
     Body(u32, Following),
-    /// The line with the size of a chunk. The most bytes that this chunk and those behind it may have
+    /// The line with the size of a chunk. The most bytes that this chunk and those after it may have
     /// together.
     Size(u32, bool),
     /// The fields after the last chunk.

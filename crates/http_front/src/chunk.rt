@@ -11,7 +11,7 @@ pub(crate) enum ChunkEnd {
     Whole,
     /// Bytes other than CR LF.
     Broken,
-    /// A front of CR LF: more bytes are needed.
+    /// A prefix of CR LF: more bytes are needed.
     Unfinished,
 }
 
@@ -25,7 +25,7 @@ pub(crate) fn size_in(line: &[u8]) -> Option<u64>
     }
 }
 
-/// Compares the front of the bytes with the end of a chunk.
+/// Compares the beginning of the bytes with the end of a chunk.
 pub(crate) fn chunk_end(bytes: &[u8]) -> ChunkEnd
     ensures { result ≡ chunk_end bytes.now }
 {

@@ -3,21 +3,21 @@ ghost use Rattle.http_front.specs.Stream.{OneParse, SomeParse, StaysInFront, Fir
 ghost use Rattle.http_front.specs.Order.{ElementsInOrder};
 ghost use Rattle.http_front.specs.Written.{LengthParses, ChunksParse};
 
-/// Two readings of one stream give the same elements, and these are a front of the elements of the stream
-/// with more bytes behind it.
+/// Two readings of one stream give the same elements, and these are a prefix of the elements of the stream
+/// with more bytes after it.
 pub fn one_saying()
     ensures one { OneParse }
     ensures front { StaysInFront }
 {}
 
-/// Each stream has a reading. The elements that a reader has given are a front of that reading, for every
+/// Each stream has a reading. The elements that a reader has given are a prefix of that reading, for every
 /// cutting of the stream into pieces.
 pub fn some_saying()
     ensures some { SomeParse }
     ensures front { GivesTheFront }
 {}
 
-/// Two fronts of the elements of a stream are equal if their lengths are equal.
+/// Two prefixes of the elements of a stream are equal if their lengths are equal.
 pub fn one_front()
     ensures { FirstIsOne }
 {}
@@ -27,7 +27,7 @@ pub fn exchanges_in_order()
     ensures { ElementsInOrder }
 {}
 
-/// The elements that a reader has given are a front of the elements of the whole stream, for all bytes that
+/// The elements that a reader has given are a prefix of the elements of the whole stream, for all bytes that
 /// may follow. The other elements are those that its unread bytes and the bytes that follow give from the
 /// reader's state on.
 pub fn given_first()

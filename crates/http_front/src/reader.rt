@@ -28,7 +28,7 @@ pub struct HttpReader {
     unread: Unread,
     /// Spare room for a piece that is fed when all bytes are read. Its content is not part of the model.
     spare: Unread,
-    /// The number of bytes at the front of `unread` that are read and lent as a part.
+    /// The number of bytes at the beginning of `unread` that are read and lent as a part.
     lent: usize,
     awaited: Awaited,
 }
@@ -314,7 +314,7 @@ impl HttpReader {
         Step::Passes
     }
 
-    /// Drops the fields behind the last chunk.
+    /// Drops the fields after the last chunk.
     fn step_trailer(&mut self, last: bool) -> Step
         requires { self.old.awaited ≡ Awaited.Trailer last }
         ensures { Steps self.old result self.new }

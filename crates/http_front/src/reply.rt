@@ -96,7 +96,7 @@ fn own_field(status: StatusCode) -> &'static [u8]
     b""
 }
 
-/// The bytes of a head behind the length.
+/// The bytes of a head after the length.
 fn ending(closes: bool) -> &'static [u8]
     ensures text { result.now ≡ ending closes }
     ensures short { length_of result.now ≤ 23 }

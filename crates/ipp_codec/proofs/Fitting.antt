@@ -144,7 +144,7 @@ pub Follows-front : (place : Place) (es fs : List Element) → Follows place (es
 Follows-front place [] fs follows = tt
 Follows-front place (e ∷ es) fs follows = (follows.0, Follows-front (after place e) es fs follows.1)
 
--- Elements that may follow one another from the start are a front of the elements of groups.
+-- Elements that may follow one another from the start are a prefix of the elements of groups.
 pub can_end : (es : List Element) → Follows Outside es → (behind : List Element) × Follows Outside (es ++ behind) × Closed Outside (es ++ behind)
 can_end es follows =
     let rest = end_of (place_from Outside es) in

@@ -74,11 +74,11 @@ split_header (a ∷ b ∷ c0 ∷ c1 ∷ r0 ∷ r1 ∷ r2 ∷ r3 ∷ rest) code i
     )
 split_header bytes code id fits long code-is id-is = absurd (omega (arith, long))
 
--- the slice behind the first eight bytes
+-- the slice after the first eight bytes
 pub behind : (bytes : List ℕ) → take (length bytes - 8) (drop 8 bytes) ≡ drop 8 bytes
 behind bytes = take_rest bytes 8
 
--- the result of a walk behind the header
+-- the result of a walk after the header
 pub lengths : (bytes : List ℕ) (len : ℕ) → IsBytes bytes → 8 ≤ length bytes → Walks (drop 8 bytes) (Ok len) → Lengths bytes (Ok (8 + len + 1))
 lengths bytes len fits long walks =
     let split = split_header bytes _ _ fits long refl refl in

@@ -1,4 +1,4 @@
--- Elements at the front of bytes: an element that is read is the element that was written, and a written element is read again.
+-- Elements at the beginning of bytes: an element that is read is the element that was written, and a written element is read again.
 use Rattle.std.proofs.Common.{◌≡◌, ◌≢◌, ℕ, ◌<◌, ◌≤◌, Bool, true, false, ltb, eqb, List, [], ◌∷◌, ◌++◌, length, Option, Some, None, option_map, Result, Ok, Err, refl, sym, ap, subst, ◌∙◌, append_assoc, arith, inl, inr, ◌⊎◌, IsTrue, ◌↔◌}
 use Rattle.std.proofs.lemmas.Bool.{le-ltb, eqb-true, eqb-false, ne_eqb, lt-ltb}
 use Rattle.std.proofs.lemmas.List.{append-nil, nil_from_length, length-append}
@@ -87,7 +87,7 @@ no_text bytes a r f e g w =
     let rest : counted b.1 ≡ r = ap (λ (p : List ℕ × List ℕ). p.1) same in
     no_both (counted_at r) (b.1, []) f (subst (λ (t : List ℕ). counted_at t ≡ Ok (b.1, [])) rest b.3) g
 
--- no byte is left behind the text
+-- no byte is left after the text
 pub nothing_left : (bytes a r b s : List ℕ) → counted_at bytes ≡ Ok (a, r) → counted_at r ≡ Ok (b, s) → IsWithLanguage bytes → s ≡ []
 nothing_left bytes a r b s e f w =
     let x = with_language_again bytes w in

@@ -51,7 +51,7 @@ Leads-walk bytes place rest walk leads walks =
       walks.reached ∙ ap (λ (p : Place). place_from p fs) leads.3 ∙ sym (place_from-append Outside es fs),
     )
 
--- the bytes behind a walk
+-- the bytes after a walk
 pub walk_ends : (place : Place) (rest : List ℕ) (walk : Walk) → WalksFrom place rest walk → EndsAt walk.fault walk.place (drop walk.length rest)
 walk_ends place rest walk walks =
     let part_is : drop walk.length rest ≡ walks.part = ap (λ (l : List ℕ). drop walk.length l) walks.joined ∙ drop_at (bytes_of walks.es) walks.part walk.length (sym walks.length) in
@@ -127,7 +127,7 @@ front_of fed head many is long = record {
 stands_of : (fed : List ℕ) (d : DecoderState) → IsBytes fed → IsFront fed d.head → IsAtStage d.stage fed d → HasDecoded fed d
 stands_of fed d bytes front known = record { bytes = bytes; front = front.front; header = front.header; known = known }
 
--- Bytes behind a header are read so far, and a walk goes on over those behind; this much of them is kept.
+-- Bytes after a header are read so far, and a walk goes on over those after; this much of them is kept.
 pub record Goes (bytes : List ℕ) (count : ℕ) (place : Place) (walk : Walk) (kept : List ℕ) (before : ℕ) : Type 0 where
   pub fits : IsBytes bytes
   pub read : ReadTo bytes count place
@@ -139,7 +139,7 @@ pub record Goes (bytes : List ℕ) (count : ℕ) (place : Place) (walk : Walk) (
   pub whole : walk.fault ≡ None → (count + walk.length + 1 ≤ many) × (before ≤ count + walk.length + 1)
   pub short : walk.fault ≡ Some Short → length bytes ≤ many
 
--- the state behind the walk, where its end is so
+-- the state after the walk, where its end is so
 abbrev state_by : Option CodecFault → ℕ → Walk → List ℕ → ℕ → DecoderState
 state_by fault count walk kept before = record {
   head = ended fault before (count + walk.length) kept;
@@ -192,7 +192,7 @@ stands_short bytes count place walk kept before false goes all is first =
       ((λ h. absurd (omega (arith, h, read.0))), λ h. (subst (λ (l : List ℕ). Leads (drop 8 l) walk.place (drop (count + walk.length) l)) (sym all) read.2, subst (λ (l : List ℕ). First walk.place (drop (count + walk.length) l) Short) (sym all) first)),
     )
 
--- the state behind a fault that no byte takes away
+-- the state after a fault that no byte takes away
 stands_faulty : (bytes : List ℕ) (count : ℕ) (place : Place) (walk : Walk) (kept : List ℕ) (before : ℕ) (f : CodecFault) → Goes bytes count place walk kept before → f ≢ Short → HeadFault bytes f
     → HasDecoded bytes (record { head = kept; walked = count + walk.length; place = walk.place; stage = Faulty f })
 stands_faulty bytes count place walk kept before f goes other fault =
@@ -285,7 +285,7 @@ take_behind bytes more n =
     let same : (length bytes + n) - length bytes ≡ n = omega arith in
     take_over bytes more (length bytes + n) (omega arith) ∙ ap (λ (k : ℕ). bytes ++ take k more) same
 
--- a walk over the unread bytes and a chunk behind them, of which this front is kept
+-- a walk over the unread bytes and a chunk after them, of which this front is kept
 pub goes_taken : (d : DecoderState) (chunk front : List ℕ) (many : ℕ) (walk : Walk) → IsBytes chunk → MayCome d → 8 ≤ d.walked → d.walked ≤ length d.head
     → length d.head + length chunk ≤ IPP_HEAD_BYTES → WalksFrom d.place (drop d.walked (d.head ++ chunk)) walk → front ≡ take many chunk
     → (walk.fault ≡ None → d.walked + walk.length + 1 ≤ length d.head + many) → (walk.fault ≡ Some Short → length chunk ≤ many)

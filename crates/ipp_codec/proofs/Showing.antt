@@ -84,11 +84,11 @@ elements_in-bytes_of place (e ∷ es) (suc n) follows long =
     rw (element_again (depth place) e (bytes_of es) follows.0.1)
     (ap (λ (x : List Element). e ∷ x) (elements_in-bytes_of (after place e) es n follows.1 (omega (arith, long, some_long e, length-append (element_bytes e) (bytes_of es)))))
 
--- behind the end of all bytes nothing is left
+-- after the end of all bytes nothing is left
 pub nothing_behind : (n : ℕ) (rest bytes : List ℕ) → drop n (shown rest) ≡ below (shown bytes) → shown rest ≡ [] → shown [] ≡ below (shown bytes)
 nothing_behind n rest bytes is none = shown-nil ∙ sym (drop_all n [] (omega arith)) ∙ ap (λ (ls : List Level). drop n ls) (sym none) ∙ is
 
--- a member: its name, a first value, and the other values at the front of the bytes that are left
+-- a member: its name, a first value, and the other values at the beginning of the bytes that are left
 abbrev pub member_at : List ℕ → IppValue → List ℕ → IppMember
 member_at name first rest = record { name = name; first = first; others = (level rest).values }
 

@@ -138,7 +138,7 @@ pub opened_steps : (place : Place) (bytes : List ℕ) → 1 ≤ length bytes →
 opened_steps place bytes some zeroth low end deep =
     (opening (get_or bytes 0 0), (deep, (omega (arith, zeroth), low, end)), refl, cons_is bytes some)
 
--- a value's tag, behind which the fields lie
+-- a value's tag, after which the fields lie
 abbrev pub AtTagOf : Place → List ℕ → Type 0
 AtTagOf place bytes = (1 ≤ length bytes) × (16 ≤ get_or bytes 0 0) × (place ≢ Outside) × IsBytes bytes
 

@@ -180,7 +180,7 @@ abbrev pub IsSome : List IppValue → Type 0
 IsSome [] = ⊥
 IsSome (v ∷ vs) = Unit {0}
 
--- the condition of a place on the level behind it
+-- the condition of a place on the level after it
 abbrev pub TopIs : Place → Level → Type 0
 TopIs Outside l = (l.values ≡ []) × (l.attributes ≡ [])
 TopIs Opened l = l.values ≡ []

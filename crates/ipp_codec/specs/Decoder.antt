@@ -20,7 +20,7 @@ use Rattle.ipp_codec.specs.Place.{place_from, Follows}
 use Rattle.ipp_codec.specs.FirstFault.{First, HeadFault}
 use Rattle.ipp_codec.specs.Decoding.{fault_within}
 
--- the state of a decoder: the bytes that it keeps, the number of those that are read, the place behind them, and the stage
+-- the state of a decoder: the bytes that it keeps, the number of those that are read, the place after them, and the stage
 pub record DecoderState : Type 0 where
   pub head : List ℕ
   pub walked : ℕ
@@ -45,7 +45,7 @@ IsAtStage Awaiting fed d = (d.head ≡ fed) × HeadFault fed Short × IsRead d
 IsAtStage Whole fed d = (length d.head ≤ IPP_HEAD_BYTES) × ((m : IppMessage) × Spells d.head m)
 IsAtStage (Faulty fault) fed d = (fault ≢ Short) × HeadFault fed fault × (8 ≤ length d.head)
 
--- The decoder was fed these bytes. It keeps a front of them, with at least as much of the header as was fed.
+-- The decoder was fed these bytes. It keeps a prefix of them, with at least as much of the header as was fed.
 pub record HasDecoded (fed : List ℕ) (d : DecoderState) : Type 0 where
   pub bytes : IsBytes fed
   pub front : (rest : List ℕ) × (fed ≡ d.head ++ rest)
@@ -98,7 +98,7 @@ abbrev pub stage_of : CodecFault → Stage
 stage_of Short = Awaiting
 stage_of fault = Faulty fault
 
--- the stage behind elements, followed by the end byte or a fault, where this many bytes are kept
+-- the stage after elements, followed by the end byte or a fault, where this many bytes are kept
 abbrev pub stage_at : Option CodecFault → ℕ → Stage
 stage_at None kept = Whole
 stage_at (Some fault) kept = stage_of (fault_within fault (nat_le IPP_HEAD_BYTES kept))
@@ -114,7 +114,7 @@ abbrev pub ended : Option CodecFault → ℕ → ℕ → List ℕ → List ℕ
 ended None kept length head = take (max kept (length + 1)) head
 ended (Some fault) kept length head = head
 
--- the decoder after a walk over the bytes behind those that were read
+-- the decoder after a walk over the bytes after those that were read
 abbrev pub settled : DecoderState → Walk → ℕ → DecoderState
 settled d walk kept = record {
   head = ended walk.fault kept (d.walked + walk.length) d.head;

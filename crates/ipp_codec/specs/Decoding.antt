@@ -15,12 +15,12 @@ abbrev pub Lengths : List ℕ → Result ℕ CodecFault → Type 0
 Lengths bytes (Ok n) = (m : IppMessage) × (tail : List ℕ) × IsMessage m × (bytes ≡ spelling m ++ tail) × (n ≡ length (spelling m))
 Lengths bytes (Err f) = FirstFault bytes f
 
--- a missing byte is a byte too many, if the bytes go on behind the limit
+-- a missing byte is a byte too many, if the bytes go on after the limit
 abbrev pub fault_within : CodecFault → Bool → CodecFault
 fault_within Short true = TooLarge
 fault_within f _ = f
 
--- the message that a front of the bytes spells, with the front's length, or the first fault
+-- the message that a prefix of the bytes spells, with the front's length, or the first fault
 abbrev pub Decodes : List ℕ → Result (MessageView × ℕ) CodecFault → Type 0
 Decodes bytes (Ok x) = (x.1 ≤ IPP_HEAD_BYTES) × (x.1 ≤ length bytes) × Spells (take x.1 bytes) (message_shown x.0)
 Decodes bytes (Err f) = HeadFault bytes f

@@ -27,7 +27,7 @@ IsTooLong [] = ⊥
 IsTooLong (_ ∷ []) = ⊥
 IsTooLong (high ∷ low ∷ bytes) = 128 ≤ high
 
--- The bytes behind a value's tag, or behind its name, have the property.
+-- The bytes after a value's tag, or after its name, have the property.
 pub record AtField (place : Place) (part : List ℕ) (P : List ℕ → Type 0) : Type 0 where
   pub tag : ℕ
   pub field : List ℕ
@@ -109,10 +109,10 @@ HeadFault bytes Short = (length bytes < IPP_HEAD_BYTES) × FirstFault bytes Shor
 HeadFault bytes TooLarge = (IPP_HEAD_BYTES ≤ length bytes) × FirstFault (take IPP_HEAD_BYTES bytes) Short
 HeadFault bytes fault = FirstFault (take IPP_HEAD_BYTES bytes) fault
 
--- With more bytes behind it, a part has the same first fault, unless bytes were missing.
+-- With more bytes after it, a part has the same first fault, unless bytes were missing.
 abbrev pub PartFaultStays : Type 0
 PartFaultStays = (place : Place) (part more : List ℕ) (fault : CodecFault) → fault ≢ Short → First place part fault → First place (part ++ more) fault
 
--- With more bytes behind them, bytes have the same first fault, unless bytes were missing.
+-- With more bytes after them, bytes have the same first fault, unless bytes were missing.
 abbrev pub FaultStays : Type 0
 FaultStays = (bytes more : List ℕ) (fault : CodecFault) → fault ≢ Short → FirstFault bytes fault → FirstFault (bytes ++ more) fault

@@ -12,7 +12,7 @@ mutual
     no_value : IppValues
     value_and : IppValue → IppValues → IppValues
 
-  -- a member's name, its first value, its other values, and the members behind it
+  -- a member's name, its first value, its other values, and the members after it
   pub data IppMembers : Type 0 where
     no_member : IppMembers
     member_and : List ℕ → IppValue → IppValues → IppMembers → IppMembers

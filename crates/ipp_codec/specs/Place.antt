@@ -13,24 +13,24 @@ depth (Naming outer) = suc outer
 depth (Within outer) = suc outer
 depth _ = 0
 
--- the place behind a value, where `outer` collections are open
+-- the place after a value, where `outer` collections are open
 abbrev pub after_value : ℕ → Place
 after_value zero = Valued
 after_value (suc outer) = Within outer
 
--- the place behind the end of a collection
+-- the place after the end of a collection
 abbrev pub after_finish : Place → Place
 after_finish (Begun outer) = after_value outer
 after_finish (Within outer) = after_value outer
 after_finish place = place
 
--- the place behind the name of a member
+-- the place after the name of a member
 abbrev pub after_named : Place → Place
 after_named (Begun outer) = Naming outer
 after_named (Within outer) = Naming outer
 after_named place = place
 
--- the place behind an element
+-- the place after an element
 abbrev pub after : Place → Element → Place
 after place (opening tag) = Opened
 after place (plainly tag name bytes) = after_value (depth place)
@@ -38,7 +38,7 @@ after place (begin name) = Begun (depth place)
 after place (named name) = after_named place
 after place finish = after_finish place
 
--- the place behind elements
+-- the place after elements
 abbrev pub place_from : Place → List Element → Place
 place_from place [] = place
 place_from place (e ∷ es) = place_from (after place e) es
@@ -78,7 +78,7 @@ IsSpellable around finish = Unit {0}
 abbrev pub IsAllowed : Place → Element → Type 0
 IsAllowed place e = Takes place e × IsSpellable (depth place) e
 
--- Each element may come behind those before it.
+-- Each element may come after those before it.
 abbrev pub Follows : Place → List Element → Type 0
 Follows place [] = Unit {0}
 Follows place (e ∷ es) = IsAllowed place e × Follows (after place e) es

@@ -27,7 +27,7 @@ abbrev pub Gives : {X Y : Type 0} → (X → Y) → Result X CodecFault → Resu
 Gives view (Ok x) read = read ≡ Ok (view x)
 Gives view (Err e) read = read ≡ Err e
 
--- a length of two bytes, below 0x8000, with that many bytes; and the bytes behind them
+-- a length of two bytes, below 0x8000, with that many bytes; and the bytes after them
 unfoldable pub counted_at : List ℕ → Result (List ℕ × List ℕ) CodecFault
 counted_at [] = Err Short
 counted_at (_ ∷ []) = Err Short
@@ -36,17 +36,17 @@ counted_at (high ∷ low ∷ rest) =
     else if nat_lt (length rest) (256 * high + low) then Err Short
     else Ok (take (256 * high + low) rest, drop (256 * high + low) rest)
 
--- a name, and the field behind it, if that is one
+-- a name, and the field after it, if that is one
 abbrev pub second_field : List ℕ → Result (List ℕ × List ℕ) CodecFault → Result (List ℕ × List ℕ × List ℕ) CodecFault
 second_field name (Ok x) = Ok (name, x.0, x.1)
 second_field name (Err f) = Err f
 
--- a name that was read, and the field behind it
+-- a name that was read, and the field after it
 abbrev pub both_fields : Result (List ℕ × List ℕ) CodecFault → Result (List ℕ × List ℕ × List ℕ) CodecFault
 both_fields (Ok x) = second_field x.0 (counted_at x.1)
 both_fields (Err f) = Err f
 
--- a name and a value's bytes; and the bytes behind them
+-- a name and a value's bytes; and the bytes after them
 unfoldable pub fields_at : List ℕ → Result (List ℕ × List ℕ × List ℕ) CodecFault
 fields_at bytes = both_fields (counted_at bytes)
 
@@ -55,7 +55,7 @@ abbrev pub element_from : ℕ → Result (List ℕ × List ℕ × List ℕ) Code
 element_from tag (Ok x) = option_map (λ e. (e, x.2)) (kind_of tag x.0 x.1)
 element_from tag (Err f) = None
 
--- the element at the front, if there is one, and the bytes behind it
+-- the element at the front, if there is one, and the bytes after it
 unfoldable pub element_at : List ℕ → Option (Element × List ℕ)
 element_at [] = None
 element_at (tag ∷ rest) =
@@ -82,7 +82,7 @@ Steps view place bytes (Err f) = First place bytes f
 Steps view place bytes (Ok None) = (depth place ≡ 0) × ((tail : List ℕ) × (bytes ≡ 3 ∷ tail))
 Steps view place bytes (Ok (Some x)) = (e : Element) × IsAllowed place e × ((view x).0 ≡ after place e) × (bytes ≡ element_bytes e ++ (view x).1)
 
--- The end byte or a part with this first fault comes behind the elements.
+-- The end byte or a part with this first fault comes after the elements.
 abbrev pub EndsAt : Option CodecFault → Place → List ℕ → Type 0
 EndsAt None place part = (depth place ≡ 0) × ((tail : List ℕ) × (part ≡ 3 ∷ tail))
 EndsAt (Some f) place part = First place part f

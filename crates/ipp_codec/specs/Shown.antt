@@ -61,7 +61,7 @@ abbrev pub listed : {A : Type 0} → Option (Element × List ℕ) → (Element �
 listed (Some x) f = f x
 listed None f = []
 
--- the elements at the front of the bytes, at most n
+-- the elements at the beginning of the bytes, at most n
 unfoldable pub elements_in : ℕ → List ℕ → List Element
 elements_in zero bytes = []
 elements_in (suc n) bytes = listed (element_at bytes) (λ x. x.0 ∷ elements_in n x.1)

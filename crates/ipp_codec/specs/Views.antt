@@ -26,15 +26,15 @@ level bytes = top (shown bytes)
 abbrev pub value_shown : ValueView → IppValue
 value_shown v = if v.tag == 0x34 then collection (level v.content.now).members else plain v.tag v.content.now
 
--- a member of a collection; its other values are behind the first
+-- a member of a collection; its other values are after the first
 abbrev pub member_shown : MemberView → IppMember
 member_shown m = record { name = m.name.now; first = value_shown m.first; others = (level m.rest.now).values }
 
--- an attribute; its other values are behind the first
+-- an attribute; its other values are after the first
 abbrev pub attribute_shown : AttributeView → IppAttribute
 attribute_shown a = record { name = a.name.now; first = value_shown a.first; others = (level a.rest.now).values }
 
--- a group and the attributes behind its tag
+-- a group and the attributes after its tag
 abbrev pub group_shown : GroupView → IppGroup
 group_shown g = record { tag = g.tag; attributes = (level g.rest.now).attributes }
 
@@ -76,7 +76,7 @@ abbrev pub IsSorted : List ℕ → Element → Type 0
 IsSorted bytes (plainly tag name content) = (tag ≢ 0x34) × (length content < length bytes)
 IsSorted bytes _ = Unit {0}
 
--- the element at the front of the bytes, and the bytes behind it
+-- the element at the beginning of the bytes, and the bytes after it
 abbrev pub FirstShown : List ℕ → Option (ElementView × Bor (List ℕ)) → Type 0
 FirstShown bytes None = shown bytes ≡ []
 FirstShown bytes (Some x) = (shown bytes ≡ before (seen x.0) (shown x.1.now)) × (length x.1.now < length bytes) × IsSorted bytes (seen x.0)
@@ -93,27 +93,27 @@ abbrev pub IsWithin : List ℕ → Entry → Type 0
 IsWithin bytes (entry.Value name v) = length v.content.now < length bytes
 IsWithin bytes _ = Unit {0}
 
--- the entry at the front of the bytes, and the bytes behind it
+-- the entry at the beginning of the bytes, and the bytes after it
 abbrev pub NextEntry : List ℕ → Option (Entry × Bor (List ℕ)) → Type 0
 NextEntry bytes None = level bytes ≡ nothing
 NextEntry bytes (Some x) = (level bytes ≡ entry_before x.0 (level x.1.now)) × (length x.1.now < length bytes) × IsWithin bytes x.0
 
--- the next group, with the bytes behind its tag
+-- the next group, with the bytes after its tag
 abbrev pub NextGroup : List ℕ → Option GroupView → Type 0
 NextGroup bytes None = (level bytes).groups ≡ []
 NextGroup bytes (Some g) = ((level bytes).groups ≡ group_shown g ∷ (level g.rest.now).groups) × (length g.rest.now < length bytes)
 
--- the next attribute, with the bytes behind its first value
+-- the next attribute, with the bytes after its first value
 abbrev pub NextAttribute : List ℕ → Option AttributeView → Type 0
 NextAttribute bytes None = (level bytes).attributes ≡ []
 NextAttribute bytes (Some a) = ((level bytes).attributes ≡ attribute_shown a ∷ (level a.rest.now).attributes) × (length a.rest.now < length bytes)
 
--- the next member, with the bytes behind its first value
+-- the next member, with the bytes after its first value
 abbrev pub NextMember : List ℕ → Option MemberView → Type 0
 NextMember bytes None = members_in (level bytes).members ≡ []
 NextMember bytes (Some m) = (members_in (level bytes).members ≡ member_shown m ∷ members_in (level m.rest.now).members) × (length m.rest.now < length bytes) × (length m.first.content.now < length bytes)
 
--- the next value without a name, and the bytes behind it
+-- the next value without a name, and the bytes after it
 abbrev pub NextValue : List ℕ → Option (ValueView × Bor (List ℕ)) → Type 0
 NextValue bytes None = (level bytes).values ≡ []
 NextValue bytes (Some x) = (level bytes ≡ add [] (value_shown x.0) (level x.1.now)) × (length x.1.now < length bytes) × (length x.0.content.now < length bytes)

@@ -19,7 +19,7 @@ use std::marker::Model;
 const HEADER_BYTES: usize = Limits::IPP_HEADER_BYTES;
 
 /// A decoder of a head whose bytes come in pieces of any length. In clauses it is a record of the bytes of
-/// the head that it keeps, the number of those that are read, the place behind them, and its stage.
+/// the head that it keeps, the number of those that are read, the place after them, and its stage.
 ///
 /// Its result is that of [`crate::decode`] on all pieces joined, for each cutting into pieces. It keeps only
 /// the bytes of the head, and reads each of them once.
@@ -57,7 +57,7 @@ impl Decoder {
         }
     }
 
-    /// Feeds the next bytes of the body. Behind the head, and after a fault, they are dropped.
+    /// Feeds the next bytes of the body. After the head, and after a fault, they are dropped.
     ///
     /// If memory for bytes of the head is refused, none of the piece is taken.
     pub fn feed(&mut self, piece: &[u8]) -> Result<Fed, DecodeError>
@@ -233,7 +233,7 @@ impl Decoder {
         Ok(count)
     }
 
-    /// Takes the elements of a piece, and the front of an element that goes on in the next piece. Returns the
+    /// Takes the elements of a piece, and the beginning of an element that goes on in the next piece. Returns the
     /// number of bytes.
     fn take_elements(&mut self, piece: &[u8]) -> Result<usize, AllocError>
         requires awaits { MayCome self.old }
@@ -290,7 +290,7 @@ impl Decoder {
         Limits::IPP_HEAD_BYTES.saturating_sub(self.head.len())
     }
 
-    /// Appends bytes of the head behind its header.
+    /// Appends bytes of the head after its header.
     fn append(&mut self, front: &[u8]) -> Result<(), AllocError>
         requires { HEADER_BYTES ≤ self.old.walked }
         ensures ok { OnOk result (self.new ≡ record self.old { head = self.old.head ++ front.now }) }
@@ -299,8 +299,8 @@ impl Decoder {
         self.head.extend_from_slice(front)
     }
 
-    /// Passes over the elements of a walk through the bytes that weren't read. The bytes behind the end byte,
-    /// which is behind the `kept` bytes that were kept before, aren't kept.
+    /// Passes over the elements of a walk through the bytes that weren't read. The bytes after the end byte,
+    /// which is after the `kept` bytes that were kept before, aren't kept.
     fn settle(&mut self, walk: Walk, kept: usize)
         requires read { HEADER_BYTES ≤ self.old.walked }
         requires within { self.old.walked + walk.length ≤ length self.old.head }
@@ -316,7 +316,7 @@ impl Decoder {
     }
 }
 
-/// The stage behind elements with a fault, where this many bytes are kept.
+/// The stage after elements with a fault, where this many bytes are kept.
 fn stage_at(fault: Option<CodecFault>, kept: usize) -> Stage
     ensures { result ≡ stage_at fault kept }
 {

@@ -1,4 +1,4 @@
-//! Heads at the front of bytes.
+//! Heads at the beginning of bytes.
 ghost use Rattle.std.specs.Prelude.{◌≡◌, ◌≤◌, ℕ, length, take, IfOk, IfErr, IsOkAnd};
 ghost use Rattle.ipp_codec.specs.Message.{IppMessage};
 ghost use Rattle.ipp_codec.specs.Spelling.{spelling};
@@ -12,7 +12,7 @@ use crate::place::body_len;
 use crate::view::{MessageView, Version};
 use base_types::Limits;
 
-/// Decodes the message at the front of the bytes. Returns it with the length of its spelling. Document data
+/// Decodes the message at the beginning of the bytes. Returns it with the length of its spelling. Document data
 /// may follow it.
 pub fn decode(bytes: &[u8]) -> Result<(MessageView<'_>, usize), CodecFault>
     ensures found { IfOk result (λ x. (x.1 ≤ Limits.IPP_HEAD_BYTES) × (x.1 ≤ length bytes.now) × Spells (take x.1 bytes.now) (message_shown x.0)) }
@@ -26,7 +26,7 @@ pub fn decode(bytes: &[u8]) -> Result<(MessageView<'_>, usize), CodecFault>
     }
 }
 
-/// Returns the length of the spelling at the front of the bytes: the result of `decode`, without the message.
+/// Returns the length of the spelling at the beginning of the bytes: the result of `decode`, without the message.
 /// For a body that comes in pieces, `view_of` has the message once its head is whole.
 pub fn head_length(bytes: &[u8]) -> Result<usize, CodecFault>
     ensures found { IfOk result (λ n. (n ≤ Limits.IPP_HEAD_BYTES) × (n ≤ length bytes.now) × ((m : IppMessage) × Spells (take n bytes.now) m)) }
@@ -56,7 +56,7 @@ pub fn view_of(head: &[u8]) -> MessageView<'_>
     }
 }
 
-/// The length of the spelling at the front of the bytes, without a limit.
+/// The length of the spelling at the beginning of the bytes, without a limit.
 fn any_length(bytes: &[u8]) -> Result<usize, CodecFault>
     ensures { Lengths bytes.now result }
 {
@@ -67,7 +67,7 @@ fn any_length(bytes: &[u8]) -> Result<usize, CodecFault>
     Ok(8 + groups.len() + 1)
 }
 
-/// The fault of bytes; `is_long` says whether they go on behind the limit of a head.
+/// The fault of bytes; `is_long` says whether they go on after the limit of a head.
 pub(crate) fn limited_fault(fault: CodecFault, is_long: bool) -> CodecFault
     ensures { result ≡ fault_within fault is_long }
 {

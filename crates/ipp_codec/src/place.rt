@@ -88,7 +88,7 @@ fn judge_limits(place: Place, element: ElementView<'_>) -> Result<(), CodecFault
     }
 }
 
-/// The place behind an element that may come at this place.
+/// The place after an element that may come at this place.
 fn after(place: Place, element: ElementView<'_>) -> Place
     requires takes { Takes place (seen element) }
     requires keeps { Keeps place (seen element) }
@@ -120,7 +120,7 @@ fn after(place: Place, element: ElementView<'_>) -> Place
     }
 }
 
-/// The place behind a whole value, or the first rule that the value violates.
+/// The place after a whole value, or the first rule that the value violates.
 fn judge(place: Place, tag: u8, name: &[u8], bytes: &[u8]) -> Result<Place, CodecFault>
     ensures { MatchResult result (LeadsOn place tag name.now bytes.now) (Breaks place tag name.now bytes.now) }
 {
@@ -137,7 +137,7 @@ fn judge(place: Place, tag: u8, name: &[u8], bytes: &[u8]) -> Result<Place, Code
     Ok(after(place, element))
 }
 
-/// The place behind the next element and the bytes behind it, or `None` at the end byte.
+/// The place after the next element and the bytes after it, or `None` at the end byte.
 fn next_of(place: Place, bytes: &[u8]) -> Result<Option<(Place, &[u8])>, CodecFault>
     ensures { Steps (λ x. (x.0, x.1.now)) place bytes.now result }
 {
@@ -168,11 +168,11 @@ fn next_of(place: Place, bytes: &[u8]) -> Result<Option<(Place, &[u8])>, CodecFa
 /// A walk through consecutive elements.
 #[derive(Clone, Copy, Debug, PartialEq, Eq)]
 pub struct Walk {
-    /// The place behind the elements.
+    /// The place after the elements.
     pub place: Place,
     /// The length of the elements in bytes.
     pub length: usize,
-    /// The first fault behind the elements; `None` if the end byte comes there.
+    /// The first fault after the elements; `None` if the end byte comes there.
     pub fault: Option<CodecFault>,
 }
 

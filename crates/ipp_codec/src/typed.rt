@@ -27,7 +27,7 @@ fn boolean_of(bytes: &[u8]) -> Option<bool>
     }
 }
 
-/// The text behind a language.
+/// The text after a language.
 fn text_of(bytes: &[u8]) -> Option<&[u8]>
     ensures some { IfSome result (λ text. HasText bytes.now text.now) }
     ensures none { IsNone result → (text : List ℕ) → ¬ (HasText bytes.now text) }

@@ -16,14 +16,14 @@ pub enum Entry<'a> {
     End,
 }
 
-/// The element at the front, and the bytes behind it.
+/// The element at the front, and the bytes after it.
 fn first_of(bytes: &[u8]) -> Option<(ElementView<'_>, &[u8])>
     ensures { FirstShown bytes.now result }
 {
     element_of(bytes)
 }
 
-/// The bytes behind the end of the collection in which the bytes begin.
+/// The bytes after the end of the collection in which the bytes begin.
 fn behind(bytes: &[u8]) -> &[u8]
     ensures levels { shown result.now ≡ below (shown bytes.now) }
     ensures shorter { length result.now ≤ length bytes.now }
@@ -42,7 +42,7 @@ fn behind(bytes: &[u8]) -> &[u8]
     &[]
 }
 
-/// The entry at the front, and the bytes behind it.
+/// The entry at the front, and the bytes after it.
 fn next_entry(bytes: &[u8]) -> Option<(Entry<'_>, &[u8])>
     ensures { NextEntry bytes.now result }
 {
@@ -139,7 +139,7 @@ pub(crate) fn next_member(bytes: &[u8]) -> Option<MemberView<'_>>
     None
 }
 
-/// The value without a name at the front, and the bytes behind it.
+/// The value without a name at the front, and the bytes after it.
 pub(crate) fn next_value(bytes: &[u8]) -> Option<(ValueView<'_>, &[u8])>
     ensures { NextValue bytes.now result }
 {

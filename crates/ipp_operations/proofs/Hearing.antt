@@ -106,7 +106,7 @@ no_document_at bytes document new Awaiting is head none = none
 no_document_at bytes document new (Faulty fault) is head none = none
 no_document_at bytes document new Whole is head none = absurd (head is)
 
--- a piece behind which the head isn't whole
+-- a piece after which the head isn't whole
 pub heard_no_head : (bytes piece document : List ℕ) (old new : DecoderState) → TakesIn old piece new → StaysOver old new → ¬ (new.stage ≡ Whole) → HasRead bytes (reader_of old document) → HasRead (bytes ++ piece) (reader_of new document)
 heard_no_head bytes piece document old new takes over head heard = record {
   stands = takes bytes heard.stands;

@@ -38,7 +38,7 @@ abbrev pub first_of_each : List IppAttribute → List IppAttribute
 first_of_each [] = []
 first_of_each (attribute ∷ later) = attribute ∷ filter (λ other. not (bytes_eq other.name attribute.name)) (first_of_each later)
 
--- the bytes behind a counted string and the length of the next
+-- the bytes after a counted string and the length of the next
 abbrev pub behind_language : List ℕ → List ℕ
 behind_language (high ∷ low ∷ bytes) = drop (256 * high + low + 2) bytes
 behind_language _ = []

@@ -1,4 +1,4 @@
--- The request in an IPP body (RFC 8011, section 4.1): its header is checked first, then its attributes; the document is behind them.
+-- The request in an IPP body (RFC 8011, section 4.1): its header is checked first, then its attributes; the document is after them.
 use Rattle.std.specs.Prelude.{ℕ, ◌≡◌, ◌≤◌, ◌⊎◌, ◌==◌, ◌||◌, not, if◌then◌else◌, List, [], ◌∷◌, take, drop, find, Option, Some, None, option_map, MatchOption, Result, Ok, Err, MatchResult}
 use Rattle.std.specs.Option.{option_map_or}
 use Rattle.std.specs.Int.{w16, w32, from_be_bytes}
@@ -45,7 +45,7 @@ abbrev pub status_of : CodecFault → Status
 status_of fault.TooLarge = status.TooLarge
 status_of _ = status.BadRequest
 
--- the status of the first fault of the bytes; or the event of the message that a front of the bytes spells, with the bytes behind it as the document
+-- the status of the first fault of the bytes; or the event of the message that a prefix of the bytes spells, with the bytes after it as the document
 abbrev pub Requests : Operation → List ℕ → Result Event Status → Type 0
 Requests asked body event =
     ((fault : CodecFault) × HeadFault body fault × (event ≡ Err (status_of fault)))

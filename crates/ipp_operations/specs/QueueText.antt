@@ -40,7 +40,7 @@ state_word Job.Canceled = codes "canceled"
 state_word Job.Aborted = codes "aborted"
 state_word Job.Completed = codes "completed"
 
--- the second reason, behind a comma
+-- the second reason, after a comma
 abbrev pub further_reason : Option Reason → List ℕ
 further_reason None = []
 further_reason (Some reason) = codes "," ++ keyword_of reason
@@ -55,7 +55,7 @@ abbrev pub short_line : QueueEntry → List ℕ
 short_line job =
     decimal job.id ++ (codes " " ++ (state_word job.state ++ (codes " " ++ (shown true job.owner ++ (codes " " ++ (decimal job.octets ++ (codes " " ++ (shown false job.name ++ codes "\n"))))))))
 
--- the front of the long form: id, state, reasons, with a space behind them
+-- the beginning of the long form: id, state, reasons, with a space after them
 unfoldable pub long_start : QueueEntry → List ℕ
 long_start job = decimal job.id ++ (codes " " ++ (state_word job.state ++ (codes " " ++ (reasons_word job.reasons ++ codes " "))))
 

@@ -17,7 +17,7 @@ pub record ReaderState : Type 0 where
   pub decoder : DecoderState
   pub document : List ℕ
 
--- the operations whose requests have a document behind the attributes
+-- the operations whose requests have a document after the attributes
 abbrev pub has_document : Operation → Bool
 has_document PrintJob = true
 has_document SendDocument = true
@@ -31,7 +31,7 @@ sends_document (Err status) = false
 abbrev pub reads_document : List ℕ → Bool
 reads_document head = option_map_or (λ header. sends_document (operation_of header)) (header_of head) false
 
--- the octets that the parser keeps of the document: all behind the head, if the operation has a document
+-- the octets that the parser keeps of the document: all after the head, if the operation has a document
 abbrev pub KeptAt : Stage → List ℕ → ReaderState → Type 0
 KeptAt Whole bytes reader = reader.document ≡ (if reads_document reader.decoder.head then drop (length reader.decoder.head) bytes else [])
 KeptAt _ bytes reader = reader.document ≡ []

@@ -33,7 +33,7 @@ unsupported_group (attribute ∷ attributes) = record { tag = tags.unsupported_a
 abbrev pub unsupported_of : Status → List IppAttribute → List IppGroup
 unsupported_of status attributes = if tells_unsupported status then unsupported_group attributes else []
 
--- a reply of version 1.1, with these groups behind the operation group
+-- a reply of version 1.1, with these groups after the operation group
 abbrev pub reply_of : Status → ℕ → List IppGroup → IppMessage
 reply_of status id groups = record { major = 1; minor = 1; code = code_of status; request_id = id; groups = opening_group ∷ groups }
 

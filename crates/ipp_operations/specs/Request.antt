@@ -1,4 +1,4 @@
--- The messages that are requests (RFC 8011, sections 4.1.2 and 4.1.4): they have a request-id, and their first group is the operation group, which begins with the charset and the natural language. Of the groups behind it the first job group is read. The operation group has the name of the user.
+-- The messages that are requests (RFC 8011, sections 4.1.2 and 4.1.4): they have a request-id, and their first group is the operation group, which begins with the charset and the natural language. Of the groups after it the first job group is read. The operation group has the name of the user.
 use Rattle.std.specs.Prelude.{ℕ, ◌==◌, ◌&&◌, nat_le, Bool, false, if◌then◌else◌, List, [], ◌∷◌, find, Option, Some, None, codes}
 use Rattle.std.specs.Option.{option_map_or}
 use Rattle.std.specs.Str.{bytes_eq, str_eq_ignore_ascii_case}

@@ -12,20 +12,20 @@ use Rattle.events.specs.declared.event.JobTarget.TheVariants as job
 use Rattle.ipp_operations.specs.declared.operation_attribute.OperationAttribute.TheVariants.{PrinterUri, JobUri, JobId}
 use Rattle.ipp_operations.specs.Attributes.{has, value_of, number_of}
 
--- the bytes behind a scheme, which is compared without regard to the case of ASCII letters
+-- the bytes after a scheme, which is compared without regard to the case of ASCII letters
 abbrev pub after_scheme : List ℕ → List ℕ → Option (List ℕ)
 after_scheme scheme uri =
     if str_eq_ignore_ascii_case (take (length scheme) uri) scheme then Some (drop (length scheme) uri) else None
 
--- the bytes behind the scheme ipp or http
+-- the bytes after the scheme ipp or http
 abbrev pub after_known_scheme : List ℕ → Option (List ℕ)
 after_known_scheme uri = option_or (after_scheme (codes "ipp://") uri) (after_scheme (codes "http://") uri)
 
--- the path behind the authority: from the first `/` on, empty if there is none
+-- the path after the authority: from the first `/` on, empty if there is none
 abbrev pub path_of : List ℕ → List ℕ
 path_of rest = option_map_or (λ start. drop start rest) (position (λ byte. byte == 47) rest) []
 
--- the bytes behind a front of a path
+-- the bytes after a prefix of a path
 abbrev pub behind : List ℕ → List ℕ → Option (List ℕ)
 behind front path = if bytes_eq (take (length front) path) front then Some (drop (length front) path) else None
 

@@ -91,7 +91,7 @@ pub(crate) fn are_tagged(group: &GroupView<'_>, read: &[OperationAttribute]) -> 
     true
 }
 
-/// The bytes behind a counted language and the length of the text.
+/// The bytes after a counted language and the length of the text.
 fn behind_language(bytes: &[u8]) -> &[u8]
     ensures { result.now ≡ behind_language bytes.now }
 {

@@ -60,7 +60,7 @@ pub(crate) fn print_job_of(
     Ok(PrintJob { job, form, octets })
 }
 
-/// The fields of a Validate-Job. The bytes behind its attributes are ignored. The only error is out of
+/// The fields of a Validate-Job. The bytes after its attributes are ignored. The only error is out of
 /// memory.
 pub(crate) fn validate_job_of(
     alloc: Global,

@@ -85,7 +85,7 @@ fn parse_event(
     }
 }
 
-/// The event of a body, or the status of the first check behind the header that fails.
+/// The event of a body, or the status of the first check after the header that fails.
 fn decode_event(
     alloc: Global,
     operation: Operation,

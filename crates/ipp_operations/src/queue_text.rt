@@ -105,7 +105,7 @@ fn short_line(alloc: Global, job: &QueueEntry) -> Result<Vec<u8>, AllocError>
     Ok(line)
 }
 
-/// The front of both forms: the id and the state.
+/// The beginning of both forms: the id and the state.
 fn start_of(alloc: Global, job: &QueueEntry) -> Result<Vec<u8>, AllocError>
     ensures { IfOk result (λ start. start.items ≡ decimal job.now.id ++ (codes " " ++ (state_word job.now.state ++ codes " "))) }
 {
@@ -136,7 +136,7 @@ fn long_line(alloc: Global, job: &QueueEntry) -> Result<Vec<u8>, AllocError>
     Ok(line)
 }
 
-/// The front of the long form, before the owner: the id, the state and its reasons.
+/// The beginning of the long form, before the owner: the id, the state and its reasons.
 #[tactic(auto, unfolding(crate::specs::QueueText::long_start))]
 fn long_start(alloc: Global, job: &QueueEntry) -> Result<Vec<u8>, AllocError>
     ensures { IfOk result (λ start. start.items ≡ long_start job.now) }

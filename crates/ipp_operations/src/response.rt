@@ -33,7 +33,7 @@ pub fn ipp_response(
     encode_behind(alloc, &refusal[..REFUSAL_FRONT], &groups)
 }
 
-/// The groups behind the operation group of a reply: that of the unsupported attributes, if the status reports
+/// The groups after the operation group of a reply: that of the unsupported attributes, if the status reports
 /// them and there are any, and then those of the response. The only error is out of memory.
 fn groups_of(
     alloc: Global,

@@ -12,7 +12,7 @@ use ipp_codec::GroupView;
 use std::alloc::{AllocError, Global};
 use text::{find_byte, is_number, number_up_to};
 
-/// The bytes behind a scheme, which is compared without regard to the case of its letters.
+/// The bytes after a scheme, which is compared without regard to the case of its letters.
 fn after_scheme<'a>(uri: &'a [u8], scheme: &[u8]) -> Option<&'a [u8]>
     ensures { option_copied result ≡ after_scheme scheme.now uri.now }
 {
@@ -24,7 +24,7 @@ fn after_scheme<'a>(uri: &'a [u8], scheme: &[u8]) -> Option<&'a [u8]>
     }
 }
 
-/// The bytes behind the scheme ipp or http.
+/// The bytes after the scheme ipp or http.
 fn after_known_scheme(uri: &[u8]) -> Option<&[u8]>
     ensures { option_copied result ≡ after_known_scheme uri.now }
 {
@@ -34,7 +34,7 @@ fn after_known_scheme(uri: &[u8]) -> Option<&[u8]>
     }
 }
 
-/// The path behind the authority: from the first `/` on, empty if there is none.
+/// The path after the authority: from the first `/` on, empty if there is none.
 fn path_of(rest: &[u8]) -> &[u8]
     ensures { result.now ≡ path_of rest.now }
 {
@@ -44,7 +44,7 @@ fn path_of(rest: &[u8]) -> &[u8]
     }
 }
 
-/// The bytes behind a front of a path.
+/// The bytes after a prefix of a path.
 fn behind<'a>(path: &'a [u8], front: &[u8]) -> Option<&'a [u8]>
     ensures { option_copied result ≡ behind front.now path.now }
 {

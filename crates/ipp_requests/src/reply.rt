@@ -6,7 +6,7 @@ ghost use Rattle.ipp_requests.specs.Reply.{group_in, attribute_named, first_in, 
 
 use ipp_codec::{AttributeView, GroupTag, GroupView, MessageView, decode};
 
-/// The message at the front of a reply's body, if there is one.
+/// The message at the beginning of a reply's body, if there is one.
 pub fn reply_in(body: &[u8]) -> Option<MessageView<'_>>
     ensures { IfSome result (λ reply. (count : ℕ) × Spells (take count body.now) (message_shown reply)) }
 {

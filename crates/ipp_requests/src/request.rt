@@ -54,7 +54,7 @@ pub fn cancel_job(alloc: Global, uri: &[u8], job: i32) -> Result<Vec<u8>, Encode
     }
 }
 
-/// A Print-Job, behind which the document follows (RFC 8011, section 4.2.1).
+/// A Print-Job, after which the document follows (RFC 8011, section 4.2.1).
 pub fn print_job(alloc: Global, uri: &[u8], ticket: &Ticket<'_>) -> Result<Vec<u8>, EncodeFault>
     ensures { IfOk result (λ bytes. bytes.items ≡ spelling (printed uri.now ticket.now)) }
 {

@@ -53,7 +53,7 @@ pub fn create_job(
     }
 }
 
-/// A Send-Document of a job, behind which the document follows; without a format it has no document (RFC 8011,
+/// A Send-Document of a job, after which the document follows; without a format it has no document (RFC 8011,
 /// section 4.3.1).
 pub fn send_document(
     alloc: Global,

@@ -1,4 +1,4 @@
--- A file with one more turn behind it.
+-- A file with one more turn after it.
 use Rattle.std.proofs.Common.{◌≡◌, ℕ, Bool, true, false, List, [], ◌∷◌, ◌++◌, ◌∙◌, refl, sym, ap, subst, append_assoc, append-nil, Option, Some}
 use Rattle.std.specs.Prelude.{option_map, codes}
 use Rattle.recordings.specs.Lines.{turn_line}
@@ -15,7 +15,7 @@ use Rattle.journal.specs.declared.resumption.Resumption.{Resumption}
 
 -- ---- files
 
--- the file of a trace, and one more turn behind it
+-- the file of a trace, and one more turn after it
 pub filed_behind : (moment : ℕ) (hs : List Happening) (text : List ℕ) → IsTurnText moment (calls_in hs) text → (trace : Trace) (file : List ℕ) → IsFile trace file → IsFile (trace ++ Turned moment hs ∷ []) (file ++ text)
 filed_behind moment hs text turn [] file none = (text, [], turn, ap (λ (t : List ℕ). t ++ text) none ∙ sym (append-nil text), refl)
 filed_behind moment hs text turn (Turned at those ∷ trace) file (first, rest, is_text, is, later) =
@@ -41,7 +41,7 @@ begins opening r stands stored none notes = record {
   noted = notes;
 }
 
--- the parts of a turn behind the lines before it
+-- the parts of a turn after the lines before it
 parts_stored : (before lines comments restart line feed : List ℕ) → ((((before ++ lines) ++ comments) ++ restart) ++ line) ++ feed ≡ before ++ ((lines ++ comments) ++ (restart ++ (line ++ feed)))
 parts_stored before lines comments restart line feed =
     append_assoc (((before ++ lines) ++ comments) ++ restart) line feed

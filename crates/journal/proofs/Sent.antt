@@ -73,7 +73,7 @@ each_due old ps due id offered count it = due_at old ps (Writes id offered (Done
 record Sends (old : Ledger) (P : Ledger → Type 0) (R : Rel) (Q : Ledger → Type 0) : Type 0 where
   sends : (l : Ledger) (hs : List Happening) (l' : Ledger) → P l → AreOutward (calls_in hs) → R l hs l' → WereDue old (calls_in hs) × (IsUncut (calls_in hs) → Q l')
 
--- other kinds of ledgers: before the relation a narrower one, behind it a wider one
+-- other kinds of ledgers: before the relation a narrower one, after it a wider one
 sends_as : {old : Ledger} {P P' Q Q' : Ledger → Type 0} {R : Rel} → ((l : Ledger) → P' l → P l) → ((l : Ledger) → Q l → Q' l) → Sends old P R Q → Sends old P' R Q'
 sends_as before after r = record { sends = λ l hs l' p outward it. let s = r.sends l hs l' (before l p) outward it in (s.0, λ uncut. after l' (s.1 uncut)) }
 
@@ -212,7 +212,7 @@ sends_sets old key d = record {
   );
 }
 
--- one write under the lowest key that is kept: what is offered is a front of the bytes that waited, and the greater keys are kept
+-- one write under the lowest key that is kept: what is offered is a prefix of the bytes that waited, and the greater keys are kept
 writes_as : (old : Ledger) (moment key : ℕ) (e : Entry) (offered : List ℕ) (answer : Progress ℕ) → old.entries key ≡ Some e → IsFront offered (waiting e) → Sends old (Keeps old key) (WritesAs moment key e offered answer) (Keeps old (suc key))
 writes_as old moment key e offered (Done count) there front = sends_then (sends_polls old (Keeps old key) (Writes e.id offered (Done count)) (key, e, there, refl, front)) (sends_sets old key _)
 writes_as old moment key e offered Waiting there front = sends_as (λ l keeps. keeps) (keeps_next old key) (sends_polls old (Keeps old key) (Writes e.id offered Waiting) tt)

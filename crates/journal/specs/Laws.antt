@@ -23,7 +23,7 @@ pub record TurnsUnticked (moment : ℕ) (old : Ledger) (hs : List Happening) (ne
 
 -- ---- what is sent
 
--- these bytes are a front of the bytes that wait on the open connection of this number
+-- these bytes are a prefix of the bytes that wait on the open connection of this number
 abbrev pub IsDue : Ledger → ℕ → List ℕ → Type 0
 IsDue l id offered = (key : ℕ) × (e : Entry) × (l.entries key ≡ Some e) × (e.id ≡ id) × IsFront offered (waiting e)
 

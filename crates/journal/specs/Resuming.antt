@@ -26,7 +26,7 @@ pub record Resumes (opening : State) (file : List ℕ) (r : Resumption) : Type 0
   pub is : file ≡ r.stored.lines ++ pending r
   pub noted : r.wire.notes ≡ record { lines = Some []; heads = false }
 
--- whatever the lines so far are, they now have these bytes behind them
+-- whatever the lines so far are, they now have these bytes after them
 abbrev pub Extends : List ℕ → Resumption → Resumption → Type 0
 Extends more old new = (opening : State) (file : List ℕ) → Resumes opening file old → Resumes opening (file ++ more) new
 

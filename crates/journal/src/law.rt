@@ -27,7 +27,7 @@ pub fn lost_connections_leave_waiting_jobs()
     ensures { (moment : ℕ) (old new : Ledger) (hs : List Happening) → TurnsUnticked moment old hs new → NoneBroken old → AreLost (calls_in hs) → NoneBegins hs → WaitingStay old.core new.core }
 {}
 
-/// The text of a turn behind the file of a trace is the file of the trace that ends with this turn.
+/// The text of a turn after the file of a trace is the file of the trace that ends with this turn.
 pub fn turns_append_to_files()
     ensures { (trace : Trace) (file : List ℕ) (moment : ℕ) (hs : List Happening) (text : List ℕ) → IsFile trace file → IsTurnText moment (calls_in hs) text → IsFile (trace ++ Turned moment hs ∷ []) (file ++ text) }
 {}

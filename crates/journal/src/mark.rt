@@ -3,7 +3,7 @@ use crate::resumption::JournaledEngine;
 use std::alloc::{AllocError, Global};
 use text::decimal;
 
-/// A comment behind a turn: whether jobs are unfinished. A server that can't take the turns of a journal, since another
+/// A comment after a turn: whether jobs are unfinished. A server that can't take the turns of a journal, since another
 /// version wrote it, begins anew where none was unfinished at its end.
 #[derive(Clone, Copy, Debug, PartialEq, Eq)]
 pub enum Mark {

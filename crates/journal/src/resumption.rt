@@ -32,7 +32,7 @@ pub struct Resumption {
     pub(crate) alloc: Global,
     pub(crate) engine: JournaledEngine,
     pub(crate) wire: Noted<Script>,
-    /// The lines of the calls of the turn that hasn't ended, and behind them its comments.
+    /// The lines of the calls of the turn that hasn't ended, and after them its comments.
     pub(crate) lines: Vec<u8>,
     pub(crate) comments: Vec<u8>,
     /// Whether the turn that hasn't ended is one in which a restarted server lost its connections.

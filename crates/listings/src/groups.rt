@@ -48,7 +48,7 @@ pub fn printer_group<'a>(
     printer_attributes(alloc, &shown, requested)
 }
 
-/// The front of the URIs of printers and jobs.
+/// The beginning of the URIs of printers and jobs.
 fn uri_base(settings: &Settings) -> &Text
     ensures { result.now ≡ settings.now.uri_base }
 {

@@ -55,7 +55,7 @@ stands_still stream given piece reader over stands = record {
   kept = left_still reader.fault reader.awaited reader.rest stands.left piece over stands.kept;
 }
 
--- ---- the front of the bytes
+-- ---- the beginning of the bytes
 
 -- the front by the meaning of a line, where a line is awaited
 front_by_line : (awaited : Awaited) (bytes : List ℕ) → awaits_line awaited ≡ true → front_of awaited bytes ≡ by_line (meaning_of awaited) bytes (first_line_of LPD_LINE_BYTES bytes)

@@ -1,4 +1,4 @@
--- The front of bytes stays the same if more bytes come, and so do their items.
+-- The beginning of bytes stays the same if more bytes come, and so do their items.
 use Rattle.std.specs.Prelude.{ℕ, suc, zero, ◌==◌, ◌≡◌, ◌⊎◌, ◌++◌, ◌+◌, ◌<◌, ◌≤◌, nat_le, if◌then◌else◌, Bool, true, false, List, [], ◌∷◌, length, take, drop, slice_index_or, Result, Ok, Err}
 use Rattle.std.proofs.Common.{rules, arith, refl, subst, sym, ap, ◌∙◌, inl, inr}
 use Rattle.std.proofs.lemmas.List.{drop-append-le, take-append-le, length-append, length-drop, get_or_append_left}
@@ -24,7 +24,7 @@ line_within bytes count whole =
     let at = whole_line LPD_LINE_BYTES bytes count whole in
     search (rules, position-Some (λ byte. byte == 10) bytes count 0 at.0)
 
--- a front with more behind it
+-- a front with more after it
 abbrev grow : List ℕ → Front → Front
 grow more (Gives said rest) = Gives said (rest ++ more)
 grow more (Fails fault) = Fails fault
@@ -194,7 +194,7 @@ leads_one a bytes (said ∷ one) (told ∷ other) b c left behind x y long =
     let later = leads_one (awaited_after said) x.0 one other b c left behind x.2 tail (omega (arith, long)) in
     ap (λ s. s ∷ one) (sym same.0) ∙ ap (λ i. told ∷ i) later
 
--- no item is behind all items of a stream
+-- no item is after all items of a stream
 pub none_follows : (a : Awaited) (bytes : List ℕ) (items : List ItemRecord) (said : ItemRecord) (b : Awaited) (left : List ℕ) (ending : Ending) → Leads a bytes (items ++ said ∷ []) b left → Parses a bytes items ending → ⊥
 none_follows a bytes [] said b left ending x y = ends_no (front_of a bytes) ending said x.0 y x.1
 none_follows a bytes (told ∷ items) said b left ending x y =

@@ -1,4 +1,4 @@
--- The content of an LPD client's line (RFC 1179, sections 5 and 6): a code byte, and operands behind single spaces. Empty operands are left out.
+-- The content of an LPD client's line (RFC 1179, sections 5 and 6): a code byte, and operands after single spaces. Empty operands are left out.
 use Rattle.std.specs.Prelude.{ℕ, ◌==◌, ◌&&◌, nat_lt, nat_le, Bool, true, false, if◌then◌else◌, List, [], ◌∷◌, length, filter, drop, Result, Ok, Err}
 use Rattle.std.specs.Str.Parse.{digits_value}
 use Rattle.text.specs.Digits.{is_decimal}

@@ -108,7 +108,7 @@ owned (Some host) (Some owner) name (print ∷ prints) = Ok (record { host = hos
 abbrev pub whole : Draft → Result ControlRecord ControlFault
 whole draft = owned draft.host draft.owner (unwrap_or (option_or draft.job_name draft.source_name) (codes "untitled")) draft.prints
 
--- a draft, joined with the lines behind it
+-- a draft, joined with the lines after it
 abbrev pub joined : Draft → List (List ℕ) → Result Draft ControlFault
 joined draft texts = lines_in texts >>= λ lines. Ok (before draft (together lines))
 

@@ -14,7 +14,7 @@ use Rattle.lpd.specs.declared.reader.Awaited.TheVariants.{Command, Subcommand, F
 use Rattle.lpd.specs.Items.{ItemRecord, HasFile, item_record, awaited_after}
 use Rattle.lpd.specs.Command.{command_line, subcommand_line, awaits_line}
 
--- the front of the bytes: an item and the bytes behind it, a fault, or a wait for more bytes
+-- the beginning of the bytes: an item and the bytes after it, a fault, or a wait for more bytes
 pub data Front : Type 0 where
   Gives : (said : ItemRecord) (rest : List ℕ) → Front
   Fails : LpdFault → Front
@@ -130,22 +130,22 @@ OneParse = (stream : List ℕ) (given items : List ItemRecord) (end ending : End
 abbrev pub SomeParse : Type 0
 SomeParse = (stream : List ℕ) → (items : List ItemRecord) × (ending : Ending) × LpdItems stream items ending
 
--- the items of a stream are a front of the items of the stream with more bytes behind it; a fault stays the last
+-- the items of a stream are a prefix of the items of the stream with more bytes after it; a fault stays the last
 abbrev pub StaysInFront : Type 0
 StaysInFront = (stream more : List ℕ) (given items : List ItemRecord) (end ending : Ending) → LpdItems stream given end → LpdItems (stream ++ more) items ending → (later : List ItemRecord) × (items ≡ given ++ later)
 
 abbrev pub FaultStays : Type 0
 FaultStays = (stream more : List ℕ) (given : List ItemRecord) (fault : LpdFault) → LpdItems stream given (Faulty fault) → LpdItems (stream ++ more) given (Faulty fault)
 
--- the items that a stream says first are a front of the items of the stream with more bytes behind it
+-- the items that a stream says first are a prefix of the items of the stream with more bytes after it
 abbrev pub FirstStays : Type 0
 FirstStays = (stream more : List ℕ) (first items : List ItemRecord) (ending : Ending) → ParsesFirst stream first → LpdItems (stream ++ more) items ending → (later : List ItemRecord) × (items ≡ first ++ later)
 
--- two fronts of the items of a stream are equal if their lengths are equal
+-- two prefixes of the items of a stream are equal if their lengths are equal
 abbrev pub FirstIsOne : Type 0
 FirstIsOne = (stream : List ℕ) (one other : List ItemRecord) → ParsesFirst stream one → ParsesFirst stream other → length one ≡ length other → one ≡ other
 
--- a stream says no item behind all of its items
+-- a stream says no item after all of its items
 abbrev pub NoneFollows : Type 0
 NoneFollows = (stream : List ℕ) (items : List ItemRecord) (said : ItemRecord) (ending : Ending) → ParsesFirst stream (items ++ said ∷ []) → LpdItems stream items ending → ⊥
 

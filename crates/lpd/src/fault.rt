@@ -16,7 +16,7 @@ pub enum LpdFault {
     /// A file's name that isn't of the form of RFC 1179, section 6, within [`base_types`]' limits.
     #[error("a file without a proper name")]
     BadName,
-    /// A file without a zero byte behind it.
+    /// A file without a zero byte after it.
     #[error("a file without its end")]
     MissingZero,
     /// A file longer than the limit of its kind.

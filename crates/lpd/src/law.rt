@@ -7,21 +7,21 @@ pub fn one_saying()
     ensures one { OneParse }
 {}
 
-/// Two fronts of the items of a stream are equal if their lengths are equal, and a stream says no item behind
+/// Two prefixes of the items of a stream are equal if their lengths are equal, and a stream says no item after
 /// all of its items.
 pub fn one_front()
     ensures one { FirstIsOne }
     ensures last { NoneFollows }
 {}
 
-/// The items of a stream are a front of the items of the stream with more bytes behind it, and a fault stays
+/// The items of a stream are a prefix of the items of the stream with more bytes after it, and a fault stays
 /// the last.
 pub fn said_stays()
     ensures front { StaysInFront }
     ensures fault { FaultStays }
 {}
 
-/// The items that a reader has given are a front of the items of the whole stream, for all bytes that may
+/// The items that a reader has given are a prefix of the items of the whole stream, for all bytes that may
 /// follow. The other items are those that its unread bytes and the bytes that follow give from the reader's
 /// state on.
 pub fn given_first()

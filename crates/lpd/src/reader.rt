@@ -19,7 +19,7 @@ use text::{FirstLine, Unread, first_line};
 enum Awaited {
     Command,
     Subcommand,
-    /// A file of this many bytes, and the zero byte behind it.
+    /// A file of this many bytes, and the zero byte after it.
     File(u32),
     /// No more input: the bytes that are fed are dropped.
     Nothing,
@@ -34,8 +34,8 @@ enum Awaited {
 pub struct LpdReader {
     alloc: Global,
     unread: Unread,
-    /// The number of bytes at the front of `unread` that are read: those of the file that is lent, and the
-    /// zero byte behind it.
+    /// The number of bytes at the beginning of `unread` that are read: those of the file that is lent, and the
+    /// zero byte after it.
     read: usize,
     /// The number of those bytes that are lent as a file.
     lent: usize,

@@ -1,4 +1,4 @@
--- Octets in pages: the octets put behind them, and the place of an octet.
+-- Octets in pages: the octets put after them, and the place of an octet.
 use Rattle.std.proofs.Common.{◌≡◌, ℕ, zero, suc, ◌+◌, ◌*◌, ◌/◌, ◌%◌, ◌<◌, ◌≤◌, List, [], ◌∷◌, ◌++◌, length, take, drop, get_or, refl, sym, ap, subst, ◌∙◌, append_assoc, arith}
 use Rattle.std.specs.List.{AllByRecursion}
 use Rattle.std.proofs.lemmas.List.{append-nil, length-append, length-drop, drop-append-le, drop_at, drop-drop, take_more}
@@ -20,7 +20,7 @@ one_more octets pages page rest behind is cut =
     is ∙ ap (λ (l : List ℕ). joined pages ++ l) cut ∙ sym (append_assoc (joined pages) page behind)
     ∙ ap (λ (l : List ℕ). l ++ behind) (sym (joined-append pages (page ∷ []) ∙ ap (λ (l : List ℕ). joined pages ++ l) (append-nil page)))
 
--- a last page that is filled, and pages behind it
+-- a last page that is filled, and pages after it
 pub gone_on : (pages later : List (List ℕ)) (last front behind end piece : List ℕ) → behind ≡ joined later ++ end → piece ≡ front ++ behind → joined (pages ++ (last ++ front) ∷ later) ++ end ≡ (joined pages ++ last) ++ piece
 gone_on pages later last front behind end piece is cut =
     ap (λ (l : List ℕ). l ++ end) (joined-append pages ((last ++ front) ∷ later))

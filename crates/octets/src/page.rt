@@ -18,7 +18,7 @@ const MEDIUM_ROOM: usize = 16_384;
 /// The number of full pages from which on a document is long.
 const LONG_PAGES: usize = 4;
 
-/// The number of octets for which the page behind `full_pages` full pages takes memory at first: few for a
+/// The number of octets for which the page after `full_pages` full pages takes memory at first: few for a
 /// short document, all of a page for a long one.
 pub(crate) fn first_room(full_pages: usize) -> usize
     ensures { result ≤ PAGE_BYTES }

@@ -1,4 +1,4 @@
--- Fronts of a text: that of no bytes has no faulty line, and the whole text is one.
+-- Prefixes of a text: that of no bytes has no faulty line, and the whole text is one.
 use Rattle.std.proofs.Common.{◌≡◌, ℕ, ◌<◌, ◌≤◌, true, false, List, [], ◌∷◌, length, take, arith, refl, ap, ◌∙◌}
 use Rattle.std.proofs.lemmas.Bool.{both_ways}
 use Rattle.std.proofs.Math.Seq.{take-length}

@@ -97,7 +97,7 @@ IsAnswer starts before after judged =
 abbrev pub EndsAs : Judged → Audit → Type 0
 EndsAs judged audit = (audit.status ≡ judged.status) × (audit.objection ≡ judged.objection)
 
--- the answer was written as a whole; or the program failed, and wrote nothing or a front of it
+-- the answer was written as a whole; or the program failed, and wrote nothing or a prefix of it
 abbrev pub Checks : Bool → Option (List ℕ) → Option (List ℕ) → Option (List ℕ) → Option (List ℕ) → Audit → Type 0
 Checks starts before after held holds audit =
     ((judged : Judged) × IsAnswer starts before after judged × Appends held holds judged.text × EndsAs judged audit)

@@ -19,7 +19,7 @@ is_refused_for_line (Err fault) = is_of_line fault
 unfoldable pub has_faulty_line : List ℕ → Bool
 has_faulty_line text = is_refused_for_line (plan_at text)
 
--- the line of the byte behind these bytes, counted from 1
+-- the line of the byte after these bytes, counted from 1
 abbrev pub line_behind : List ℕ → ℕ
 line_behind front = 1 + count_by (λ byte. byte == 10) front
 

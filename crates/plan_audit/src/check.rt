@@ -51,7 +51,7 @@ impl Model for Answer {
 /// The answer is one of three. `yes` says that the plan is proved best. If `starts` is set, a line for each
 /// job follows, `start ID NAME S E`, with its start and end in ms from now. `no NAME class P` has the first
 /// fault and the priority of its class. `refused NAME` says that the text is no plan, or has too many bytes.
-/// The status says which answer it was, or that memory or a stream failed: a front of the answer is written
+/// The status says which answer it was, or that memory or a stream failed: a prefix of the answer is written
 /// then.
 pub fn run_check<R: Read, W: Write>(
     alloc: Global,

@@ -29,7 +29,7 @@ fn deciding_line(alloc: Global, text: &[u8]) -> Result<usize, AllocError>
     Ok(line_behind(&text[..count]))
 }
 
-/// The line of the byte behind `front`, counted from 1.
+/// The line of the byte after `front`, counted from 1.
 fn line_behind(front: &[u8]) -> usize
     ensures { result ≡ line_behind front.now }
 {
@@ -58,7 +58,7 @@ fn has_faulty_line(alloc: Global, text: &[u8]) -> Result<bool, AllocError>
     }
 }
 
-/// The place of the byte that decides: the line feed of the faulty line, or the first byte behind the end of
+/// The place of the byte that decides: the line feed of the faulty line, or the first byte after the end of
 /// the plan. The search halves its range each time, and reads the text as often as the length of the text has
 /// binary digits. The only error is out of memory.
 #[tactic(auto, using(crate::proofs::Fronts::begins))]

@@ -4,7 +4,7 @@
 //! and writes its total in ms; `dense` uses `DenseAugmentingPaths`. `plan_bench compare ..` makes problems of
 //! at most that many jobs and devices, plans each with both planners, and tries all ways too where there are
 //! few jobs; it stops where two totals differ. Times are made of impressions and speeds, as in the server;
-//! with the word `uniform` behind the other words, each time is uniform at random. Equal arguments give equal
+//! with the word `uniform` after the other words, each time is uniform at random. Equal arguments give equal
 //! totals.
 //!
 //! `plan_bench estimated JOBS DEVICES SEED COUNT` plays COUNT events of a day on which each print takes the

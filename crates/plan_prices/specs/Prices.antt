@@ -25,7 +25,7 @@ job_price ids prices job = slice_index_or prices (place_of ids job) (pos 0)
 abbrev pub places_on : List (List ℤ) → ℕ → List ℤ
 places_on places device = slice_index_or places device []
 
--- the price of the place with `after` places behind it; 0 if it isn't used
+-- the price of the place with `after` places after it; 0 if it isn't used
 abbrev pub place_price : List (List ℤ) → ℕ → ℕ → ℤ
 place_price places device after = slice_index_or (places_on places device) after (pos 0)
 

@@ -61,7 +61,7 @@ failed_at : (passes : Bool) (cause : Cause) (causes : List Cause) (next : Option
 failed_at true cause causes next passed e = e
 failed_at false cause causes next passed e = refl
 
--- the failed filter is the one behind those that were passed
+-- the failed filter is the one after those that were passed
 pub first_failed_at : (filters : List Filter) (device : Device) → first_failed filters device ≡ slice_get (map (λ f. f.cause) filters) (passed_by filters device)
 unfolding passed_by
 first_failed_at [] device = refl
@@ -132,7 +132,7 @@ past_causes (suc (suc (suc (suc zero)))) h = absurd (omega arith)
 past_causes (suc (suc (suc (suc (suc zero))))) h = absurd (omega arith)
 past_causes (suc (suc (suc (suc (suc (suc n)))))) h = refl
 
--- behind the last stage there is no cause
+-- after the last stage there is no cause
 pub none_past_stages : (needs : JobNeeds) (devices : List Device) → 6 ≤ stage_of (filters_of needs) devices → None ≡ first_cause (filters_of needs) devices
 unfolding causes
 none_past_stages needs devices h = sym (first_cause_at (filters_of needs) devices ∙ past_causes (stage_of (filters_of needs) devices) h)
@@ -195,7 +195,7 @@ order_more needs printer devices i place None all before after below at found e 
 order_more needs printer devices i place (Some device) all before after below at found e h =
     omega (arith, e, h, stage_more (filters_of needs) printer devices i place below at ∙ ap (λ o. stage_with (filters_of needs) o (stage_of (filters_of needs) (devices_of (drop (i + 1) printer) devices))) found)
 
--- behind a printer's last place the cause is that of all
+-- after a printer's last place the cause is that of all
 pub order_at_end : (needs : JobNeeds) (printer : List ℕ) (devices : List Device) (i order : ℕ) → length printer ≤ i
     → max order (stage_of (filters_of needs) (devices_of (drop i printer) devices)) ≡ stage_of (filters_of needs) (devices_of printer devices)
     → order ≡ stage_of (filters_of needs) (devices_of printer devices)

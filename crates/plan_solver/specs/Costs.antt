@@ -1,4 +1,4 @@
--- The cost of a job at a place of a device, counted from the end of the device's list: the device's wait once, and the job's time for itself and for each job behind it.
+-- The cost of a job at a place of a device, counted from the end of the device's list: the device's wait once, and the job's time for itself and for each job after it.
 use Rattle.std.specs.Prelude.{ℕ, ◌+◌, ◌*◌, List, [], min, slice_index_or, suc}
 use Rattle.plan_solver.specs.declared.costs.Costs.{Costs}
 use Rattle.plan_solver.specs.declared.costs.Place.{Place}

@@ -10,7 +10,7 @@ use Rattle.plan_solver.specs.Matching.{IsFairlyMatched}
 unfoldable pub taken : ℕ → List Place → ℕ
 taken device places = count_by (λ place. place.device == device) places
 
--- each column is on one of the devices, and has as many places behind it as columns before it are on the same device
+-- each column is on one of the devices, and has as many places after it as columns before it are on the same device
 pub record IsLaid (devices : ℕ) (columns : List Place) : Type 0 where
   pub known : (c : ℕ) → c < length columns → (slice_index_or columns c nowhere).device < devices
   pub places : (c : ℕ) → c < length columns → (slice_index_or columns c nowhere).after ≡ taken (slice_index_or columns c nowhere).device (take c columns)

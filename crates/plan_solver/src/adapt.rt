@@ -111,14 +111,14 @@ fn kept_places(alloc: Global, costs: &Costs, matching: &Matching) -> Result<Vec<
     Ok(most)
 }
 
-/// Lowers the number of kept places of a place's device to those behind the place.
+/// Lowers the number of kept places of a place's device to those after the place.
 fn lower_to(most: &mut [u64], place: Place) {
     if let Some(most) = most.get_mut(place.device) {
         *most = (*most).min(place.after);
     }
 }
 
-/// Removes the columns with at least as many places behind them as their device keeps.
+/// Removes the columns with at least as many places after them as their device keeps.
 fn drop_before(matching: &mut Matching, most: &[u64]) {
     for column in (0..matching.columns.len()).rev() {
         let Some(place) = matching.columns.get(column).copied() else {

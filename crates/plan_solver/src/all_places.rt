@@ -137,7 +137,7 @@ fn all_places(alloc: Global, devices: usize, jobs: usize) -> Result<Vec<Place>, 
     Ok(places)
 }
 
-/// Appends the places of a device, up to the place with `most` places behind it.
+/// Appends the places of a device, up to the place with `most` places after it.
 fn push_places(places: &mut Vec<Place>, device: usize, most: u64) -> Result<(), AllocError>
     requires { most + 1 < u64.MAX }
     ensures there { OnOk result ((after : ℕ) → after ≤ most → Contains places.new.items (place_on device after)) }

@@ -10,7 +10,7 @@ use std::marker::Model;
 /// device is as high. The sum of as many such times as there may be jobs fits in 64 bits.
 pub(crate) const UNABLE: u64 = Limits::WAIT / 2 * 3;
 
-/// A place of a device, by the number of places behind it. The last place of a list has none.
+/// A place of a device, by the number of places after it. The last place of a list has none.
 #[derive(Clone, Copy, PartialEq, Eq)]
 pub(crate) struct Place {
     pub(crate) device: usize,
@@ -75,7 +75,7 @@ pub(crate) fn on_device(values: &[u64], device: usize) -> u64
 }
 
 /// The cost of a job with these times at a place: the device's wait once, and the job's time for itself and
-/// for each place behind it.
+/// for each place after it.
 pub(crate) fn cost(waits: &[u64], row: &[u64], place: Place) -> u64
     ensures value { result ≡ cost_at waits.now row.now place }
     ensures low { result ≤ UNABLE }
@@ -86,7 +86,7 @@ pub(crate) fn cost(waits: &[u64], row: &[u64], place: Place) -> u64
     }
 }
 
-/// The cost for a time and a wait. If they and the number of places behind are in the range of a class, the
+/// The cost for a time and a wait. If they and the number of places after are in the range of a class, the
 /// cost is computed in 64 bits, which is faster.
 fn cost_with(time: u64, wait: u64, after: u64) -> u64
     ensures { result ≡ min (wait + suc after * time) UNABLE }

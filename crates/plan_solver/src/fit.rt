@@ -12,7 +12,7 @@ use crate::device_columns::DeviceColumns;
 use crate::matching::{Matching, slack};
 
 /// Returns whether the prices are fair, for the free places too; if they are, sets the slacks. If not, lowers
-/// `most` for each job that has a better place, to the number of places behind its own.
+/// `most` for each job that has a better place, to the number of places after its own.
 pub(crate) fn fits(costs: &Costs, begun: &mut Begun, most: &mut [u64]) -> bool
     requires { IsLaidOut costs.now begun.old }
     ensures same { begun.new ≡ record begun.old { slacks = begun.new.slacks } }
@@ -85,7 +85,7 @@ fn all_fair(costs: &Costs, by_device: &[DeviceColumns], matching: &Matching) -> 
     true
 }
 
-/// Lowers `most` for each job that has a better place: its device keeps only the places behind it.
+/// Lowers `most` for each job that has a better place: its device keeps only the places after it.
 fn cut_unfair(costs: &Costs, by_device: &[DeviceColumns], matching: &Matching, most: &mut [u64])
     requires jobs { vec_len matching.now.jobs ≡ vec_len matching.now.columns }
     requires prices { vec_len matching.now.prices ≡ vec_len matching.now.columns }
@@ -99,7 +99,7 @@ fn cut_unfair(costs: &Costs, by_device: &[DeviceColumns], matching: &Matching, m
     }
 }
 
-/// Lowers the number of kept places of a place's device to those behind the place.
+/// Lowers the number of kept places of a place's device to those after the place.
 fn cut(most: &mut [u64], place: Place) {
     if let Some(most) = most.get_mut(place.device) {
         *most = (*most).min(place.after);

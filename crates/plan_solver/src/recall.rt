@@ -108,7 +108,7 @@ fn wait_with(kept: &Kept, numbers: &[Option<usize>], device: usize, job: usize) 
     }
 }
 
-/// The first column of a device: the column with the most places behind it.
+/// The first column of a device: the column with the most places after it.
 fn first_column(matching: &Matching, device: usize) -> Option<usize> {
     let mut first = None;
     let mut most = 0;

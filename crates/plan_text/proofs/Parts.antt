@@ -1,4 +1,4 @@
--- The parts of a text: whole lines, and the text behind the last line feed.
+-- The parts of a text: whole lines, and the text after the last line feed.
 use Rattle.std.proofs.Common.{◌≡◌, ℕ, zero, suc, ◌-◌, ◌<◌, List, [], ◌∷◌, length, map, take, get_or, slice_index_or, Err, refl, arith}
 use Rattle.plan_text.specs.declared.fault.TextFault.TheVariants.{NoEnd}
 use Rattle.plan_text.specs.Whole.{plan_in, plan_from, ended}

@@ -151,7 +151,7 @@ tells_at stage lines h is t = subst (λ s. TellsAt s lines h) (stage_is h stage 
 abbrev WouldTell : List PlanLine → PlanLine → DraftRecord → Type 0
 WouldTell lines said new = Tells (lines ++ said ∷ []) new
 
--- a line behind this number of parts
+-- a line after this number of parts
 
 behind1 : (a b : List PlanLine) (said : PlanLine) → (a ++ b) ++ said ∷ [] ≡ a ++ (b ++ said ∷ [])
 behind1 a b said = append_assoc a b (said ∷ [])
@@ -257,7 +257,7 @@ device_told heard new lines name h named tells =
     let facts : TellsAt stages.Devices (lines ++ SaysDevice name ∷ []) after = (text, (is, omega (arith, less, length-append ds (name ∷ [])), all_more (λ n. IsTrue (is_name n)) ds name here.1.2 named)) in
     subst (WouldTell lines (SaysDevice name)) (ok_is after new t.1) (subst (λ s. TellsAt s (lines ++ SaysDevice name ∷ []) after) (sym stage) facts)
 
--- all classes have been heard, and nothing behind them
+-- all classes have been heard, and nothing after them
 record IsClosed (lines : List PlanLine) (h : DraftRecord) : Type 0 where
   pub text : lines ≡ front h
   pub front : IsFront h

@@ -41,7 +41,7 @@ said_by (lines.PlacePrices device prices) = SaysPlacePrices device prices.items
 said_by (lines.Stranded stranded) = SaysStranded stranded
 said_by lines.End = SaysEnd
 
--- the words behind the first word of each line; an empty word is neither a number nor a name
+-- the words after the first word of each line; an empty word is neither a number nor a name
 
 abbrev pub alone_at : PlanLine → List (List ℕ) → Result PlanLine TextFault
 alone_at line [] = Ok line
@@ -53,7 +53,7 @@ only_word [] = Err BadLine
 only_word (word ∷ []) = Ok word
 only_word (word ∷ next ∷ words) = Err BadLine
 
--- the first word, and the words behind it
+-- the first word, and the words after it
 abbrev pub first_word : List (List ℕ) → Result (List ℕ × List (List ℕ)) TextFault
 first_word [] = Err BadLine
 first_word (word ∷ words) = Ok (word, words)

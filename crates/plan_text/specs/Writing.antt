@@ -20,7 +20,7 @@ abbrev pub entry_word : Option ℕ → List ℕ
 entry_word None = codes "-"
 entry_word (Some time) = decimal time
 
--- words, each behind a space
+-- words, each after a space
 abbrev pub entries_text : List (Option ℕ) → List ℕ
 entries_text [] = []
 entries_text (entry ∷ entries) = (codes " " ++ entry_word entry) ++ entries_text entries

@@ -16,7 +16,7 @@ pub(crate) fn only_word<'a>(words: &[&'a [u8]]) -> Result<&'a [u8], ReadError>
     Ok(words[0])
 }
 
-/// The first word, and the words behind it.
+/// The first word, and the words after it.
 #[tactic(auto, using(crate::proofs::Words::some_word, crate::proofs::Words::no_word))]
 pub(crate) fn first_word<'a, 'b>(
     words: &'b [&'a [u8]],

@@ -22,7 +22,7 @@ fn put_price(alloc: Global, output: &mut Vec<u8>, price: i64) -> Result<(), Allo
     output.extend_from_slice(text.as_bytes())
 }
 
-/// Appends a time of a job behind a space, or `-` if there is none.
+/// Appends a time of a job after a space, or `-` if there is none.
 fn put_entry(alloc: Global, output: &mut Vec<u8>, entry: Option<u64>) -> Result<(), AllocError>
     ensures { OnOk result (output.new.items ≡ output.old.items ++ (codes " " ++ entry_word entry)) }
 {
@@ -33,7 +33,7 @@ fn put_entry(alloc: Global, output: &mut Vec<u8>, entry: Option<u64>) -> Result<
     }
 }
 
-/// Appends the times of a job, each behind a space.
+/// Appends the times of a job, each after a space.
 pub(crate) fn put_entries(
     alloc: Global,
     output: &mut Vec<u8>,
@@ -47,7 +47,7 @@ pub(crate) fn put_entries(
     Ok(())
 }
 
-/// Appends a number behind a space.
+/// Appends a number after a space.
 fn put_spaced(alloc: Global, output: &mut Vec<u8>, number: u64) -> Result<(), AllocError>
     ensures { OnOk result (output.new.items ≡ output.old.items ++ (codes " " ++ decimal number)) }
 {
@@ -55,7 +55,7 @@ fn put_spaced(alloc: Global, output: &mut Vec<u8>, number: u64) -> Result<(), Al
     put_number(alloc, output, number)
 }
 
-/// Appends numbers, each behind a space.
+/// Appends numbers, each after a space.
 pub(crate) fn put_numbers(
     alloc: Global,
     output: &mut Vec<u8>,
@@ -69,7 +69,7 @@ pub(crate) fn put_numbers(
     Ok(())
 }
 
-/// Appends the ids of jobs, each behind a space.
+/// Appends the ids of jobs, each after a space.
 pub(crate) fn put_ids(alloc: Global, output: &mut Vec<u8>, ids: &[JobId]) -> Result<(), AllocError>
     ensures { OnOk result (output.new.items ≡ output.old.items ++ numbers_text ids.now) }
 {
@@ -79,7 +79,7 @@ pub(crate) fn put_ids(alloc: Global, output: &mut Vec<u8>, ids: &[JobId]) -> Res
     Ok(())
 }
 
-/// Appends prices, each behind a space.
+/// Appends prices, each after a space.
 pub(crate) fn put_prices(
     alloc: Global,
     output: &mut Vec<u8>,

@@ -46,7 +46,7 @@ fn put_line(text: &mut Vec<u8>, line: &[u8]) -> Result<(), AllocError> {
     Ok(())
 }
 
-/// Appends a line, which is cut in two behind so many of its characters if it has all that the peer sends.
+/// Appends a line, which is cut in two after so many of its characters if it has all that the peer sends.
 fn put_cut(text: &mut Vec<u8>, line: &[u8], place: usize) -> Result<(), AllocError> {
     match line.split_at_checked(place) {
         Some((front, back)) if line.starts_with(SENT) => {
@@ -58,7 +58,7 @@ fn put_cut(text: &mut Vec<u8>, line: &[u8], place: usize) -> Result<(), AllocErr
     }
 }
 
-/// The trace, in which the line that has all that the peer sends is cut in two behind so many of its
+/// The trace, in which the line that has all that the peer sends is cut in two after so many of its
 /// characters.
 fn in_two_pieces(alloc: Global, trace: &[u8], place: usize) -> Result<Vec<u8>, AllocError> {
     let mut text = Vec::new(alloc);

@@ -36,7 +36,7 @@ plan 50:599403600000\n\
 start 1 A\n\
 ";
 
-/// With the first job begun, 511 wait behind it: 2 + 3 + .. + 512 = 131,327 times its time. The
+/// With the first job begun, 511 wait after it: 2 + 3 + .. + 512 = 131,327 times its time. The
 /// next request is answered that the server is busy, and the plan stays.
 const LAST: &str = "plan 50:78717876577200000\n\
 reply 010105070000000101470012617474726962757465732d6368617273657400057574662d3848001b617474726962757465732d6e61747572616c2d6c616e67756167650002656e03\n\
@@ -142,7 +142,7 @@ fn has_largest_totals_after_a_pause(alloc: Global) -> Result<bool, AllocError> {
 const SHORT_JOB: &str =
     "ipp 010100020000000101470012617474726962757465732d6368617273657400057574662d3848001b617474726962757465732d6e61747572616c2d6c616e67756167650002656e45000b7072696e7465722d75726900206970703a2f2f6c6f63616c686f73743a3633312f7072696e746572732f6c61620368656c6c6f\n";
 
-/// With 32 jobs begun, 480 wait behind them, 15 for each device: 32 times 20 + 30 + .. + 160. The next
+/// With 32 jobs begun, 480 wait after them, 15 for each device: 32 times 20 + 30 + .. + 160. The next
 /// request is answered that the server is busy, and the plan stays.
 const FULL: &str = "plan 50:43200\n\
 reply 010105070000000101470012617474726962757465732d6368617273657400057574662d3848001b617474726962757465732d6e61747572616c2d6c616e67756167650002656e03\n\

@@ -13,7 +13,7 @@ const MOST: usize = 1_048_576;
 /// The number of bytes that one read asks for.
 const PIECE: usize = 65_536;
 
-/// The front of the first line behind the settings, in a recorded day.
+/// The beginning of the first line after the settings, in a recorded day.
 const START: &[u8] = b"recorded ";
 
 /// The first bytes of a trace, which were read, and whether it is a recorded day.

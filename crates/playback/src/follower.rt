@@ -108,12 +108,12 @@ impl Follower {
         self.arriving.add(chunk)
     }
 
-    /// Sets the moment behind which no turn is played.
+    /// Sets the moment after which no turn is played.
     pub fn stop_after(&mut self, last: Moment) {
         self.last = Some(last);
     }
 
-    /// Returns whether a turn has arrived that is behind the moment of [`Follower::stop_after`]: nothing more is
+    /// Returns whether a turn has arrived that is after the moment of [`Follower::stop_after`]: nothing more is
     /// played.
     pub fn is_past(&self) -> bool {
         self.is_past
@@ -137,7 +137,7 @@ impl Follower {
         Ok(None)
     }
 
-    /// The server, once the line behind the settings was played.
+    /// The server, once the line after the settings was played.
     pub fn engine(&self) -> Option<&JournaledEngine> {
         match &self.stage {
             Stage::Turns(playing) => Some(&playing.engine),
@@ -145,7 +145,7 @@ impl Follower {
         }
     }
 
-    /// The ledger of the server's turns, once the line behind the settings was played.
+    /// The ledger of the server's turns, once the line after the settings was played.
     pub fn ledger(&self) -> Option<&Ledger> {
         match &self.stage {
             Stage::Turns(playing) => Some(&playing.ledger),
@@ -153,12 +153,12 @@ impl Follower {
         }
     }
 
-    /// The times of the server's moments, once the line behind the settings was played.
+    /// The times of the server's moments, once the line after the settings was played.
     pub fn clock(&self) -> Option<&Clock> {
         self.ledger().map(|ledger| ledger.times())
     }
 
-    /// The queue after the last turn; `None` before the line behind the settings was played. The only error is out of
+    /// The queue after the last turn; `None` before the line after the settings was played. The only error is out of
     /// memory.
     pub fn view(&self) -> Result<Option<QueueView>, AllocError> {
         self.view_at(Moment::start())
@@ -227,7 +227,7 @@ impl Follower {
         Ok(Stage::Settings(text))
     }
 
-    /// The server with the settings of a text, after the line behind them.
+    /// The server with the settings of a text, after the line after them.
     fn started(&self, text: &[u8], line: &[u8]) -> Result<Playing, DayFault> {
         let Some(first) = first_in(line) else {
             return Err(DayFault::no_start(self.alloc, &self.file));

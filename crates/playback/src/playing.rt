@@ -207,7 +207,7 @@ impl<'file, 'output, W: Write> Day<'file, 'output, W> {
         self.put_out(PRINTED)
     }
 
-    /// Plays the lines of the turns, which are behind the settings.
+    /// Plays the lines of the turns, which are after the settings.
     fn play_turns<R: Read>(
         &mut self,
         lines: &mut LineReader<'_, R>,

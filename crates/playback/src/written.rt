@@ -124,7 +124,7 @@ impl Writer {
     }
 }
 
-/// Returns whether a trace with these lines behind its settings is a recorded day.
+/// Returns whether a trace with these lines after its settings is a recorded day.
 fn is_recorded(lines: &[u8]) -> bool {
     lines.starts_with(b"recorded ")
 }
@@ -134,7 +134,7 @@ fn is_remark(line: &[u8]) -> bool {
     line.starts_with(b"#") || line.starts_with(b"recorded ")
 }
 
-/// Cuts a text behind its first line and the octets that follow it. If some of the octets aren't there, the
+/// Cuts a text after its first line and the octets that follow it. If some of the octets aren't there, the
 /// whole text is one line; if another byte is in the place of the last line feed, no octets follow.
 fn next_whole(text: &[u8]) -> Option<CutLine<'_>>
     ensures { IfSome result (λ cut. length cut.later.now < length text.now) }
@@ -165,7 +165,7 @@ fn whole_of(text: &[u8], place: usize) -> Option<CutLine<'_>>
     Some(CutLine { line, later })
 }
 
-/// The number of line feeds in and behind a line with the octets that follow it.
+/// The number of line feeds in and after a line with the octets that follow it.
 fn feeds_of(line: &[u8]) -> u64 {
     let within = line.iter().filter(|byte| **byte == b'\n').count();
     (within as u64).saturating_add(1)
@@ -186,7 +186,7 @@ pub fn as_written(alloc: Global, trace: &[u8]) -> Result<Written, AllocError> {
     }
 }
 
-/// Writes the lines behind the front. `before` lines are in front of them.
+/// Writes the lines after the front. `before` lines are in front of them.
 fn write_lines(
     alloc: Global,
     front: &[u8],

@@ -108,7 +108,7 @@ fn wanted(key: &str) -> &'static str {
     }
 }
 
-/// The front of a sentence about a device.
+/// The beginning of a sentence about a device.
 fn about(alloc: Global, name: &str) -> Page {
     Page::new(alloc).put("device \"").put(name).put("\": ")
 }

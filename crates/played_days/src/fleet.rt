@@ -29,7 +29,7 @@ pub struct Added<'a> {
 const NO_MORE: &str =
     " more: a name has 1 to 32 letters, digits, _ and -, there are 32 devices at most, and a device has at most 16 media and formats";
 
-/// The fault of the device with a name, by the words before and behind the name.
+/// The fault of the device with a name, by the words before and after the name.
 fn device_fault(alloc: Global, before: &str, name: &str, behind: &str) -> DayFault {
     let sentence = Page::new(alloc).put("the settings ").put(before);
     refused(sentence.put(" \"").put(name).put("\"").put(behind))
@@ -62,7 +62,7 @@ fn place_of_like(alloc: Global, settings: &Settings, added: Added<'_>) -> Result
     }
 }
 
-/// Settings with a further device. It is behind all others, and belongs to each printer that has the device
+/// Settings with a further device. It is after all others, and belongs to each printer that has the device
 /// that it is like.
 fn with_device(alloc: Global, settings: &Settings, added: Added<'_>) -> Result<Settings, DayFault>
     ensures { IfOk result MeetsLimits }

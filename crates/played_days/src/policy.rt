@@ -3,8 +3,8 @@
 /// A policy, which chooses a device of the job's printer that can print the job.
 #[derive(Clone, Copy)]
 pub enum Policy {
-    /// The next free device, counted from the device behind the device that got the last job of the printer;
-    /// for the first job, from the device behind the first. It is a class of CUPS
+    /// The next free device, counted from the device after the device that got the last job of the printer;
+    /// for the first job, from the device after the first. It is a class of CUPS
     /// (`cupsdFindAvailablePrinter` of its scheduler).
     RoundRobin,
     /// The first free device, in the order of the printer.

@@ -148,7 +148,7 @@ impl<'a> Queue<'a> {
         }
     }
 
-    /// The place behind the last waiting job that is at least as urgent and, at the same priority, no longer.
+    /// The place after the last waiting job that is at least as urgent and, at the same priority, no longer.
     fn place_behind(&self, priority: u8, length: u64) -> usize {
         for (place, waiting) in self.waiting.iter().enumerate() {
             let is_longer = waiting.priority == priority && waiting.length > length;
@@ -211,7 +211,7 @@ impl<'a> Queue<'a> {
         }
     }
 
-    /// The first device of a printer that can begin a job, from the device behind the last used device,
+    /// The first device of a printer that can begin a job, from the device after the last used device,
     /// around to the last used device itself.
     fn next_free(&self, job: &DayJob) -> Option<usize> {
         let count = job.members.len();
@@ -258,7 +258,7 @@ impl<'a> Queue<'a> {
         }
     }
 
-    /// The estimated end of the job of the member, behind the jobs that are assigned to its device. `None` if
+    /// The estimated end of the job of the member, after the jobs that are assigned to its device. `None` if
     /// the device can't print the job.
     fn ending_on(&self, member: Member) -> Option<Ending> {
         let device = self.devices.get(member.device)?;

@@ -23,7 +23,7 @@ const NATURAL_LANGUAGE: u8 = 0x48;
 
 const MIME_MEDIA_TYPE: u8 = 0x49;
 
-/// The front of a body: version 1.1, Print-Job, request-id 1, and the tag of the operation attributes.
+/// The beginning of a body: version 1.1, Print-Job, request-id 1, and the tag of the operation attributes.
 const BEGIN: [u8; 9] = [1, 1, 0, 2, 0, 0, 0, 1, 1];
 
 /// The tags of the job attributes, and of the end of the attributes.
@@ -31,7 +31,7 @@ const JOB_ATTRIBUTES: u8 = 2;
 
 const END_OF_ATTRIBUTES: u8 = 3;
 
-/// Appends bytes behind their length.
+/// Appends bytes after their length.
 fn put_counted(body: Bytes, bytes: &[u8]) -> Bytes {
     let count = u16::try_from(bytes.len()).unwrap_or(u16::MAX);
     body.put(&count.to_be_bytes()).put(bytes)

@@ -119,7 +119,7 @@ struct Like<'a> {
     name: &'a [u8],
 }
 
-/// Appends the name of a printer's device, and behind the device that the further one is like, the name of the
+/// Appends the name of a printer's device, and after the device that the further one is like, the name of the
 /// further one.
 fn put_member(output: Bytes, settings: &Settings, place: usize, like: Like<'_>) -> Bytes {
     let output = match settings.devices.get(place) {

@@ -361,7 +361,7 @@ all_begin_keep now (start ∷ starts) state inside can agree =
     (All-weaker (λ s. s.device < length state.devices) (λ s. s.device < length next.devices) (λ s below. omega (arith, below, begins_devices now start state)) starts (All-tail (λ s. s.device < length state.devices) start starts inside))
     can.1 (begin_agrees now (now + start.time) start.device start.job state.devices state.spool.jobs (All-head (λ s. s.device < length state.devices) start starts inside) can.0.waits agree))
 
--- the next start can begin, and the starts behind it can begin after it
+-- the next start can begin, and the starts after it can begin after it
 pub can_next : (now i : ℕ) (starts : List Started) (start : Started) (s : State) → i < length starts → start ≡ get_or starts i start → AllCanBegin now (drop i starts) s → CanBegin start s × AllCanBegin now (drop (i + 1) starts) (beginning now start s)
 can_next now i starts start s inside is can = subst (λ (ss : List Started). AllCanBegin now ss s) (split_at starts i start inside is) can
 

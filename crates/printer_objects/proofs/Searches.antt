@@ -4,7 +4,7 @@ use Rattle.std.specs.List.{flat_map}
 use Rattle.std.specs.Option.{option_or}
 use Rattle.std.proofs.lemmas.List.Folds.{find-append}
 
--- the search from a place on: there, else behind it
+-- the search from a place on: there, else after it
 pub find_from : {X A : Type 0} (p : A → Bool) (f : X → List A) (xs : List X) (i : ℕ) (x : X) → i < length xs → x ≡ get_or xs i x → find p (flat_map f (drop i xs)) ≡ option_or (find p (f x)) (find p (flat_map f (drop (i + 1) xs)))
 find_from {X} p f xs i x inside is =
     ap (λ (ys : List X). find p (flat_map f ys)) (drop-cons xs i x inside)

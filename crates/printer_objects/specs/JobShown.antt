@@ -18,7 +18,7 @@ use Rattle.printer_objects.specs.JobAttribute.{job_attribute_name}
 -- the data of a job's attributes
 pub record ShownJob : Type 0 where
   pub job : JobRecord
-  -- the front of the URIs of printers and jobs
+  -- the beginning of the URIs of printers and jobs
   pub uri_base : List ℕ
   -- the name of the job's printer, and whether that is paused
   pub printer_name : List ℕ

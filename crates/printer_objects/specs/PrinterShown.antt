@@ -25,7 +25,7 @@ pub record ShownPrinter : Type 0 where
   pub paused : Bool
   -- the printer's settings and offer
   pub offer : OfferRecord
-  -- the front of the URIs of printers and jobs
+  -- the beginning of the URIs of printers and jobs
   pub uri_base : List ℕ
   -- whether some job keeps the printer busy
   pub busy : Bool

@@ -15,11 +15,11 @@ listed_by LoadedMedia device = loaded_media device
 abbrev pub is_among : List (List ℕ) → List ℕ → Bool
 is_among found entry = list_any (λ other. bytes_eq other entry) found
 
--- the entry behind those found, unless it is among them
+-- the entry after those found, unless it is among them
 abbrev pub with_entry : List (List ℕ) → List ℕ → List (List ℕ)
 with_entry found entry = if is_among found entry then found else found ++ entry ∷ []
 
--- the entries behind those found, one after the other
+-- the entries after those found, one after the other
 abbrev pub with_entries : List (List ℕ) → List (List ℕ) → List (List ℕ)
 with_entries found entries = fold with_entry found entries
 

@@ -28,7 +28,7 @@ pub(crate) fn bytes(
     Ok(Attribute::known(alloc, name.as_bytes(), value))
 }
 
-/// The front of a text, of at most as many bytes as a value can have.
+/// The beginning of a text, of at most as many bytes as a value can have.
 fn front(bytes: &[u8]) -> &[u8]
     ensures { result.now ≡ take VALUE_BYTES bytes.now }
 {

@@ -20,7 +20,7 @@ pub(crate) const OCTETS_PER_K: usize = 1_024;
 #[derive(Drop)]
 pub struct JobShown<'a> {
     pub job: &'a Job,
-    /// The front of the URIs of printers and jobs.
+    /// The beginning of the URIs of printers and jobs.
     pub uri_base: &'a Text,
     /// The name of the printer that the job was sent to.
     pub printer_name: &'a Text,

@@ -28,7 +28,7 @@ pub struct PrinterShown<'a> {
     pub printer: &'a Printer,
     /// The printer's settings and offer.
     pub offer: &'a Offer<'a>,
-    /// The front of the URIs of printers and jobs.
+    /// The beginning of the URIs of printers and jobs.
     pub uri_base: &'a Text,
     /// Whether some job keeps the printer busy ([`crate::keeps_busy`]).
     pub busy: bool,

@@ -11,7 +11,7 @@ use Rattle.program.specs.declared.exit_status.ExitStatus.TheVariants as Ends
 abbrev pub settings_refused : Fault → ProgramOutput
 settings_refused fault = refused_as (fault_words fault)
 
--- the line is written as a whole, with the status; or the writer failed, and a front of the line was written
+-- the line is written as a whole, with the status; or the writer failed, and a prefix of the line was written
 abbrev pub WritesLine : List ℕ → Option (List ℕ) → Option (List ℕ) → ExitStatus → Type 0
 WritesLine line held holds status = ((status ≡ Ends.Refused) × Appends held holds line) ⊎ ((status ≡ Ends.Failed) × (n : ℕ) × Appends held holds (take n line))
 

@@ -553,7 +553,7 @@ agrees_read key d e bytes c l l' a at after number taken due read =
     (let f = a.front key d at in (f.0, due ∙ (f.1 ∙ ap (λ (xs : List ℕ). xs ++ f.0) (sym taken))))
     (λ draining sound. let was = read draining sound in was.2 ∙ (ap (λ (xs : List ℕ). xs ++ bytes) (a.read key d at was.0 was.1) ∙ sym (at_this d.id (c.read d.id ++ bytes) c.read)))
 
--- the parts behind a read that brought bytes
+-- the parts after a read that brought bytes
 abbrev Fed : ℕ → List ℕ → Rel → Type 0
 Fed key bytes R = (e : Entry) (c : Carried) (l : Ledger) (hs : List Happening) (l' : Ledger) → Agrees c l → l.entries key ≡ Some e → AreNew (carry c (Reads e.id (wire.Done bytes))) hs → R l hs l' → Agrees (carried (carry c (Reads e.id (wire.Done bytes))) hs) l'
 
@@ -618,7 +618,7 @@ reads_at moment key (Some e) c l hs l' there a new it = reads_if (is_read e) mom
 carries_reads : (moment key : ℕ) → Carries (ReadsOne moment key)
 carries_reads moment key c l hs l' a new it = reads_at moment key (l.entries key) c l hs l' refl a new it
 
--- the waiting bytes are the due bytes behind the taken bytes
+-- the waiting bytes are the due bytes after the taken bytes
 waits : (e : Entry) (rest : List ℕ) → e.due ≡ e.taken ++ rest → waiting e ≡ rest
 waits e rest is = ap (λ (due : List ℕ). drop (length e.taken) due) is ∙ past e.taken rest
   where

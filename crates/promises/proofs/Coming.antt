@@ -54,7 +54,7 @@ not_broken false is none = none
 abbrev pub HaltsAs : Step → Entry → List ℕ → List Handled → Entry → Type 0
 HaltsAs comes new base asked e = (e.due ≡ base) ⊎ ((bytes : List ℕ) × IsOwed new.id (closes_of new.progress) comes asked bytes × (e.due ≡ base ++ bytes))
 
--- the result of a client's step: the events that the core handled, and the bytes that are due by the step behind the earlier bytes
+-- the result of a client's step: the events that the core handled, and the bytes that are due by the step after the earlier bytes
 pub record Acted (moment key : ℕ) (comes : Step) (new : Entry) (base : List ℕ) (l : Ledger) (hs : List Happening) (l' : Ledger) : Type 0 where
   pub handled : List Handled
   pub sent : ℕ → List ℕ

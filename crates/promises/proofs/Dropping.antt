@@ -73,7 +73,7 @@ use Rattle.promises.proofs.Combining.{or_within, if_within, many_within, each_wi
 
 -- ---- the notes of events
 
--- whether an event may come behind these happenings; the argument says whether it may come before them
+-- whether an event may come after these happenings; the argument says whether it may come before them
 abbrev after : Bool → List Happening → Bool
 after came [] = came
 after came (h ∷ hs) = after (brings_event h) hs
@@ -348,7 +348,7 @@ kept_told timed old (Undispatched reply) notes new kept it = it
 kept_told timed old (Idle reply) notes new kept it = it
 kept_told timed old (Dispatched reply) notes new kept it = it
 
--- an event that wasn't dropped, and the part behind it
+-- an event that wasn't dropped, and the part after it
 kept_then : (came : Bool) (moment : ℕ) (event : Event) (outcome : Outcome) (Q : Rel) → IsKept outcome → Quietly Q → (l : Ledger) (hs : List Happening) (l' : Ledger) → Then (Happens moment event outcome) Q l hs l' → ToldFrom came moment l hs l'
 kept_then came moment event outcome Q kept quiet l hs l' it =
     let made = it.first.first in
@@ -371,7 +371,7 @@ dropped_nothing moment event l hs l' it =
       ap (λ (x : Ledger). x.core) it.second.1 ∙ (ap (λ (x : Ledger). x.core) it.first.after ∙ it.first.handles.0),
     )
 
--- the refusal of a dropped event is told behind it
+-- the refusal of a dropped event is told after it
 dropped_then : (moment : ℕ) (event : Event) (Q : Rel) → ((l : Ledger) (hs : List Happening) (l' : Ledger) → Q l hs l' → Refuses l hs l')
     → (l : Ledger) (hs : List Happening) (l' : Ledger) → Then (Happens moment event Dropped) Q l hs l' → ToldFrom true moment l hs l'
 dropped_then moment event Q refuses l hs l' it =

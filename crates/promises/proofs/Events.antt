@@ -61,7 +61,7 @@ pub record SameWay (one : Outcome) (notes : List Note) (new : State) (other : Ou
 told_same : (one other : Effects) → SameReply one other → cancels_told one ≡ cancels_told other
 told_same one other same = ap (λ (cancels : List Cancel). map Canceled cancels) same.cancels
 
--- the note behind the same cancels is one
+-- the note after the same cancels is one
 last_one : (cancels : List Cancel) (x y : Note) (rest more : List Happening) → map Told (map Canceled cancels ++ x ∷ []) ++ rest ≡ map Told (map Canceled cancels ++ y ∷ []) ++ more → x ≡ y
 last_one [] x y rest more e = cc
 last_one (cancel ∷ cancels) x y rest more e = last_one cancels x y rest more (cc)

@@ -41,7 +41,7 @@ ends_front : (t : Bool) (said later : List HttpElement) → (in_order Between (s
 ends_front true said later front is = none_front said later is
 ends_front false said later front is = front is
 
--- a front of elements in order is in order
+-- a prefix of elements in order is in order
 order_front : (place : Place) (said later : List HttpElement) → in_order place (said ++ later) ≡ true → in_order place said ≡ true
 order_front place [] later is = refl
 order_front Between (HasHead closes ∷ said) later is = order_front (Headed closes) said later is
@@ -69,7 +69,7 @@ first_ordered ordered some stays stream said first =
 
 -- ---- where a client is
 
--- the place after the front of an exchange
+-- the place after the beginning of an exchange
 abbrev place_of : Front → Place
 place_of Nothing = Between
 place_of (Begun closes true body) = Within closes (length body)
@@ -328,7 +328,7 @@ walked_none id (Over front refusal) said heard same order = record {
   ordered = ap (λ (xs : List HttpElement). in_order Between xs) same ∙ order;
 }
 
--- one list behind another, each a step
+-- one list after another, each a step
 joined : {A : Type 0} (old more later now rest : List A) → old ++ more ≡ now → now ++ later ≡ rest → old ++ (more ++ later) ≡ rest
 joined old more later now rest one two = sym (append_assoc old more later) ∙ (ap (λ xs. xs ++ later) one ∙ two)
 

@@ -87,7 +87,7 @@ CameWith device handled x due = (Counts device x × (due ≡ due_by device (due_
 abbrev pub CameAs : ℕ → List Handled → Option Entry → Option Entry → Type 0
 CameAs device handled x y = CameWith device handled x (due_at y)
 
--- the connection broke at one of these events: the bytes due on it are a front of the bytes that would be due by then
+-- the connection broke at one of these events: the bytes due on it are a prefix of the bytes that would be due by then
 pub record Halted (device : ℕ) (handled : List Handled) (x : Option Entry) (due : List ℕ) : Type 0 where
   pub before : List Handled
   pub behind : List Handled
@@ -815,7 +815,7 @@ first_if : (t : Bool) (classes : List PlannedClass) (place : ℕ) (start : Start
 first_if true classes place start is = first_at classes place start is
 first_if false classes place start is = cc
 
--- the starts of one device, and of those behind it
+-- the starts of one device, and of those after it
 starts_cons : (state : State) (now : ℕ) (classes : List PlannedClass) (place : ℕ) (it : Device) (devices : List Device) (device : ℕ)
     → flat_map (start_for device state) (option_to_list (if is_free now it then first_of classes place else None)) ≡ [] → flat_map (start_for device state) (starts_from now classes (suc place) devices) ≡ [] → flat_map (start_for device state) (starts_from now classes place (it ∷ devices)) ≡ []
 starts_cons state now classes place it devices device head rest =

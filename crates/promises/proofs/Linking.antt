@@ -321,7 +321,7 @@ module _ (opening : State) (trace : Trace) (l : Ledger) (runs : Runs trace (open
       by (inl (counts, due)) = absurd (subst (λ (y : Option Entry). Counts device y) none counts)
       by (inr (called, due)) = due
 
-  -- a front of the bytes sent until an earlier event
+  -- a prefix of the bytes sent until an earlier event
   front_more : (handled before behind : List Handled) (device : ℕ) (due : List ℕ) → handled ≡ before ++ behind → IsFrontSent before device due → IsFrontSent handled device due
   front_more handled before behind device due whole (first, later, same, rest, is) = (first, later ++ behind, whole ∙ (ap (λ (its : List Handled). its ++ behind) same ∙ append_assoc first later behind), rest, is)
 

@@ -118,7 +118,7 @@ seen_as key bytes l l' p e said closes body there progress =
     parts : (p.said ≡ said) × (p.closes ≡ closes) × (p.body ≡ body)
     parts = one_http p.said said p.closes closes p.body body (sym p.progress ∙ (ap (λ (x : Entry). x.progress) entry ∙ progress))
 
--- of two parts from one ledger, where the first is a front of the second: what is left of the second
+-- of two parts from one ledger, where the first is a prefix of the second: what is left of the second
 part_rest : (key : ℕ) (p r : List ℕ) (l m l' : Ledger) → IsPart key p l m → IsPart key (p ++ r) l l' → IsPart key r m l'
 part_rest key p r l m l' one other = record {
   e = further one.said one.closes one.body p one.e;
@@ -148,7 +148,7 @@ abbrev IsOther : HttpElement → Type 0
 IsOther h = (byte : ℕ) → h ≡ HasByte byte → ⊥
 
 module _ (some : SomeParse) (stays : FirstStays) (no_item : NoItemFollows) (one_lpd : OneLpdParse) (no_report : NoReportFollows) where
-  -- two fronts of a stream go on as one
+  -- two prefixes of a stream go on as one
   fronts : {A : Type 0} (read : List ℕ) (said one other : List HttpElement) → ParsesFirst read (said ++ one) → ParsesFirst read (said ++ other) → ((u v : List HttpElement) → one ++ u ≡ other ++ v → A) → A
   fronts read said one other p q goes =
       let whole = some read in
@@ -437,7 +437,7 @@ module _ (some : SomeParse) (stays : FirstStays) (no_item : NoItemFollows) (one_
     finish zero l ks b none heard calm q = (ap keyed q.times.0, q.times.1)
     finish (suc m) l ks b none heard calm q = finishes m (finish m) l ks b none heard calm q
 
-    -- of two lists of bytes that go on as one, one is a front of the other
+    -- of two lists of bytes that go on as one, one is a prefix of the other
     prefix : (p r : List ℕ) (u v : List HttpElement) → map HasByte p ++ u ≡ map HasByte r ++ v → ((more : List ℕ) × (r ≡ p ++ more)) ⊎ ((y : ℕ) × (ys : List ℕ) × (p ≡ r ++ y ∷ ys))
     prefix [] r u v same = inl (r, refl)
     prefix (y ∷ ys) [] u v same = inr (y, ys, refl)

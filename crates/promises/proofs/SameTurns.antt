@@ -475,7 +475,7 @@ module _ (steps : StepsOnce) (queries : SameQueries) (asks : AsksOne) (bodies : 
 
   -- ---- traces
 
-  -- two relations that take all that is seen, with no rest behind it, have one end
+  -- two relations that take all that is seen, with no rest after it, have one end
   all_one : (R : Rel) → One R → (l : Ledger) (hs ks : List Happening) (a b : Ledger) → keyed hs ≡ keyed ks → Calm hs → Calm ks → R l hs a → R l ks b → a ≡ b
   all_one R r l hs ks a b same c d p q = let it = r.one l hs [] a ks [] b (ap (λ (xs : List Happening). xs ++ []) same) c d p q in it.1
 

@@ -109,7 +109,7 @@ stays_then x y z p q e is client =
 pub one_entry : (d e : Entry) → Some d ≡ Some e → d ≡ e
 one_entry d e same = cc
 
--- a broken connection was broken before, with the same bytes due; or it broke, and the bytes due on it are a front of the bytes that would be due
+-- a broken connection was broken before, with the same bytes due; or it broke, and the bytes due on it are a prefix of the bytes that would be due
 abbrev pub BreaksAs : (ℕ → List ℕ) → ℕ → Option Entry → Option Entry → Type 0
 BreaksAs sent device x y = (IsLost device x × (due_at y ≡ due_at x)) ⊎ (Counts device x × (rest : List ℕ) × (due_at y ++ rest ≡ due_at x ++ sent device))
 

@@ -234,7 +234,7 @@ module _ (steps : StepsOnce) (queries : SameQueries) (asks : AsksOne) (bodies : 
 
   -- ---- traces
 
-  -- a relation that takes a whole list, with no rest behind it, has one end
+  -- a relation that takes a whole list, with no rest after it, has one end
   all_one : (R : Rel) → Fixed R → (l : Ledger) (hs : List Happening) (a b : Ledger) → R l hs a → R l hs b → a ≡ b
   all_one R r l hs a b p q = let it = r.one l hs [] a hs [] b refl p q in it.1
 

@@ -69,7 +69,7 @@ pub record NextLpd (queues : List ℕ → Bool) (read : List ℕ) (items : List 
   pub comes : StepsLpd queues session said what session_after
   pub is : after ≡ Queue (items ++ said ∷ []) session_after
 
--- the bytes that were read of an LPD client have a fault behind its items: the fault is refused, and the connection drains
+-- the bytes that were read of an LPD client have a fault after its items: the fault is refused, and the connection drains
 pub record FaultLpd (read : List ℕ) (items : List ItemRecord) (session : Option SessionState) (what : Step) (after : PeerRecord) : Type 0 where
   pub fault : LpdFault
   pub says : LpdItems read items (Faulty fault)
@@ -177,7 +177,7 @@ asked_by key (it ∷ later) = (if is_asked key it.asked then it ∷ [] else []) 
 
 -- ---- the law
 
--- The bytes due on a client's connection are those of its acts, from its first byte on. The events that it asked for since it was accepted, and the refusals of memory for them, are exactly those of these acts, in order. Each act is on a front of the bytes read.
+-- The bytes due on a client's connection are those of its acts, from its first byte on. The events that it asked for since it was accepted, and the refusals of memory for them, are exactly those of these acts, in order. Each act is on a prefix of the bytes read.
 pub record IsAnswered (opening : State) (key : ℕ) (handled : List Handled) (e : Entry) : Type 0 where
   pub earlier : List Handled
   pub since : List Handled
@@ -244,13 +244,13 @@ WasAnswered opening handled e = ClientTalk e.progress → e.broken ≡ false →
 abbrev pub WasCutOff : State → List Handled → Entry → Type 0
 WasCutOff opening handled e = ClientTalk e.progress → e.broken ≡ true → (key : ℕ) × (before : List Handled) × (behind : List Handled) × (handled ≡ before ++ behind) × IsCutOff opening key before e
 
--- the items acted on are a front of those that the bytes read say, by HTTP or by RFC 1179
+-- the items acted on are a prefix of those that the bytes read say, by HTTP or by RFC 1179
 abbrev pub IsFirst : List ℕ → PeerRecord → Type 0
 IsFirst read (Http said closes body) = ParsesFirst read said
 IsFirst read (Queue items session) = Lpd.ParsesFirst read items
 IsFirst read (Link reports device) = Unit {0}
 
--- The events of a trace are one run of the core, whose parts tell the listener's notes. Each open connection of a client that isn't broken is answered by the run, and so was each that was closed without having broken. A broken one was answered until it broke. On each connection, open or closed, the items acted on are a front of those that its bytes say. On an open connection they are all of these, unless the connection is draining or broken.
+-- The events of a trace are one run of the core, whose parts tell the listener's notes. Each open connection of a client that isn't broken is answered by the run, and so was each that was closed without having broken. A broken one was answered until it broke. On each connection, open or closed, the items acted on are a prefix of those that its bytes say. On an open connection they are all of these, unless the connection is draining or broken.
 pub record AreAnswered (opening : State) (trace : Trace) (l : Ledger) : Type 0 where
   pub handled : List Handled
   pub timed : AreOf trace handled

@@ -24,7 +24,7 @@ is_unmade (OfPart Job) = true
 is_unmade (OfPart File) = false
 is_unmade (OfGrowth growth) = false
 
--- whether a refusal directly behind this happening may be that of an event: it isn't if no event could be made
+-- whether a refusal directly after this happening may be that of an event: it isn't if no event could be made
 abbrev pub brings_event : Happening → Bool
 brings_event (Chosen (Asked part (Some loss))) = not (is_unmade loss)
 brings_event _ = true

@@ -1,4 +1,4 @@
--- The answers to an IPP client, exchange by exchange of its stream: `100 Continue` if its head invites it, and one answer behind its body. The answer is the reply that the run gave to the event of the body, or a status alone.
+-- The answers to an IPP client, exchange by exchange of its stream: `100 Continue` if its head invites it, and one answer after its body. The answer is the reply that the run gave to the event of the body, or a status alone.
 use Rattle.std.specs.Prelude.{ℕ, ◌≡◌, ◌⊎◌, Bool, true, false, if◌then◌else◌, List, [], ◌∷◌, ◌++◌, map, All, Option, Some, None}
 use Rattle.std.specs.List.{flat_map}
 use Rattle.print_room.specs.State.{State}
@@ -29,7 +29,7 @@ use Rattle.promises.specs.Answers.{Act, AreActs, IsRefusal, IsGivenTo, asked_by,
 
 -- a request, from its head to the end of its body (RFC 9112, section 2.1), with the part of the run that it asked for, which is the event of it that the core handled and that memory was refused, and its answer
 pub record Exchange : Type 0 where
-  -- whether the connection closes behind the exchange (RFC 9112, section 9.3)
+  -- whether the connection closes after the exchange (RFC 9112, section 9.3)
   pub closes : Bool
   -- whether the head expects `100-continue` (RFC 9110, section 10.1.1)
   pub invites : Bool
@@ -37,7 +37,7 @@ pub record Exchange : Type 0 where
   pub asked : List Handled
   pub answer : List ℕ
 
--- a head, the invitation that it waits for, and a front of a body
+-- a head, the invitation that it waits for, and a prefix of a body
 abbrev pub says_begun : Bool → Bool → List ℕ → List HttpElement
 says_begun closes invites body = HasHead closes ∷ ((if invites then Invites ∷ [] else []) ++ map HasByte body)
 
@@ -65,9 +65,9 @@ invitation invites = if invites then continue_head else []
 abbrev pub due_in : Exchange → List ℕ
 due_in x = invitation x.invites ++ x.answer
 
--- ---- the part behind the whole exchanges
+-- ---- the part after the whole exchanges
 
--- nothing, or the front of one more exchange
+-- nothing, or the beginning of one more exchange
 pub data Front : Type 0 where
   Nothing : Front
   Begun : (closes invites : Bool) (body : List ℕ) → Front
@@ -91,7 +91,7 @@ due_refusal (Some refusal) = refusal_head refusal
 
 -- ---- the law
 
--- A client's stream is whole exchanges, one after the other, and then at most the front of one more, or a refusal. Nothing follows an exchange that closes, one with too short a body, or a refusal. The bytes due are those of the exchanges, and the events asked, and the refusals of memory for them, are exactly theirs, in order.
+-- A client's stream is whole exchanges, one after the other, and then at most the beginning of one more, or a refusal. Nothing follows an exchange that closes, one with too short a body, or a refusal. The bytes due are those of the exchanges, and the events asked, and the refusals of memory for them, are exactly theirs, in order.
 pub record AreExchanges (id : ℕ) (heard : List HttpElement) (handled : List Handled) (bytes : List ℕ) : Type 0 where
   pub order : in_order Between heard ≡ true
   pub exchanges : List Exchange
@@ -140,7 +140,7 @@ IsByExchanges key handled progress e = Unit {0}
 abbrev pub WasByExchanges : List Handled → Entry → Type 0
 WasByExchanges handled e = (key : ℕ) × (before : List Handled) × (behind : List Handled) × (handled ≡ before ++ behind) × IsByExchanges key before e.progress e
 
--- The events of a trace are one run of the core, whose parts tell the listener's notes, and by which each IPP client is answered exchange by exchange, even if its connection was closed. On each connection the exchanges are a front of the exchanges that its bytes say. On an open connection they are all of these, unless the connection is draining or broken.
+-- The events of a trace are one run of the core, whose parts tell the listener's notes, and by which each IPP client is answered exchange by exchange, even if its connection was closed. On each connection the exchanges are a prefix of the exchanges that its bytes say. On an open connection they are all of these, unless the connection is draining or broken.
 pub record AreByExchanges (opening : State) (trace : Trace) (l : Ledger) : Type 0 where
   pub handled : List Handled
   pub timed : AreOf trace handled

@@ -153,15 +153,15 @@ due_by device before (it ∷ later) = due_by device ((if names device it.named t
 abbrev pub WasSent : List Handled → Entry → Type 0
 WasSent handled e = (device : ℕ) → device_of e.progress ≡ Some device → e.broken ≡ false → (before : List Handled) × (behind : List Handled) × (handled ≡ before ++ behind) × (e.due ≡ due_by device [] before)
 
--- the bytes due are a front of the orders for a device, by the events up to one of these
+-- the bytes due are a prefix of the orders for a device, by the events up to one of these
 abbrev pub IsFrontSent : List Handled → ℕ → List ℕ → Type 0
 IsFrontSent handled device due = (before : List Handled) × (behind : List Handled) × (handled ≡ before ++ behind) × (rest : List ℕ) × (due ++ rest ≡ due_by device [] before)
 
--- a device's connection that broke was sent a front of its orders
+-- a device's connection that broke was sent a prefix of its orders
 abbrev pub WasHalted : List Handled → Entry → Type 0
 WasHalted handled e = (device : ℕ) → device_of e.progress ≡ Some device → e.broken ≡ true → IsFrontSent handled device e.due
 
--- The events of a trace are one run of the core, whose parts tell the listener's notes. On each open connection of a device that isn't broken, the bytes due are the run's orders for the device since it gave its name: the line of each cancel, and for each job the line and the documents as they were when the job began. The same holds for each that was closed without having broken, by the events before. On one that broke, a front of the orders is due.
+-- The events of a trace are one run of the core, whose parts tell the listener's notes. On each open connection of a device that isn't broken, the bytes due are the run's orders for the device since it gave its name: the line of each cancel, and for each job the line and the documents as they were when the job began. The same holds for each that was closed without having broken, by the events before. On one that broke, a prefix of the orders is due.
 pub record AreSent (opening : State) (trace : Trace) (l : Ledger) : Type 0 where
   pub handled : List Handled
   pub timed : AreOf trace handled

@@ -33,7 +33,7 @@ pub fn one_ledger()
 /// by turn and call by call. On each open connection of a device that isn't broken, the bytes due are the
 /// run's orders for the device since it last gave its name: the line of each cancel, and for each job that
 /// began on the device the line of the job, and its documents as they were when the job began. Each HELLO in a
-/// turn gives a name, and no other event does. On a connection that broke, a front of the orders is due.
+/// turn gives a name, and no other event does. On a connection that broke, a prefix of the orders is due.
 pub fn devices_are_sent_their_orders()
     ensures { (opening : State) (trace : Trace) (ledger : Ledger) → Runs trace (opening_ledger opening) ledger → AreSent opening trace ledger }
 {}
@@ -44,7 +44,7 @@ pub fn devices_are_sent_their_orders()
 /// the device had another connection. The reports of the open connection come last. The connections that
 /// ended are exactly the closed connections of the device, in the order of their ends, and the connections
 /// that it gave up by another connection. The name is that of the device in the settings. The reports of a
-/// connection are a front of those that its bytes say: all of them, unless the connection is draining or
+/// connection are a prefix of those that its bytes say: all of them, unless the connection is draining or
 /// broken.
 pub fn devices_are_heard()
     ensures { (opening : State) (trace : Trace) (ledger : Ledger) → Runs trace (opening_ledger opening) ledger → AreHeard opening trace ledger }
@@ -59,7 +59,7 @@ pub fn devices_are_heard()
 /// query, or for the file. The byte 01 for a fault needs a fault in the bytes read. The events that
 /// the connection asked for, and these notes, are exactly those of its acts, in order. No act follows one
 /// after which the connection drains. On a connection that broke, the same holds for the acts before. On each
-/// connection, open or closed, the items acted on are a front of those that its bytes say: on an open one all
+/// connection, open or closed, the items acted on are a prefix of those that its bytes say: on an open one all
 /// of these, unless the connection is draining or broken.
 pub fn clients_are_answered()
     ensures { (opening : State) (trace : Trace) (ledger : Ledger) → Runs trace (opening_ledger opening) ledger → AreAnswered opening trace ledger }

@@ -27,15 +27,15 @@ read_line id bytes = about (codes "read") id ++ (codes " " ++ (escaped bytes ++ 
 abbrev pub octets_head : ℕ → ℕ → List ℕ
 octets_head id count = about (codes "octets") id ++ (codes " " ++ decimal count)
 
--- the same line with the octets behind it
+-- the same line with the octets after it
 abbrev pub octets_line : ℕ → List ℕ → List ℕ
 octets_line id bytes = octets_head id (length bytes) ++ (codes "\n" ++ (bytes ++ codes "\n"))
 
--- the line of bytes that were read, with `zeros` octets behind them that are left out
+-- the line of bytes that were read, with `zeros` octets after them that are left out
 abbrev pub zeros_line : ℕ → ℕ → List ℕ → List ℕ
 zeros_line id zeros bytes = about (codes "zeros") id ++ (codes " " ++ (decimal zeros ++ (codes " " ++ (escaped bytes ++ codes "\n"))))
 
--- the line of bytes that were read: few bytes are in the line, many behind it
+-- the line of bytes that were read: few bytes are in the line, many after it
 abbrev pub came_line : ℕ → List ℕ → List ℕ
 came_line id bytes = if nat_lt (length bytes) 1024 then read_line id bytes else octets_line id bytes
 

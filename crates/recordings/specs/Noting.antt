@@ -40,7 +40,7 @@ are_comments_from false (byte ∷ bytes) = are_comments_from (byte == 10) bytes
 abbrev pub are_comments : List ℕ → Bool
 are_comments bytes = are_comments_from true bytes
 
--- the notes with a line behind them; none if there are no notes
+-- the notes with a line after them; none if there are no notes
 abbrev pub with_note : List ℕ → Option (List ℕ) → Option (List ℕ)
 with_note line noted = option_map (λ before. before ++ line) noted
 

@@ -4,13 +4,13 @@ ghost use Rattle.std.specs.Prelude.{◌≡◌, ◌+◌, OnOk, length};
 use std::alloc::{AllocError, Global};
 use std::marker::Model;
 
-/// Bytes that were read, and octets of documents behind them that are left out; zeros take their place. In
+/// Bytes that were read, and octets of documents after them that are left out; zeros take their place. In
 /// clauses it is the number of bytes that were read.
 #[derive(Drop)]
 pub(crate) struct Blanked {
     /// The bytes, with zeros for the octets that are left out between them.
     bytes: Vec<u8>,
-    /// The number of octets behind the bytes that are left out.
+    /// The number of octets after the bytes that are left out.
     zeros: usize,
 }
 
@@ -38,7 +38,7 @@ impl Blanked {
         &self.bytes
     }
 
-    /// The number of octets behind the bytes that are left out.
+    /// The number of octets after the bytes that are left out.
     pub(crate) fn zeros(&self) -> usize {
         self.zeros
     }

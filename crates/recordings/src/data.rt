@@ -5,7 +5,7 @@ ghost use Rattle.recordings.specs.Data.{escape, escaped};
 use memchr::memchr2;
 use std::alloc::{AllocError, Global};
 
-/// Bytes that are written as themselves, the byte behind them that isn't, and the bytes behind that.
+/// Bytes that are written as themselves, the byte after them that isn't, and the bytes after that.
 #[derive(Clone, Copy)]
 struct Cut<'a> {
     plain: &'a [u8],
@@ -54,7 +54,7 @@ pub(crate) fn put_data(output: &mut Vec<u8>, bytes: &[u8]) -> Result<(), AllocEr
     Ok(())
 }
 
-/// The byte with this letter behind a backslash.
+/// The byte with this letter after a backslash.
 fn unescape(byte: u8) -> Option<u8> {
     match byte {
         b'n' => Some(b'\n'),

@@ -16,9 +16,9 @@ pub enum Entry {
     Accepted(Accepted),
     /// Bytes were read, and are in the line.
     Came(Came),
-    /// Bytes were read, and are behind the line as they are.
+    /// Bytes were read, and are after the line as they are.
     Octets(Came),
-    /// Bytes were read, with octets behind them that are left out.
+    /// Bytes were read, with octets after them that are left out.
     Zeros(CameZeros),
     /// The input of the connection of a number ended.
     Ended(WireId),
@@ -54,7 +54,7 @@ pub struct Came {
     pub bytes: Vec<u8>,
 }
 
-/// Bytes that came on a connection, and the number of zeros behind them, for octets that are left out.
+/// Bytes that came on a connection, and the number of zeros after them, for octets that are left out.
 #[derive(Drop)]
 pub struct CameZeros {
     pub id: WireId,
@@ -63,7 +63,7 @@ pub struct CameZeros {
 }
 
 impl CameZeros {
-    /// The bytes, and the zeros behind them. The only error is out of memory.
+    /// The bytes, and the zeros after them. The only error is out of memory.
     pub fn octets(&self, alloc: Global) -> Result<Vec<u8>, AllocError> {
         let mut octets = Vec::from_slice(alloc, &self.bytes)?;
         octets.resize(self.bytes.len().saturating_add(self.zeros), 0)?;

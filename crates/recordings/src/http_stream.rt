@@ -40,7 +40,7 @@ impl HttpStream {
     /// Reads bytes of a body, or up to a line feed, and leaves out the octets of documents. The only error is
     /// out of memory.
     ///
-    /// A part of a body is at the front of the bytes, since a head and the line of a chunk's size end in a
+    /// A part of a body is at the beginning of the bytes, since a head and the line of a chunk's size end in a
     /// line feed.
     pub(crate) fn blank(&mut self, bytes: &[u8], output: &mut Blanked) -> Result<(), AllocError>
         ensures { OnOk result (output.new ≡ output.old + length bytes.now) }
@@ -98,7 +98,7 @@ impl HttpStream {
         Ok(0)
     }
 
-    /// Takes the part of a body at the front of the bytes. Returns its length.
+    /// Takes the part of a body at the beginning of the bytes. Returns its length.
     fn take_part(&mut self, bytes: &[u8], output: &mut Blanked) -> Result<usize, AllocError>
         ensures { IfOk result (λ count. count ≤ length bytes.now × (output.new ≡ output.old + count)) }
     {

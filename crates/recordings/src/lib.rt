@@ -6,9 +6,9 @@
 //! another call. `docs/TRACES.md` describes the lines. The server over these wires is in other crates.
 //!
 //! A recording may leave out the octets of documents. A `Blanker` gets the connections that come and the
-//! bytes that are read of each, and leaves out the octets behind the attributes in a body of IPP, and the
+//! bytes that are read of each, and leaves out the octets after the attributes in a body of IPP, and the
 //! data files in a session of LPD. It reads with the readers of the server, so it finds the same heads as the
-//! server. Bytes that the server drops behind a fault are left out too.
+//! server. Bytes that the server drops after a fault are left out too.
 //!
 //! Examples: the recorded traces in `crates/play_examples/data`.
 #![tactic(auto)]

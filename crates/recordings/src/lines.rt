@@ -10,7 +10,7 @@ use std::io::Read;
 /// The number of bytes that one read asks for.
 const PIECE: usize = 65_536;
 
-/// Reads bytes into the front of a buffer. Returns their number.
+/// Reads bytes into the beginning of a buffer. Returns their number.
 pub fn fill<R: Read>(reader: &mut R, buffer: &mut [u8]) -> io::Result<usize>
     ensures { ReadsAtMost result buffer.new }
 {
@@ -48,7 +48,7 @@ impl<'a, R: Read> LineReader<'a, R> {
         self.passed
     }
 
-    /// Reads the next line, without its line feed, into `line`. Returns whether there is one. Bytes behind
+    /// Reads the next line, without its line feed, into `line`. Returns whether there is one. Bytes after
     /// the last line feed aren't a line.
     pub fn read(&mut self, line: &mut Vec<u8>) -> io::Result<bool> {
         line.clear();
@@ -74,7 +74,7 @@ impl<'a, R: Read> LineReader<'a, R> {
         }
     }
 
-    /// Appends this many octets that follow a line, and passes over the line feed behind them. Returns
+    /// Appends this many octets that follow a line, and passes over the line feed after them. Returns
     /// whether they are there. Another byte in the place of the line feed is appended too.
     fn read_octets(&mut self, line: &mut Vec<u8>, count: usize) -> io::Result<bool> {
         line.push(b'\n')?;

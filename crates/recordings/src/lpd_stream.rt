@@ -14,16 +14,16 @@ const RECEIVE_JOB: &[u8] = b"\x02-\n";
 enum Next {
     /// A command, a subcommand or a control file, which the reader reads.
     Read,
-    /// This many bytes of a data file, and the zero byte behind them.
+    /// This many bytes of a data file, and the zero byte after them.
     Data(usize),
-    /// The zero byte behind a data file.
+    /// The zero byte after a data file.
     Zero,
     /// Nothing: a fault was found, and the server reads no more bytes.
     Over,
 }
 
 /// The stream of an LPD client, read as the server reads it. A data file is passed over, and a new reader
-/// reads the bytes behind it.
+/// reads the bytes after it.
 #[derive(Drop)]
 pub(crate) struct LpdStream {
     alloc: Global,
@@ -103,7 +103,7 @@ impl LpdStream {
         }
     }
 
-    /// Reads the zero byte behind a data file, which is left out with the file, and the bytes behind it.
+    /// Reads the zero byte after a data file, which is left out with the file, and the bytes after it.
     fn end_data(&mut self, bytes: &[u8], output: &mut Blanked) -> Result<(), AllocError>
         ensures { OnOk result (output.new ≡ output.old + length bytes.now) }
     {

@@ -8,19 +8,19 @@ use std::alloc::AllocError;
 /// The next part of a message (RFC 8010, section 3.1).
 #[derive(Clone, Copy)]
 enum Next {
-    /// This many bytes that are passed over, and the part behind them.
+    /// This many bytes that are passed over, and the part after them.
     Passed(u32, Behind),
     /// The tag of a group or of an attribute.
     Tag,
-    /// The first byte of a length, and the part behind this many bytes.
+    /// The first byte of a length, and the part after this many bytes.
     High(Behind),
-    /// The second byte of a length, whose first byte is this, and the part behind this many bytes.
+    /// The second byte of a length, whose first byte is this, and the part after this many bytes.
     Low(u8, Behind),
     /// The document.
     Document,
 }
 
-/// The part behind bytes that are passed over.
+/// The part after bytes that are passed over.
 #[derive(Clone, Copy)]
 enum Behind {
     Tag,
@@ -42,7 +42,7 @@ pub(crate) struct Message {
     next: Next,
 }
 
-/// The part behind the bytes of a length.
+/// The part after the bytes of a length.
 fn passing(count: u32, behind: Behind) -> Next {
     match (count, behind) {
         (0, Behind::Tag) => Next::Tag,
@@ -51,7 +51,7 @@ fn passing(count: u32, behind: Behind) -> Next {
     }
 }
 
-/// The part behind a tag.
+/// The part after a tag.
 fn after_tag(tag: u8) -> Next {
     if tag == END_OF_ATTRIBUTES {
         Next::Document
@@ -62,7 +62,7 @@ fn after_tag(tag: u8) -> Next {
     }
 }
 
-/// The part behind a byte.
+/// The part after a byte.
 fn after(next: Next, byte: u8) -> Next {
     match next {
         Next::Passed(count, behind) => passing(count.saturating_sub(1), behind),

@@ -25,7 +25,7 @@ pub(crate) fn put_accept(
     }
 }
 
-/// Appends the note of a read into the front of a buffer.
+/// Appends the note of a read into the beginning of a buffer.
 pub(crate) fn put_read(
     output: &mut Vec<u8>,
     id: WireId,

@@ -6,7 +6,7 @@ use std::alloc::AllocError;
 use std::cmp::min;
 use std::io::IoSlice;
 
-/// Appends a front of bytes in parts, of at most `count` bytes. Returns its length.
+/// Appends a prefix of bytes in parts, of at most `count` bytes. Returns its length.
 pub(crate) fn put_front(
     output: &mut Vec<u8>,
     parts: &[IoSlice<'_>],
@@ -24,7 +24,7 @@ pub(crate) fn put_front(
     }
 }
 
-/// Appends a front of a part, of at most `count` bytes. Returns its length.
+/// Appends a prefix of a part, of at most `count` bytes. Returns its length.
 fn put_part(output: &mut Vec<u8>, part: &IoSlice<'_>, count: usize) -> Result<usize, AllocError>
     ensures { IfOk result (λ n. n ≤ length (io_slice_bytes part.now)) }
 {

@@ -213,7 +213,7 @@ impl Script {
     }
 }
 
-/// Copies bytes, and `zeros` zeros behind them, into a buffer. Returns their number, or 0 if there is no room
+/// Copies bytes, and `zeros` zeros after them, into a buffer. Returns their number, or 0 if there is no room
 /// for all of them.
 fn read_into(buffer: &mut [u8], bytes: &[u8], zeros: usize) -> usize
     ensures count { result ≤ length buffer.old }

@@ -1,11 +1,11 @@
-//! The line behind the settings of a recording.
+//! The line after the settings of a recording.
 use base_types::JobId;
 use text::{cut_at, decimal, number_up_to};
 
 /// The latest start that is read.
 const LATEST: u64 = 9_999_999_999_999_999;
 
-/// The words of the line behind the settings.
+/// The words of the line after the settings.
 #[derive(Clone, Copy)]
 pub struct Start<'a> {
     /// The start of the server, in ms since the beginning of 1970.
@@ -18,7 +18,7 @@ pub struct Start<'a> {
     pub first: JobId,
 }
 
-/// The words that may be behind the version: whether documents are left out, and the id of the first job.
+/// The words that may be after the version: whether documents are left out, and the id of the first job.
 fn read_options(words: &[u8]) -> Option<(bool, JobId)> {
     if let Some(digits) = words.strip_prefix(b"first ") {
         return Some((false, JobId::new(decimal(digits)?)?));
@@ -30,7 +30,7 @@ fn read_options(words: &[u8]) -> Option<(bool, JobId)> {
     None
 }
 
-/// The words of the line behind the settings; `None` if it isn't such a line.
+/// The words of the line after the settings; `None` if it isn't such a line.
 pub fn read_start(line: &[u8]) -> Option<Start<'_>> {
     let said = line.strip_prefix(b"recorded ")?;
     let (digits, more) = cut_at(said, b' ')?;

@@ -150,7 +150,7 @@ pub(crate) fn sum_of(bytes: &[u8]) -> u32 {
     sum.value()
 }
 
-/// The sum of a front of bytes in parts, of at most `count` bytes, computed without a copy.
+/// The sum of a prefix of bytes in parts, of at most `count` bytes, computed without a copy.
 pub(crate) fn sum_of_front(parts: &[IoSlice<'_>], count: usize) -> u32 {
     let mut sum = Sum::new();
     let mut left = count;

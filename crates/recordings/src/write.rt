@@ -11,13 +11,13 @@ use itoa::Buffer;
 use std::alloc::AllocError;
 use wires::{Door, WireId};
 
-/// The number of bytes from which on the bytes of a read are written behind their line.
+/// The number of bytes from which on the bytes of a read are written after their line.
 const MANY: usize = 1024;
 
-/// The front of the first line of a file that continues another file.
+/// The beginning of the first line of a file that continues another file.
 pub const GOES_ON: &[u8] = b"#goes on behind ";
 
-/// The front of the line of a server that was started, in a file that continues another file.
+/// The beginning of the line of a server that was started, in a file that continues another file.
 pub const STARTED: &[u8] = b"#started ";
 
 /// Appends the digits of a number.
@@ -67,7 +67,7 @@ fn put_read(output: &mut Vec<u8>, id: WireId, bytes: &[u8]) -> Result<(), AllocE
     Ok(())
 }
 
-/// Appends the line of bytes that were read, with the bytes behind it as they are.
+/// Appends the line of bytes that were read, with the bytes after it as they are.
 fn put_octets(output: &mut Vec<u8>, id: WireId, bytes: &[u8]) -> Result<(), AllocError>
     ensures { OnOk result (output.new.items ≡ output.old.items ++ octets_line id bytes.now) }
 {
@@ -79,7 +79,7 @@ fn put_octets(output: &mut Vec<u8>, id: WireId, bytes: &[u8]) -> Result<(), Allo
     Ok(())
 }
 
-/// Appends the line of bytes that were read: few bytes are in the line, many behind it.
+/// Appends the line of bytes that were read: few bytes are in the line, many after it.
 pub(crate) fn put_came(output: &mut Vec<u8>, id: WireId, bytes: &[u8]) -> Result<(), AllocError>
     ensures { OnOk result (output.new.items ≡ output.old.items ++ came_line id bytes.now) }
 {
@@ -90,7 +90,7 @@ pub(crate) fn put_came(output: &mut Vec<u8>, id: WireId, bytes: &[u8]) -> Result
     }
 }
 
-/// Appends the line of bytes that were read, behind which `zeros` octets are left out.
+/// Appends the line of bytes that were read, after which `zeros` octets are left out.
 fn put_zeros(output: &mut Vec<u8>, id: WireId, zeros: usize, bytes: &[u8]) -> Result<(), AllocError>
     ensures { OnOk result (output.new.items ≡ output.old.items ++ zeros_line id zeros bytes.now) }
 {
@@ -180,7 +180,7 @@ pub fn put_entry(output: &mut Vec<u8>, entry: &Entry) -> Result<(), AllocError>
     }
 }
 
-/// Appends the settings, the point behind them, and the front of the line behind it: the start of the server in ms
+/// Appends the settings, the point after them, and the beginning of the line after it: the start of the server in ms
 /// since the beginning of 1970, and its version.
 fn put_settings(
     output: &mut Vec<u8>,
@@ -198,7 +198,7 @@ fn put_settings(
     output.extend_from_slice(version.as_bytes())
 }
 
-/// Appends the lines before the turns: the settings, the point behind them, and a line with the start of the
+/// Appends the lines before the turns: the settings, the point after them, and a line with the start of the
 /// server in ms since the beginning of 1970, its version, and whether documents are left out.
 pub fn put_start(
     output: &mut Vec<u8>,
@@ -230,7 +230,7 @@ pub fn put_goes_on(output: &mut Vec<u8>, name: &[u8]) -> Result<(), AllocError> 
     output.extend_from_slice(b"\n")
 }
 
-/// Appends the line behind that of [`put_goes_on`] where a server was started: the start in ms since the beginning
+/// Appends the line after that of [`put_goes_on`] where a server was started: the start in ms since the beginning
 /// of 1970, and its version.
 pub fn put_started(output: &mut Vec<u8>, began: u64, version: &str) -> Result<(), AllocError> {
     output.extend_from_slice(STARTED)?;

@@ -21,7 +21,7 @@ moves_nothing e opening trace stands = subst (λ t. StandsAt opening t e) (sym (
 pub moves_then : (a b c : EngineState) (first later : Trace) → Moves a first b → Moves b later c → Moves a (first ++ later) c
 moves_then a b c first later p q opening trace stands = subst (λ t. StandsAt opening t c) (append_assoc trace first later) (q opening (trace ++ first) (p opening trace stands))
 
--- The result of the lines before. With it, the result of any lines behind them is the result of all lines.
+-- The result of the lines before. With it, the result of any lines after them is the result of all lines.
 pub record Reached (texts : Bool) (names : List (List ℕ)) (first : ℕ) (all : List (List ℕ)) (begun : Standing) (start : EngineState) (done : List ℕ) (number : ℕ) (rest : List (List ℕ)) (now : Standing) (engine : EngineState) : Type 0 where
   pub actions : Trace
   pub passed : List (List ℕ)

@@ -43,7 +43,7 @@ trace_gives_no_settings texts trace named old out status unsplit is none said tw
 
 -- ---- settings that are good
 
--- the text printed behind an empty text
+-- the text printed after an empty text
 alone : (before : List ℕ) (text : ProgramOutput) → before ≡ [] → said_after before text ≡ text
 alone before text none = ap (λ b. said_after b text) none
 

@@ -23,7 +23,7 @@ use Rattle.replay.specs.Peers.{PeersSee, any_stirs, all_turns}
 abbrev pub standing : Play → Standing
 standing p = record { moment = p.moment; connections = p.peers.connections.items; peers = p.peers.wire.memory.peers.items }
 
--- for each trace at which the old engine stands, the new one stands at that trace with these actions behind it
+-- for each trace at which the old engine stands, the new one stands at that trace with these actions after it
 abbrev pub Moves : EngineState → Trace → EngineState → Type 0
 Moves old actions new = (opening : State) (trace : Trace) → StandsAt opening trace old → StandsAt opening (trace ++ actions) new
 
@@ -94,7 +94,7 @@ pub record PlaysAll (old : Play) (number : ℕ) (lines : List (List ℕ)) (befor
   pub moves : Moves old.engine actions new
   pub printed : all ≡ said_after before said
 
--- the text of a front of the lines, where memory was refused
+-- the text of a prefix of the lines, where memory was refused
 pub record PlaysFirst (old : Play) (number : ℕ) (lines : List (List ℕ)) (before left : List ℕ) : Type 0 where
   pub first : List (List ℕ)
   pub others : List (List ℕ)

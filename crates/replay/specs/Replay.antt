@@ -32,7 +32,7 @@ pub record LinesGive (texts : Bool) (settings : ServerSettings) (number : ℕ) (
 
 -- ---- a trace
 
--- the text and the status of settings, with the lines behind the first `count` lines
+-- the text and the status of settings, with the lines after the first `count` lines
 abbrev pub SettingsGive : Bool → List ℕ → List ℕ → ℕ → ProgramOutput → Type 0
 SettingsGive texts settings rest count said =
     (¬ (IsUtf8 settings) × (said ≡ settings_refused not_toml))
@@ -46,7 +46,7 @@ TraceGives texts trace said =
     (HasNoStop trace × (said ≡ settings_refused not_toml))
     ⊎ ((settings : List ℕ) × (rest : List ℕ) × (count : ℕ) × IsSplit trace settings rest count × SettingsGive texts settings rest count said)
 
--- the text where memory was refused: that of a front of the lines
+-- the text where memory was refused: that of a prefix of the lines
 pub record FirstGive (texts : Bool) (settings rest : List ℕ) (count : ℕ) (left : List ℕ) : Type 0 where
   pub read : ServerSettings
   pub reads : settings_of settings ≡ Ok read
@@ -71,14 +71,14 @@ InputGives texts before after said =
     ((trace : List ℕ) × IsWhole INPUT_BYTES before after trace × TraceGives texts trace said)
     ⊎ (GaveMore INPUT_BYTES before after × (said ≡ refused_as (codes "size")))
 
--- the text that is left to write if the program fails: none, that of a front of the lines, or all
+-- the text that is left to write if the program fails: none, that of a prefix of the lines, or all
 abbrev pub InputLeaves : Bool → Option (List ℕ) → Option (List ℕ) → List ℕ → Type 0
 InputLeaves texts before after left =
     (left ≡ [])
     ⊎ ((trace : List ℕ) × IsWhole INPUT_BYTES before after trace × TraceLeaves texts trace left)
     ⊎ ((said : ProgramOutput) × InputGives texts before after said × (left ≡ said.text))
 
--- The text of the input was written as a whole; or memory, the reader or the writer failed, and a front of the text so far was written.
+-- The text of the input was written as a whole; or memory, the reader or the writer failed, and a prefix of the text so far was written.
 abbrev pub Replays : Bool → Option (List ℕ) → Option (List ℕ) → Option (List ℕ) → Option (List ℕ) → ExitStatus → Type 0
 Replays texts before after held holds status =
     ((said : ProgramOutput) × InputGives texts before after said × Appends held holds said.text × (status ≡ said.status))

@@ -14,7 +14,7 @@ const INPUT: &str = "<standard input>";
 pub enum Objection {
     /// The input has more bytes than [`base_types::Limits::INPUT_BYTES`].
     Size,
-    /// No line is only a point, as the line behind the settings has to be.
+    /// No line is only a point, as the line after the settings has to be.
     NoPoint,
     /// The settings are refused. The sentence has the reason, unless memory for it was refused.
     Settings(Option<String>),

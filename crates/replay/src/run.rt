@@ -36,7 +36,7 @@ pub struct Replayed {
 ///
 /// The text has, in order, the replies, the cancels, the plans, with their own texts if `texts` is true, and
 /// the jobs that start; or why the settings, a line or the size is refused. The status says that all is done,
-/// that something is refused, or that memory or a stream failed. In the last case a front of the text of some
+/// that something is refused, or that memory or a stream failed. In the last case a prefix of the text of some
 /// of the lines is written.
 pub fn run_replay<R: Read, W: Write>(
     alloc: Global,
@@ -131,7 +131,7 @@ fn replay(
     )
 }
 
-/// Runs the lines behind the settings and appends their text. Returns the status.
+/// Runs the lines after the settings and appends their text. Returns the status.
 fn run_lines(
     alloc: Global,
     settings: &[u8],

@@ -24,7 +24,7 @@ same_job settings spooled saved sent printed documents =
     let media = printed.media in
     cc
 
--- the front of a piece is a front of the octets from its place on
+-- the beginning of a piece is a prefix of the octets from its place on
 front_of : (piece octets : List ℕ) (count : ℕ) → IsFrontOf piece octets → count ≤ length piece → take count octets ≡ take count piece
 front_of piece octets count front within =
     ap (take count) front.front.1 ∙ take-append-le count piece front.front.0 within

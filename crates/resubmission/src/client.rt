@@ -94,7 +94,7 @@ impl Client {
         }
     }
 
-    /// Moves the next bytes to the front of a buffer. Returns their number, or `None` if there are none.
+    /// Moves the next bytes to the beginning of a buffer. Returns their number, or `None` if there are none.
     fn send(&mut self, buffer: &mut [u8]) -> Option<usize>
         ensures { IfSome result (λ n. (0 < n) × (n ≤ length buffer.old)) }
     {

@@ -71,7 +71,7 @@ fn same_octets(first: &Octets, second: &Octets) -> bool
     true
 }
 
-/// A place up to which the octets are the same if they are so up to `start`; `None` if there is none behind `start`.
+/// A place up to which the octets are the same if they are so up to `start`; `None` if there is none after `start`.
 fn same_to(first: &Octets, second: &Octets, start: usize) -> Option<usize>
     ensures behind { IfSome result (λ end. (start < end) × (end ≤ length first.now)) }
     ensures same { IfSome result (λ end. take start first.now ≡ take start second.now → take end first.now ≡ take end second.now) }
@@ -84,7 +84,7 @@ fn same_to(first: &Octets, second: &Octets, start: usize) -> Option<usize>
     Some(start + count)
 }
 
-/// The length of the shorter of two pieces, if it is a front of the longer and isn't empty.
+/// The length of the shorter of two pieces, if it is a prefix of the longer and isn't empty.
 fn same_front(piece: &[u8], other: &[u8]) -> Option<usize>
     ensures within { IfSome result (λ count. (0 < count) × (count ≤ length piece.now) × (count ≤ length other.now)) }
     ensures same { IfSome result (λ count. take count piece.now ≡ take count other.now) }

@@ -13,7 +13,7 @@ joined lists = flat_map (λ list. list) lists
 abbrev pub IsSome : List ℕ → Type 0
 IsSome list = 0 < length list
 
--- a front of the waiting bytes that isn't empty
+-- a prefix of the waiting bytes that isn't empty
 pub record IsFront (offered waits : List ℕ) : Type 0 where
   pub some : 0 < length offered
   pub rest : List ℕ
@@ -26,7 +26,7 @@ OffersAs polled id offered waits wire (offer.Done count) left wire' = (count ≤
 OffersAs polled id offered waits wire offer.Waiting left wire' = polled wire (Writes id offered Waiting) wire' × (left ≡ waits)
 OffersAs polled id offered waits wire offer.Ended left wire' = (polled wire (Writes id offered End) wire' ⊎ polled wire (Writes id offered Fault) wire') × (left ≡ waits)
 
--- a front of the waiting bytes is offered, if any bytes wait
+-- a prefix of the waiting bytes is offered, if any bytes wait
 abbrev pub OffersFront : {W : Type 0} → (W → Poll → W → Type 0) → ℕ → List ℕ → W → Offered → List ℕ → W → Type 0
 OffersFront polled id waits wire answer left wire' =
     ((waits ≡ []) × (answer ≡ offer.Nothing) × (left ≡ []) × (wire' ≡ wire))

@@ -1,7 +1,7 @@
 //! The bytes that wait on a connection until its wire takes them.
 //!
 //! A [`SendQueue`] keeps bytes and the documents of jobs in the order in which they become due.
-//! [`SendQueue::offer`] offers a front of them to a wire, and removes the bytes that the wire took. Documents
+//! [`SendQueue::offer`] offers a prefix of them to a wire, and removes the bytes that the wire took. Documents
 //! aren't copied: their octets are shared with the spool. Up to [`RESERVED_BYTES`] waiting bytes need no
 //! memory beyond what was reserved at the start.
 //!

@@ -32,7 +32,7 @@ pub enum Offered {
     Ended,
 }
 
-/// Returns the octets from `start` on that lie together in memory, and the place behind them.
+/// Returns the octets from `start` on that lie together in memory, and the place after them.
 fn part(octets: &Octets, start: usize) -> (IoSlice<'_>, usize)
     requires { start ≤ length octets.now }
     ensures front { IsFrontOf (io_slice_bytes result.0) (drop start octets.now) }
@@ -72,7 +72,7 @@ impl Rest {
         Rest { octets, start: 0 }
     }
 
-    /// A front of the octets, in the parts in which they lie: as many parts as a system call takes.
+    /// A prefix of the octets, in the parts in which they lie: as many parts as a system call takes.
     fn front(&self) -> [IoSlice<'_>; 4]
         ensures front { IsFrontOf (io_slices_bytes result) self.now }
         ensures some { 0 < length self.now }
@@ -109,7 +109,7 @@ pub struct SendQueue {
     alloc: Global,
     /// The octets that go out first.
     shared: Vec<Rest>,
-    /// The bytes behind `shared`. Their room stays when they are taken.
+    /// The bytes after `shared`. Their room stays when they are taken.
     text: Vec<u8>,
 }
 
@@ -226,7 +226,7 @@ impl SendQueue {
         self.push_documents(&line, documents)
     }
 
-    /// Offers a front of the waiting bytes to the wire, which may take some of them.
+    /// Offers a prefix of the waiting bytes to the wire, which may take some of them.
     pub fn offer<W: Wire>(&mut self, id: WireId, wire: &mut W) -> Offered
         ensures { OffersFront W.polled id self.old wire.old result self.new wire.new }
     {
@@ -240,7 +240,7 @@ impl SendQueue {
     }
 }
 
-/// Offers a front of the shared octets to the wire.
+/// Offers a prefix of the shared octets to the wire.
 fn offer_first<W: Wire>(shared: &mut Vec<Rest>, id: WireId, wire: &mut W) -> Offered
     requires there { 0 < length shared.old.items }
     requires were { All IsSome shared.old.items }

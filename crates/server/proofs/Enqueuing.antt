@@ -23,7 +23,7 @@ use Rattle.server.proofs.Steps.{quietly_same, quietly_as, reporting_flag, if_tru
 use Rattle.server.proofs.Slots.{set_same}
 use Rattle.server.proofs.Places.{absent, found, refines_at, quietly_at}
 
--- new due bytes are behind the waiting bytes
+-- new due bytes are after the waiting bytes
 pub fits_kept : (e : Entry) (c : ConnectionState) (bytes : List ℕ) → RepresentsConnection e c → RepresentsConnection (owing bytes e) (is_kept bytes c)
 fits_kept e c bytes f = record {
   id = f.id;

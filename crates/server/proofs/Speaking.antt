@@ -1,4 +1,4 @@
--- The notes behind those of an event: they tell of memory that was refused, and are no notes of the core.
+-- The notes after those of an event: they tell of memory that was refused, and are no notes of the core.
 use Rattle.std.proofs.Common.{◌≡◌, ℕ, Bool, true, false, List, [], ◌∷◌, ◌++◌, refl, sym, ◌∙◌, ap, subst, Option, Some, None, inl, inr}
 use Rattle.std.specs.Prelude.{◌||◌, map}
 use Rattle.std.proofs.lemmas.List.{append-nil, append_assoc}

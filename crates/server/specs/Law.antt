@@ -130,7 +130,7 @@ IsAtMostOne (Ticked moment hs) old new = has_refusal hs ≡ false → (reply : E
 
 -- ---- connections that were closed
 
--- all due bytes of each drained connection were taken, and a front of the due bytes of each broken connection
+-- all due bytes of each drained connection were taken, and a prefix of the due bytes of each broken connection
 abbrev pub AllTaken : List (Entry × Fate) → Type 0
 AllTaken closed = All (λ (it : Entry × Fate). IsTaken it.1 it.0) closed
 

@@ -27,7 +27,7 @@ pub fn action_is_one_event()
     ensures { (action : Action) (old new : Ledger) → DoesAction action old new → IsAtMostOne action old.core new.core }
 {}
 
-/// The wire took all due bytes of each connection that was drained when it was closed, and a front of the due
+/// The wire took all due bytes of each connection that was drained when it was closed, and a prefix of the due
 /// bytes of each connection that was closed as by a fault.
 pub fn closed_were_given()
     ensures { (opening : State) (trace : Trace) (ledger : Ledger) → Runs trace (opening_ledger opening) ledger → AllTaken ledger.closed }

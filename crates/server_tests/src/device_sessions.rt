@@ -146,7 +146,7 @@ fn early_done(rt: HostRuntime) -> Result<(), Fail> {
     Ok(())
 }
 
-/// A wire with a slow device whose input ends behind its greeting, a device that gives the same name a turn
+/// A wire with a slow device whose input ends after its greeting, a device that gives the same name a turn
 /// later, and another client that prints.
 fn newcomer(alloc: Global) -> Result<MemoryWire, AllocError> {
     let mut wire = slow_device(alloc, GREETING)?;
@@ -180,7 +180,7 @@ fn name_taken_over(rt: HostRuntime) -> Result<(), Fail> {
     Ok(())
 }
 
-/// Returns whether a device got a front of the job, and all of the job unless a connection is closed.
+/// Returns whether a device got a prefix of the job, and all of the job unless a connection is closed.
 fn is_front(wire: &MemoryWire) -> bool {
     match wire.peers.get(1) {
         Some(peer) => JOB.starts_with(peer.taken.as_slice())
@@ -197,7 +197,7 @@ fn is_cut_off(alloc: Global, fault_at: u64) -> Result<bool, AllocError> {
     Ok(serve(alloc, &mut wire, &mut notes, 60) && is_front(&wire))
 }
 
-/// A fault at any poll: the octets taken are a front of the octets due.
+/// A fault at any poll: the octets taken are a prefix of the octets due.
 #[test]
 fn fault_at_each_poll(rt: HostRuntime) -> Result<(), Fail> {
     for fault_at in 0..60 {

@@ -109,7 +109,7 @@ fn exchanges_in_pieces(rt: HostRuntime) -> Result<(), Fail> {
     Ok(())
 }
 
-/// Returns whether a front of an answer was taken, and all of the answer unless the connection is closed.
+/// Returns whether a prefix of an answer was taken, and all of the answer unless the connection is closed.
 fn is_front(wire: &MemoryWire, answered: &[u8]) -> bool {
     match wire.peers.first() {
         Some(peer) => answered.starts_with(peer.taken.as_slice())
@@ -118,7 +118,7 @@ fn is_front(wire: &MemoryWire, answered: &[u8]) -> bool {
     }
 }
 
-/// Returns whether a client got a front of its answer where a poll faults, and was closed unless it got all
+/// Returns whether a client got a prefix of its answer where a poll faults, and was closed unless it got all
 /// of the answer.
 fn is_cut_off(alloc: Global, fault_at: u64) -> Result<bool, AllocError> {
     let mut wire = clients(alloc, &[PLAIN.sent], (64, 100))?;
@@ -127,7 +127,7 @@ fn is_cut_off(alloc: Global, fault_at: u64) -> Result<bool, AllocError> {
     Ok(serve(alloc, &mut wire, &mut notes, 60) && is_front(&wire, PLAIN.answered))
 }
 
-/// A fault at any poll: the octets taken are a front of the octets due, and the connection with the fault is
+/// A fault at any poll: the octets taken are a prefix of the octets due, and the connection with the fault is
 /// closed.
 #[test]
 fn fault_at_each_poll(rt: HostRuntime) -> Result<(), Fail> {

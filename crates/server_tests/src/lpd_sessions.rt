@@ -110,7 +110,7 @@ fn lpd_sessions_in_pieces(rt: HostRuntime) -> Result<(), Fail> {
     Ok(())
 }
 
-/// Returns whether a client got a front of its answers where a poll faults, and was closed unless it got all
+/// Returns whether a client got a prefix of its answers where a poll faults, and was closed unless it got all
 /// answers.
 fn is_cut_off(alloc: Global, fault_at: u64) -> Result<bool, AllocError> {
     let mut peers = Vec::new(alloc);
@@ -129,7 +129,7 @@ fn is_cut_off(alloc: Global, fault_at: u64) -> Result<bool, AllocError> {
     }
 }
 
-/// A fault at any poll: the octets taken are a front of the octets due.
+/// A fault at any poll: the octets taken are a prefix of the octets due.
 #[test]
 fn lpd_fault_at_each_poll(rt: HostRuntime) -> Result<(), Fail> {
     for fault_at in 0..40 {

@@ -8,7 +8,7 @@ use std::marker::Model;
 /// The settings of a server. In clauses they are a record of the same fields.
 #[derive(Debug, Drop)]
 pub struct Settings {
-    /// The front of the URIs of printers and jobs: 1 to [`base_types::Limits::URI_BASE_BYTES`] bytes that
+    /// The beginning of the URIs of printers and jobs: 1 to [`base_types::Limits::URI_BASE_BYTES`] bytes that
     /// print, without spaces.
     pub uri_base: Text,
     /// The names of the operators: users who may do all that an owner may do, with each job and printer.

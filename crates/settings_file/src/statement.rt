@@ -67,7 +67,7 @@ fn simple_key(key: toml_parser::Key) -> Option<String> {
     }
 }
 
-/// Reads a header behind its first bracket. Returns it and the rest behind it.
+/// Reads a header after its first bracket. Returns it and the rest after it.
 fn header<'a>(alloc: Global, inner: &'a str) -> Option<(Said<'a>, &'a str)> {
     let inner = inner.strip_prefix("[").unwrap_or(inner);
     let (key, after) = dotted_key(alloc, skip_ws(inner)).ok()?;
@@ -76,7 +76,7 @@ fn header<'a>(alloc: Global, inner: &'a str) -> Option<(Said<'a>, &'a str)> {
     Some((Said::Header(simple_key(key)), after))
 }
 
-/// Reads an entry. Returns it and the rest behind it.
+/// Reads an entry. Returns it and the rest after it.
 fn entry<'a>(alloc: Global, start: &'a str) -> Option<(Said<'a>, &'a str)> {
     let (key, after) = dotted_key(alloc, start).ok()?;
     let value = skip_ws(after.strip_prefix("=")?);
@@ -92,7 +92,7 @@ fn entry<'a>(alloc: Global, start: &'a str) -> Option<(Said<'a>, &'a str)> {
     ))
 }
 
-/// The rest behind a value: a list or a table as a whole, a string, or a word.
+/// The rest after a value: a list or a table as a whole, a string, or a word.
 fn after_value<'a>(alloc: Global, value: &'a str) -> Option<&'a str> {
     let mut rest = value;
     let mut depth = 0;
@@ -106,7 +106,7 @@ fn after_value<'a>(alloc: Global, value: &'a str) -> Option<&'a str> {
     None
 }
 
-/// The rest behind a bracket, a separator, a string or a word. `depth` is the number of open brackets, before
+/// The rest after a bracket, a separator, a string or a word. `depth` is the number of open brackets, before
 /// and after it.
 fn after_piece<'a>(alloc: Global, rest: &'a str, depth: &mut usize) -> Option<&'a str> {
     if starts_string(rest) {
@@ -121,7 +121,7 @@ fn after_piece<'a>(alloc: Global, rest: &'a str, depth: &mut usize) -> Option<&'
     rest.get(1..)
 }
 
-/// The rest behind a word, which ends at a separator, a bracket, a blank or a comment.
+/// The rest after a word, which ends at a separator, a bracket, a blank or a comment.
 fn after_word(rest: &str) -> Option<&str> {
     let count = rest
         .bytes()

@@ -1,7 +1,7 @@
 //! The system's sockets as a wire.
 //!
 //! [`Sockets`] is a [`wires::Wire`] of the system's sockets. Its calls never block. A client that is silent
-//! for a minute counts as ended. The network behind the sockets is the system's, and isn't proved. The
+//! for a minute counts as ended. The network after the sockets is the system's, and isn't proved. The
 //! contracts are those of every wire: a call moves at most as many bytes as it may, and a fault is counted.
 //! Each call of the wire is added with its answer to the [`CallHistory`] of the sockets, and nothing else
 //! changes that.

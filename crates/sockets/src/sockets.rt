@@ -363,7 +363,7 @@ impl Sockets {
         Progress::Done(id)
     }
 
-    /// Reads bytes of a connection into the front of the buffer.
+    /// Reads bytes of a connection into the beginning of the buffer.
     fn try_read(&mut self, id: WireId, buffer: &mut [u8]) -> Progress<usize>
         ensures count { IsCount result (length buffer.old) }
         ensures cause { HasCause self.old.failures self.new.failures result }
@@ -395,7 +395,7 @@ impl Sockets {
         }
     }
 
-    /// Writes a front of the bytes, which lie in parts.
+    /// Writes a prefix of the bytes, which lie in parts.
     fn try_write(&mut self, id: WireId, bytes: &[IoSlice<'_>]) -> Progress<usize>
         ensures count { IsCount result (length (io_slices_bytes bytes.now)) }
         ensures cause { HasCause self.old.failures self.new.failures result }

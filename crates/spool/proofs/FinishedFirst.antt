@@ -41,7 +41,7 @@ first_fewer zero jobs first = tt
 first_fewer (suc count) [] first = first
 first_fewer (suc count) (s ∷ jobs) first = (first.0, first_fewer count jobs first.1)
 
--- a job behind them goes
+-- a job after them goes
 first_behind : (place count : ℕ) (jobs : List SpooledRecord) → count ≤ place → AllFinished count jobs → AllFinished count (remove jobs place)
 first_behind place zero jobs behind first = tt
 first_behind zero (suc count) jobs behind first = absurd (omega (arith, behind))

@@ -1,4 +1,4 @@
--- The finished jobs at the front of the list, which never become ready again.
+-- The finished jobs at the beginning of the list, which never become ready again.
 use Rattle.std.specs.Prelude.{ℕ, zero, suc, ◌≡◌, true, List, [], ◌∷◌}
 use Rattle.job_objects.specs.JobState.{is_finished}
 use Rattle.spool.specs.Spooled.{SpooledRecord}

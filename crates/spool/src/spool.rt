@@ -99,7 +99,7 @@ impl Spool {
         self.front
     }
 
-    /// The jobs behind those at the front that are known to be finished. All ready jobs and all unfinished
+    /// The jobs after those at the front that are known to be finished. All ready jobs and all unfinished
     /// jobs are among them.
     pub fn behind_finished(&self) -> &[SpooledJob]
         ensures ready { (paused : List Bool) → ready_jobs paused result.now ≡ ready_jobs paused self.now.jobs }

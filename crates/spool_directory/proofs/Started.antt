@@ -36,7 +36,7 @@ begun settings first lines engine within stands none = record {
   played = record { trace = []; stands = stands; is_file = none };
 }
 
--- turns were stored behind them
+-- turns were stored after them
 pub later : (lines more : List ℕ) (old new : EngineState) → HasStarted lines old → KeepsPlayed lines old more new → HasStarted more new
 later lines more old new started keeps = record { settings = started.settings; within = started.within; first = started.first; played = keeps (opening started.settings started.first) started.played }
 

@@ -50,7 +50,7 @@ impl<'a> Draft<'a> {
         })
     }
 
-    /// Begins a base behind the file with the number `last`, whose first job gets the id `first`.
+    /// Begins a base after the file with the number `last`, whose first job gets the id `first`.
     pub(crate) fn base(
         directory: Directory<'a>,
         last: u32,
@@ -65,7 +65,7 @@ impl<'a> Draft<'a> {
         Draft::begin(directory, number_behind(last)?, &head, time)
     }
 
-    /// Begins a file behind that with the number `last`. It goes on behind the file with the number `before`, with
+    /// Begins a file after that with the number `last`. It goes on after the file with the number `before`, with
     /// these lines first.
     pub(crate) fn next(
         directory: Directory<'a>,

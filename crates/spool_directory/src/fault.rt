@@ -14,11 +14,11 @@ pub enum Why {
     Differs(String),
     /// No line is `.` alone.
     NoSettings,
-    /// The file ends within a turn, and another goes on behind it.
+    /// The file ends within a turn, and another goes on after it.
     Torn,
-    /// The file goes on behind the file of this name, which is missing.
+    /// The file goes on after the file of this name, which is missing.
     BehindMissing(String),
-    /// The file goes on behind the file of this name, which isn't the one before it.
+    /// The file goes on after the file of this name, which isn't the one before it.
     BehindOther(String),
 }
 

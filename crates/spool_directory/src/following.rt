@@ -1,4 +1,4 @@
-//! The playing of files that go on behind others.
+//! The playing of files that go on after others.
 ghost use Rattle.std.specs.Prelude.{IfOk, OnOk};
 ghost use Rattle.spool_directory.specs.Starting.{IsPlaying, GoesOn};
 
@@ -14,7 +14,7 @@ use recordings::LineReader;
 use std::alloc::Global;
 use std::fs::File;
 
-/// The fault of a file that goes on behind a file of this name, which isn't the one before it.
+/// The fault of a file that goes on after a file of this name, which isn't the one before it.
 fn not_behind(alloc: Global, listing: &Listing, behind: &[u8]) -> Trouble {
     let there = match read_name(behind) {
         Named::Trace(number) => listing.traces.contains(&number),
@@ -27,7 +27,7 @@ fn not_behind(alloc: Global, listing: &Listing, behind: &[u8]) -> Trouble {
     }
 }
 
-/// Plays a file that goes on behind the file with the number `before`.
+/// Plays a file that goes on after the file with the number `before`.
 fn play_next(
     alloc: Global,
     listing: &Listing,
@@ -48,7 +48,7 @@ fn play_next(
     Ok(Ending { whole, length })
 }
 
-/// The fault of a file that goes on behind a file, although there is no base.
+/// The fault of a file that goes on after a file, although there is no base.
 fn orphan(alloc: Global, listing: &Listing, file: &mut File) -> Result<(), Trouble> {
     let mut lines = LineReader::new(alloc, file)?;
     let head = read_next(alloc, &mut lines)?;
@@ -71,7 +71,7 @@ impl Directory<'_> {
         is_base(directory.alloc(), &mut file).map_err(|trouble| directory.fault(number, trouble))
     }
 
-    /// The fault of the first file, which goes on behind a file although there is no base.
+    /// The fault of the first file, which goes on after a file although there is no base.
     fn refuse_orphan(&self, listing: &Listing, number: u32) -> Result<(), SpoolFault> {
         let directory = *self;
         let mut file = directory.open_trace(number)?;
@@ -93,7 +93,7 @@ impl Directory<'_> {
         Ok(None)
     }
 
-    /// Plays the file with a number behind those that were played.
+    /// Plays the file with a number after those that were played.
     fn follow(&self, listing: &Listing, number: u32, played: &mut Played) -> Result<(), SpoolFault>
         ensures { OnOk result (GoesOn played.old.resumption played.new.resumption) }
     {
@@ -119,7 +119,7 @@ impl Directory<'_> {
         }
     }
 
-    /// Plays the files behind the base.
+    /// Plays the files after the base.
     fn follow_all(&self, listing: &Listing, played: &mut Played) -> Result<(), SpoolFault>
         ensures { OnOk result (GoesOn played.old.resumption played.new.resumption) }
     {

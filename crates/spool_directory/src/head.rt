@@ -21,7 +21,7 @@ pub(crate) struct BaseHead {
     pub(crate) length: u64,
 }
 
-/// The first lines of a file that goes on behind another.
+/// The first lines of a file that goes on after another.
 #[derive(Drop)]
 pub(crate) struct NextHead {
     /// The name of the file before.
@@ -82,7 +82,7 @@ fn version_of(line: &[u8]) -> Option<&[u8]> {
     Some(version)
 }
 
-/// Reads the first lines of a file that goes on behind another.
+/// Reads the first lines of a file that goes on after another.
 pub(crate) fn read_next(
     alloc: Global,
     lines: &mut LineReader<'_, File>,

@@ -69,7 +69,7 @@ fn holds_turn(bytes: &[u8]) -> bool {
     bytes.windows(turn.len()).any(|part| part == turn)
 }
 
-/// Plays the turns behind the first lines of a file, which have `start` bytes. Returns the number of bytes up to the
+/// Plays the turns after the first lines of a file, which have `start` bytes. Returns the number of bytes up to the
 /// end of the last turn. Octets that are fewer than their line says are refused where they hold a turn's end: a
 /// number was changed then, and not the last write cut short.
 pub(crate) fn play_turns(

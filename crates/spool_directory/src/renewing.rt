@@ -141,7 +141,7 @@ impl Directory<'_> {
         Ok(engine)
     }
 
-    /// As [`Directory::renewed_engine`], with a base behind the file with the number `last`.
+    /// As [`Directory::renewed_engine`], with a base after the file with the number `last`.
     pub(crate) fn renew(
         &self,
         last: u32,

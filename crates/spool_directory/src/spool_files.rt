@@ -37,7 +37,7 @@ pub struct SpoolFiles<'a> {
     pub stored: StoredLines,
 }
 
-/// The place in a journal behind which another file goes on.
+/// The place in a journal after which another file goes on.
 #[derive(Clone, Copy)]
 pub(crate) struct Place {
     /// The number of the base, and its beginning in ms since the beginning of 1970.
@@ -105,7 +105,7 @@ impl<'a> SpoolFiles<'a> {
         }
     }
 
-    /// The files of a journal that goes on behind a place. Files that stand before its base are let go.
+    /// The files of a journal that goes on after a place. Files that stand before its base are let go.
     pub(crate) fn go_on(
         opened: SpoolDirectory<'a>,
         listing: &Listing,

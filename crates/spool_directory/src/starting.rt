@@ -58,7 +58,7 @@ fn is_aborted(engine: &JournaledEngine, id: JobId) -> bool {
     }
 }
 
-/// The place behind files that were played.
+/// The place after files that were played.
 fn place_of(played: &Played) -> Place {
     Place {
         base: played.base,
@@ -108,7 +108,7 @@ impl Directory<'_> {
         Ok(())
     }
 
-    /// Begins the file behind a place in which connections were lost, after the end of the last file was cut off.
+    /// Begins the file after a place in which connections were lost, after the end of the last file was cut off.
     fn next_draft(
         &self,
         listing: &Listing,
@@ -170,7 +170,7 @@ impl<'a> SpoolDirectory<'a> {
         }
     }
 
-    /// Starts a server behind the journal that begins with the base with a number.
+    /// Starts a server after the journal that begins with the base with a number.
     fn start_behind(
         self,
         listing: &Listing,
@@ -192,7 +192,7 @@ impl<'a> SpoolDirectory<'a> {
         self.renew(listing, played, settings, given)
     }
 
-    /// Starts a server behind the journal that begins with the base with a number, and isn't played for this fault: if a
+    /// Starts a server after the journal that begins with the base with a number, and isn't played for this fault: if a
     /// server of another version wrote it, and at its end no job was unfinished.
     fn begin_quiet(
         self,
@@ -218,7 +218,7 @@ impl<'a> SpoolDirectory<'a> {
         }
     }
 
-    /// Starts a server with other settings, or without jobs, behind files that were played.
+    /// Starts a server with other settings, or without jobs, after files that were played.
     fn renew(
         self,
         listing: &Listing,
@@ -288,7 +288,7 @@ impl<'a> SpoolDirectory<'a> {
         self.go_on_behind(listing, place, restarted, in_hand, next, options)
     }
 
-    /// As [`SpoolDirectory::go_on`], with the file that goes on behind the place.
+    /// As [`SpoolDirectory::go_on`], with the file that goes on after the place.
     fn go_on_behind(
         self,
         listing: &Listing,

@@ -47,7 +47,7 @@ pub(crate) struct Writer<'a> {
     pub(crate) watch: Watch,
 }
 
-/// The number behind a file's number.
+/// The number after a file's number.
 pub(crate) fn number_behind(number: u32) -> io::Result<u32> {
     match number.checked_add(1) {
         Some(next) => Ok(next),
@@ -68,7 +68,7 @@ pub(crate) fn base_head(
     Ok(head)
 }
 
-/// The first lines of a file that goes on behind the file with the number `before`.
+/// The first lines of a file that goes on after the file with the number `before`.
 pub(crate) fn next_head(
     alloc: Global,
     before: u32,
@@ -110,7 +110,7 @@ impl Tail {
         Ok(Tail::of(file, number, head.len() as u64, time))
     }
 
-    /// Writes lines behind those that are stored, and waits until they are on the disk, if asked.
+    /// Writes lines after those that are stored, and waits until they are on the disk, if asked.
     fn write(&mut self, lines: &[u8], sync: bool) -> io::Result<()> {
         self.file.write_all(lines)?;
         if sync {
@@ -188,7 +188,7 @@ impl Writer<'_> {
     }
 
     /// Stores all of these lines or none. Returns whether they are stored. The first failure is reported, and the
-    /// first success behind a failure.
+    /// first success after a failure.
     pub(crate) fn append(&mut self, lines: &[u8]) -> bool {
         let stored = self.store(lines);
         self.watch();

@@ -21,7 +21,7 @@ each_fails p xs absent k d low =
     let far : length xs ≤ position_or_len p xs = search rules in
     fails_before_first p xs k d (omega (arith, low, far))
 
--- if no byte among the first passes, the first byte that passes is behind them
+-- if no byte among the first passes, the first byte that passes is after them
 pub passes_late : (p : ℕ → Bool) (xs : List ℕ) (most i : ℕ) → ((k : ℕ) → k < most → p (slice_index_or xs k 0) ≡ false) → position p xs ≡ Some i → most ≤ i
 passes_late p xs most i fails found = late (cases_lt i most)
   where

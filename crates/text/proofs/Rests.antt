@@ -1,4 +1,4 @@
--- The rest of bytes behind which more bytes are added.
+-- The rest of bytes after which more bytes are added.
 use Rattle.std.specs.Prelude.{ℕ, ◌≡◌, ◌≤◌, ◌++◌, List, length, drop}
 use Rattle.std.proofs.lemmas.List.{drop-append-le}
 

@@ -1,4 +1,4 @@
--- Words with blanks around them, and values with parameters behind them.
+-- Words with blanks around them, and values with parameters after them.
 use Rattle.std.specs.Prelude.{ℕ, ◌==◌, ◌||◌, Bool, if◌then◌else◌, List, [], ◌∷◌, reverse}
 use Rattle.std.specs.List.{before_first}
 

@@ -4,14 +4,14 @@ ghost use Rattle.text.specs.FirstLine.{first_line_of};
 
 use crate::bytes::find_byte;
 
-/// The front of bytes that are read line by line.
+/// The beginning of bytes that are read line by line.
 #[derive(Clone, Copy, Debug, PartialEq, Eq)]
 pub enum FirstLine {
     /// A line of this many bytes, and its line feed.
     Whole(usize),
     /// More bytes than a line may have, and no line feed among them.
     TooLong,
-    /// A front of a line: its line feed hasn't come.
+    /// A prefix of a line: its line feed hasn't come.
     Unfinished,
 }
 

@@ -5,7 +5,7 @@ ghost use Rattle.text.specs.Parts.{parts_at, words_of, Lacks, IsCut};
 use crate::bytes::find_byte;
 use std::alloc::{AllocError, Global};
 
-/// The text before and behind the first separator; `None` if there is none.
+/// The text before and after the first separator; `None` if there is none.
 pub fn cut_at(text: &[u8], separator: u8) -> Option<(&[u8], &[u8])>
     ensures some { IfSome result (λ cut. IsCut separator text.now cut.0.now cut.1.now) }
     ensures none { result ≡ None → Lacks separator text.now }

@@ -1,4 +1,4 @@
-//! Words with blanks around them, and values with parameters behind them.
+//! Words with blanks around them, and values with parameters after them.
 ghost use Rattle.std.specs.Prelude.{◌≡◌, reverse};
 ghost use Rattle.text.specs.Trimmed.{from_word, trimmed, without_parameters};
 

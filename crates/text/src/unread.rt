@@ -11,7 +11,7 @@ use std::mem;
 #[derive(Drop)]
 pub struct Unread {
     buffer: Vec<u8>,
-    /// The number of bytes at the front of the buffer that are read.
+    /// The number of bytes at the beginning of the buffer that are read.
     start: usize,
 }
 

@@ -8,7 +8,7 @@ use Rattle.std.proofs.lemmas.List.Folds.{list_all-append}
 use Rattle.traces.specs.Lines.{lines_of, is_stop, HasNoStop, IsFirst, IsOneLine, IsEnded, IsSplit}
 use Rattle.traces.proofs.Texts.{first_line, last_line, no_line, lines_joined}
 
--- these bytes of the trace are left behind `count` lines, none of which is the stop
+-- these bytes of the trace are left after `count` lines, none of which is the stop
 pub record Passed (trace rest : List ℕ) (count : ℕ) : Type 0 where
   pub settings : List ℕ
   pub joined : trace ≡ settings ++ rest

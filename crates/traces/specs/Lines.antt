@@ -10,7 +10,7 @@ without_end [] = []
 without_end ([] ∷ []) = []
 without_end (text ∷ more) = text ∷ without_end more
 
--- the texts between line feeds, without an empty one behind the last line feed
+-- the texts between line feeds, without an empty one after the last line feed
 abbrev pub lines_of : List ℕ → List (List ℕ)
 lines_of bytes = without_end (texts_of bytes)
 
@@ -33,7 +33,7 @@ is_stop line = bytes_eq line (codes ".")
 abbrev pub HasNoStop : List ℕ → Type 0
 HasNoStop bytes = list_all (λ line. not (is_stop line)) (lines_of bytes) ≡ true
 
--- A trace begins with settings: whole lines, none of which is the stop. Behind them are the stop, which is the line of this number, and the rest.
+-- A trace begins with settings: whole lines, none of which is the stop. After them are the stop, which is the line of this number, and the rest.
 pub record IsSplit (trace settings rest : List ℕ) (count : ℕ) : Type 0 where
   pub lines : lines_of trace ≡ lines_of settings ++ (codes "." ∷ lines_of rest)
   pub none : HasNoStop settings

@@ -25,7 +25,7 @@ may_come (Form.Open opening) connections peers = not (is_some (numbered opening.
 may_come (Form.In input) connections peers = is_open input.number connections peers
 may_come (Form.End number) connections peers = is_open number connections peers
 
--- the connections with a new one of this number, whose peer is behind all others
+-- the connections with a new one of this number, whose peer is after all others
 abbrev pub opened : ℕ → List Connection → List PeerState → List Connection
 opened number connections peers = with_connection (record { number = number; place = length peers; gone = false }) connections
 

@@ -1,4 +1,4 @@
--- The content of a trace's line behind the settings.
+-- The content of a trace's line after the settings.
 use Rattle.std.specs.Prelude.{ℕ, ◌≡◌, ◌≢◌, ◌^◌, ◌-◌, List, [], ◌++◌, codes, position, Option, Some, None}
 use Rattle.std.specs.Str.{bytes_eq}
 use Rattle.hex.specs.Hex.{encode_lower, IsBytes}

@@ -12,7 +12,7 @@ use std::alloc::{AllocError, Global};
 use text::{cut_at, number_up_to};
 use wires::Door;
 
-/// The content of a trace's line behind the settings.
+/// The content of a trace's line after the settings.
 #[derive(Drop)]
 pub enum Line {
     /// Sets the moment of the following lines.

@@ -2,7 +2,7 @@
 
 use std::fmt;
 
-/// The fault of a line behind the settings.
+/// The fault of a line after the settings.
 #[derive(Clone, Copy, Debug, PartialEq, Eq)]
 pub enum LineFault {
     /// The line doesn't begin with a word of a trace.

@@ -5,7 +5,7 @@ ghost use Rattle.traces.specs.Lines.{lines_of, IsOneLine, IsFirst, HasNoStop, Is
 
 use text::cut_at;
 
-/// A line, without its line feed, and the bytes behind it.
+/// A line, without its line feed, and the bytes after it.
 #[derive(Clone, Copy)]
 pub struct CutLine<'a> {
     pub line: &'a [u8],
@@ -17,13 +17,13 @@ pub struct CutLine<'a> {
 pub struct CutTrace<'a> {
     /// The lines before the line `.`.
     pub settings: &'a [u8],
-    /// The lines behind the line `.`.
+    /// The lines after the line `.`.
     pub lines: &'a [u8],
     /// The number of the line `.`, counted from 1.
     pub stop: usize,
 }
 
-/// The first line of the bytes, and the bytes behind it. The last line may lack its line feed. `None` if
+/// The first line of the bytes, and the bytes after it. The last line may lack its line feed. `None` if
 /// there are no bytes.
 pub fn next_line(bytes: &[u8]) -> Option<CutLine<'_>>
     ensures lines { lines_of bytes.now ≡ option_map_or (λ cut. cut.line.now ∷ lines_of cut.later.now) result [] }

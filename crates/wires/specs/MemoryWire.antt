@@ -26,7 +26,7 @@ next_at door peers = position (comes door) peers
 abbrev pub none_comes : Door → List PeerState → Bool
 none_comes door peers = option_map_or (λ place. nat_le (2 ^ 32) place) (next_at door peers) true
 
--- whether the peer of a number sends nothing more behind its input: its stream ends, or it was closed, or there is no such peer
+-- whether the peer of a number sends nothing more after its input: its stream ends, or it was closed, or there is no such peer
 abbrev pub ends_reading : ℕ → List PeerState → Bool
 ends_reading id peers = option_map_or (λ p. p.ended || p.closed) (slice_get peers id) true
 
@@ -38,7 +38,7 @@ ends_writing id peers = option_map_or (λ p. p.closed) (slice_get peers id) true
 abbrev pub is_open : PeerState → Bool
 is_open p = p.accepted && not p.closed
 
--- an open peer sends these bytes, which are removed from the front of its input
+-- an open peer sends these bytes, which are removed from the beginning of its input
 pub record Sends (bytes : List ℕ) (p q : PeerState) : Type 0 where
   pub counts : is_open p ≡ true
   pub input : p.input ≡ bytes ++ q.input

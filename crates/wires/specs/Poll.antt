@@ -11,7 +11,7 @@ pub data Poll : Type 0 where
   Writes : (id : ℕ) (offered : List ℕ) (answer : Progress ℕ) → Poll
   Closes : (id : ℕ) → Poll
 
--- the bytes of a read, which are a front of the buffer
+-- the bytes of a read, which are a prefix of the buffer
 abbrev pub bytes_read : Progress ℕ → List ℕ → Progress (List ℕ)
 bytes_read (Done n) buffer = Done (take n buffer)
 bytes_read Waiting buffer = Waiting

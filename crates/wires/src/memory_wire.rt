@@ -24,7 +24,7 @@ pub struct MemoryPeer {
     pub input: Vec<u8>,
     /// The most bytes of one read.
     pub piece: usize,
-    /// Whether the stream ends behind the input.
+    /// Whether the stream ends after the input.
     pub ended: bool,
     /// The bytes that the peer took.
     pub taken: Vec<u8>,
@@ -105,7 +105,7 @@ impl MemoryWire {
         self.peers.iter().position(|peer| peer.comes(door))
     }
 
-    /// Returns whether a peer sends nothing more behind its input.
+    /// Returns whether a peer sends nothing more after its input.
     fn ends_reading(&self, id: WireId) -> bool
         ensures { result ≡ ends_reading id self.now.peers.items }
     {
@@ -174,7 +174,7 @@ impl MemoryPeer {
         self.accepted && !self.closed
     }
 
-    /// Moves a piece of the input to the front of the buffer. Returns its length, or `None` if there is
+    /// Moves a piece of the input to the beginning of the buffer. Returns its length, or `None` if there is
     /// nothing to send.
     fn send(&mut self, buffer: &mut [u8]) -> Option<usize>
         ensures sent { IfSome result (λ n. Sends (take n buffer.new) self.old self.new) }
@@ -190,7 +190,7 @@ impl MemoryPeer {
         Some(n)
     }
 
-    /// Takes a front of the bytes. Returns its length, or `None` if nothing is taken. The only error is out
+    /// Takes a prefix of the bytes. Returns its length, or `None` if nothing is taken. The only error is out
     /// of memory.
     fn get(&mut self, bytes: &[u8]) -> Result<Option<usize>, AllocError>
         ensures got { IfOk result (λ taken. IfSome taken (λ n. Gets (take n bytes.now) self.old self.new)) }

@@ -6,7 +6,7 @@ use Rattle.octets.proofs.PageLemmas.{gone_on, full-append}
 use Rattle.octets.proofs.pages.Pages.push.Goals as goal
 use Rattle.octets.proofs.pages.Pages.push.Goals.{After-self-2-1, then-piece-room+in_ok-append, else-piece-room+in_ok-in_pages+in_ok-go_on}
 
--- the octets in the pages behind either branch
+-- the octets in the pages after either branch
 octets_now : (c : After-self-2-1) → octets_in c.if-piece-room.self-inside.paged ≡ octets_in c.self.inside.paged ++ c.args.piece.now
 octets_now c =
     let old = c.self.inside.paged in
