@@ -120,7 +120,7 @@ fn add_abilities(
     add_ability(alloc, records, settings, printer, Ability::Bind)
 }
 
-/// Adds the string that says whether some device of the printer has an ability. The only error is out of
+/// Adds the string that states whether some device of the printer has an ability. The only error is out of
 /// memory.
 fn add_ability(
     alloc: Global,

@@ -324,7 +324,7 @@ impl<S: Stream, P: Printer<S>> Adapter<S, P> {
     }
 
     /// Stops the printer, which failed a job, until it was tried again: after a second, and after a longer
-    /// rest if it failed several jobs in a row. The server is told that before the failure, so that it begins
+    /// pause if it failed several jobs in a row. The server is notified of that before the failure, so that it begins
     /// no other job there.
     fn distrust(&mut self, breach: Breach, now: u64) -> Result<(), Stop> {
         self.failures = self.failures.saturating_add(1);

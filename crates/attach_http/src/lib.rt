@@ -1,7 +1,7 @@
 //! The replies of an HTTP server to a client, read byte by byte (RFC 9112).
 //!
-//! A [`ReplyReader`] takes the bytes of a server one after the other. For each cutting of the bytes into
-//! pieces, its state is that of the grammar: the status, and the body by its length, in chunks, or up to the
+//! A [`ReplyReader`] takes the bytes of a server one after the other. For each segmentation of the bytes,
+//! its state is that of the grammar: the status, and the body by its length, in chunks, or up to the
 //! end of the connection. Interim replies are skipped. It keeps at most one line of the head, of
 //! [`ReplyReader::HEAD_BYTES`], and a body of [`ReplyReader::BODY_BYTES`].
 //!

@@ -11,7 +11,7 @@ use Rattle.attach_orders.specs.declared.fault.OrderError.{OrderError}
 use Rattle.attach_orders.specs.declared.fault.OrderError.TheVariants.{Fault, OutOfMemory}
 use Rattle.attach_orders.specs.Line.{order_in}
 
--- an element that the stream says: an order, or an octet of a job
+-- an element of the stream: an order, or an octet of a job
 pub data OrderElement : Type 0 where
   Orders : Order → OrderElement
   HasOctet : ℕ → OrderElement
@@ -48,18 +48,18 @@ line_parsed (Some order) = record { said = Orders order ∷ []; place = octets_l
 abbrev pub line_grown : List ℕ → ℕ → ParsedOrders
 line_grown line byte = if nat_lt (length line + 1) DEVICE_LINE_BYTES then silent (InLine (line ++ byte ∷ [])) else silent (AtFault LineTooLong)
 
--- what the next byte says
+-- the parse of the next byte
 unfoldable pub byte_parsed : Place → ℕ → ParsedOrders
 byte_parsed (InLine line) byte = if byte == 10 then line_parsed (order_in line) else line_grown line byte
 byte_parsed (InJob count) byte = record { said = HasOctet byte ∷ []; place = octets_left (count - 1) }
 byte_parsed (AtFault fault) byte = silent (AtFault fault)
 
--- what bytes say from a place on
+-- the parse of bytes from a place on
 abbrev pub parsed_from : Place → List ℕ → ParsedOrders
 parsed_from place [] = silent place
 parsed_from place (byte ∷ bytes) = with_front (byte_parsed place byte).said (parsed_from (byte_parsed place byte).place bytes)
 
--- what a whole stream of bytes says
+-- the parse of a whole stream of bytes
 abbrev pub orders_in : List ℕ → ParsedOrders
 orders_in stream = parsed_from (InLine []) stream
 
@@ -77,7 +77,7 @@ place_by (Some fault) octets = AtFault fault
 abbrev pub place_of : ReaderState → Place
 place_of reader = place_by reader.fault reader.octets
 
--- The reader was fed this stream and has given this. The stream says that first, and then what its bytes say that the reader hasn't read.
+-- The reader was fed this stream and has given these elements. They are the first of the stream, and the parse of the bytes that the reader hasn't read follows.
 abbrev pub HasRead : List ℕ → List OrderElement → ReaderState → Type 0
 HasRead stream given reader = orders_in stream ≡ with_front given (parsed_from (place_of reader) reader.rest)
 
@@ -85,7 +85,7 @@ HasRead stream given reader = orders_in stream ≡ with_front given (parsed_from
 abbrev pub Advances : ReaderState → List OrderElement → ReaderState → Type 0
 Advances old said new = (stream : List ℕ) (given : List OrderElement) → HasRead stream given old → HasRead stream (given ++ said) new
 
--- what an item says, with the part that the reader lends
+-- the elements of an item, with the part that the reader lends
 abbrev pub elements_of : OrderItem → List ℕ → List OrderElement
 elements_of (item.Order order) part = Orders order ∷ []
 elements_of item.Octets part = map HasOctet part
@@ -94,7 +94,7 @@ elements_of item.Octets part = map HasOctet part
 abbrev pub work : ReaderState → ℕ
 work reader = length reader.rest
 
--- the answer of a reader, and its state then: an item, which the stream says next; or none, and then the stream says no more; or a fault; or refused memory
+-- the answer of a reader, and its state then: the next item of the stream; or none, and then the stream contains no more; or a fault; or refused memory
 abbrev pub Answers : ReaderState → Result (Option OrderItem) OrderError → ReaderState → Type 0
 Answers old (Ok (Some said)) new = Advances old (elements_of said new.part) new
 Answers old (Ok None) new = (new ≡ old) × ((stream : List ℕ) (given : List OrderElement) → HasRead stream given old → (orders_in stream).said ≡ given)

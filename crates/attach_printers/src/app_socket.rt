@@ -64,7 +64,7 @@ impl AppSocket {
         Moved::Nothing
     }
 
-    /// Returns the ms until a printer whose machine has taken all counts as done: it says nothing for `linger`
+    /// Returns the ms until a printer whose machine has taken all counts as done: it sends nothing for `linger`
     /// ms, or doesn't end for the time that a printer may be silent.
     fn left<S: Stream>(&self, session: &Session<S>, now: u64) -> u64 {
         let taken = session.silence(now);

@@ -83,7 +83,7 @@ fn device(alloc: Global, detail: Detail) -> Result<Device, AllocError> {
     })
 }
 
-/// Takes turns, between which time passes as the script says. Returns the log.
+/// Takes turns, between which time passes as the script states. Returns the log.
 fn run<F: Files, P: Printer<ScriptedStream>>(
     alloc: Global,
     files: &F,

@@ -1,4 +1,4 @@
-//! Servers that misbehave, and what an adapter says without a log.
+//! Servers that misbehave, and what an adapter reports without a log.
 use crate::play::{Detail, LINKED, NOTHING, READY, Row, network, play_with};
 use crate::script::Step::{Breaks, Connects, Ends, Finishes, Misses, Passes, Sends, Writes};
 use attach_printers::AppSocket;

@@ -1,4 +1,4 @@
--- The promises of an attachment about its life. Each promise says which events may come next, and allows the events that it isn't about.
+-- The promises of an attachment about its life. Each promise states which events may come next, and allows the events that it isn't about.
 use Rattle.std.specs.Prelude.{ℕ, ◌≡◌, ◌+◌, ◌<◌, ◌≤◌, ◌==◌, if◌then◌else◌, Bool, true, false, List, [], ◌++◌, length, take, drop, Option, Some, None}
 use Rattle.base_types.specs.Report.{SaysReady, SaysStop, SaysPages, SaysDone, SaysFail}
 use Rattle.attachment.specs.declared.state.PrinterState.{PrinterState}

@@ -5,7 +5,7 @@ use clap::ArgMatches;
 /// The options of `printd attach`.
 #[derive(Clone, Copy, Debug)]
 pub struct Attaching<'a> {
-    /// The name of the device of the settings that the printer stands for.
+    /// The name of the device of the settings that the printer serves as.
     pub name: &'a str,
     /// The host and the port of the server's door for devices.
     pub server: &'a str,

@@ -5,7 +5,7 @@ use clap::ArgMatches;
 use std::alloc::Global;
 use std::net::{IpAddr, SocketAddr};
 
-/// The error for an invalid value of an option; `wanted` says which values are valid.
+/// The error for an invalid value of an option; `wanted` states which values are valid.
 pub(crate) fn invalid(alloc: Global, value: &str, option: &str, wanted: &str) -> WordsError {
     let text = format!(in alloc;
         "error: invalid value '{value}' for '--{option}': {wanted}\n\nFor more information, try '--help'.\n"

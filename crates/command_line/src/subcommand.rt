@@ -57,7 +57,7 @@ pub struct Serving<'a> {
     /// The file of the settings; `None` for the built-in settings.
     pub settings: Option<&'a str>,
     /// The addresses of the doors for clients of IPP, for clients of LPD and for devices: at least one of
-    /// each, in the order of the words. The port 0 stands for any free port.
+    /// each, in the order of the words. The port 0 means any free port.
     pub ipp: Vec<SocketAddr>,
     pub lpd: Vec<SocketAddr>,
     pub devices: Vec<SocketAddr>,

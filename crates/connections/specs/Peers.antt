@@ -49,7 +49,7 @@ with_body body t = record t { body = body }
 abbrev pub FeedsReader : List ℕ → IppClientState → IppClientState → Type 0
 FeedsReader piece t u = (u ≡ with_http u.reader t) × ((stream : List ℕ) (given : List HttpElement) → Http.HasRead stream given t.reader → Http.HasRead (stream ++ piece) given u.reader)
 
--- a piece is bytes of a body, and was fed to the body at once; a later step tells of it
+-- a piece is bytes of a body, and was fed to the body at once; a later step reports it
 abbrev pub FeedsBody : List ℕ → IppClientState → IppClientState → Type 0
 FeedsBody piece t u =
     (u ≡ record t { reader = u.reader; body = u.body; untold = true })
@@ -86,7 +86,7 @@ HandlesIpp item.BodyPart what t u = TakesPart what t u
 HandlesIpp item.BodyEnd what t u = EndsIpp what t u
 HandlesIpp (item.Refuse refusal) what t u = (what ≡ step.Due (due.Refusal refusal) true) × (u ≡ t)
 
--- a step tells of the bytes that the body was fed before
+-- a step reports the bytes that the body was fed before
 abbrev pub TellsBody : Step → IppClientState → IppClientState → Type 0
 TellsBody what t u = (t.untold ≡ true) × (what ≡ silent) × (u ≡ record t { untold = false })
 
@@ -101,7 +101,7 @@ abbrev pub TakesIfItem : Option Step → IppClientState → IppClientState → T
 TakesIfItem None t u = Http.Answers t.reader None u.reader × (u ≡ with_http u.reader t)
 TakesIfItem (Some what) t u = TakesItem what t u
 
--- the same, where no bytes that the body was fed are to be told of; else a step tells of those
+-- the same, if no bytes that the body was fed are still to be reported; else a step reports those
 abbrev pub NextIpp : Option Step → IppClientState → IppClientState → Type 0
 NextIpp None t u = (t.untold ≡ false) × TakesIfItem None t u
 NextIpp (Some what) t u = TellsBody what t u ⊎ ((t.untold ≡ false) × TakesIfItem (Some what) t u)

@@ -18,7 +18,7 @@ use Rattle.connections.specs.declared.peer.Peer.TheVariants as of
 pub record FitsIpp (read : List ℕ) (progress : PeerRecord) (t : IppClientState) : Type 0 where
   pub said : List HttpElement
   pub body : List ℕ
-  -- bytes that the body was fed, of which no step has told yet
+  -- bytes that the body was fed, and that no step has reported yet
   pub untold : List ℕ
   pub is : progress ≡ entry.Http said t.closes body
   pub told : t.untold ≡ false → untold ≡ []

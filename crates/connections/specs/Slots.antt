@@ -117,7 +117,7 @@ device_at slots key = option_map_or (λ c. device_of c.peer) (slice_index_or slo
 abbrev pub is_of : List (Option ConnectionState) → ℕ → ℕ → Bool
 is_of slots device key = option_map_or (λ place. place == device) (device_at slots key) false
 
--- the connection under a key is removed, and the wire is told to close it
+-- the connection under a key is removed, and the wire is asked to close it
 abbrev pub LeavesAs : {W : Type 0} → (W → Poll → W → Type 0) → ℕ → W → List (Option ConnectionState) → Option ℕ → W → List (Option ConnectionState) → Type 0
 LeavesAs polled key wire old device wire' new =
     ((c : ConnectionState) × (slice_index_or old key None ≡ Some c) × (new ≡ slice_set old key None) × (device ≡ device_of c.peer) × polled wire (Closes c.id) wire')

@@ -11,7 +11,7 @@ pub record IppClientState : Type 0 where
   -- whether the connection closes after the reply to the current request
   pub closes : Bool
   pub body : ReaderState
-  -- whether the body was fed bytes that no step has told of yet
+  -- whether the body was fed bytes that no step has reported yet
   pub untold : Bool
 
 pub record LpdClientState : Type 0 where

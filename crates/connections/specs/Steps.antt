@@ -123,7 +123,7 @@ IsFileLost before what after = (what ≡ step.Asks (ask.Lost part.File) false) �
 abbrev pub AsksForFile : Hearing → Option SessionState → Step → Option SessionState → Type 0
 AsksForFile hearing before what after = IsFileLost before what after ⊎ AsksAs hearing what after
 
--- the step for an item, and the session after it, where is_queue says which queues there are
+-- the step for an item, and the session after it, where is_queue states which queues there are
 abbrev pub StepsLpd : (List ℕ → Bool) → Option SessionState → ItemRecord → Step → Option SessionState → Type 0
 StepsLpd is_queue before (HasFile contents) what after = AsksForFile (heard is_queue before (HasFile contents)) before what after
 StepsLpd is_queue before (HasCommand command) what after = AsksAs (heard is_queue before (HasCommand command)) what after

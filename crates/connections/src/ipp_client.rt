@@ -23,7 +23,7 @@ pub struct IppClient {
     closes: bool,
     /// The parser of that request's body.
     body: RequestParser,
-    /// Whether the body was fed bytes that no step has told of yet.
+    /// Whether the body was fed bytes that no step has reported yet.
     untold: bool,
 }
 

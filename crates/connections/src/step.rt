@@ -9,7 +9,7 @@ pub enum Due {
     Nothing,
     /// An acknowledgement or a refusal of LPD (RFC 1179, section 6).
     Byte(u8),
-    /// The interim head that tells a client to go on (RFC 9110, section 15.2.1).
+    /// The interim head that asks a client to continue (RFC 9110, section 15.2.1).
     Continue,
     /// The reply to a request of HTTP that is refused.
     Refusal(HttpRejection),
@@ -28,6 +28,6 @@ pub enum Step {
     Due { due: Due, last: bool },
     /// An ask to the server. After the last step the connection drains.
     Asks { ask: Ask, last: bool },
-    /// The connection breaks, and the server is told.
+    /// The connection breaks, and the server is notified.
     Breaks(Ask),
 }

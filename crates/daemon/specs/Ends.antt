@@ -11,7 +11,7 @@ use Rattle.server.specs.declared.note_log.LoggedNote.{LoggedNote}
 use Rattle.server.specs.declared.note_log.LoggedNote.TheVariants as hear
 use Rattle.daemon.specs.declared.ends.Ended.{Ended}
 
--- the job that a note says was begun
+-- the job that was begun according to a note
 abbrev pub begun_by : LoggedNote → List Started
 begun_by (hear.Began started) = started ∷ []
 begun_by _ = []

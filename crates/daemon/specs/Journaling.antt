@@ -1,4 +1,4 @@
--- A server with a journal: its engine stands at the trace of what is stored and of the lines that are kept.
+-- A server with a journal: its engine is at the trace of what is stored and of the lines that are kept.
 use Rattle.std.specs.Prelude.{ℕ, ◌≡◌, ◌⊎◌, true, false, List, ◌++◌, Some, None}
 use Rattle.print_room.specs.State.{State}
 use Rattle.recordings.specs.Lines.{turn_line}
@@ -14,14 +14,14 @@ use Rattle.journal.specs.File.{IsFile}
 use Rattle.daemon.specs.declared.serving.Server.{Server}
 use Rattle.daemon.specs.Serving.{calls_of}
 
--- The engine stands at this trace, and the trace has a file: the stored lines, and the kept lines after them. If memory for a line was refused, no lines are kept.
+-- The engine is at this trace, and the trace has a file: the stored lines, and the kept lines after them. If memory for a line was refused, no lines are kept.
 pub record IsFiled (opening : State) (trace : Trace) (server : Server) (stored : List ℕ) : Type 0 where
   pub journaled : server.journaled ≡ true
   pub whole : server.wire.notes.heads ≡ false
   pub stands : StandsAt opening trace server.engine
   pub file : (kept : List ℕ) → server.wire.notes.lines ≡ Some kept → IsFile trace (stored ++ kept)
 
--- wherever the engine stood at a filed trace, it stands at a filed trace that begins with that trace
+-- wherever the engine was at a filed trace, it is at a filed trace that begins with that trace
 abbrev pub KeepsFiled : Server → List ℕ → Server → List ℕ → Type 0
 KeepsFiled old before new after = (opening : State) (trace : Trace) → IsFiled opening trace old before → (more : Trace) × IsFiled opening (trace ++ more) new after
 

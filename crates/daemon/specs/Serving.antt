@@ -23,14 +23,14 @@ abbrev pub AreNoted : List Poll → NoteState → NoteState → Type 0
 AreNoted [] old new = new ≡ old
 AreNoted (poll ∷ polls) old new = (mid : NoteState) × Notes poll old mid × AreNoted polls mid new
 
--- the listener is told nothing
+-- the listener is not notified
 abbrev pub AreUntold : List Happening → Type 0
 AreUntold [] = Unit {0}
 AreUntold (Polled poll ∷ hs) = AreUntold hs
 AreUntold (Told note ∷ hs) = ⊥
 AreUntold (Chosen choice ∷ hs) = AreUntold hs
 
--- A turn of the engine, of which only some calls reach the sockets. It leads each ledger that represents the old engine to one that represents the new engine. For each trace at which the engine stood, it now stands at that trace followed by this turn. The calls of the turn that pass are exactly those that were made of the sockets, and all calls are noted. `told` says whether the listener may have been told something.
+-- A turn of the engine, of which only some calls reach the sockets. It leads each ledger that represents the old engine to one that represents the new engine. For each trace at which the engine was, it is now at that trace followed by this turn. The calls of the turn that pass are exactly those that were made of the sockets, and all calls are noted. `told` indicates whether the listener may have been notified.
 pub record TakesTurn (pass : Pass) (moment : ℕ) (told : Bool) (old new : Server) : Type 0 where
   pub happenings : List Happening
   pub turns : (l : Ledger) → Represents l old.engine → (l' : Ledger) × Seen (Turn moment) l happenings l' × Represents l' new.engine
@@ -68,7 +68,7 @@ AreTurnsAt [] [] = Unit {0}
 AreTurnsAt (moment ∷ moments) (Turned at hs ∷ actions) = (at ≡ moment) × AreTurnsAt moments actions
 AreTurnsAt _ _ = ⊥
 
--- Where the engine stood at the trace before, it now stands at that trace followed by turns at exactly these moments. The calls of the turns are exactly those that were made of the sockets, in order.
+-- If the engine was at the trace before, it is now at that trace followed by turns at exactly these moments. The calls of the turns are exactly those that were made of the sockets, in order.
 pub record HasTurned (opening : State) (before : Trace) (moments : List ℕ) (old new : Server) : Type 0 where
   pub turns : Trace
   pub are_at : AreTurnsAt moments turns

@@ -55,7 +55,7 @@ impl Chronicle {
         };
     }
 
-    /// Returns the lines of a turn: the date, connections that came, jobs that came, notes that were heard,
+    /// Returns the lines of a turn: the date, connections that came, jobs that came, notes that were received,
     /// jobs that ended or are late, and connections that went. The only error is out of memory.
     pub fn lines(
         &mut self,

@@ -19,7 +19,7 @@ use std::alloc::{AllocError, Global};
 /// The turns of a server with a journal.
 impl Server {
     /// Creates a server of an engine with a journal, over sockets that listen. `names` are those of the devices.
-    /// If the engine stands at the trace of a file, and the file is stored, the server's trace is filed.
+    /// If the engine is at the trace of a file, and the file is stored, the server's trace is filed.
     pub fn journaled(
         alloc: Global,
         sockets: Sockets,

@@ -1,4 +1,4 @@
-//! [`LastPlan`] keeps what the log says of the last plan, and decides whether it gets a line.
+//! [`LastPlan`] keeps what the log reports of the last plan, and decides whether it gets a line.
 use base_types::{Cause, JobId, Priority, Stranded};
 use plan_text::{put_class_word, put_stranded_word};
 use std::alloc::{AllocError, Global};
@@ -66,7 +66,7 @@ impl LastPlan {
         Ok(())
     }
 
-    /// Returns whether the plan's line is due. `begins` says whether the plan begins a job. The line is due
+    /// Returns whether the plan's line is due. `begins` indicates whether the plan begins a job. The line is due
     /// at most once for each plan.
     pub(crate) fn take_due(&mut self, begins: bool) -> bool {
         let is_due = self.is_pending && (begins || !self.news.is_empty());

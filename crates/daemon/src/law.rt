@@ -9,7 +9,7 @@ ghost use Rattle.daemon.specs.declared.serving.Server.{Server};
 /// Turns at these moments extend a trace of the server's engine by exactly these turns, in this order. The
 /// calls of the extension are exactly the calls that were made of the sockets, with their answers, in order.
 ///
-/// A new server's engine stands at the empty trace ([`crate::Server::new`]).
+/// A new server's engine is at the empty trace ([`crate::Server::new`]).
 pub fn turns_are_one_trace()
     ensures { (opening : State) (trace : Trace) (moments : List ℕ) (old new : Server) → StandsAt opening trace old.engine → ServesTurns moments old new → HasTurned opening trace moments old new }
 {}

@@ -179,7 +179,7 @@ impl<'a> Lines<'a> {
         }
     }
 
-    /// Adds the line of the last plan, if it is due. `begins` says whether the plan begins a job.
+    /// Adds the line of the last plan, if it is due. `begins` indicates whether the plan begins a job.
     fn add_plan(&mut self, plan: &mut LastPlan, begins: bool) {
         if plan.take_due(begins) {
             self.begin("plan");

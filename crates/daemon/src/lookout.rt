@@ -45,7 +45,7 @@ impl Lookout {
         due
     }
 
-    /// Records a look. `found` says whether it found an event.
+    /// Records a look. `found` indicates whether it found an event.
     pub(crate) fn looked(&mut self, found: bool) {
         let more = self.unlooked.saturating_mul(2).saturating_add(1);
         self.unlooked = if found {

@@ -146,7 +146,7 @@ fn finish<T: Tape>(server: &mut Server, recorder: &mut Option<Recorder<'_, T>>)
     }
 }
 
-/// Writes the lines of a turn, or a line that says that memory for them was refused.
+/// Writes the lines of a turn, or a line that states that memory for them was refused.
 pub(crate) fn put_lines<W: Write>(lines: Result<Vec<u8>, AllocError>, log: &mut LogWriter<'_, W>) {
     match lines {
         Ok(lines) => log.put(&lines),

@@ -43,7 +43,7 @@ pub struct Server {
     marked: Option<Mark>,
 }
 
-/// What a turn told a listener, and the connections that came and went.
+/// The notes that a turn gave a listener, and the connections that came and went.
 #[derive(Drop)]
 pub(crate) struct Taken<N: Listener> {
     listener: N,
@@ -61,15 +61,15 @@ fn all_of(
     }
 }
 
-/// Returns whether something happened in a turn: a tick came, the listener was told something, or the notes grew.
+/// Returns whether something happened in a turn: a tick came, the listener was notified, or the notes grew.
 fn has_happened(ticks: bool, told: bool, before: usize, after: usize) -> bool
     ensures { IsFalse result → (ticks ≡ false) × (told ≡ false) × (after ≡ before) }
 {
     ticks || told || after != before
 }
 
-/// Returns whether something happened in a turn that a log may show: a tick came, the listener was told something, or
-/// a connection came or went.
+/// Returns whether something happened in a turn that a log may show: a tick came, the listener was notified, or a
+/// connection came or went.
 fn shows(ticks: bool, told: bool, visits: &Result<Vec<ConnectionEvent>, AllocError>) -> bool {
     match visits {
         Ok(visits) => ticks || told || !visits.is_empty(),
@@ -78,7 +78,7 @@ fn shows(ticks: bool, told: bool, visits: &Result<Vec<ConnectionEvent>, AllocErr
 }
 
 impl Server {
-    /// Creates a server over sockets that listen. Its engine stands at the empty trace. The only error is out of
+    /// Creates a server over sockets that listen. Its engine is at the empty trace. The only error is out of
     /// memory.
     pub fn new(alloc: Global, sockets: Sockets, settings: Settings) -> Result<Server, AllocError>
         requires { MeetsLimits settings }
@@ -156,7 +156,7 @@ impl Server {
         recorder.finish(&mut self.wire.notes);
     }
 
-    /// Takes one turn of the engine. For each trace at which the engine stood, it now stands at that trace
+    /// Takes one turn of the engine. For each trace at which the engine was, it is now at that trace
     /// followed by this turn. The calls of the turn are exactly those that the engine made of the sockets.
     pub fn turn(&mut self, moment: Moment)
         ensures { ServesTurn All moment self.old self.new }
@@ -188,7 +188,7 @@ impl Server {
         }
     }
 
-    /// Takes one turn of the engine, of which only some calls reach the sockets, and notes it. `logs` says whether
+    /// Takes one turn of the engine, of which only some calls reach the sockets, and notes it. `logs` indicates whether
     /// a log is written.
     pub(crate) fn take<N: Listener>(
         &mut self,
@@ -217,7 +217,7 @@ impl Server {
         }
     }
 
-    /// Takes one turn of the engine, which tells the listener its notes.
+    /// Takes one turn of the engine, which notifies the listener of its notes.
     fn run_turn<N: Listener>(&mut self, pass: Pass, moment: Moment, listener: N) -> Witness<N>
         ensures { TakesTurn pass moment result.told self.old self.new }
     {

@@ -1,11 +1,11 @@
-//! A listener that records whether it was told a note.
+//! A listener that records whether it was notified.
 ghost use Rattle.std.specs.Prelude.{◌≡◌, true, false};
 
 use dispatcher::{AllocationSite, DeviceRefusal, Dispatched, Listener};
 use events::Cancel;
 use wires::WireId;
 
-/// A listener that passes its notes on, and records whether it was told a note, and whether a growth was
+/// A listener that passes its notes on, and records whether it was notified, and whether a growth was
 /// refused.
 #[derive(Drop)]
 pub(crate) struct Witness<N: Listener> {
@@ -15,7 +15,7 @@ pub(crate) struct Witness<N: Listener> {
 }
 
 impl<N: Listener> Witness<N> {
-    /// Creates a listener that was told no note yet.
+    /// Creates a listener that was not notified yet.
     pub(crate) fn new(listener: N) -> Witness<N>
         ensures listener { result.listener ≡ listener }
         ensures told { result.told ≡ false }

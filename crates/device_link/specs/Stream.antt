@@ -50,12 +50,12 @@ pub record ParsesAtFront (greeted : Bool) (bytes : List ℕ) (report : ReportRec
   pub says : report_in greeted (take count bytes) ≡ Some report
   pub rest_is : rest ≡ drop (count + 1) bytes
 
--- the bytes say these reports, and lead to these bytes left; `next` says whether the device has given its name then
+-- the bytes parse as these reports, with these bytes left; `next` is whether the device has given its name then
 abbrev pub Leads : Bool → List ℕ → List ReportRecord → Bool → List ℕ → Type 0
 Leads greeted bytes [] next left = (next ≡ greeted) × (left ≡ bytes)
 Leads greeted bytes (report ∷ reports) next left = (rest : List ℕ) × ParsesAtFront greeted bytes report rest × Leads true rest reports next left
 
--- the stream says these reports first, for all bytes that may follow
+-- these are the first reports of the stream, whatever bytes follow
 pub record ParsesFirst (stream : List ℕ) (reports : List ReportRecord) : Type 0 where
   pub next : Bool
   pub left : List ℕ
@@ -71,7 +71,7 @@ abbrev pub parsed_on : Option LinkFault → Bool → List ℕ → ParsedLines
 parsed_on (Some fault) greeted bytes = silence (Faulty fault)
 parsed_on None greeted bytes = parsed_in greeted (texts_of bytes)
 
--- the reports that a reader's state says of its bytes and of these after them
+-- the reports that a reader's state parses from its bytes and these after them
 abbrev pub ahead : LinkState → List ℕ → ParsedLines
 ahead reader coming = parsed_on reader.fault reader.greeted (reader.rest ++ coming)
 
@@ -80,7 +80,7 @@ abbrev pub IsLeft : Option LinkFault → Bool → List ℕ → List ℕ → Type
 IsLeft (Some fault) greeted rest left = parsed_in greeted (texts_of left) ≡ silence (Faulty fault)
 IsLeft None greeted rest left = left ≡ rest
 
--- The reader was fed this stream and has given these reports. The stream says them first, and leads to the state of the reader, with the bytes that are left.
+-- The reader was fed this stream and has given these reports. They are the first of the stream, and lead to the state of the reader, with the bytes that are left.
 pub record HasRead (stream : List ℕ) (given : List ReportRecord) (reader : LinkState) : Type 0 where
   pub left : List ℕ
   pub leads : Leads false stream given reader.greeted left
@@ -90,7 +90,7 @@ pub record HasRead (stream : List ℕ) (given : List ReportRecord) (reader : Lin
 abbrev pub work : LinkState → ℕ
 work reader = length reader.rest
 
--- the answer of a reader, and its state then: a report, which the stream says next; or no report, and then the stream says no more; or a fault; or refused memory
+-- the answer of a reader, and its state then: the next report of the stream; or no report, and then the stream contains no more; or a fault; or refused memory
 abbrev pub Answers : LinkState → Result (Option Report) LinkError → LinkState → Type 0
 Answers old (Ok (Some report)) new =
     (stream : List ℕ) (given : List ReportRecord) → HasRead stream given old → HasRead stream (given ++ report_of report ∷ []) new
@@ -103,7 +103,7 @@ Answers old (Err OutOfMemory) new = new ≡ old
 
 -- ---- laws
 
--- the reports that a stream says first are a prefix of the reports of the stream with more bytes after it
+-- the first reports of a stream are a prefix of the reports of the stream with more bytes after it
 abbrev pub FirstStays : Type 0
 FirstStays = (stream more : List ℕ) (first : List ReportRecord) → ParsesFirst stream first → (later : ParsedLines) × (device_reports (stream ++ more) ≡ with_front first later)
 
@@ -111,10 +111,10 @@ FirstStays = (stream more : List ℕ) (first : List ReportRecord) → ParsesFirs
 abbrev pub FirstIsOne : Type 0
 FirstIsOne = (stream : List ℕ) (one other : List ReportRecord) → ParsesFirst stream one → ParsesFirst stream other → length one ≡ length other → one ≡ other
 
--- a stream says no report after all of its reports
+-- a stream contains no report after all of its reports
 abbrev pub NoneFollows : Type 0
 NoneFollows = (stream : List ℕ) (reports : List ReportRecord) (said : ReportRecord) (ending : Ending) → ParsesFirst stream (reports ++ said ∷ []) → device_reports stream ≡ record { reports = reports; ending = ending } → ⊥
 
--- a whole stream says the reports that a reader has given, and then the reports that the reader's state says of its bytes and of the bytes that follow
+-- the reports of a whole stream are those that a reader has given, and then those that the reader's state parses from its bytes and the bytes that follow
 abbrev pub ParsesTheRest : Type 0
 ParsesTheRest = (stream coming : List ℕ) (given : List ReportRecord) (reader : LinkState) → HasRead stream given reader → device_reports (stream ++ coming) ≡ with_front given (ahead reader coming)

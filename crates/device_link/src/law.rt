@@ -1,7 +1,7 @@
 //! Laws of a device's stream, as contracts of functions that do nothing.
 ghost use Rattle.device_link.specs.Stream.{FirstIsOne, NoneFollows, FirstStays, ParsesTheRest};
 
-/// Two prefixes of a stream's reports are equal if their lengths are equal, and a stream says no report after
+/// Two prefixes of a stream's reports are equal if their lengths are equal, and a stream contains no report after
 /// all of its reports.
 pub fn one_front()
     ensures one { FirstIsOne }

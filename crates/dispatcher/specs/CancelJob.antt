@@ -1,4 +1,4 @@
--- The step of a Cancel-Job request (RFC 8011, section 4.3.3): the job is canceled at once. A device that has the job is told, and keeps the job until it reports that it is done.
+-- The step of a Cancel-Job request (RFC 8011, section 4.3.3): the job is canceled at once. A device that has the job is notified, and keeps the job until it reports that it is done.
 use Rattle.std.specs.Prelude.{ℕ, ◌≡◌, List, [], map, option_to_list, Result, Ok, MatchResult}
 use Rattle.text.specs.Steps.{◌>>=◌}
 use Rattle.events.specs.declared.event.JobRequest.{JobRequest}

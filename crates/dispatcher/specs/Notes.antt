@@ -1,4 +1,4 @@
--- The notes that a listener is told, in order.
+-- The notes that a listener gets, in order.
 use Rattle.std.specs.Prelude.{ℕ, ◌≡◌, List, [], ◌∷◌, Option}
 use Rattle.plan_prices.specs.Plan.{PlanRecord}
 use Rattle.print_room.specs.declared.started.Started.{Started}

@@ -1,4 +1,4 @@
--- The step of an LPD client's request to remove jobs from a queue (RFC 1179, section 5.5): each job is canceled at once, by rising id. A device that has such a job is told, and keeps it until it reports that it is done.
+-- The step of an LPD client's request to remove jobs from a queue (RFC 1179, section 5.5): each job is canceled at once, by rising id. A device that has such a job is notified, and keeps it until it reports that it is done.
 use Rattle.std.specs.Prelude.{ℕ, ◌≡◌, if◌then◌else◌, List, []}
 use Rattle.std.specs.List.{flat_map}
 use Rattle.job_objects.specs.Job.{JobRecord}

@@ -39,7 +39,7 @@ Handles moment event old (Dispatched reply) notes new =
     (is_query event ≡ false) × (mid : State) × Step old event moment reply mid
     × (plan : PlanRecord) × Dispatches (max moment mid.last) mid (Some plan) new.begun new × (notes ≡ cancels_told reply ++ Planned (Some plan) new.begun ∷ [])
 
--- the outcome of an event, with a listener that is told the notes
+-- the outcome of an event, with a listener that gets the notes
 abbrev pub Comes : {L : Type 0} → (L → Note → L → Type 0) → State → L → Timed → Outcome → State → L → Type 0
 Comes told old listener timed outcome new listener' = (notes : List Note) × Handles timed.moment timed.event old outcome notes new × Tells told listener notes listener'
 

@@ -20,7 +20,7 @@ use Rattle.dispatcher.specs.Checks.{named_job, printer_of_job, format_asked, unr
 use Rattle.print_room.specs.State.{State}
 use Rattle.print_room.specs.Jobs.{sending_refusal, sending}
 
--- the group of the job after the step: its documents are still to come, unless this document was the last (`Core::sent_is_shown` says that it is the job's group in the state after it)
+-- the group of the job after the step: its documents are still to come, unless this document was the last (`Core::sent_is_shown` states that it is the job's group in the state after it)
 abbrev pub sent_group : State → JobRecord → Bool → IppGroup
 sent_group old job last =
     created_attributes old.settings.uri_base job.id (waiting_state (not last) job.held) (waiting_reasons (not last) job.held job.stranded (paused_at old.paused job.needs.printer))

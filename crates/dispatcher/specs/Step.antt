@@ -60,7 +60,7 @@ StepAt Is.Tick now old reply new = Ticks now old reply new
 abbrev pub Step : State → Event → ℕ → Effects → State → Type 0
 Step old event moment reply new = StepAt event (max moment old.last) old reply new
 
--- the step of the event takes no memory. Memory is taken for a response of more than a status, for a job of files that is taken, for the listing of a queue, and for a cancel that a device is told
+-- the step of the event takes no memory. Memory is taken for a response of more than a status, for a job of files that is taken, for the listing of a queue, and for a cancel of which a device is notified
 abbrev pub TakesNoMemoryAt : Event → ℕ → State → Type 0
 TakesNoMemoryAt (Is.PrintJob request) now old = IsErr (asked_of request now old)
 TakesNoMemoryAt (Is.ValidateJob request) now old = Unit {0}

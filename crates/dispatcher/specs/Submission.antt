@@ -43,6 +43,6 @@ job_asked asked octets now old printer =
     room_for octets old >>= (λ _.
     Ok (record { job = submission_of asked now printer; unsupported = unsupported })))
 
--- the group of the job that is taken next, before any dispatch (section 4.2.1.2); `incoming` says whether its documents are still to come
+-- the group of the job that is taken next, before any dispatch (section 4.2.1.2); `incoming` indicates whether its documents are still to come
 abbrev pub group_of : State → Submission → Bool → IppGroup
 group_of old job incoming = created_group old.settings.uri_base (spooled_of job old.spool.next incoming).job (paused_at old.paused job.printer)

@@ -23,7 +23,7 @@ use std::alloc::{AllocError, Global};
 ///
 /// The only error is out of memory: the event is dropped, and the room is unchanged. Memory is taken only for
 /// a response of more than a status, for a job of files that is taken, for the listing of a queue, and for a
-/// cancel that a device is told.
+/// cancel of which a device is notified.
 pub(crate) fn apply(
     alloc: Global,
     room: &mut PrintRoom,

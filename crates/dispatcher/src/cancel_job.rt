@@ -10,7 +10,7 @@ use events::{Cancel, Effects, JobRequest};
 use print_room::PrintRoom;
 use std::alloc::{AllocError, Global};
 
-/// Cancels a job, or responds with the rejection. Memory is taken only for a cancel that a device is told.
+/// Cancels a job, or responds with the rejection. Memory is taken only for a cancel of which a device is notified.
 pub(crate) fn cancel_job(
     alloc: Global,
     room: &mut PrintRoom,

@@ -58,7 +58,7 @@ impl<P: Planner + Drop> Core<P> {
         self.room.dispatch(&mut self.planner, now)
     }
 
-    /// A view of the last dispatch. `planned` says whether it made a plan.
+    /// A view of the last dispatch. `planned` indicates whether it made a plan.
     pub fn dispatched(&self, planned: bool) -> Dispatched<'_>
         ensures plan { plan_of result ≡ plan_if planned self.now }
         ensures started { started_of result ≡ begun_if planned self.now }

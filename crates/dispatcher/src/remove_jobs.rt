@@ -11,7 +11,7 @@ use listings::{active_job, is_named, queue_of, remove};
 use print_room::PrintRoom;
 use std::alloc::{AllocError, Global};
 
-/// Removes jobs. Memory is taken only for a cancel that a device is told.
+/// Removes jobs. Memory is taken only for a cancel of which a device is notified.
 pub(crate) fn remove_jobs(
     alloc: Global,
     room: &mut PrintRoom,

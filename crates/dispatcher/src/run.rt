@@ -32,8 +32,8 @@ enum Made {
 }
 
 impl<P: Planner + Drop> Core<P> {
-    /// Takes the step of an event, and dispatches unless the event is a query. The listener is told of the
-    /// cancels and of the dispatch.
+    /// Takes the step of an event, and dispatches unless the event is a query. The listener is notified of
+    /// the cancels and of the dispatch.
     ///
     /// Whenever a plan is made, its priority classes are planned from the highest down. Given when the classes
     /// above leave each device free, each class has the least total of estimated completion times among all
@@ -58,7 +58,7 @@ impl<P: Planner + Drop> Core<P> {
         }
     }
 
-    /// Dispatches, and tells the listener.
+    /// Dispatches, and notifies the listener.
     fn plan<L: Listener>(&mut self, moment: Moment, listener: &mut L) -> Made
         ensures { PlansAs L.told (max moment self.old.last) self.old listener.old result self.new listener.new }
     {
@@ -79,7 +79,7 @@ impl<P: Planner + Drop> Core<P> {
     }
 
     /// Takes the steps of events, one after the other, each with a dispatch after it unless it is a query.
-    /// Returns the outcome of each event. The listener is told of the cancels and of each plan with the jobs
+    /// Returns the outcome of each event. The listener is notified of the cancels and of each plan with the jobs
     /// that began.
     ///
     /// For each list of requests, moments and device reports, whenever a plan is made, its priority classes are

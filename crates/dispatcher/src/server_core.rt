@@ -78,7 +78,7 @@ impl<P: Planner + Drop> Core<P> {
     ///
     /// The only error is out of memory: the event is dropped, and the state is unchanged. Memory is taken
     /// only for a response of more than a status, for a job of files that is taken, for the listing of a
-    /// queue, and for a cancel that a device is told.
+    /// queue, and for a cancel of which a device is notified.
     pub fn apply(&mut self, event: Event, moment: Moment) -> Result<Effects, AllocError>
         ensures ok { IfOk result (λ reply. Step self.old event moment reply self.new) }
         ensures err { OnErr result (self.new ≡ self.old) }

@@ -71,7 +71,7 @@ pub(crate) fn job_asked(
     Ok(Ok(Accepted { job, unsupported }))
 }
 
-/// The group of the job that is taken next. `incoming` says whether its documents are still to come.
+/// The group of the job that is taken next. `incoming` indicates whether its documents are still to come.
 #[tactic(auto, using(crate::proofs::Waiting::waiting_shown))]
 pub(crate) fn groups_of(
     alloc: Global,

@@ -20,7 +20,7 @@ pub struct ChartJob {
     pub ending: Ending,
 }
 
-/// What a bar stands for.
+/// What a bar represents.
 #[derive(Clone, Copy)]
 pub enum Mark {
     /// The device may begin no job.

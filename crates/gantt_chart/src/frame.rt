@@ -13,7 +13,7 @@ const LETTER_WIDTH: f64 = 7.5;
 /// The distance between two labels side by side below a lane.
 pub(crate) const LABEL_PITCH: f64 = 11.0;
 
-/// The room for the label of a job that came: the label stands near its pin.
+/// The room for the label of a job that came: the label is near its pin.
 const ARRIVAL_PITCH: f64 = 16.5;
 
 /// The least width of the lanes of a chart whose jobs aren't labeled each.

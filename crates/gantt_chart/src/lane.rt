@@ -185,7 +185,7 @@ fn put_leader(page: Page, tag: &Tag, top: f64) -> Page {
         .put("\" stroke=\"#888\" stroke-width=\"0.5\"/>\n")
 }
 
-/// Appends the label of a bar that stands below it, and a line to it.
+/// Appends a bar's label below the bar, and a line to it.
 fn put_tag(page: Page, tag: &Tag, top: f64) -> Page {
     let page = put_leader(page, tag, top)
         .put_length("<text transform=\"translate(", tag.x - 3.5)

@@ -2,7 +2,7 @@
 use Rattle.std.specs.Prelude.{ℕ, ◌≡◌, ◌+◌, Bool, true, false, if◌then◌else◌, List, [], ◌∷◌}
 use Rattle.http_front.specs.Stream.{HttpElement, HasHead, Invites, HasByte, EndsBody, IsRefused, Exchanges, is_last}
 
--- the place between exchanges; after a head; or after an invitation or this many bytes of the body. The head says whether the exchange closes the connection
+-- the place between exchanges; after a head; or after an invitation or this many bytes of the body. The head states whether the exchange closes the connection
 pub data Place : Type 0 where
   Between : Place
   Headed : (closes : Bool) → Place
@@ -23,6 +23,6 @@ in_order (Within closes count) (EndsBody ∷ later) = if is_last closes count th
 in_order place (IsRefused refusal ∷ later) = is_none later
 in_order place (said ∷ later) = false
 
--- each stream says its exchanges in this order
+-- each stream contains its exchanges in this order
 abbrev pub ElementsInOrder : Type 0
 ElementsInOrder = (stream : List ℕ) (said : List HttpElement) → Exchanges stream said → in_order Between said ≡ true

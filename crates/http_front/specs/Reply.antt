@@ -45,6 +45,6 @@ ending false = codes "\r\n\r\n"
 abbrev pub head : ℕ → ℕ → Bool → List ℕ
 head status length closes = opening status ++ (decimal length ++ ending closes)
 
--- the interim head that tells a client to send the body (RFC 9110, section 15.2.1)
+-- the interim head that asks a client to send the body (RFC 9110, section 15.2.1)
 abbrev pub continue_head : List ℕ
 continue_head = codes "HTTP/1.1 100 Continue\r\n\r\n"

@@ -9,7 +9,7 @@ empty_line [] = 0
 empty_line (first ∷ []) = if first == 10 then 1 else 0
 empty_line (first ∷ second ∷ more) = if first == 10 then 1 else if (first == 13) && (second == 10) then 2 else 0
 
--- the end of the first empty line, counted from `place`; `begins` says whether a line begins at the front
+-- the end of the first empty line, counted from `place`; `begins` indicates whether a line begins at the first byte
 abbrev pub empty_line_end : Bool → ℕ → List ℕ → Option ℕ
 empty_line_end begins place [] = None
 empty_line_end begins place (byte ∷ bytes) =

@@ -25,7 +25,7 @@ use Rattle.http_front.specs.declared.reader.Step.TheVariants as step
 use Rattle.http_front.specs.Chunk.{IsSizeOf, chunk_end}
 use Rattle.http_front.specs.Head.{Asks}
 
--- an element that a stream says: a head, an invitation, a byte of a body, the end of a body, or a refusal
+-- an element of a stream: a head, an invitation, a byte of a body, the end of a body, or a refusal
 pub data HttpElement : Type 0 where
   HasHead : (closes : Bool) → HttpElement
   Invites : HttpElement
@@ -151,7 +151,7 @@ FrontIs (Size room closes) bytes front = SizeIn bytes room closes (first_line_of
 FrontIs (Trailer last) bytes front = front ≡ trailer_front last bytes (section_in HTTP_TRAILER_BYTES bytes)
 FrontIs Nothing bytes front = front ≡ Waits
 
--- the bytes say these elements in `steps` steps, and then more bytes are awaited
+-- the bytes parse as these elements in `steps` steps, and then more bytes are awaited
 abbrev pub ParsesIn : ℕ → Awaited → List ℕ → List HttpElement → Type 0
 ParsesIn zero awaited bytes said = (said ≡ []) × FrontIs awaited bytes Waits
 ParsesIn (suc steps) awaited bytes said =
@@ -177,7 +177,7 @@ SomeParse = (stream : List ℕ) → (said : List HttpElement) × Exchanges strea
 abbrev pub StaysInFront : Type 0
 StaysInFront = (stream more : List ℕ) (given said : List HttpElement) → Exchanges stream given → Exchanges (stream ++ more) said → (later : List HttpElement) × (said ≡ given ++ later)
 
--- the bytes say these elements in `steps` steps, and lead to this awaited part with these bytes left
+-- the bytes parse as these elements in `steps` steps, and lead to this awaited part with these bytes left
 abbrev pub LeadsIn : ℕ → Awaited → List ℕ → List HttpElement → Awaited → List ℕ → Type 0
 LeadsIn zero awaited bytes said next left = (said ≡ []) × (next ≡ awaited) × (left ≡ bytes)
 LeadsIn (suc steps) awaited bytes said next left =
@@ -187,13 +187,13 @@ LeadsIn (suc steps) awaited bytes said next left =
 abbrev pub Leads : Awaited → List ℕ → List HttpElement → Awaited → List ℕ → Type 0
 Leads awaited bytes said next left = (steps : ℕ) × LeadsIn steps awaited bytes said next left
 
--- the stream says these elements first, for all bytes that may follow
+-- these are the first elements of the stream, whatever bytes follow
 pub record ParsesFirst (stream : List ℕ) (said : List HttpElement) : Type 0 where
   pub next : Awaited
   pub left : List ℕ
   pub leads : Leads Head stream said next left
 
--- the elements that a stream says first are a prefix of the elements of the stream with more bytes after it
+-- the first elements of a stream are a prefix of the elements of the stream with more bytes after it
 abbrev pub FirstStays : Type 0
 FirstStays = (stream more : List ℕ) (first said : List HttpElement) → ParsesFirst stream first → Exchanges (stream ++ more) said → (later : List HttpElement) × (said ≡ first ++ later)
 
@@ -224,7 +224,7 @@ AwaitsBody count reader = (reader.rest ≡ []) × HasLeft count reader.awaited
 abbrev pub IsOver : HttpState → Type 0
 IsOver reader = reader.awaited ≡ Nothing
 
--- The reader was fed this stream and has given these elements. The stream says them first, and leads to the part that the reader awaits, with the bytes that the reader has left. A reader that awaits nothing may have dropped those bytes.
+-- The reader was fed this stream and has given these elements. They are the first of the stream, and lead to the part that the reader awaits, with the bytes that the reader has left. A reader that awaits nothing may have dropped those bytes.
 pub record HasRead (stream : List ℕ) (given : List HttpElement) (reader : HttpState) : Type 0 where
   pub left : List ℕ
   pub leads : Leads Head stream given reader.awaited left
@@ -234,7 +234,7 @@ pub record HasRead (stream : List ℕ) (given : List HttpElement) (reader : Http
 abbrev pub GivesTheFront : Type 0
 GivesTheFront = (stream : List ℕ) (given : List HttpElement) (reader : HttpState) → HasRead stream given reader → (later : List HttpElement) × Exchanges stream (given ++ later)
 
--- a whole stream says the elements that a reader has given, and then the elements that the reader's state says of its bytes and of the bytes that follow
+-- the elements of a whole stream are those that a reader has given, and then those that the reader's state parses from its bytes and the bytes that follow
 abbrev pub ParsesTheRest : Type 0
 ParsesTheRest =
     (stream coming : List ℕ) (given said : List HttpElement) (reader : HttpState)
@@ -268,7 +268,7 @@ Steps old (step.Gives said) new = Advances old (elements_of said new.part) new �
 Steps old step.Passes new = Advances old [] new × (length new.rest < length old.rest)
 Steps old step.Waits new = (new ≡ old) × FrontIs old.awaited old.rest Waits
 
--- the answer of a reader, and its state then: an item, which the stream says next; or no item, and then the stream says no more
+-- the answer of a reader, and its state then: the next item of the stream; or no item, and then the stream contains no more
 abbrev pub Answers : HttpState → Option HttpItem → HttpState → Type 0
 Answers old (Some said) new = Advances old (elements_of said new.part) new × Stops said new
 Answers old None new = Advances old [] new × ((stream : List ℕ) (given : List HttpElement) → HasRead stream given old → Exchanges stream given)

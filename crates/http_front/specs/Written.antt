@@ -17,7 +17,7 @@ pub record IsHead (head : List ℕ) (request : Request) : Type 0 where
   pub whole : section_in HTTP_HEAD_BYTES head ≡ Whole (length head)
   pub asks : Asks head (Ok request)
 
--- what the stream of a request says: its head, the invitation that the client awaits, its body, and its end
+-- the elements of the stream of a request: its head, the invitation that the client awaits, its body, and its end
 abbrev pub says_request : Request → List ℕ → List HttpElement
 says_request request body = HasHead request.closes ∷ ((if request.invites then Invites ∷ [] else []) ++ (map HasByte body ++ EndsBody ∷ []))
 
@@ -48,13 +48,13 @@ octets_of pieces = flat_map (λ (piece : Piece). piece.octets) pieces
 abbrev pub IsTrailer : List ℕ → Type 0
 IsTrailer trailer = section_in HTTP_TRAILER_BYTES trailer ≡ Whole (length trailer)
 
--- a stream that begins with a head with a length and a body of that length says that request, and then what the rest says
+-- a stream that begins with a head with a length and a body of that length has the elements of that request, and then those of the remaining bytes
 abbrev pub LengthParses : Type 0
 LengthParses =
     (head body more : List ℕ) (request : Request) (later : List HttpElement) → IsHead head request → request.framing ≡ Length (length body)
     → Parses (after_body (is_last request.closes (length body))) more later → Exchanges (head ++ (body ++ more)) (says_request request body ++ later)
 
--- a stream that begins with a body in chunks says the same request for every cutting into chunks, with extensions and a trailer
+-- a stream that begins with a body in chunks has the elements of the same request for every division into chunks, with extensions and a trailer
 abbrev pub ChunksParse : Type 0
 ChunksParse =
     (head : List ℕ) (pieces : List Piece) (last trailer more : List ℕ) (request : Request) (later : List HttpElement) → IsHead head request → request.framing ≡ Chunked → ArePieces HTTP_BODY_BYTES pieces

@@ -33,7 +33,7 @@ pub(crate) fn body_by(framing: Framing, closes: bool) -> Awaited
     }
 }
 
-/// The part that the reader awaits after a body. `last` says whether the exchange is the last.
+/// The part that the reader awaits after a body. `last` indicates whether the exchange is the last.
 pub(crate) fn after_body(last: bool) -> Awaited
     ensures { result ≡ after_body last }
 {

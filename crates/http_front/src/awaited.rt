@@ -27,8 +27,8 @@ pub(crate) enum Following {
     Chunk(u32, bool),
 }
 
-/// What a reader reads next. A truth value says whether the connection closes after the reply; in `Trailer`
-/// it says whether the exchange is the last.
+/// What a reader reads next. A `bool` indicates whether the connection closes after the reply; in
+/// `Trailer` it indicates whether the exchange is the last.
 #[derive(Clone, Copy)]
 pub(crate) enum Awaited {
     Head,

@@ -11,7 +11,7 @@ pub fn one_saying()
 {}
 
 /// Each stream has a reading. The elements that a reader has given are a prefix of that reading, for every
-/// cutting of the stream into pieces.
+/// segmentation of the stream.
 pub fn some_saying()
     ensures some { SomeParse }
     ensures front { GivesTheFront }
@@ -35,8 +35,8 @@ pub fn given_first()
     ensures rest { ParsesTheRest }
 {}
 
-/// The stream of a written request says that request: of a head with a length and as many bytes, and of a
-/// head with a body in chunks, for every cutting into chunks, with extensions and a trailer.
+/// The stream of a written request reads as that request: of a head with a length and as many bytes, and of a
+/// head with a body in chunks, for every division into chunks, with extensions and a trailer.
 pub fn written_is_said()
     ensures length { LengthParses }
     ensures chunks { ChunksParse }

@@ -7,14 +7,14 @@ use http::StatusCode;
 use itoa::Buffer;
 use std::alloc::AllocError;
 
-/// The interim head that tells a client to send the body (RFC 9110, section 15.2.1).
+/// The interim head that asks a client to send the body (RFC 9110, section 15.2.1).
 pub fn continue_head() -> &'static [u8]
     ensures { result.now ≡ continue_head }
 {
     b"HTTP/1.1 100 Continue\r\n\r\n"
 }
 
-/// Appends the head of a reply of 200, or of a refusal, with a body of `length` bytes. `closes` says whether the
+/// Appends the head of a reply of 200, or of a refusal, with a body of `length` bytes. `closes` indicates whether the
 /// connection closes after it (RFC 9112, sections 4 and 9.6).
 ///
 /// The only error is out of memory, and nothing is appended then. Memory is taken only where the room is less

@@ -67,7 +67,7 @@ fn any_length(bytes: &[u8]) -> Result<usize, CodecFault>
     Ok(8 + groups.len() + 1)
 }
 
-/// The fault of bytes; `is_long` says whether they go on after the limit of a head.
+/// The fault of bytes; `is_long` indicates whether they go on after the limit of a head.
 pub(crate) fn limited_fault(fault: CodecFault, is_long: bool) -> CodecFault
     ensures { result ≡ fault_within fault is_long }
 {

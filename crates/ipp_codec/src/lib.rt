@@ -1,6 +1,6 @@
 //! IPP messages and their bytes (RFC 8010, section 3).
 //!
-//! `decode` reads the head of a message in place, without memory. Its contract says exactly when bytes begin
+//! `decode` reads the head of a message in place, without memory. Its contract states exactly when bytes begin
 //! with a head, the message of the head, and else the first fault of the bytes. `encode` appends the one
 //! spelling of a message. The crate doesn't know the meaning of attributes and operations: a value is a tag
 //! and bytes, or a collection of members.

@@ -62,7 +62,7 @@ impl Column {
         column_in(&NAMES, name)
     }
 
-    /// The column for which a name stands where no other name does.
+    /// The column that a name selects if no other name does.
     pub(crate) fn named_in_spare(name: &[u8]) -> Option<Column> {
         column_in(&SPARE_NAMES, name)
     }

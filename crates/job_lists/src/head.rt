@@ -63,7 +63,7 @@ impl<'a> Head<'a> {
         self.columns.contains(&Some(column))
     }
 
-    /// Adds the columns of the names, and `None` for each name that stands for none.
+    /// Adds the columns of the names, and `None` for each name that selects none.
     fn add_named(&mut self, alloc: Global) -> Result<(), LineError> {
         for (place, name) in self.record.iter().enumerate() {
             let column = Column::named(&plain(alloc, text::trimmed(name))?);
@@ -122,7 +122,7 @@ impl<'a> Head<'a> {
     }
 }
 
-/// How often a byte stands in a line.
+/// How often a byte occurs in a line.
 fn count_of(line: &[u8], wanted: u8) -> usize {
     let mut count = 0usize;
     for byte in line {

@@ -53,6 +53,6 @@ reasons_in Canceled job paused = one (canceled_reason job.canceled_by)
 reasons_in Aborted job paused = one AbortedBySystem
 reasons_in Completed job paused = one JobCompletedSuccessfully
 
--- the reasons of a job; `paused` says whether its printer is paused
+-- the reasons of a job; `paused` indicates whether its printer is paused
 abbrev pub reasons_of : JobRecord → Bool → JobReasons
 reasons_of job paused = reasons_in job.state job paused

@@ -54,7 +54,7 @@ impl Reason {
     }
 }
 
-/// The reasons of a job's state. `printer_paused` says whether its printer is paused.
+/// The reasons of a job's state. `printer_paused` indicates whether its printer is paused.
 pub fn reasons(job: &Job, printer_paused: bool) -> JobReasons
     ensures { result ≡ reasons_of job.now printer_paused }
 {

@@ -2,7 +2,7 @@
 //!
 //! [`template_of`] and [`medium_of`] return the template of a job, with defaults for attributes that are
 //! missing or aren't supported. [`RequestAttributes::make_unsupported`] makes the attributes that the
-//! response returns, and [`RequestAttributes::breaks_fidelity`] says whether the request is refused for them.
+//! response returns, and [`RequestAttributes::breaks_fidelity`] returns whether the request is refused for them.
 //! Each attribute has one value; only `finishings` may have several. The parser of requests drops all but the
 //! first of several attributes of a name.
 //!

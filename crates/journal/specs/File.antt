@@ -35,12 +35,12 @@ IsFile (Served_body moment body answer hs ∷ trace) file = ⊥
 IsFile (Reported moment device said hs ∷ trace) file = ⊥
 IsFile (Ticked moment hs ∷ trace) file = ⊥
 
--- the engine stands at a trace that began with this core, and the trace has this file
+-- the engine is at a trace that began with this core, and the trace has this file
 pub record HasPlayed (opening : State) (file : List ℕ) (engine : EngineState) : Type 0 where
   pub trace : Trace
   pub stands : StandsAt opening trace engine
   pub is_file : IsFile trace file
 
--- wherever the engine stood at the trace of a file of these lines, it stands at the trace of one of those
+-- wherever the engine was at the trace of a file of these lines, it is at the trace of one of those
 abbrev pub KeepsPlayed : List ℕ → EngineState → List ℕ → EngineState → Type 0
 KeepsPlayed before old after new = (opening : State) → HasPlayed opening before old → HasPlayed opening after new

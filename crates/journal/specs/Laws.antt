@@ -39,7 +39,7 @@ pub record Waits (id : ℕ) (spooled : SpooledRecord) (state : State) : Type 0 w
   pub unfinished : (spooled.job.state ≡ Pending) ⊎ (spooled.job.state ≡ PendingHeld)
   pub apart : (place : ℕ) (device : Device) → slice_get state.devices place ≡ Some device → job_on device.activity ≢ Some id
 
--- the job with another mark, which says whether the last plan found no device for it
+-- the job with another mark, which indicates whether the last plan found no device for it
 abbrev pub marked_as : Bool → SpooledRecord → SpooledRecord
 marked_as stranded spooled = record spooled { job = record spooled.job { stranded = stranded } }
 

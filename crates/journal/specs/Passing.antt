@@ -25,7 +25,7 @@ IsIdle (Reads id answer) = answer ≡ Waiting
 IsIdle (Writes id offered answer) = answer ≡ Waiting
 IsIdle (Closes id) = ⊥
 
--- each call is idle, and the listener is told nothing
+-- each call is idle, and the listener is not notified
 abbrev pub IsQuiet : List Happening → Type 0
 IsQuiet [] = Unit {0}
 IsQuiet (Polled poll ∷ hs) = IsIdle poll × IsQuiet hs

@@ -20,7 +20,7 @@ use Rattle.journal.specs.declared.restarting.Restarted.{Restarted}
 abbrev pub pending : Resumption → List ℕ
 pending r = (r.lines.items ++ r.comments.items) ++ restart_line r.restarted
 
--- The lines so far are the file of a trace at which the engine stands, and lines of a turn that hasn't ended.
+-- The lines so far are the file of a trace at which the engine is, and lines of a turn that hasn't ended.
 pub record Resumes (opening : State) (file : List ℕ) (r : Resumption) : Type 0 where
   pub played : HasPlayed opening r.stored.lines r.engine
   pub is : file ≡ r.stored.lines ++ pending r
@@ -50,7 +50,7 @@ pub record StartsTurn (line : List ℕ) (old new : Resumption) : Type 0 where
 
 -- ---- lost connections
 
--- The engine stands at the trace of a file, or at that trace followed by a turn in which each connection is lost. `text` is the text of that turn, or empty. No connection is open. Each job that waited waits.
+-- The engine is at the trace of a file, or at that trace followed by a turn in which each connection is lost. `text` is the text of that turn, or empty. No connection is open. Each job that waited waits.
 pub record HasRestarted (opening : State) (file text : List ℕ) (engine : EngineState) : Type 0 where
   pub trace : Trace
   pub lost : Trace

@@ -5,9 +5,9 @@ use std::alloc::{AllocError, AllocFailed};
 /// Why a line of a file isn't played.
 #[derive(Drop)]
 pub enum PlayFault {
-    /// The line isn't one of a journal, or stands where none of its kind may.
+    /// The line isn't one of a journal, or is where none of its kind may be.
     BadLine,
-    /// In the turn that the line ends, the engine makes another call than the file says.
+    /// In the turn that the line ends, the engine makes another call than the file contains.
     Differs(Stray),
     /// In the turn that the line ends, the engine makes the calls of the file, but notes them otherwise.
     NotedOtherwise,

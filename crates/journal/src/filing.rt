@@ -10,7 +10,7 @@ use recordings::Noted;
 use std::alloc::AllocError;
 use wires::Wire;
 
-/// Why a turn isn't stored. The engine has taken it, so that it stands at no trace of the stored lines.
+/// Why a turn isn't stored. The engine has taken it, so that it is at no trace of the stored lines.
 #[derive(Clone, Copy, Debug, PartialEq, Eq)]
 pub enum FilingFault {
     /// Memory was refused in the turn or for its lines.
@@ -26,7 +26,7 @@ impl From<AllocError> for FilingFault {
 }
 
 /// Has an engine take a turn at a moment over a wire that notes its calls, and appends the lines of the turn to a
-/// storage. If the engine stood at the trace of the stored lines, it stands at the trace of those stored now.
+/// storage. If the engine was at the trace of the stored lines, it is at the trace of those stored now.
 pub fn file_turn<W: Wire, T: Storage>(
     engine: &mut JournaledEngine,
     wire: &mut Noted<W>,

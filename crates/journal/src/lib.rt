@@ -5,7 +5,7 @@
 //! that are sent were due by turns that the file has ([`sent_bytes_were_due`]). Turns in which nothing happens
 //! are left out ([`quiet_turns_change_nothing`]).
 //!
-//! [`Resumption`] takes the turns of a file again, and its contract says that the engine stands at the trace of
+//! [`Resumption`] takes the turns of a file again, and its contract states that the engine is at the trace of
 //! the file. The connections are lost then: [`Resumption::restart`] takes a turn in which each read and each write
 //! fails and no plan is made, so that each job that waited waits
 //! ([`lost_connections_leave_waiting_jobs`]).

@@ -16,7 +16,7 @@ pub(crate) struct RestartWitness {
 }
 
 impl RestartWitness {
-    /// Creates a listener that was told nothing.
+    /// Creates a listener that was not notified yet.
     pub(crate) fn new() -> RestartWitness {
         RestartWitness {
             began: false,

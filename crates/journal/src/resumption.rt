@@ -25,7 +25,7 @@ use wires::Wire;
 /// The engine of a server with a journal.
 pub type JournaledEngine = Engine<Pausable<AugmentingPaths>>;
 
-/// An engine that takes the turns of a file again. It makes the calls that the file says, and no others, or the
+/// An engine that takes the turns of a file again. It makes the calls that the file contains, and no others, or the
 /// file is refused.
 #[derive(Drop)]
 pub struct Resumption {
@@ -73,7 +73,7 @@ impl Resumption {
         &self.engine
     }
 
-    /// Plays the line of this number, which has no line feed at its end. `Ok` says that the lines so far are
+    /// Plays the line of this number, which has no line feed at its end. `Ok` means that the lines so far are
     /// turns that the engine took, and lines of a turn that hasn't ended.
     pub fn play(&mut self, number: u64, line: &[u8]) -> Result<(), PlayFault>
         ensures { OnOk result (Extends (line.now ++ codes "\n") self.old self.new) }
@@ -174,7 +174,7 @@ impl Resumption {
         witness.refused || witness.undispatched
     }
 
-    /// Returns whether the calls of the engine were noted as the lines say.
+    /// Returns whether the calls of the engine were noted as in the lines.
     fn is_noted_so(&self) -> bool
         ensures lines { IsTrue result → self.now.wire.notes.lines ≡ Some self.now.lines.items }
         ensures comments { IsTrue result → are_comments self.now.comments.items ≡ true }

@@ -4,7 +4,7 @@
 //!
 //! The contracts determine the listed jobs and their order ([`listed`]). Unfinished jobs are listed by their
 //! turns: first the jobs of devices, by their estimated ends, then the jobs of the last plan, by their
-//! completions, then all others by their ids. Finished jobs are listed from the latest back. A law says that
+//! completions, then all others by their ids. Finished jobs are listed from the latest back. A law states that
 //! this is an order, and that it drops no job and repeats none ([`listing_is_ordered`]). The values of
 //! attributes are determined by `printer_objects`.
 //!

@@ -52,7 +52,7 @@ abbrev pub EndsAs : Front → Ending → Type 0
 EndsAs front Open = front ≡ Waits
 EndsAs front (Faulty fault) = front ≡ Fails fault
 
--- the bytes say these items, one after the other, and then end as `ending` says
+-- the bytes parse as these items, one after the other, and then end with `ending`
 abbrev pub Parses : Awaited → List ℕ → List ItemRecord → Ending → Type 0
 Parses awaited bytes [] ending = EndsAs (front_of awaited bytes) ending
 Parses awaited bytes (said ∷ items) ending = (rest : List ℕ) × (front_of awaited bytes ≡ Gives said rest) × Parses (awaited_after said) rest items ending
@@ -61,12 +61,12 @@ Parses awaited bytes (said ∷ items) ending = (rest : List ℕ) × (front_of aw
 abbrev pub LpdItems : List ℕ → List ItemRecord → Ending → Type 0
 LpdItems stream items ending = Parses Command stream items ending
 
--- the bytes say these items, and lead to this state with these bytes left
+-- the bytes parse as these items, and lead to this state with these bytes left
 abbrev pub Leads : Awaited → List ℕ → List ItemRecord → Awaited → List ℕ → Type 0
 Leads awaited bytes [] next left = (next ≡ awaited) × (left ≡ bytes)
 Leads awaited bytes (said ∷ items) next left = (rest : List ℕ) × (front_of awaited bytes ≡ Gives said rest) × Leads (awaited_after said) rest items next left
 
--- the stream says these items first, for all bytes that may follow
+-- these are the first items of the stream, whatever bytes follow
 pub record ParsesFirst (stream : List ℕ) (items : List ItemRecord) : Type 0 where
   pub next : Awaited
   pub left : List ℕ
@@ -94,13 +94,13 @@ abbrev pub IsLeft : Option LpdFault → Awaited → List ℕ → List ℕ → Ty
 IsLeft (Some fault) awaited rest left = front_of awaited left ≡ Fails fault
 IsLeft None awaited rest left = (awaited ≡ Nothing) ⊎ (left ≡ rest)
 
--- The reader was fed this stream and has given these items. The stream says them first, and leads to the part that the reader awaits, with the bytes that are left.
+-- The reader was fed this stream and has given these items. They are the first of the stream, and lead to the part that the reader awaits, with the bytes that are left.
 pub record HasRead (stream : List ℕ) (given : List ItemRecord) (reader : LpdState) : Type 0 where
   pub left : List ℕ
   pub leads : Leads Command stream given reader.awaited left
   pub kept : IsLeft reader.fault reader.awaited reader.rest left
 
--- the items that a reader's state says of these bytes, and their ending
+-- the items that a reader's state parses from these bytes, and their ending
 abbrev pub ParsesOn : Option LpdFault → Awaited → List ℕ → List ItemRecord → Ending → Type 0
 ParsesOn (Some fault) awaited bytes items ending = (items ≡ []) × (ending ≡ Faulty fault)
 ParsesOn None awaited bytes items ending = Parses awaited bytes items ending
@@ -109,7 +109,7 @@ ParsesOn None awaited bytes items ending = Parses awaited bytes items ending
 abbrev pub work : LpdState → ℕ
 work reader = length reader.rest
 
--- the answer of a reader, and its state then: an item, which the stream says next; or no item, and then the stream says no more; or a fault; or refused memory, which comes only where a line is awaited
+-- the answer of a reader, and its state then: the next item of the stream; or no item, and then the stream contains no more; or a fault; or refused memory, which comes only where a line is awaited
 abbrev pub Answers : LpdState → Result (Option LpdItem) LpdError → LpdState → Type 0
 Answers old (Ok (Some said)) new =
     (stream : List ℕ) (given : List ItemRecord) → HasRead stream given old → HasRead stream (given ++ item_record said new.file ∷ []) new
@@ -137,7 +137,7 @@ StaysInFront = (stream more : List ℕ) (given items : List ItemRecord) (end end
 abbrev pub FaultStays : Type 0
 FaultStays = (stream more : List ℕ) (given : List ItemRecord) (fault : LpdFault) → LpdItems stream given (Faulty fault) → LpdItems (stream ++ more) given (Faulty fault)
 
--- the items that a stream says first are a prefix of the items of the stream with more bytes after it
+-- the first items of a stream are a prefix of the items of the stream with more bytes after it
 abbrev pub FirstStays : Type 0
 FirstStays = (stream more : List ℕ) (first items : List ItemRecord) (ending : Ending) → ParsesFirst stream first → LpdItems (stream ++ more) items ending → (later : List ItemRecord) × (items ≡ first ++ later)
 
@@ -145,11 +145,11 @@ FirstStays = (stream more : List ℕ) (first items : List ItemRecord) (ending : 
 abbrev pub FirstIsOne : Type 0
 FirstIsOne = (stream : List ℕ) (one other : List ItemRecord) → ParsesFirst stream one → ParsesFirst stream other → length one ≡ length other → one ≡ other
 
--- a stream says no item after all of its items
+-- a stream contains no item after all of its items
 abbrev pub NoneFollows : Type 0
 NoneFollows = (stream : List ℕ) (items : List ItemRecord) (said : ItemRecord) (ending : Ending) → ParsesFirst stream (items ++ said ∷ []) → LpdItems stream items ending → ⊥
 
--- a whole stream says the items that a reader has given, and then the items that the reader's state says of its bytes and of the bytes that follow
+-- the items of a whole stream are those that a reader has given, and then those that the reader's state parses from its bytes and the bytes that follow
 abbrev pub ParsesTheRest : Type 0
 ParsesTheRest =
     (stream coming : List ℕ) (given items : List ItemRecord) (ending : Ending) (reader : LpdState)

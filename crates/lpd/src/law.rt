@@ -7,7 +7,7 @@ pub fn one_saying()
     ensures one { OneParse }
 {}
 
-/// Two prefixes of the items of a stream are equal if their lengths are equal, and a stream says no item after
+/// Two prefixes of the items of a stream are equal if their lengths are equal, and a stream contains no item after
 /// all of its items.
 pub fn one_front()
     ensures one { FirstIsOne }

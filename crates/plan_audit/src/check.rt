@@ -48,11 +48,11 @@ impl Model for Answer {
 /// Reads the text of a plan to its end, writes the verdict on it, and returns the exit status with the
 /// objection.
 ///
-/// The answer is one of three. `yes` says that the plan is proved best. If `starts` is set, a line for each
+/// The answer is one of three. `yes` means that the plan is proved best. If `starts` is set, a line for each
 /// job follows, `start ID NAME S E`, with its start and end in ms from now. `no NAME class P` has the first
-/// fault and the priority of its class. `refused NAME` says that the text is no plan, or has too many bytes.
-/// The status says which answer it was, or that memory or a stream failed: a prefix of the answer is written
-/// then.
+/// fault and the priority of its class. `refused NAME` means that the text is no plan, or has too many bytes.
+/// The status states which answer it was, or that memory or a stream failed: then a prefix of the answer is
+/// written.
 pub fn run_check<R: Read, W: Write>(
     alloc: Global,
     reader: &mut R,

@@ -11,7 +11,7 @@
 //! estimated time, and plans at each event. `otherwise` plays a day on which prints take other times and jobs
 //! are canceled, and `moving` a day on which devices leave and come back. Each plan is made by a planner that
 //! keeps its last plan and by a new planner; the program stops where their totals differ or where the checker
-//! does not say yes. It writes the sum of the totals. With the word `kept` or `new`, one of the two planners
+//! does not answer `yes`. It writes the sum of the totals. With the word `kept` or `new`, one of the two planners
 //! plans alone, and can be timed.
 #![tactic(auto)]
 

@@ -27,7 +27,7 @@ abbrev pub IsPlanVerdict : PlanRecord → PlanVerdict → Type 0
 IsPlanVerdict plan Yes = YesAbove plan (length plan.classes)
 IsPlanVerdict plan (No place fault) = (place < length plan.classes) × YesAbove plan place × IsVerdictAt plan place (Faulty fault)
 
--- Each class is proved best, the waits of each class are those after the class above it, and no job is in two classes, or in a class and among the stranded. The definition says nothing of the priorities, and allows a job to be named twice among the stranded.
+-- Each class is proved best, the waits of each class are those after the class above it, and no job is in two classes, or in a class and among the stranded. The definition doesn't restrict the priorities, and allows a job to be named twice among the stranded.
 pub record IsProvedPlan (plan : PlanRecord) : Type 0 where
   pub proved : All (λ class. IsProved class.problem class.priced.way class.priced.prices class.priced.total) plan.classes
   pub waits : (place : ℕ) (class : PlannedClass) → slice_get plan.classes place ≡ Some class → WaitsFollow (take place plan.classes) class.problem

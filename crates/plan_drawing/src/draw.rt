@@ -25,7 +25,7 @@ struct Drawing {
 ///
 /// The statuses and objections are those of [`plan_audit::run_check`]. Nothing is written in three cases: the
 /// text is no plan, the lists of a class are no way of the class, or a class has other waits than the class
-/// above leaves. Any other plan is drawn, and its title says whether the plan is proved the best. Where
+/// above leaves. Any other plan is drawn, and its title states whether the plan is proved the best. Where
 /// memory or a stream fails, a prefix of the picture is written.
 pub fn run_draw<R: Read, W: Write>(
     alloc: Global,

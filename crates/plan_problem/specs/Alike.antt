@@ -19,6 +19,6 @@ FromAlike jobs rows needs times =
     (times ≡ [])
     ⊎ ((place : ℕ) × (job : JobOfClass) × (slice_get jobs place ≡ Some job) × (slice_get rows place ≡ Some times) × NeedSame job.needs needs)
 
--- if the times have an entry for the device, the entry says whether the device is able
+-- if the times have an entry for the device, the entry states whether the device is able
 abbrev pub TellsAble : JobNeeds → ℕ → Device → List ℕ → List (Option ℕ) → Type 0
 TellsAble needs place device printer times = (entry : Option ℕ) → slice_get times place ≡ Some entry → IsSome entry ↔ IsAble needs place device printer

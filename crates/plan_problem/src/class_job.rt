@@ -98,7 +98,7 @@ fn pair_time(
     }
 }
 
-/// Returns whether a device is able, which the times of a job with the same needs say if they are known.
+/// Returns whether a device is able, which the times of a job with the same needs give if they are known.
 fn is_able(
     needs: &Needs,
     device: DeviceId,

@@ -86,7 +86,7 @@ fn nothing_matched(alloc: Global, costs: &Costs, left: Vec<usize>) -> Result<Beg
 }
 
 /// The jobs in this order, each at its hinted place if it can stay there, else left. Each device keeps at
-/// most as many places as `most` says.
+/// most `most` places.
 fn laid_out(
     alloc: Global,
     costs: &Costs,

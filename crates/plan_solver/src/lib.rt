@@ -1,8 +1,8 @@
 //! The planner: finds a best way to print the jobs of a class, with fair prices that prove it best.
 //!
 //! The contract: if each job has a device that is able, the planner returns a way of the class, fair prices
-//! and the total; the only error is out of memory. The contract says nothing of time, nor which of several
-//! best ways is found.
+//! and the total; the only error is out of memory. The contract states neither a bound on time nor which of
+//! several best ways is found.
 //!
 //! `AugmentingPaths` keeps its last classes, and begins with the part of one that is left. That part is a
 //! hint: it is tested before it is used, and no contract depends on it.

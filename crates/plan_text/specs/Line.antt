@@ -1,4 +1,4 @@
--- The lines of a plan's text, each by itself. The form of all words of a line is checked first, then the ranges of its numbers. `Steps.antt` says which line may follow which.
+-- The lines of a plan's text, each by itself. The form of all words of a line is checked first, then the ranges of its numbers. `Steps.antt` states which line may follow which.
 use Rattle.std.specs.Prelude.{ℕ, ℤ, ◌&&◌, List, [], ◌∷◌, Option, Result, Ok, Err, if◌then◌else◌, codes}
 use Rattle.std.specs.List.{list_all}
 use Rattle.std.specs.Str.{bytes_eq}

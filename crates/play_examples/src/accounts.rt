@@ -1,4 +1,4 @@
-//! Accounts: the table of the jobs of each recorded day must be what its file says.
+//! Accounts: the table of the jobs of each recorded day must equal its file.
 
 use account_tables::AccountTable;
 use playback::Follower;

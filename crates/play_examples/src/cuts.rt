@@ -87,7 +87,7 @@ fn told(alloc: Global, output: &[u8]) -> Result<Vec<u8>, AllocError> {
     Ok(text)
 }
 
-/// What a trace tells that is played to its end; nothing, where it isn't.
+/// The output of a trace that is played to its end; nothing, if it isn't.
 fn told_of(alloc: Global, trace: &[u8]) -> Result<Option<Vec<u8>>, AllocError> {
     let mut output = Vec::new(alloc);
     let mut input = trace;
@@ -107,7 +107,7 @@ fn sent_in(trace: &[u8]) -> usize {
     0
 }
 
-/// Whether just this is told, wherever the bytes are cut in two.
+/// Whether the output is exactly this, wherever the bytes are split in two.
 pub fn stays_in_two_pieces(alloc: Global, trace: &[u8], wanted: &[u8]) -> Result<bool, AllocError> {
     let wanted = told(alloc, wanted)?;
     for count in 1..sent_in(trace) {

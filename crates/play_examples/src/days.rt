@@ -1,5 +1,5 @@
-//! Days: what is written of each that is simulated, and the picture of each that a trace tells of, must be
-//! what its file says.
+//! Days: what is written of each simulated day, and the picture of each day that a trace records, must equal
+//! its file.
 
 use gantt_chart::Form;
 use job_lists::{ListedJob, read_list};
@@ -92,7 +92,7 @@ pub const COMPARED_DAYS: [&str; 2] = ["unlike_setups.csv", "one_job.jobs"];
 /// The file with the table of the comparison, and the one with the figures of each day.
 pub const COMPARED: [&str; 2] = ["compared.table", "compared.figures"];
 
-/// Is told how far a day has been played, and keeps it to itself.
+/// Is notified of how far a day has been played, and does nothing with it.
 #[derive(Drop)]
 struct Quiet {
     come: usize,

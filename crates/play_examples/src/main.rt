@@ -1,10 +1,10 @@
-//! Plays each example of `data/`, which `examples/README.md` tells of, and compares what is written with what its
-//! file says must be; of a trace also the texts of its plans are put before the checker. It prints a
+//! Plays each example of `data/`, which `examples/README.md` describes, and compares what is written with its
+//! file of expected output; for a trace the checker also reads the texts of its plans. It prints a
 //! line for each, and ends with status 1 where one differs.
 //!
 //! What a trace or a plan gives is the contract of `replay` and of `plan_audit`; here the definitions
 //! after these contracts are held against rows that were worked out by hand. How the picture of a plan
-//! or of a day looks stands in its rows alone.
+//! or of a day looks is in its rows alone.
 #![tactic(auto)]
 
 mod accounts;

@@ -172,7 +172,7 @@ fn put_printer(text: &mut String) -> Result<(), AllocError> {
     text.push_str("]\nmedia_default = \"iso_a4_210x297mm\"\nformat_default = \"text/plain\"\n")
 }
 
-/// Appends lines by which each device says that it is ready.
+/// Appends lines by which each device reports that it is ready.
 fn put_ready(text: &mut String) -> Result<(), AllocError> {
     for place in 0..DEVICES {
         write!(text, "dev D{place} READY\n")?;
@@ -180,7 +180,7 @@ fn put_ready(text: &mut String) -> Result<(), AllocError> {
     Ok(())
 }
 
-/// Appends settings with many equal devices, each of which says that it is ready.
+/// Appends settings with many equal devices, each of which reports that it is ready.
 fn put_settings(text: &mut String) -> Result<(), AllocError> {
     text.push_str("version = 1\nuri_base = \"ipp://localhost:631\"\n")?;
     put_devices(text)?;

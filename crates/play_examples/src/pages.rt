@@ -1,4 +1,4 @@
-//! Pages: the body of the page of each recorded day must be what its file says.
+//! Pages: the body of the page of each recorded day must equal its file.
 
 use base_types::Moment;
 use jiff::tz::{Offset, TimeZone};

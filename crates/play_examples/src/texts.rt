@@ -4,7 +4,7 @@ use plan_audit::run_check;
 use replay::run_replay;
 use std::alloc::{AllocError, Global};
 
-/// Whether the checker says yes to a text.
+/// Whether the checker answers `yes` to a text.
 fn is_proved(alloc: Global, text: &[u8]) -> bool {
     let mut output = Vec::new(alloc);
     let mut input = text;
@@ -15,7 +15,7 @@ fn is_proved(alloc: Global, text: &[u8]) -> bool {
         && output.as_slice() == b"yes\n".as_slice()
 }
 
-/// How many texts of plans in an output the checker says yes to; nothing where there is another.
+/// How many texts of plans an output has, if the checker answers `yes` to each; else nothing.
 fn proved_texts(alloc: Global, output: &[u8]) -> Result<Option<usize>, AllocError> {
     let mut text = Vec::new(alloc);
     let mut count = 0usize;
@@ -35,7 +35,7 @@ fn proved_texts(alloc: Global, output: &[u8]) -> Result<Option<usize>, AllocErro
     Ok(Some(count))
 }
 
-/// How many plans an output tells of that have a class.
+/// How many plans in an output have a class.
 fn plans_in(output: &[u8]) -> usize {
     output
         .split(|byte| *byte == b'\n')
@@ -43,8 +43,8 @@ fn plans_in(output: &[u8]) -> usize {
         .count()
 }
 
-/// Whether a replay of a trace with the texts of its plans writes one for each plan that it tells of
-/// without them, and the checker says yes to each.
+/// Whether a replay of a trace with the texts of its plans writes one for each plan that it reports
+/// without them, and the checker answers `yes` to each.
 pub fn each_is_proved(alloc: Global, trace: &[u8], told: &[u8]) -> Result<bool, AllocError> {
     let mut output = Vec::new(alloc);
     let mut input = trace;

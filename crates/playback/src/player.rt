@@ -19,7 +19,7 @@ pub(crate) enum Step {
     Played,
     /// The line isn't a line of a recording.
     Bad,
-    /// Memory was refused to the server in the turn that the line ends, as the line of this number says.
+    /// Memory was refused to the server in the turn that the line ends, as the line of this number states.
     Refused(u64),
     /// In the turn that the line ends, the server made another call than the recorded call. These lines
     /// describe the call.
@@ -119,7 +119,7 @@ impl Audience {
 }
 
 impl<'a> Player<'a> {
-    /// Creates the player for a server that has only started. `shows` says what is written.
+    /// Creates the player for a server that has only started. `shows` states what is written.
     pub(crate) fn new(
         alloc: Global,
         engine: &'a mut JournaledEngine,
@@ -141,7 +141,7 @@ impl<'a> Player<'a> {
         }
     }
 
-    /// The end of a day whose lines were played, if it is here. `rest` says whether bytes follow that are no whole
+    /// The end of a day whose lines were played, if it is here. `rest` indicates whether bytes follow that are no whole
     /// line.
     pub(crate) fn end(&self, rest: bool) -> DayEnd {
         if rest || self.within {
@@ -280,7 +280,7 @@ impl<'a> Player<'a> {
         put_all_moved(self.alloc, output, moved)
     }
 
-    /// Appends the lines of a log: connections that came, notes that were heard, jobs that ended, and
+    /// Appends the lines of a log: connections that came, notes that were received, jobs that ended, and
     /// connections that went.
     fn put_log(&mut self, moment: Moment, output: &mut Vec<u8>) -> Result<(), AllocError> {
         let heard = self.audience.told.take_heard()?;

@@ -7,7 +7,7 @@ use job_lists::medium_of;
 use settings_file::{DeviceSettings, Settings};
 use std::alloc::{AllocError, Global};
 
-/// What words say of a further device. What they leave out is as with the device that it is like.
+/// What words specify of a further device. What they leave out is as with the device that it is like.
 #[derive(Drop)]
 pub(crate) struct DeviceWords {
     rate_one: Option<u32>,
@@ -263,7 +263,7 @@ fn is_key(word: &str) -> bool {
     )
 }
 
-/// The name of the device that a further one is like, if the words say it.
+/// The name of the device that a further one is like, if the words give it.
 pub(crate) fn like_in(words: &str) -> Option<&str> {
     for word in words.split_whitespace() {
         if let Some(name) = word.strip_prefix("like=") {

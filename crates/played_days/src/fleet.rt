@@ -18,7 +18,7 @@ use std::alloc::{AllocError, Global};
 #[derive(Clone, Copy)]
 pub struct Added<'a> {
     pub name: &'a str,
-    /// The name of the device that it is like. If neither this nor the words say it, that is the first of the
+    /// The name of the device that it is like. If neither this nor the words give it, that is the first of the
     /// settings.
     pub like: Option<&'a str>,
     /// Words about how it differs, as `rate_one=1000 setup=2000`.

@@ -1,4 +1,4 @@
-//! Days of a print room: a day that a trace tells of, and a day that is simulated.
+//! Days of a print room: a day that a trace records, and a day that is simulated.
 //!
 //! [`read_day`] has a server play a trace, as a replay does, and looks at its jobs after each event and each
 //! turn. The day has for each job its moment, the device that printed it, the start and the end of the print,

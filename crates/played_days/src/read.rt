@@ -172,7 +172,7 @@ fn no_settings(alloc: Global, file: &str) -> DayFault {
 ///
 /// # Errors
 ///
-/// The text isn't a trace, or a line of it is bad: a sentence that begins with the name says where. Or memory
+/// The text isn't a trace, or a line of it is bad: a sentence that begins with the name states where. Or memory
 /// was refused.
 pub fn read_day(alloc: Global, file: &str, text: &[u8]) -> Result<RecordedDay, DayFault> {
     let Some(trace) = split_settings(text) else {

@@ -30,7 +30,7 @@ pub(crate) struct Recorder {
     next: u32,
 }
 
-/// The greatest number of a job that a note says was begun; 0 if there is none.
+/// The greatest number of a job that was begun according to a note; 0 if there is none.
 fn last_begun(heard: &[LoggedNote]) -> u32 {
     let mut last = 0;
     for one in heard {

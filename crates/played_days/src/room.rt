@@ -3,7 +3,7 @@
 use crate::queue::{Queue, Start};
 use std::alloc::AllocError;
 
-/// A room decides which job a device begins. It is told of the jobs that come and end.
+/// A room decides which job a device begins. It is notified of the jobs that come and end.
 pub(crate) trait Room {
     /// Takes the job at a place of the day, which comes now.
     fn take(&mut self, job: usize, now: u64) -> Result<(), AllocError>;

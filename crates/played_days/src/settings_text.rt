@@ -192,7 +192,7 @@ fn put_settings(output: Bytes, settings: &Settings, like: Like<'_>) -> Bytes {
 }
 
 /// The text of settings with a further device, which is like the device at a place except for what the words
-/// say; without it if there is no such device. The only error is out of memory.
+/// specify; without it if there is no such device. The only error is out of memory.
 pub(crate) fn text_with(
     alloc: Global,
     settings: &Settings,

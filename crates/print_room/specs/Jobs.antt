@@ -25,7 +25,7 @@ is_operator name state = list_any (bytes_eq name) state.settings.operators
 abbrev pub with_jobs : ℕ → List SpooledRecord → State → State
 with_jobs now jobs old = record old { last = now; spool = record old.spool { jobs = jobs } }
 
--- the state with one more job under the next id; `incoming` says whether its documents are still to come
+-- the state with one more job under the next id; `incoming` indicates whether its documents are still to come
 abbrev pub with_job_taken : ℕ → Submission → Bool → State → State
 with_job_taken now job incoming old = record old {
   last = now;

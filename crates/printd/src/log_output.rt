@@ -31,7 +31,7 @@ fn open(rt: &HostRuntime, path: &str) -> io::Result<File> {
     OpenOptions::new().append(true).create(true).open(rt, path)
 }
 
-/// Returns whether the system says that a write of up to 4,096 bytes to a descriptor does not wait.
+/// Returns whether the system reports that a write of up to 4,096 bytes to a descriptor does not wait.
 fn has_room(fd: RawFd) -> bool {
     let mut asked = [pollfd {
         fd,

@@ -209,7 +209,7 @@ fn jobs_of(
     }
 }
 
-/// The jobs of a file, which come as fast as the load says. An error is reported, and its exit status returned.
+/// The jobs of a file, which come as fast as the load specifies. An error is reported, and its exit status returned.
 fn loaded_jobs(
     rt: &HostRuntime,
     file: &str,

@@ -33,7 +33,7 @@ fn two_digits(text: &str, most: i32) -> Option<i32> {
     text.parse::<i32>().ok().filter(|number| *number <= most)
 }
 
-/// The offset from UTC that hours and minutes say.
+/// The offset from UTC that hours and minutes give.
 fn seconds_of(text: &str) -> Option<i32> {
     let (hours, minutes) = text.split_once(":").unwrap_or((text, "00"));
     let hours = two_digits(hours, 23)?;

@@ -28,6 +28,6 @@ named_group uri_base id = record {
   attributes = alone (codes "job-uri") (text tags.uri (job_uri uri_base id)) ∷ alone (codes "job-id") (number id) ∷ [];
 }
 
--- the group of a job; `paused` says whether its printer is paused
+-- the group of a job; `paused` indicates whether its printer is paused
 abbrev pub created_group : List ℕ → JobRecord → Bool → IppGroup
 created_group uri_base job paused = created_attributes uri_base job.id job.state (reasons_of job paused)

@@ -28,7 +28,7 @@ is_printing_or_stopped Job.Completed = false
 abbrev pub is_busy_with : ℕ → JobRecord → Bool
 is_busy_with printer job = (job.needs.printer == printer) && is_printing_or_stopped job.state
 
--- the state of a printer; `busy` says whether some job keeps the printer busy
+-- the state of a printer; `busy` indicates whether some job keeps the printer busy
 abbrev pub printer_state_of : Bool → Bool → PrinterState
 printer_state_of true paused = Processing
 printer_state_of false true = Stopped

@@ -153,7 +153,7 @@ impl PrinterAttribute {
         }
     }
 
-    /// Returns whether requested-attributes asks for the attribute. `by_group` says whether it asks for a group,
+    /// Returns whether requested-attributes asks for the attribute. `by_group` indicates whether it asks for a group,
     /// and `named` whether it has the attribute's name.
     #[tactic(auto, using(crate::proofs::Asking::by_name))]
     pub(crate) fn is_wanted(self, by_group: bool, named: bool, requested: &[Text]) -> bool

@@ -72,7 +72,7 @@ fn is_printing_or_stopped(state: JobState) -> bool
     }
 }
 
-/// The state of a printer. `busy` says whether some job keeps the printer busy ([`keeps_busy`]).
+/// The state of a printer. `busy` indicates whether some job keeps the printer busy ([`keeps_busy`]).
 pub fn printer_state(printer: &Printer, busy: bool) -> PrinterState
     ensures { result ≡ printer_state_of busy printer.now }
 {
@@ -85,7 +85,7 @@ pub fn printer_state(printer: &Printer, busy: bool) -> PrinterState
     }
 }
 
-/// The reason of a printer's state. `busy` says whether some job keeps the printer busy ([`keeps_busy`]).
+/// The reason of a printer's state. `busy` indicates whether some job keeps the printer busy ([`keeps_busy`]).
 pub fn printer_reason(printer: &Printer, busy: bool) -> PrinterReason
     ensures { result ≡ printer_reason_of busy printer.now }
 {

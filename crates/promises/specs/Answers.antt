@@ -84,7 +84,7 @@ IsNext settings read (Link reports device) what after = ⊥
 
 -- ---- the bytes of an act
 
--- memory was refused at this place for the connection of this number, and the listener was told so
+-- memory was refused at this place for the connection of this number, and the listener was notified
 abbrev pub IsRefusal : ℕ → AllocationSite → List Handled → Type 0
 IsRefusal id place lost = (it : Handled) × (lost ≡ it ∷ []) × (it.what ≡ MemoryRefused place (Some id))
 
@@ -244,13 +244,13 @@ WasAnswered opening handled e = ClientTalk e.progress → e.broken ≡ false →
 abbrev pub WasCutOff : State → List Handled → Entry → Type 0
 WasCutOff opening handled e = ClientTalk e.progress → e.broken ≡ true → (key : ℕ) × (before : List Handled) × (behind : List Handled) × (handled ≡ before ++ behind) × IsCutOff opening key before e
 
--- the items acted on are a prefix of those that the bytes read say, by HTTP or by RFC 1179
+-- the items acted on are a prefix of those that the bytes read contain, by HTTP or by RFC 1179
 abbrev pub IsFirst : List ℕ → PeerRecord → Type 0
 IsFirst read (Http said closes body) = ParsesFirst read said
 IsFirst read (Queue items session) = Lpd.ParsesFirst read items
 IsFirst read (Link reports device) = Unit {0}
 
--- The events of a trace are one run of the core, whose parts tell the listener's notes. Each open connection of a client that isn't broken is answered by the run, and so was each that was closed without having broken. A broken one was answered until it broke. On each connection, open or closed, the items acted on are a prefix of those that its bytes say. On an open connection they are all of these, unless the connection is draining or broken.
+-- The events of a trace are one run of the core, whose parts give the listener's notes. Each open connection of a client that isn't broken is answered by the run, and so was each that was closed without having broken. A broken one was answered until it broke. On each connection, open or closed, the items acted on are a prefix of those that its bytes contain. On an open connection they are all of these, unless the connection is draining or broken.
 pub record AreAnswered (opening : State) (trace : Trace) (l : Ledger) : Type 0 where
   pub handled : List Handled
   pub timed : AreOf trace handled

@@ -39,7 +39,7 @@ abbrev pub event_note : Bool → Happening → List Note
 event_note came (Told (Refused place id)) = refusal_told place came id
 event_note came h = core_note h
 
--- all of these notes, in order; `came` says whether an event may have come before the first happening
+-- all of these notes, in order; `came` indicates whether an event may have come before the first happening
 abbrev pub event_notes : Bool → List Happening → List Note
 event_notes came [] = []
 event_notes came (h ∷ hs) = event_note came h ++ event_notes (brings_event h) hs
@@ -71,7 +71,7 @@ AreToldOf old (timed ∷ events) (outcome ∷ outcomes) told new =
 AreToldOf old [] (outcome ∷ outcomes) told new = ⊥
 AreToldOf old (timed ∷ events) [] told new = ⊥
 
--- The happenings of a trace are one run of the core. For each event of it, in order, the listener has notes: for an event that was dropped, that memory for it was refused; for any other, its cancels and its dispatch, or that memory for the dispatch was refused. Hence the dropped events, and the dispatches that were not made, are exactly those of which the listener was told.
+-- The happenings of a trace are one run of the core. For each event of it, in order, the listener has notes: for an event that was dropped, that memory for it was refused; for any other, its cancels and its dispatch, or that memory for the dispatch was refused. Hence the dropped events, and the dispatches that were not made, are exactly those of which the listener was notified.
 pub record TellsDropped (trace : Trace) (old new : State) : Type 0 where
   pub one : IsOneRun trace old new
   pub told : AreToldOf old one.events one.outcomes (events_told trace) new

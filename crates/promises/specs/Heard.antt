@@ -104,7 +104,7 @@ pub record IsReported (device : ℕ) (told : List ReportRecord) (l : Ledger) : T
   pub given_up : All (λ (progress : PeerRecord). is_of device progress ≡ false → IsGivenUp progress l) past
   pub is_now : IsNow device now l
 
--- the reports acted on are those that a prefix of the bytes read says first
+-- the reports acted on are the first reports of a prefix of the bytes read
 abbrev pub IsRead : Entry → Type 0
 IsRead e = (front : List ℕ) × (rest : List ℕ) × (e.read ≡ front ++ rest) × ParsesFirst front (said_on e.progress)
 
@@ -121,7 +121,7 @@ IsNameIn opening came name device = (state : State) × IsStateIn state opening c
 abbrev pub IsGreeted : (List ℕ → ℕ → Type 0) → Entry → Type 0
 IsGreeted Name e = (device : ℕ) (reports : List ReportRecord) → e.progress ≡ Link reports (Some device) → (name : List ℕ) × (rest : List ReportRecord) × (reports ≡ SaysHello name ∷ rest) × Name name device
 
--- The events of a trace are one run of the core, which tells the listener's notes. For each device the reports among the events that came in turns are those on its connections, and the end of each connection. The settings have the name that the device gave. The reports of a connection are a prefix of those that its bytes say. On each connection, open or closed, they are all that its bytes say, unless it is draining or broken.
+-- The events of a trace are one run of the core, which gives the listener's notes. For each device the reports among the events that came in turns are those on its connections, and the end of each connection. The settings have the name that the device gave. The reports of a connection are a prefix of those that its bytes contain. On each connection, open or closed, they are all that its bytes contain, unless it is draining or broken.
 pub record AreHeard (opening : State) (trace : Trace) (l : Ledger) : Type 0 where
   pub came : List Came
   pub timed : ComeOf trace came

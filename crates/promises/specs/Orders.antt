@@ -37,7 +37,7 @@ pub record Handled : Type 0 where
   pub named : Option ℕ
   pub asked : Option ℕ
 
--- the core handles an event; if memory was refused, the listener is told so, and the core is unchanged
+-- the core handles an event; if memory was refused, the listener is notified, and the core is unchanged
 abbrev pub IsHandled : ℕ → Happened → State → List Note → State → Type 0
 IsHandled moment (EventComes event outcome) old notes new = Handles moment event old outcome notes new
 IsHandled moment (MemoryRefused place id) old notes new = (notes ≡ Refused place id ∷ []) × (new ≡ old)

@@ -38,7 +38,7 @@ ComesAgain device came = (it : Came) × Contains came it × (name : List ℕ) ×
 abbrev pub Bears : ℕ → Ledger → ℕ → Type 0
 Bears key l device = (e : Entry) → l.entries key ≡ Some e → device_of e.progress ≡ Some device
 
--- why a device's connection of this number is closed: an order became due, and the listener was told that memory for it was refused; or its input had ended, and the device came again, on a connection that `Named` holds of
+-- why a device's connection of this number is closed: an order became due, and the listener was notified that memory for it was refused; or its input had ended, and the device came again, on a connection that `Named` holds of
 abbrev pub IsCause : (ℕ → Type 0) → List Came → List Happening → ℕ → ℕ → Bool → Type 0
 IsCause Named came hs device id ended = (Contains hs (Told (Refused At.Enqueue (Some id))) × ((bytes : List ℕ) × IsOrder came device bytes)) ⊎ ((ended ≡ true) × ComesAgain device came × Named device)
 
@@ -52,7 +52,7 @@ abbrev pub IsSpared : (ℕ → Type 0) → List Came → List Happening → Opti
 IsSpared Named came hs None now = now ≡ None
 IsSpared Named came hs (Some e) now = SparedAs Named came hs (device_of e.progress) e now
 
--- The events of an action on the connection under a key are a run of the core, which tells the listener's notes. By these events every other connection is spared.
+-- The events of an action on the connection under a key are a run of the core, which gives the listener's notes. By these events every other connection is spared.
 pub record Spares (moment key : ℕ) (l : Ledger) (hs : List Happening) (l' : Ledger) : Type 0 where
   pub came : List Came
   pub timed : ComeAt true moment came

@@ -44,7 +44,7 @@ pub fn devices_are_sent_their_orders()
 /// the device had another connection. The reports of the open connection come last. The connections that
 /// ended are exactly the closed connections of the device, in the order of their ends, and the connections
 /// that it gave up by another connection. The name is that of the device in the settings. The reports of a
-/// connection are a prefix of those that its bytes say: all of them, unless the connection is draining or
+/// connection are a prefix of those that its bytes contain: all of them, unless the connection is draining or
 /// broken.
 pub fn devices_are_heard()
     ensures { (opening : State) (trace : Trace) (ledger : Ledger) → Runs trace (opening_ledger opening) ledger → AreHeard opening trace ledger }
@@ -59,8 +59,8 @@ pub fn devices_are_heard()
 /// query, or for the file. The byte 01 for a fault needs a fault in the bytes read. The events that
 /// the connection asked for, and these notes, are exactly those of its acts, in order. No act follows one
 /// after which the connection drains. On a connection that broke, the same holds for the acts before. On each
-/// connection, open or closed, the items acted on are a prefix of those that its bytes say: on an open one all
-/// of these, unless the connection is draining or broken.
+/// connection, open or closed, the items acted on are a prefix of those that its bytes contain: on an open one
+/// all of these, unless the connection is draining or broken.
 pub fn clients_are_answered()
     ensures { (opening : State) (trace : Trace) (ledger : Ledger) → Runs trace (opening_ledger opening) ledger → AreAnswered opening trace ledger }
 {}
@@ -76,8 +76,8 @@ pub fn due_was_carried()
 /// A read on one connection with all its results, a write and a closing are each a run of the core, and spare
 /// the other connections. A client's connection is unchanged. On a device's connection only orders of the
 /// run's events become due: lines of cancels, and lines and documents of jobs that began. It is closed only
-/// for a cause: the listener was told that memory for its orders was refused, or its input had ended and the
-/// device gave its name again.
+/// for a cause: the listener was notified that memory for its orders was refused, or its input had ended and
+/// the device gave its name again.
 pub fn others_are_spared()
     ensures { (moment : ℕ) → SparesAll moment }
 {}

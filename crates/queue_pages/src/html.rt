@@ -13,7 +13,7 @@ pub(crate) struct Html {
     is_refused: bool,
 }
 
-/// What stands for a character in texts and attributes, if it can't stand there itself.
+/// The escape of a character in texts and attributes, if it needs one there.
 fn reference_to(letter: char) -> Option<&'static str> {
     match letter {
         '&' => Some("&amp;"),

@@ -13,7 +13,7 @@ const HOUR: u64 = 60 * MINUTE;
 /// The s of a day.
 const DAY: u64 = 24 * HOUR;
 
-/// A time in ms as people say it, in whole seconds and two units at most: `21 s`, `1 min 40 s`, `12 min`, `1 h 5 min`,
+/// A time in ms as people read it, in whole seconds and two units at most: `21 s`, `1 min 40 s`, `12 min`, `1 h 5 min`,
 /// `2 d 3 h`. From 10 minutes on it has no seconds. The rest is cut off.
 #[derive(Clone, Copy)]
 pub(crate) struct Length(pub(crate) u64);

@@ -4,7 +4,7 @@
 //! plan, and the jobs that wait and that ended. The page is one file without a script. It is light or dark as its
 //! reader's system is, has one column on a phone, and can be printed.
 //!
-//! Markup is `&'static str`, so that it stands in these sources. All else, as the names and titles of people, passes
+//! Markup is `&'static str`, so that all of it is in these sources. All else, as the names and titles of people, passes
 //! through the one function of `html` that escapes text. Nothing is proved of a page, except that its functions are safe
 //! and end. The rows of the crate are recorded days of `play_examples`.
 #![tactic(auto)]

@@ -22,7 +22,7 @@ pub struct PageOptions<'a> {
     pub names: bool,
     /// The seconds after which a browser reads it again, if it should.
     pub refresh: Option<u32>,
-    /// The time since which nothing new has come, in ms since the beginning of 1970, if the page is to say so.
+    /// The time since which nothing new has come, in ms since the beginning of 1970, if the page is to show it.
     pub quiet_since: Option<u64>,
 }
 

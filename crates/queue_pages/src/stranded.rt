@@ -28,7 +28,7 @@ fn are_same(one: &[Text], other: &[Text]) -> bool {
             .all(|(one, other)| one.is(other.as_bytes()))
 }
 
-/// Returns whether jobs that lack what a cause says lack the same.
+/// Returns whether jobs that lack what a cause names lack the same.
 fn lack_same(cause: Cause, one: &NeedsView, other: &NeedsView) -> bool {
     match cause {
         Cause::NoDevice | Cause::Sides => true,

@@ -33,7 +33,7 @@ fn holds(device: &DeviceNow, needs: &Needs, loaded: bool) -> bool {
         && (medium.loaded || !loaded))
 }
 
-/// Returns whether a device can print a job once its media are loaded, or once it runs, as the cause says.
+/// Returns whether a device can print a job once its media are loaded, or once it runs, as the cause states.
 fn helps(device: &DeviceNow, needs: &Needs, cause: Cause) -> bool {
     match cause {
         Cause::Media => suits(device, needs) && holds(device, needs, false),
@@ -42,7 +42,7 @@ fn helps(device: &DeviceNow, needs: &Needs, cause: Cause) -> bool {
     }
 }
 
-/// The devices of a job's printer that can print the job once they have what the cause says.
+/// The devices of a job's printer that can print the job once they have what the cause names.
 fn helpers_of<P: Planner + Drop>(
     alloc: Global,
     engine: &Engine<P>,

@@ -24,7 +24,7 @@ const MANY_BEGUN: usize = 4096;
 /// The ms for which printed jobs are kept at least.
 const KEPT: u64 = 172_800_000;
 
-/// What a view needs and only an observer of the turns knows. It is the listener of each turn, and is told of its
+/// What a view needs and only an observer of the turns knows. It is the listener of each turn, and is notified of its
 /// end: [`Ledger::begin_turn`], the turn, [`Ledger::end_turn`].
 #[derive(Drop)]
 pub struct Ledger {

@@ -122,7 +122,7 @@ pub enum Prospect {
         end: u64,
     },
     /// No device of its printer can print it. The `helpers` are devices that could, once their media are loaded or
-    /// they run, as the cause says.
+    /// they run, as the cause states.
     Stranded {
         cause: Cause,
         helpers: Vec<DeviceId>,

@@ -60,7 +60,7 @@ pub(crate) fn put_write(
     }
 }
 
-/// Appends the lines of the end of a turn. `refused` says whether memory was refused to the server in the
+/// Appends the lines of the end of a turn. `refused` indicates whether memory was refused to the server in the
 /// turn.
 pub(crate) fn put_end(output: &mut Vec<u8>, moment: Moment, refused: bool) -> Result<(), AllocError>
     ensures { OnOk result (output.new.items ≡ output.old.items ++ end_of moment refused) }

@@ -94,7 +94,7 @@ impl NoteLines {
         self.keeps = false;
     }
 
-    /// Notes the end of a turn at a moment. `refused` says whether memory was refused to the server in the
+    /// Notes the end of a turn at a moment. `refused` indicates whether memory was refused to the server in the
     /// turn.
     pub(crate) fn end_turn(&mut self, moment: Moment, refused: bool)
         ensures { EndsTurn moment refused self.old self.new }

@@ -56,7 +56,7 @@ impl NoteText {
         }
     }
 
-    /// Starts keeping lines. No connection may be open yet. `heads` says whether the octets of documents are
+    /// Starts keeping lines. No connection may be open yet. `heads` indicates whether the octets of documents are
     /// left out.
     pub fn begin(&mut self, heads: bool)
         ensures { self.new ≡ record { lines = Some []; heads = heads } }
@@ -110,7 +110,7 @@ impl NoteText {
         self.lines.stop();
     }
 
-    /// Notes the end of a turn at a moment. `refused` says whether memory was refused to the server in the
+    /// Notes the end of a turn at a moment. `refused` indicates whether memory was refused to the server in the
     /// turn.
     pub fn end_turn(&mut self, moment: Moment, refused: bool)
         ensures lines { EndsTurn moment refused self.old.lines self.new.lines }

@@ -83,7 +83,7 @@ impl Script {
         Ok(())
     }
 
-    /// The number of the turn's line that says that memory was refused to the server, if there is one.
+    /// The number of the turn's line that states that memory was refused to the server, if there is one.
     pub fn refusal(&self) -> Option<u64> {
         for line in &self.lines {
             if let Entry::Refused = &line.entry {

@@ -23,7 +23,7 @@ use Rattle.replay.specs.Peers.{PeersSee, any_stirs, all_turns}
 abbrev pub standing : Play → Standing
 standing p = record { moment = p.moment; connections = p.peers.connections.items; peers = p.peers.wire.memory.peers.items }
 
--- for each trace at which the old engine stands, the new one stands at that trace with these actions after it
+-- for each trace at which the old engine is, the new one is at that trace with these actions after it
 abbrev pub Moves : EngineState → Trace → EngineState → Type 0
 Moves old actions new = (opening : State) (trace : Trace) → StandsAt opening trace old → StandsAt opening (trace ++ actions) new
 
@@ -54,7 +54,7 @@ pub record TakesActions (old new : Play) (Is : Trace → Type 0) : Type 0 where
   pub log : new.log ≡ old.log
   pub prompt : new.peers.wire.failed ≡ false
 
--- the play took one turn; `stirred` says whether a poll of it had an answer other than Waiting
+-- the play took one turn; `stirred` indicates whether a poll of it had an answer other than Waiting
 pub record TakesTurn (old new : Play) (stirred : Bool) : Type 0 where
   pub turn : List Happening
   pub is : stirred ≡ any_stirs turn

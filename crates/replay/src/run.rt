@@ -27,7 +27,7 @@ use traces::{LineFault, next_line, split_settings};
 #[derive(Debug, Drop)]
 pub struct Replayed {
     pub status: ExitStatus,
-    /// Why the trace is refused, if the status says that it is.
+    /// Why the trace is refused, if the status states that it is.
     pub objection: Option<Objection>,
 }
 
@@ -35,7 +35,7 @@ pub struct Replayed {
 /// reason if the trace is refused.
 ///
 /// The text has, in order, the replies, the cancels, the plans, with their own texts if `texts` is true, and
-/// the jobs that start; or why the settings, a line or the size is refused. The status says that all is done,
+/// the jobs that start; or why the settings, a line or the size is refused. The status states that all is done,
 /// that something is refused, or that memory or a stream failed. In the last case a prefix of the text of some
 /// of the lines is written.
 pub fn run_replay<R: Read, W: Write>(

@@ -3,7 +3,7 @@
 //! A job whose server can't go on, since its settings are others now or since a device may have printed some of it,
 //! is a [`SavedJob`]: all that was sent with it. [`resubmit`] sends each such job to an engine by requests of its
 //! owner, over a connection in memory, and appends the turns to a storage as those of any client. So the engine
-//! stands at the trace of the stored lines, and its files can be played. A job that got another id is the same job:
+//! is at the trace of the stored lines, and its files can be played. A job that got another id is the same job:
 //! it is compared. [`pause_printers`] pauses printers in the same way.
 #![tactic(auto)]
 

@@ -34,7 +34,7 @@ EnqueuesAt refusable key bytes None = Nothing
 EnqueuesAt refusable key bytes (Some e) = If e.broken Nothing (EnqueuesOpen (refusable e) key bytes e)
 
 -- bytes become due on the connection under a key, if a connection is open there and isn't broken; or memory for the
--- bytes is refused, which may happen if `refusable` says so
+-- bytes is refused, which may happen if `refusable` holds
 abbrev pub EnqueuesWhere : (Entry → Bool) → ℕ → List ℕ → Rel
 EnqueuesWhere refusable key bytes l hs l' = EnqueuesAt refusable key bytes (l.entries key) l hs l'
 
@@ -68,7 +68,7 @@ IsAbsent device l = (key : ℕ) → IsDevice device (l.entries key) → ⊥
 abbrev pub IsLowest : ℕ → ℕ → Ledger → Type 0
 IsLowest device key l = IsDevice device (l.entries key) × ((lower : ℕ) → lower < key → IsDevice device (l.entries lower) → ⊥)
 
--- bytes become due on a device's connection, if the device has one; memory may be refused if `refusable` says so
+-- bytes become due on a device's connection, if the device has one; memory may be refused if `refusable` holds
 abbrev pub EnqueuesOn : (Entry → Bool) → ℕ → List ℕ → Rel
 EnqueuesOn refusable device bytes l hs l' =
     ((key : ℕ) × IsLowest device key l × EnqueuesWhere refusable key bytes l hs l') ⊎ (IsAbsent device l × Nothing l hs l')

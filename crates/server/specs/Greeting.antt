@@ -17,7 +17,7 @@ use Rattle.server.specs.Closing.{IsGone}
 abbrev pub Tells : ℕ → ℕ → ReportRecord → Rel
 Tells moment device said l hs l' = (report : Report) × (report_of report ≡ said) × Unanswered moment (Is.Report device report) l hs l'
 
--- a connection is open, this device gave its name on it, and `ended` says whether the input of the connection has ended
+-- a connection is open, this device gave its name on it, and `ended` is whether the input of the connection has ended
 abbrev pub IsDeviceAs : Bool → ℕ → Option Entry → Type 0
 IsDeviceAs ended device None = ⊥
 IsDeviceAs ended device (Some e) = (device_of e.progress ≡ Some device) × (e.ended ≡ ended)
@@ -26,7 +26,7 @@ IsDeviceAs ended device (Some e) = (device_of e.progress ≡ Some device) × (e.
 abbrev pub IsAlone : ℕ → ℕ → Ledger → Type 0
 IsAlone device key l = (other : ℕ) → other ≢ key → IsDevice device (l.entries other) → ⊥
 
--- the device has a connection under the key `other`, and under no lower key but this one; `ended` says whether the input
+-- the device has a connection under the key `other`, and under no lower key but this one; `ended` is whether the input
 -- of that connection has ended
 abbrev pub HasOther : Bool → ℕ → ℕ → ℕ → Ledger → Type 0
 HasOther ended device key other l =

@@ -98,7 +98,7 @@ pub record IsOneRun (trace : Trace) (old new : State) : Type 0 where
 
 -- ---- an action between turns
 
--- One event came with these effects, and nothing else happened. The listener was told the cancels of the event, and
+-- One event came with these effects, and nothing else happened. The listener got the cancels of the event, and
 -- then the dispatch, unless the event is a query. Neither the event nor its dispatch was refused memory.
 pub record IsOneEvent (moment : ℕ) (event : Event) (reply : Effects) (old : State) (hs : List Happening) (new : State) : Type 0 where
   pub outcome : Outcome

@@ -1,4 +1,4 @@
--- The ledgers that represent an engine, the relations that its functions refine, and the traces at which it stands.
+-- The ledgers that represent an engine, the relations that its functions refine, and the traces at which it is.
 use Rattle.std.specs.Prelude.{ℕ, ◌≡◌, ◌≢◌, ◌<◌, ◌≤◌, Bool, true, false, List, [], ◌∷◌, ◌++◌, count_by, is_some, Option, Some, None, Vec, Result, Ok, Err, IsOk, IsErr}
 use Rattle.std.specs.declared.alloc.AllocError.{AllocError}
 use Rattle.std.specs.declared.alloc.Global.{Global}
@@ -59,7 +59,7 @@ pub record RefinesQuietly {S : Type 0} (moves : S → Happening → S → Type 0
   pub stands : (l : Ledger) → Represents l old → (l' : Ledger) × Seen R l happenings l' × Represents l' new
   pub quiet : IsQuiet old new
 
--- as `RefinesQuietly`, and `refused` says whether the allocator refused memory for a growth
+-- as `RefinesQuietly`, and `refused` indicates whether the allocator refused memory for a growth
 pub record RefinesReporting {S : Type 0} (moves : S → Happening → S → Type 0) (R : Rel) (world : S) (old : EngineState) (world' : S) (new : EngineState) (refused : Bool) : Type 0 where
   pub refines : RefinesQuietly moves R world old world' new
   pub is : has_refusal refines.happenings ≡ refused
@@ -70,7 +70,7 @@ pub record RefinesAnswering {S : Type 0} (moves : S → Happening → S → Type
   pub refines : RefinesQuietly moves (R served) world old world' new
   pub is : answer ≡ served_as refines.happenings served
 
--- ---- functions without a wire: only a listener is told
+-- ---- functions without a wire: only a listener is notified
 
 -- as `RefinesQuietly`, for a listener without a wire
 abbrev pub RefinesTold : {N : Type 0} → (N → Note → N → Type 0) → Rel → N → EngineState → N → EngineState → Type 0
@@ -119,11 +119,11 @@ RefinesAnyFate moves moment key world old world' new =
 
 -- ---- traces
 
--- the engine stands at a trace that began with this core: the trace leads to a ledger that represents the engine
+-- the engine is at a trace that began with this core: the trace leads to a ledger that represents the engine
 abbrev pub StandsAt : State → Trace → EngineState → Type 0
 StandsAt opening trace engine = (l : Ledger) × Allows trace (opening_ledger opening) l × Represents l engine
 
--- A turn leads the world on. It leads each ledger that represents the old engine to a ledger that represents the new engine. If the old engine stands at a trace, the new engine stands at the trace and then this turn.
+-- A turn leads the world on. It leads each ledger that represents the old engine to a ledger that represents the new engine. If the old engine is at a trace, the new engine is at the trace and then this turn.
 pub record RefinesTurn {S : Type 0} (moves : S → Happening → S → Type 0) (moment : ℕ) (world : S) (old : EngineState) (world' : S) (new : EngineState) : Type 0 where
   pub happenings : List Happening
   pub leads : Leads moves world happenings world'
@@ -154,18 +154,18 @@ said_of (Err error) = OutOfMemory
 abbrev pub AnswersBody : {N : Type 0} → (N → Note → N → Type 0) → (Outcome → Rel) → N → EngineState → N → EngineState → Result Served AllocError → Type 0
 AnswersBody told R listener old listener' new result = RefinesAnswering (alone told) R listener old listener' new (said_of result)
 
--- the bytes of a response; if memory for the bytes is refused, the listener is told
+-- the bytes of a response; if memory for the bytes is refused, the listener is notified
 abbrev pub AnswerAs : {N : Type 0} → (N → Note → N → Type 0) → ℕ → Response → N → Result (Vec ℕ Global) AllocError → N → Type 0
 AnswerAs told request answer listener (Ok bytes) listener' = IsBytes request answer bytes.items × (listener' ≡ listener)
 AnswerAs told request answer listener (Err error) listener' = told listener (Refused At.Reply None) listener'
 
--- the bytes of a reply; if the event was dropped, there are no bytes, and the listener is told
+-- the bytes of a reply; if the event was dropped, there are no bytes, and the listener is notified
 abbrev pub BytesAs : {N : Type 0} → (N → Note → N → Type 0) → ℕ → Option Effects → N → Result (Vec ℕ Global) AllocError → N → Type 0
 BytesAs told request (Some reply) listener bytes listener' = AnswerAs told request reply.answer listener bytes listener'
 BytesAs told request None listener (Ok bytes) listener' = ⊥
 BytesAs told request None listener (Err error) listener' = told listener (Refused At.Event None) listener'
 
--- the reply of a status alone; if memory for the reply is refused, the listener is told
+-- the reply of a status alone; if memory for the reply is refused, the listener is notified
 abbrev pub RefusalAs : {N : Type 0} → (N → Note → N → Type 0) → Status → ℕ → N → Result Served AllocError → N → Type 0
 RefusalAs told status request listener (Ok served) listener' = (said_of (Ok served) ≡ Replied (refusal_bytes status request)) × (listener' ≡ listener)
 RefusalAs told status request listener (Err error) listener' = told listener (Refused At.Reply None) listener'
@@ -184,7 +184,7 @@ answer_in (Ok bytes) false = Replied bytes.items
 answer_in (Ok bytes) true = OutOfMemory
 answer_in (Err error) refused = OutOfMemory
 
--- the listener is told of the connection that broke, if one did, since memory for due bytes was refused
+-- the listener is notified of the connection that broke, if one did, since memory for due bytes was refused
 abbrev pub ToldOf : {N : Type 0} → (N → Note → N → Type 0) → Option ℕ → N → N → Type 0
 ToldOf told (Some id) old new = told old (Refused At.Enqueue (Some id)) new
 ToldOf told None old new = new ≡ old

@@ -140,8 +140,8 @@ impl<P: Planner + Drop> Engine<P> {
         self.enqueue(asker.key, &[REFUSED], notes);
     }
 
-    /// Enqueues the response to a command. If its event was dropped, the listener is told and the connection
-    /// breaks.
+    /// Enqueues the response to a command. If its event was dropped, the listener is notified and the
+    /// connection breaks.
     fn answer_command<N: Listener>(&mut self, asker: Asker, reply: Option<Effects>, notes: &mut N)
         ensures { RefinesTold N.told (Responds asker.key asker.id reply) notes.old self.old notes.new self.new }
     {
@@ -177,8 +177,8 @@ impl<P: Planner + Drop> Engine<P> {
         }
     }
 
-    /// Enqueues the text of a queue. If memory for the text is refused, the listener is told and the connection
-    /// breaks.
+    /// Enqueues the text of a queue. If memory for the text is refused, the listener is notified and the
+    /// connection breaks.
     fn show<N: Listener>(&mut self, asker: Asker, answer: &LpdResponse, notes: &mut N)
         ensures { RefinesTold N.told (Shows asker.key asker.id (text_of answer.now)) notes.old self.old notes.new self.new }
     {

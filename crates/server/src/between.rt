@@ -18,7 +18,7 @@ use std::alloc::AllocError;
 /// Bodies, reports and ticks of a caller without connections.
 impl<P: Planner + Drop> Engine<P> {
     /// Serves one IPP body between turns, without HTTP. The only error is out of memory, and the listener is
-    /// told of it. The event may have happened then.
+    /// notified of it. The event may have happened then.
     #[tactic(auto, using(crate::proofs::Serving::one_body))]
     pub fn serve_body<N: Listener>(
         &mut self,
@@ -66,7 +66,7 @@ impl<P: Planner + Drop> Engine<P> {
         }
     }
 
-    /// Returns the reply of a status alone. The only error is out of memory, and the listener is told of it.
+    /// Returns the reply of a status alone. The only error is out of memory, and the listener is notified of it.
     fn serve_refusal<N: Listener>(
         &self,
         status: Status,
@@ -100,7 +100,7 @@ impl<P: Planner + Drop> Engine<P> {
     }
 
     /// Returns the bytes of the reply to an event. The only error is out of memory, for the event or for the
-    /// bytes, and the listener is told of it.
+    /// bytes, and the listener is notified of it.
     fn bytes_of<N: Listener>(
         &self,
         reply: Option<Effects>,
@@ -119,7 +119,7 @@ impl<P: Planner + Drop> Engine<P> {
     }
 
     /// Returns the bytes of a response; a response that isn't one of IPP has none. The only error is out of
-    /// memory, and the listener is told of it.
+    /// memory, and the listener is notified of it.
     fn answer_bytes<N: Listener>(
         &self,
         answer: Response,
@@ -142,7 +142,7 @@ impl<P: Planner + Drop> Engine<P> {
     }
 
     /// Handles one report of a device between turns, without a connection. The only error is out of memory, and
-    /// the listener is told of it.
+    /// the listener is notified of it.
     pub fn report<N: Listener>(
         &mut self,
         device: DeviceId,
@@ -173,7 +173,7 @@ impl<P: Planner + Drop> Engine<P> {
             .refused
     }
 
-    /// Makes one tick between turns. The only error is out of memory, and the listener is told of it.
+    /// Makes one tick between turns. The only error is out of memory, and the listener is notified of it.
     pub fn tick<N: Listener>(&mut self, notes: &mut N, moment: Moment) -> Result<(), AllocError>
         ensures { RefinesCall (alone N.told) (Ticked moment) notes.old self.old notes.new self.new result }
     {

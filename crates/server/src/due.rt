@@ -11,8 +11,8 @@ use events::Status;
 use plan_prices::Planner;
 use wires::WireId;
 
-/// Functions that enqueue bytes. If memory for the bytes is refused, the listener is told and the connection
-/// breaks.
+/// Functions that enqueue bytes. If memory for the bytes is refused, the listener is notified and the
+/// connection breaks.
 impl<P: Planner + Drop> Engine<P> {
     /// Enqueues bytes on the connection under a key.
     pub(crate) fn enqueue<N: Listener>(&mut self, key: usize, bytes: &[u8], notes: &mut N)

@@ -79,7 +79,7 @@ impl<P: Planner + Drop> Engine<P> {
     /// Makes one turn: the closings left over, a tick if one is due, an accept at each door, a read of each
     /// connection with the asks that the read brings, a write of the waiting bytes, and the closings.
     ///
-    /// If the engine stood at a trace, it stands at the trace followed by this turn, whatever the results of
+    /// If the engine was at a trace, it is at the trace followed by this turn, whatever the results of
     /// the polls are.
     pub fn turn<W: Wire, N: Listener>(&mut self, wire: &mut W, notes: &mut N, moment: Moment)
         ensures { RefinesTurn (both W.polled N.told) moment (wire.old, notes.old) self.old (wire.new, notes.new) self.new }

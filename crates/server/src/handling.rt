@@ -22,8 +22,8 @@ pub(crate) struct Handled {
 }
 
 impl<P: Planner + Drop> Engine<P> {
-    /// Handles an event by the core, and tells the listener. Enqueues the lines of the cancels and the bytes of
-    /// the jobs that begin on the connections of their devices. The caller enqueues the reply to the event.
+    /// Handles an event by the core, and notifies the listener. Enqueues the lines of the cancels and the bytes
+    /// of the jobs that begin on the connections of their devices. The caller enqueues the reply to the event.
     pub(crate) fn handle<N: Listener>(
         &mut self,
         moment: Moment,
@@ -41,7 +41,7 @@ impl<P: Planner + Drop> Engine<P> {
         }
     }
 
-    /// Handles an event by the core, and tells the listener.
+    /// Handles an event by the core, and notifies the listener.
     fn decide<N: Listener>(&mut self, moment: Moment, event: Event, notes: &mut N) -> Outcome
         ensures { Reports N.told (Decides moment event result) notes.old self.old notes.new self.new (is_undispatched result) }
     {

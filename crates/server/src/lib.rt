@@ -1,7 +1,7 @@
 //! The engine of a server: the core, and the connections over a wire.
 //!
 //! [`Engine::turn`] polls each door and each connection: it accepts, reads, acts on the items that are whole,
-//! writes the waiting bytes, and closes. Its contract says which bytes are due on which connection after a
+//! writes the waiting bytes, and closes. Its contract states which bytes are due on which connection after a
 //! turn, whatever the results of the polls are.
 //!
 //! Calls between turns need no wire: [`Engine::serve_body`], [`Engine::report`] and [`Engine::tick`].

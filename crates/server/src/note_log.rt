@@ -24,7 +24,7 @@ pub enum LoggedNote {
     Stranded(Stranded),
     /// A device began a job.
     Began(Started),
-    /// A device is told to cancel a job.
+    /// A device is asked to cancel a job.
     Canceled(Cancel),
     /// The connection of this number, which is a device's, was refused.
     DeviceRefused(WireId, DeviceRefusal),

@@ -36,8 +36,8 @@ impl<P: Planner + Drop> Engine<P> {
         }
     }
 
-    /// Inserts a connection that came. If memory for it is refused, the listener is told and the connection is
-    /// closed.
+    /// Inserts a connection that came. If memory for it is refused, the listener is notified and the connection
+    /// is closed.
     fn open<W: Wire + Listener>(&mut self, door: Door, id: WireId, world: &mut W)
         ensures { Refines (moved W.polled W.told) (Opens door id) world.old self.old world.new self.new }
     {

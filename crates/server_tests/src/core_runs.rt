@@ -26,7 +26,7 @@ format_default = \"text/plain\"\n";
 const PRINT_JOB: &[u8] =
     b"\x01\x01\x00\x02\x00\x00\x00\x01\x01\x47\x00\x12attributes-charset\x00\x05utf-8\x48\x00\x1Battributes-natural-language\x00\x02en\x45\x00\x0Bprinter-uri\x00\x20ipp://localhost:631/printers/lab\x03hello";
 
-/// The number of plans and of starts that the listener was told.
+/// The number of plans and of starts of which the listener was notified.
 #[derive(Drop)]
 struct Counts {
     plans: u64,

@@ -1,7 +1,7 @@
 //! Hints about values that are nearly right.
 use std::fmt;
 
-/// Names of media as people say them, and as they are written (PWG 5101.1).
+/// Common names of media, and the names by which they are written (PWG 5101.1).
 const MEDIA: [(&str, &str); 6] = [
     ("A3", "iso_a3_297x420mm"),
     ("A4", "iso_a4_210x297mm"),
@@ -16,7 +16,7 @@ const MEDIA: [(&str, &str); 6] = [
 pub(crate) enum Hint {
     /// The value is a number in quotation marks.
     Quoted,
-    /// The value has the name of a medium as people say it.
+    /// The value has the common name of a medium.
     Medium(&'static str, &'static str),
     None,
 }

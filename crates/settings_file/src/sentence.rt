@@ -92,7 +92,7 @@ fn sentence(
     }
 }
 
-/// The key at which a fault stands; empty if it stands at none.
+/// The key at which a fault is; empty if it is at none.
 fn key_of(fault: &SettingsFault) -> &str {
     match fault {
         SettingsFault::Missing(key) => key.name(),

@@ -43,7 +43,7 @@ fn format(alloc: Global) -> Result<String, AllocError> {
     )
 }
 
-/// The words for a list of at most `most` texts, each as `each` says.
+/// The words for a list of at most `most` texts, each as `each` writes it.
 fn list(alloc: Global, most: usize, each: &str) -> Result<String, AllocError> {
     format!(in alloc; "a list of at most {most} texts, each {each}")
 }

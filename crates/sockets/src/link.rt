@@ -35,7 +35,7 @@ fn waits() -> io::Error {
 }
 
 impl Link {
-    /// Creates the link of a connection that was just accepted. `device` says whether its peer is a device.
+    /// Creates the link of a connection that was just accepted. `device` indicates whether its peer is a device.
     ///
     /// A device is read only after the poll has reported its bytes. By then the poll has also reported the
     /// end of the device's earlier connection, and that end is read first.

@@ -34,7 +34,7 @@ impl Model for Patience {
 }
 
 impl Patience {
-    /// Creates the record of a peer whose connection was just accepted. `device` says whether it is a device.
+    /// Creates the record of a peer whose connection was just accepted. `device` indicates whether it is a device.
     pub(crate) fn new(moment: Moment, device: bool) -> Patience
         ensures { result ≡ record { from = moment; came = 0; device = device; spoke = false } }
     {

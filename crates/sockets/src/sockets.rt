@@ -298,7 +298,7 @@ impl Sockets {
         }
     }
 
-    /// Returns the answer of a read or a write of a connection that failed. `over` says whether the peer has no
+    /// Returns the answer of a read or a write of a connection that failed. `over` indicates whether the peer has no
     /// time left.
     fn failed(&mut self, id: WireId, error: io::Error, over: bool) -> Progress<usize>
         ensures count { (room : ℕ) → IsCount result room }

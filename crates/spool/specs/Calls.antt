@@ -42,7 +42,7 @@ abbrev pub IsRefusal : Option SpoolRefusal → SpoolRefusal → Type 0
 IsRefusal cause Why.OutOfMemory = cause ≡ None
 IsRefusal cause refusal = cause ≡ Some refusal
 
--- the job is taken under the next id; `incoming` says whether its documents are still to come
+-- the job is taken under the next id; `incoming` indicates whether its documents are still to come
 pub record Takes (old : SpoolRecord) (new : Submission) (incoming : Bool) (id : ℕ) (spool : SpoolRecord) : Type 0 where
   pub free : new_refusal old new.documents ≡ None
   pub id_is : id ≡ old.next
@@ -88,7 +88,7 @@ adds octets last = not last || nat_lt 0 octets
 abbrev pub is_too_large : ℕ → JobRecord → Bool
 is_too_large octets job = nat_le JOB_DOCUMENTS job.documents || nat_lt JOB_OCTETS (job.octets + octets)
 
--- why a job doesn't take a document of this many octets; `added` says whether the document is added
+-- why a job doesn't take a document of this many octets; `added` indicates whether the document is added
 abbrev pub taking_refusal : ℕ → Bool → Option SpooledRecord → Option SpoolRefusal
 taking_refusal octets added found =
     option_map_or (λ s. if not s.job.incoming then Some Why.NotPossible

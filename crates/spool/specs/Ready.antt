@@ -5,7 +5,7 @@ use Rattle.spool.specs.Spooled.{SpooledRecord}
 use Rattle.spool.specs.Calls.{is_ready}
 use Rattle.spool.specs.declared.ready.Ready.{Ready}
 
--- the ready jobs among these; `paused` says which printers are paused
+-- the ready jobs among these; `paused` states which printers are paused
 abbrev pub ready_jobs : List Bool → List SpooledRecord → List JobRecord
 ready_jobs paused jobs = filter (is_ready paused) (map (λ s. s.job) jobs)
 

@@ -21,7 +21,7 @@ pub record Submission : Type 0 where
   pub impressions : Option ℕ
   pub documents : List DocumentRecord
 
--- the job of a submission; `incoming` says whether its documents are still to come
+-- the job of a submission; `incoming` indicates whether its documents are still to come
 abbrev pub spooled_of : Submission → ℕ → Bool → SpooledRecord
 spooled_of new id incoming = record {
   job = record {

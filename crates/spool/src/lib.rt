@@ -4,8 +4,8 @@
 //! forgotten, and the documents that are handed out. A refusal changes nothing and returns its argument. Only
 //! [`Spool::submit`], [`Spool::create`] and [`Spool::add_document`] take memory; they make the room that the
 //! job's later states need. Jobs are in memory alone, and no document is read or converted. The dispatch of
-//! jobs to devices is not of this crate; the spool has only a flag for each job that says whether a device
-//! has it.
+//! jobs to devices is not of this crate; the spool has only a flag for each job that indicates whether a
+//! device has it.
 //!
 //! Examples: the traces in `crates/play_examples/data`.
 #![tactic(auto)]

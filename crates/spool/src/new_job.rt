@@ -81,7 +81,7 @@ pub(crate) fn formats_of(alloc: Global, documents: &[Document]) -> Result<Vec<Te
     Ok(formats)
 }
 
-/// The job of a submission. `incoming` says whether its documents are still to come.
+/// The job of a submission. `incoming` indicates whether its documents are still to come.
 pub(crate) fn taken(new: NewJob, id: JobId, formats: Vec<Text>, incoming: bool) -> SpooledJob
     requires formats { formats.items ≡ map (λ d. d.format) new.documents }
     requires documents { length new.documents ≤ Limits.JOB_DOCUMENTS }

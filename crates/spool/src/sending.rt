@@ -76,7 +76,7 @@ impl Spool {
         self.may_take(id, octets, adds(octets, last))
     }
 
-    /// Checks that a job takes a document of this many octets. `added` says whether the document is added.
+    /// Checks that a job takes a document of this many octets. `added` indicates whether the document is added.
     fn may_take(&self, id: JobId, octets: usize, added: bool) -> Result<(), SpoolRefusal>
         ensures ok { OnOk result (taking_refusal octets added (spooled_at id self.now.jobs) ≡ None) }
         ensures off { OnOk result (is_on_device id self.now.jobs ≡ false) }

@@ -173,7 +173,7 @@ impl SpooledJob {
     }
 }
 
-/// Returns whether a device has the job after a change. `on_device` says whether one had it before.
+/// Returns whether a device has the job after a change. `on_device` indicates whether one had it before.
 fn on_device_after(change: JobChange, on_device: bool) -> bool
     ensures { result ≡ on_device_after change on_device }
 {

@@ -60,7 +60,7 @@ impl Spool {
         }
     }
 
-    /// Takes a job. `incoming` says whether its documents are still to come.
+    /// Takes a job. `incoming` indicates whether its documents are still to come.
     fn take(&mut self, new: NewJob, incoming: bool) -> Result<JobId, Refused>
         ensures ok { IfOk result (λ id. Takes self.old new incoming id self.new) }
         ensures kept { OnErr result (self.new ≡ self.old) }

@@ -1,4 +1,4 @@
--- The start of a server: its engine stands at the trace of the lines that are stored.
+-- The start of a server: its engine is at the trace of the lines that are stored.
 use Rattle.std.specs.Prelude.{ℕ, List}
 use Rattle.settings_file.specs.Settings.{ServerSettings, MeetsLimits}
 use Rattle.print_room.specs.Opening.{opening}
@@ -19,7 +19,7 @@ pub record IsPlaying (r : Resumption) : Type 0 where
 abbrev pub GoesOn : Resumption → Resumption → Type 0
 GoesOn old new = IsPlaying old → IsPlaying new
 
--- the engine stands at a trace whose file is these lines, from the opening state of some settings within the limits
+-- the engine is at a trace whose file is these lines, from the opening state of some settings within the limits
 pub record HasStarted (lines : List ℕ) (engine : EngineState) : Type 0 where
   pub settings : ServerSettings
   pub within : MeetsLimits settings

@@ -7,9 +7,9 @@ use std::fmt;
 /// What is wrong with a file of a journal.
 #[derive(Debug, Drop)]
 pub enum Why {
-    /// The line isn't one of a journal, or stands where none of its kind may.
+    /// The line isn't one of a journal, or is where none of its kind may be.
     BadLine,
-    /// In the turn of the line the server does something else than the file says, which a server of this version
+    /// In the turn of the line the server does something else than the file records, which a server of this version
     /// wrote.
     Differs(String),
     /// No line is `.` alone.
@@ -45,7 +45,7 @@ pub enum SpoolFault {
     },
     /// A file isn't as a server left it. Nothing was changed.
     File(FileFault),
-    /// The settings of a base are refused, as the sentence says. Nothing was changed.
+    /// The settings of a base are refused, for the reason that the sentence states. Nothing was changed.
     Settings(String),
     /// The job of this id changed while others were submitted again. Nothing was changed.
     Changed(JobId),
@@ -122,7 +122,7 @@ impl fmt::Display for SpoolFault {
 }
 
 impl SpoolFault {
-    /// Returns whether this server does something else than a file says, which a server of another version wrote.
+    /// Returns whether this server does something else than a file records, which a server of another version wrote.
     pub(crate) fn is_of_other(&self, version: &str) -> bool {
         match self {
             SpoolFault::File(

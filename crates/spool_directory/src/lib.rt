@@ -10,7 +10,7 @@
 //! lines of the server that has started: all lines of a call or none.
 //!
 //! A new file gets its name only once its first lines are on the disk, so each file has all of them. The engine of a
-//! start stands at the trace of the stored lines. These are a list in contracts alone: nothing is proved of what is on
+//! start is at the trace of the stored lines. These are a list in contracts alone: nothing is proved of what is on
 //! the disk.
 #![tactic(auto)]
 

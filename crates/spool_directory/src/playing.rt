@@ -70,7 +70,7 @@ fn holds_turn(bytes: &[u8]) -> bool {
 }
 
 /// Plays the turns after the first lines of a file, which have `start` bytes. Returns the number of bytes up to the
-/// end of the last turn. Octets that are fewer than their line says are refused where they hold a turn's end: a
+/// end of the last turn. Octets that are fewer than their line states are refused where they hold a turn's end: a
 /// number was changed then, and not the last write cut short.
 pub(crate) fn play_turns(
     alloc: Global,

@@ -40,7 +40,7 @@ impl Carried {
         }
     }
 
-    /// What a server takes over from an engine. `reprint` says whether it takes over the jobs that devices had in hand.
+    /// What a server takes over from an engine. `reprint` is whether it takes over the jobs that devices had in hand.
     pub(crate) fn of(
         alloc: Global,
         engine: &JournaledEngine,

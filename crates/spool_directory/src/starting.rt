@@ -132,17 +132,17 @@ impl<'a> SpoolDirectory<'a> {
     /// Starts a server with these settings from the journal of the directory.
     ///
     /// Where jobs are unfinished that came under the same settings, the server's connections are lost: the jobs that
-    /// waited wait, and those that devices had in hand are aborted, or submitted again, if the options say so. Else
+    /// waited wait, and those that devices had in hand are aborted, or submitted again, if the options ask for it. Else
     /// the journal begins anew with these settings, and takes over the pauses of printers. Jobs that waited under other
     /// settings are submitted again; the documents of those that these settings refuse are kept in files of their own.
     /// What becomes of each job is reported before the files of the directory change.
     ///
-    /// The engine stands at the trace of the stored lines.
+    /// The engine is at the trace of the stored lines.
     ///
     /// # Errors
     ///
     /// Where a file isn't as a server left it, nothing is written or removed. Where this server does something else than
-    /// the file says, since another version wrote it, the journal begins anew if no job was unfinished at its end.
+    /// the file records, since another version wrote it, the journal begins anew if no job was unfinished at its end.
     pub fn start(
         self,
         settings_text: &[u8],

@@ -12,7 +12,7 @@ pub(crate) enum Trouble {
     System(io::Error),
     /// The file isn't as a server left it. The number is that of the line, if the fault is in a line.
     File(Option<u64>, Why),
-    /// The settings are refused, as the sentence says.
+    /// The settings are refused, for the reason that the sentence states.
     Settings(String),
 }
 

@@ -41,7 +41,7 @@ Opens opening old = Holds (opened opening.number old.connections.items old.wire.
 abbrev pub ChangesPeer : ℕ → (PeerState → PeerState) → Peers → Peers → Type 0
 ChangesPeer number change old = Holds old.connections.items (on_peer number change old.connections.items old.wire.memory.peers.items) old.wire.failed
 
--- the lines of the connections were appended; what they say isn't there to be printed again
+-- the lines of the connections were appended; their content isn't there to be printed again
 pub record Prints (old : Peers) (before : List ℕ) (new : Peers) (after : List ℕ) : Type 0 where
   pub printed : after ≡ before ++ connections_text old.wire.memory.peers.items old.connections.items
   pub leaves : Holds (map (seen old.wire.memory.peers.items) old.connections.items) (map emptied old.wire.memory.peers.items) old.wire.failed new

@@ -44,7 +44,7 @@ impl TraceWire {
         self.failed = true;
     }
 
-    /// Records that a poll waited. `wrongly` says whether bytes could be moved.
+    /// Records that a poll waited. `wrongly` indicates whether bytes could be moved.
     fn wait(&mut self, wrongly: bool)
         ensures same { self.new.memory ≡ self.old.memory }
         ensures stirred { self.new.stirred ≡ self.old.stirred }

@@ -15,7 +15,7 @@ IsWordOf word Ipp = word ≡ door_word Ipp
 IsWordOf word Lpd = word ≡ door_word Lpd
 IsWordOf word Devices = word ≡ door_word Devices
 
--- the option of the command line that says where a door listens
+-- the option of the command line that states where a door listens
 abbrev pub door_option : Door → List ℕ
 door_option Ipp = codes "ipp"
 door_option Lpd = codes "lpd"

@@ -32,7 +32,7 @@ impl Door {
         }
     }
 
-    /// Returns the option of the command line that says where the door listens, which the log names it by.
+    /// Returns the option of the command line that states where the door listens, by which the log names it.
     pub fn option(self) -> &'static str
         ensures { result.now ≡ door_option self }
     {
