@@ -27,7 +27,7 @@ printer_service settings printer protocol port = service_text (kind_of protocol)
 
 -- ---- the group
 
--- the text in front of the name of every group, and the text that ends every group
+-- the text before the name of every group, and the text that ends every group
 unfoldable pub group_head : List ℕ
 group_head = codes "<?xml version='1.0' standalone='no'?>\n<!DOCTYPE service-group SYSTEM 'avahi-service.dtd'>\n<service-group>\n"
 

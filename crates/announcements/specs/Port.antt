@@ -5,7 +5,7 @@ use Rattle.std.specs.Option.{option_map_or, option_and_then, option_or}
 use Rattle.std.specs.Str.{bytes_eq}
 use Rattle.text.specs.Digits.{number_up_to}
 
--- the octets after a prefix of a text; `None` where the text has another front
+-- the octets after a prefix of a text; `None` where the text has another prefix
 abbrev pub behind : List ℕ → List ℕ → Option (List ℕ)
 behind front text = if bytes_eq (take (length front) text) front then Some (drop (length front) text) else None
 

@@ -65,7 +65,7 @@ fn printer_group(
     Ok(text)
 }
 
-/// Appends the text in front of the name of every group. The only error is out of memory.
+/// Appends the text before the name of every group. The only error is out of memory.
 #[tactic(auto, unfolding(crate::specs::Group::group_head))]
 fn put_head(output: &mut Vec<u8>) -> Result<(), AllocError>
     ensures { OnOk result (output.new.items ≡ output.old.items ++ group_head) }

@@ -9,7 +9,7 @@ use text::drop_front;
 /// The number of bytes that one read asks for.
 const PIECE: usize = 65_536;
 
-/// The most pieces that are dropped in a turn once the adapter sends nothing more.
+/// The most reads of a turn whose bytes are dropped once the adapter sends nothing more.
 const LAST_PIECES: u32 = 64;
 
 /// The result of a read from the server.

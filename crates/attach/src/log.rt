@@ -75,7 +75,7 @@ impl fmt::Display for Note {
     }
 }
 
-/// What is said of a server that closes the connection at once.
+/// The message for a server that closes the connection at once.
 const TURNED_AWAY: &str =
     "turned away: the server has no device of this name, or another connection has the name";
 
@@ -122,8 +122,8 @@ impl fmt::Display for InWords {
     }
 }
 
-/// The lines of some turns. In a log that is kept, each event has a line, with the ms since the start at its
-/// front. Otherwise only an event that needs a person, or its end, has one, in words.
+/// The lines of some turns. In a log that is kept, each event has a line, which begins with the ms since the
+/// start. Otherwise only an event that needs a person, or its end, has one, in words.
 #[derive(Drop)]
 pub(crate) struct Log {
     alloc: Global,

@@ -1,4 +1,4 @@
--- The state of a reader after each byte of a reply (RFC 9112, sections 6 and 7). The pieces in which the bytes come make no difference.
+-- The state of a reader after each byte of a reply (RFC 9112, sections 6 and 7). The segmentation of the bytes makes no difference.
 use Rattle.std.specs.Prelude.{ℕ, ◌≡◌, ◌==◌, ◌-◌, nat_le, Bool, true, false, if◌then◌else◌, List, [], ◌∷◌, ◌++◌, length, Option, Some, None}
 use Rattle.attach_http.specs.declared.awaited.ReplyFault.{ReplyFault}
 use Rattle.attach_http.specs.declared.awaited.ReplyFault.TheVariants.{TooLong, Ended}

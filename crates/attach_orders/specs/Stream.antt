@@ -1,4 +1,4 @@
--- The items of the server's stream, byte by byte. The pieces in which the bytes come make no difference.
+-- The items of the server's stream, byte by byte. The segmentation of the bytes makes no difference.
 use Rattle.std.specs.Prelude.{ℕ, ◌≡◌, ◌==◌, ◌+◌, ◌-◌, nat_lt, if◌then◌else◌, List, [], ◌∷◌, ◌++◌, map, length, Option, Some, None, Result, Ok, Err}
 use Rattle.base_types.specs.declared.limits.TheConstants.Limits.{DEVICE_LINE_BYTES}
 use Rattle.attach_orders.specs.declared.order.Order.{Order}

@@ -1,5 +1,5 @@
 //! The device's side of the protocol between it and the server: the server's orders, read from a stream that
-//! comes in pieces of any length, and the lines that a device sends.
+//! comes in chunks of any length, and the lines that a device sends.
 //!
 //! An [`OrderReader`] gives exactly the orders of the bytes that it was fed, in order, with the octets of
 //! each job, and then the first fault. [`write_report`] appends exactly a report's line. Each side reads the

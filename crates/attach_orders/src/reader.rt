@@ -121,7 +121,7 @@ impl OrderReader {
         Some(OrderItem::Octets)
     }
 
-    /// Reads the line of `length` bytes at the front.
+    /// Reads the line of `length` bytes at the beginning.
     fn take_line(&mut self, length: usize) -> Result<Option<OrderItem>, OrderError>
         requires line { first_line_of Limits.DEVICE_LINE_BYTES self.old.rest ≡ Whole length }
         requires faultless { self.old.fault ≡ None }
@@ -159,7 +159,7 @@ impl OrderReader {
         self.octets
     }
 
-    /// The order of the line of `length` bytes at the front.
+    /// The order of the line of `length` bytes at the beginning.
     fn read_front(&self, length: usize) -> Result<Option<Order>, AllocError>
         requires { length < length_of self.now.rest }
         ensures { IfOk result (λ order. order ≡ order_in (take length self.now.rest)) }
@@ -167,7 +167,7 @@ impl OrderReader {
         read_line(self.alloc, &self.rest()[..length])
     }
 
-    /// Passes over the line of `length` bytes at the front, which `octets` octets follow.
+    /// Passes over the line of `length` bytes at the beginning, which `octets` octets follow.
     fn pass_line(&mut self, length: usize, octets: u32)
         requires { length < length_of self.old.rest }
         ensures { self.new ≡ record { part = []; rest = drop (length + 1) self.old.rest; octets = octets; fault = self.old.fault } }

@@ -14,7 +14,7 @@ pub struct AppSocket {
     linger: u64,
     /// Whether all is sent, and nothing more will be written.
     ends: bool,
-    /// The moment at which the printer last said something.
+    /// The moment at which the printer last sent something.
     heard: u64,
 }
 

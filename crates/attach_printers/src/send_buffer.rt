@@ -3,7 +3,7 @@ use libc::net as system;
 use mio::net::TcpStream;
 use std::os::fd::AsRawFd;
 
-/// The most bytes that may wait. Linux counts what it needs beside them, and takes twice as many.
+/// The most bytes that may wait. Linux counts its bookkeeping too, and doubles the value.
 const BYTES: i32 = 65_536;
 
 /// The length of an option's value in bytes.

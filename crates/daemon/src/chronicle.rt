@@ -11,7 +11,7 @@ use server::LoggedNote;
 use sockets::ConnectionEvent;
 use std::alloc::{AllocError, Global};
 
-/// What the lines of a log need beside the turn's own record: the names of a server's devices, the jobs that
+/// What the lines of a log need besides the turn's own record: the names of a server's devices, the jobs that
 /// came, those that devices began, the last plan, and the date.
 #[derive(Drop)]
 pub struct Chronicle {

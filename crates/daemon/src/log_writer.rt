@@ -21,7 +21,7 @@ pub(crate) struct LogWriter<'a, W: Write> {
     cut: bool,
 }
 
-/// The length of the longest front of whole lines that one write has; of the first line, if that is longer.
+/// The length of the longest prefix of whole lines that one write has; of the first line, if that is longer.
 fn front(text: &[u8]) -> usize
     ensures { result ≤ length text.now }
 {

@@ -23,11 +23,11 @@ pub record ParsedLines : Type 0 where
 abbrev pub silence : Ending → ParsedLines
 silence ending = record { reports = []; ending = ending }
 
--- these reports, in front of the later reports
+-- these reports, before the later reports
 abbrev pub with_front : List ReportRecord → ParsedLines → ParsedLines
 with_front reports later = record { reports = reports ++ later.reports; ending = later.ending }
 
--- the report of a line, in front of the later reports; a line that isn't a report is a fault, and the end
+-- the report of a line, before the later reports; a line that isn't a report is a fault, and the end
 abbrev pub parsed_after : Option ReportRecord → ParsedLines → ParsedLines
 parsed_after None later = silence (Faulty BadLine)
 parsed_after (Some report) later = with_front (report ∷ []) later
@@ -43,7 +43,7 @@ parsed_in greeted (line ∷ next ∷ more) =
 abbrev pub device_reports : List ℕ → ParsedLines
 device_reports stream = parsed_in false (texts_of stream)
 
--- a whole line at the front is a report, and these bytes are after it
+-- a whole line at the beginning is a report, and these bytes are after it
 pub record ParsesAtFront (greeted : Bool) (bytes : List ℕ) (report : ReportRecord) (rest : List ℕ) : Type 0 where
   pub count : ℕ
   pub line : first_line_of DEVICE_LINE_BYTES bytes ≡ Whole count

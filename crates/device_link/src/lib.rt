@@ -1,5 +1,5 @@
 //! The line protocol between the server and its devices: the reports of a device, read from a stream that
-//! comes in pieces of any length, and the lines that the server sends to it.
+//! comes in chunks of any length, and the lines that the server sends to it.
 //!
 //! A [`LinkReader`] gives exactly the reports of the whole lines that it was fed, in order, and then the
 //! first fault. [`read_report`] reads one line by itself. [`write_job`] and [`write_cancel`] append exactly

@@ -78,7 +78,7 @@ impl LinkReader {
         }
     }
 
-    /// Reads the line of `length` bytes at the front.
+    /// Reads the line of `length` bytes at the beginning.
     #[tactic(auto, using(crate::proofs::Streams::answers_bad_line, crate::proofs::Streams::answers_report))]
     fn take_line(&mut self, length: usize) -> Result<Option<Report>, LinkError>
         requires line { first_line_of Limits.DEVICE_LINE_BYTES self.old.rest ≡ Whole length }
@@ -109,7 +109,7 @@ impl LinkReader {
         self.fault
     }
 
-    /// The report of the line of `length` bytes at the front.
+    /// The report of the line of `length` bytes at the beginning.
     fn read_front(&self, length: usize) -> Result<Option<Report>, AllocError>
         requires { length < length_of self.now.rest }
         ensures { IfOk result (λ report. option_map report_of report ≡ report_in self.now.greeted (take length self.now.rest)) }
@@ -117,7 +117,7 @@ impl LinkReader {
         read_line(self.alloc, self.greeted, &self.rest()[..length])
     }
 
-    /// Passes over the line of `length` bytes at the front.
+    /// Passes over the line of `length` bytes at the beginning.
     fn pass_line(&mut self, length: usize)
         requires { length < length_of self.old.rest }
         ensures { self.new ≡ record { rest = drop (length + 1) self.old.rest; greeted = true; fault = self.old.fault } }

@@ -100,7 +100,7 @@ impl Bar {
 }
 
 impl Lane {
-    /// The number of bars of the lane that stand for a job or for an arrival.
+    /// The number of bars of the lane that represent a job or an arrival.
     pub(crate) fn jobs(&self) -> usize {
         let mut jobs = 0usize;
         for bar in &self.bars {

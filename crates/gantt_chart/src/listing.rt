@@ -34,7 +34,7 @@ impl Line {
         Line::new(self.page.put_letter('\n'), b"", self.indent)
     }
 
-    /// Appends the two spaces in front of an entry of this number of letters, in a new line where the line
+    /// Appends the two spaces before an entry of this number of letters, in a new line where the line
     /// has no room for the entry. The caller appends the letters next.
     fn begin_entry(self, letters: usize) -> Line {
         let columns = letters.saturating_add(2);

@@ -1,4 +1,4 @@
-//! The scale of a chart: the places of moments, and the moments that stand below the lanes.
+//! The scale of a chart: the places of moments, and the moments that are written below the lanes.
 
 use std::num::nearest_u64_to_f64;
 

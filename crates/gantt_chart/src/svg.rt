@@ -1,4 +1,4 @@
-//! Elements of SVG, piece by piece.
+//! Elements of SVG, written part by part.
 
 use crate::page::Page;
 

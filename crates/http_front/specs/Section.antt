@@ -3,7 +3,7 @@ use Rattle.std.specs.Prelude.{ℕ, ◌==◌, ◌&&◌, ◌+◌, nat_lt, Bool, tr
 use Rattle.text.specs.declared.line.FirstLine.{FirstLine}
 use Rattle.text.specs.declared.line.FirstLine.TheVariants.{Whole, TooLong, Unfinished}
 
--- the length of an empty line at the front, 0 where no empty line is there
+-- the length of an empty line at the beginning, 0 where no empty line is there
 abbrev pub empty_line : List ℕ → ℕ
 empty_line [] = 0
 empty_line (first ∷ []) = if first == 10 then 1 else 0

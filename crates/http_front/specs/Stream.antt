@@ -96,7 +96,7 @@ HeadIn bytes Unfinished front = front ≡ Waits
 abbrev pub is_line_end : ℕ → Bool
 is_line_end byte = (byte == 13) || (byte == 10)
 
--- the first line of a head begins at the front
+-- the first line of a head begins with the first byte
 abbrev pub begins_head : List ℕ → Bool
 begins_head [] = false
 begins_head (byte ∷ bytes) = not (is_line_end byte)

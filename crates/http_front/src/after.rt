@@ -57,7 +57,7 @@ pub(crate) fn past_body(count: u32, awaited: Awaited) -> Awaited
     }
 }
 
-/// Returns whether the first line of a head begins at the front: the bytes don't begin with CR or LF.
+/// Returns whether the first line of a head begins with the first byte: the bytes don't begin with CR or LF.
 pub(crate) fn begins_head(bytes: &[u8]) -> bool
     ensures { result ≡ begins_head bytes.now }
 {

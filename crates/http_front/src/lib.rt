@@ -1,5 +1,5 @@
 //! The requests of an HTTP client (RFC 9110, RFC 9112), read with their bodies from a stream that comes in
-//! pieces of any length, and the heads of the replies.
+//! segments of any length, and the heads of the replies.
 //!
 //! An [`HttpReader`] gives exactly the exchanges of the whole stream that it was fed, in order, up to the
 //! last exchange. The last exchange is a request that is refused, a request that closes the connection, or a

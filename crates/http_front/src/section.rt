@@ -33,7 +33,7 @@ fn empty_line_end(bytes: &[u8]) -> Option<usize>
     None
 }
 
-/// The length of an empty line at the front, 0 where no empty line is there.
+/// The length of an empty line at the beginning, 0 where no empty line is there.
 fn empty_line(bytes: &[u8]) -> usize
     ensures { result ≡ empty_line bytes.now }
 {

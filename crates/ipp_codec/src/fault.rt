@@ -30,13 +30,13 @@ pub enum CodecFault {
     TooLarge,
 }
 
-/// Why a decoder rejects a piece of a body.
+/// Why a decoder rejects a chunk of a body.
 #[derive(Clone, Copy, Debug, PartialEq, Eq, Error)]
 pub enum DecodeError {
     /// The first fault of the whole body. The decoder gives no other answer from then on.
     #[error("{0}")]
     Fault(CodecFault),
-    /// Memory was refused. None of the bytes of the piece was taken.
+    /// Memory was refused. None of the bytes of the chunk was taken.
     #[error("memory was refused")]
     OutOfMemory,
 }

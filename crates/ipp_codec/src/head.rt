@@ -27,7 +27,7 @@ pub fn decode(bytes: &[u8]) -> Result<(MessageView<'_>, usize), CodecFault>
 }
 
 /// Returns the length of the spelling at the beginning of the bytes: the result of `decode`, without the message.
-/// For a body that comes in pieces, `view_of` has the message once its head is whole.
+/// For a body that comes in chunks, `view_of` has the message once its head is whole.
 pub fn head_length(bytes: &[u8]) -> Result<usize, CodecFault>
     ensures found { IfOk result (λ n. (n ≤ Limits.IPP_HEAD_BYTES) × (n ≤ length bytes.now) × ((m : IppMessage) × Spells (take n bytes.now) m)) }
     ensures only { (n : ℕ) (m : IppMessage) → n ≤ Limits.IPP_HEAD_BYTES → Spells (take n bytes.now) m → IsOkAnd result (λ x. x ≡ length (spelling m)) }

@@ -19,7 +19,7 @@ pub fn one_first_fault()
 {}
 
 /// The first fault of bytes stays the same with more bytes after them, unless bytes were missing. Such a
-/// fault of a body that comes in pieces is therefore known at once.
+/// fault of a body that comes in chunks is therefore known at once.
 pub fn fault_stays()
     ensures part { PartFaultStays }
     ensures bytes { FaultStays }

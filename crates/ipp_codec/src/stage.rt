@@ -13,12 +13,12 @@ pub enum Stage {
     Faulty(CodecFault),
 }
 
-/// The result of a piece without a fault.
+/// The result of a chunk without a fault.
 #[derive(Clone, Copy, Debug, PartialEq, Eq)]
 pub enum Fed {
     /// More bytes of the head are awaited.
     More,
-    /// The head is whole. The number of bytes of the piece that belong to it: 0 if it was whole before.
+    /// The head is whole. The number of bytes of the chunk that belong to it: 0 if it was whole before.
     Head(usize),
 }
 

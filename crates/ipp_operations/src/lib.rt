@@ -1,7 +1,7 @@
 //! The operations of IPP (RFC 8011): the events in bodies, and the core's responses as bytes.
 //!
 //! [`ipp_event`] returns the event of a body, or the status with which the body is refused. Two parsed
-//! requests of one body are equal ([`one_asked`]). A [`RequestParser`] parses a body that comes in pieces,
+//! requests of one body are equal ([`one_asked`]). A [`RequestParser`] parses a body that comes in chunks,
 //! with the same result. The table `operation_attribute` has the attributes that an operation reads, with
 //! their tags. The contracts of [`ipp_response`] and [`ipp_refusal`] determine each byte of a reply. Those of
 //! [`lpd_ack`] and [`lpd_queue_text`] determine each byte that an LPD client (RFC 1179) is sent.

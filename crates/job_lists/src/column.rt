@@ -42,7 +42,7 @@ const NAMES: [(&str, Column); 19] = [
     ("printername", Column::Printer),
 ];
 
-/// The names that stand for a column only where no other name does: a log with a paper size has the size of
+/// The names that select a column only if no other name does: a log with a paper size has the size of
 /// the file as `Size`.
 const SPARE_NAMES: [(&str, Column); 2] = [("date", Column::Moment), ("size", Column::Media)];
 

@@ -14,7 +14,7 @@ abbrev pub AreLines : List Poll → List ℕ → Type 0
 AreLines [] lines = lines ≡ []
 AreLines (poll ∷ polls) lines = (sum : Option ℕ) × (rest : List ℕ) × (lines ≡ note_of poll sum ++ rest) × AreLines polls rest
 
--- the line in front of the end of a turn in which a server that had been restarted lost its connections
+-- the line before the end of a turn in which a server that had been restarted lost its connections
 abbrev pub restart_line : Bool → List ℕ
 restart_line restarted = if restarted then restarted_line else []
 

@@ -1,5 +1,5 @@
 //! The input of an LPD client (RFC 1179): commands, subcommands and files, read from a stream that comes in
-//! pieces of any length; the control files that describe jobs; and the sessions that send them (section 6).
+//! chunks of any length; the control files that describe jobs; and the sessions that send them (section 6).
 //!
 //! An [`LpdReader`] gives exactly the items of the whole stream that it was fed, in order, and then the first
 //! fault. After a command other than that to receive a job, it drops the bytes that it is fed. It lends each

@@ -124,7 +124,7 @@ impl LpdReader {
         }
     }
 
-    /// Reads the line of `length` bytes at the front.
+    /// Reads the line of `length` bytes at the beginning.
     fn take_line(&mut self, length: usize) -> Result<Option<LpdItem>, LpdError>
         requires whole { first_line_of Limits.LPD_LINE_BYTES self.old.rest ≡ Whole length }
         requires line { awaits_line self.old.awaited ≡ true }
@@ -141,7 +141,7 @@ impl LpdReader {
         }
     }
 
-    /// Returns the file of `length` bytes at the front, once the file and its zero byte are whole.
+    /// Returns the file of `length` bytes at the beginning, once the file and its zero byte are whole.
     fn next_file(&mut self, length: u32) -> Result<Option<LpdItem>, LpdError>
         requires file { self.old.awaited ≡ Awaited.File length }
         requires faultless { self.old.fault ≡ None }
@@ -188,7 +188,7 @@ impl LpdReader {
         self.fault.is_some() || matches!(self.awaited, Awaited::Nothing)
     }
 
-    /// The content of the line of `length` bytes at the front.
+    /// The content of the line of `length` bytes at the beginning.
     fn read_front(&self, length: usize) -> Result<Result<LpdItem, LpdFault>, AllocError>
         requires { length < length_of self.now.rest }
         ensures { IfOk result (λ said. told said ≡ meaning_of self.now.awaited (take length self.now.rest)) }
@@ -202,7 +202,7 @@ impl LpdReader {
         }
     }
 
-    /// Passes over the line of `length` bytes at the front.
+    /// Passes over the line of `length` bytes at the beginning.
     fn pass_line(&mut self, length: usize, awaited: Awaited)
         requires { length < length_of self.old.rest }
         ensures { self.new ≡ record { file = []; rest = drop (length + 1) self.old.rest; awaited = awaited; fault = self.old.fault } }
@@ -214,7 +214,7 @@ impl LpdReader {
         self.awaited = awaited;
     }
 
-    /// Passes over the file of `length` bytes at the front and its zero byte, and lends the file.
+    /// Passes over the file of `length` bytes at the beginning and its zero byte, and lends the file.
     fn lend(&mut self, length: usize)
         requires { length < length_of self.old.rest }
         ensures { self.new ≡ record { file = take length self.old.rest; rest = drop (length + 1) self.old.rest; awaited = Awaited.Subcommand; fault = self.old.fault } }

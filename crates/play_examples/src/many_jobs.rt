@@ -1,4 +1,4 @@
-//! As many jobs as there can be, in traces too long to stand in `data/`: each job as long as one can
+//! As many jobs as there can be, in traces too long for `data/`: each job as long as one can
 //! be, at the last moment; and on as many devices as there can be.
 
 use program::ExitStatus;

@@ -44,7 +44,7 @@ fn kind_of(bytes: &[u8]) -> Option<bool> {
     Some(cut.lines.starts_with(START))
 }
 
-/// Reads the first bytes of a trace, until they tell whether it is a recorded day. The error is the reader's,
+/// Reads the first bytes of a trace, until they show whether it is a recorded day. The error is the reader's,
 /// or out of memory.
 pub fn peek<R: Read>(alloc: Global, reader: &mut R) -> io::Result<Peeked> {
     let mut bytes = Vec::new(alloc);

@@ -88,7 +88,7 @@ fn put_all_moved(alloc: Global, output: &mut Vec<u8>, all: &[Moved]) -> Result<(
     Ok(())
 }
 
-/// Appends the lines of a text, each with a moment in front.
+/// Appends the lines of a text, each after a moment.
 fn put_dated(
     alloc: Global,
     output: &mut Vec<u8>,

@@ -186,7 +186,7 @@ pub fn as_written(alloc: Global, trace: &[u8]) -> Result<Written, AllocError> {
     }
 }
 
-/// Writes the lines after the front. `before` lines are in front of them.
+/// Writes the lines after the prefix `front`. `before` lines are before them.
 fn write_lines(
     alloc: Global,
     front: &[u8],

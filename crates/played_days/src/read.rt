@@ -55,7 +55,7 @@ fn names_of(alloc: Global, settings: &Settings) -> Result<Names, AllocError> {
     Ok(Names { devices, printers })
 }
 
-/// A page with a file's name at its front.
+/// A page that begins with a file's name.
 fn of_file(alloc: Global, file: &str) -> Page {
     Page::new(alloc).put(file).put(": ")
 }

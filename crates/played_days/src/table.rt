@@ -23,7 +23,7 @@ const LATE: usize = 11;
 /// The width of a device's times.
 const PAIR: usize = 16;
 
-/// The most days beside one another.
+/// The most days side by side.
 const BESIDE: usize = 4;
 
 /// The most jobs without a device whose numbers are listed.

@@ -140,7 +140,7 @@ impl PrintRoom {
         self.cancel_for(id, &asker, now)
     }
 
-    /// Cancels a job that isn't finished; the requester indicates whether they are an operator. A device that has the
+    /// Cancels a job that isn't finished; the asker states whether they are an operator. A device that has the
     /// job keeps it until it reports that it is done. The call takes no memory.
     ///
     /// The causes of a refusal, in this order: not found, not authorized, not possible.

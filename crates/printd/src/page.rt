@@ -224,7 +224,7 @@ pub(crate) fn put_file(rt: &HostRuntime, file: &str, text: &str) -> Result<(), E
     }
 }
 
-/// Writes a text to a file beside this one, and renames that.
+/// Writes a text to `FILE.new`, and renames that to the file.
 fn replace(rt: &HostRuntime, file: &str, text: &str) -> io::Result<()> {
     let beside = format!(in rt.alloc(); "{file}.new").map_err(|_error| io::Error::from(
         ErrorKind::OutOfMemory,

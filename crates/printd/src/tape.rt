@@ -45,7 +45,7 @@ fn now(rt: &HostRuntime) -> io::Result<Duration> {
     }
 }
 
-/// The place of the point in front of the last part of a file's name; the end of the path where the name has
+/// The place of the point before the last part of a file's name; the end of the path where the name has
 /// no such part.
 fn point_of(path: &str) -> usize {
     let bytes = path.as_bytes();

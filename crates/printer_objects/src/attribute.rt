@@ -39,7 +39,7 @@ fn front(bytes: &[u8]) -> &[u8]
     }
 }
 
-/// A value of a copy of a text, with a tag; of a text with more than [`VALUE_BYTES`] bytes, its front.
+/// A value of a copy of a text, with a tag; of a text with more than [`VALUE_BYTES`] bytes, its first `VALUE_BYTES`.
 #[tactic(auto, unfolding(crate::specs::Attribute::text))]
 pub(crate) fn text_value(alloc: Global, tag: ValueTag, bytes: &[u8]) -> Result<Value, AllocError>
     ensures { IfOk result (λ value. value_owned value ≡ text tag bytes.now) }

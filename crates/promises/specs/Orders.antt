@@ -98,7 +98,7 @@ run_note (Chosen choice) = []
 abbrev pub run_notes : List Happening → List Note
 run_notes hs = flat_map run_note hs
 
--- the parts of the first action, at its moment, which tell the notes of its happenings; then those of the next, and so on
+-- the parts of the first action, at its moment, which give the notes of its happenings; then those of the next, and so on
 abbrev pub AreOf : Trace → List Handled → Type 0
 AreOf [] handled = handled ≡ []
 AreOf (action ∷ actions) handled =
@@ -161,7 +161,7 @@ IsFrontSent handled device due = (before : List Handled) × (behind : List Handl
 abbrev pub WasHalted : List Handled → Entry → Type 0
 WasHalted handled e = (device : ℕ) → device_of e.progress ≡ Some device → e.broken ≡ true → IsFrontSent handled device e.due
 
--- The events of a trace are one run of the core, whose parts tell the listener's notes. On each open connection of a device that isn't broken, the bytes due are the run's orders for the device since it gave its name: the line of each cancel, and for each job the line and the documents as they were when the job began. The same holds for each that was closed without having broken, by the events before. On one that broke, a prefix of the orders is due.
+-- The events of a trace are one run of the core, whose parts give the listener's notes. On each open connection of a device that isn't broken, the bytes due are the run's orders for the device since it gave its name: the line of each cancel, and for each job the line and the documents as they were when the job began. The same holds for each that was closed without having broken, by the events before. On one that broke, a prefix of the orders is due.
 pub record AreSent (opening : State) (trace : Trace) (l : Ledger) : Type 0 where
   pub handled : List Handled
   pub timed : AreOf trace handled

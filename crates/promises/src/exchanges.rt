@@ -9,8 +9,8 @@ ghost use Rattle.promises.specs.Exchanges.{ActsAreExchanges, AreByExchanges};
 /// reply that the run gave to it. Otherwise no event is asked, and the answer is a status or the head of a
 /// refusal. The answer is the status 0x0505 only if the listener was notified that memory was refused on the
 /// connection of that number: for the event, for reading the body, or for the reply to a query; each such
-/// answer has a note of its own. The items acted on are such exchanges, one after the other, and at most the
-/// front of one more, or a refusal. No other bytes are due, and no other event is asked. On each connection of
+/// answer has a note of its own. The items acted on are such exchanges, one after the other, and at most a
+/// prefix of one more, or a refusal. No other bytes are due, and no other event is asked. On each connection of
 /// a trace, open or closed, these items are a prefix of the items that the bytes read contain. On a connection
 /// that broke, the bytes due are those of the items before, and at most one event was asked that has no
 /// answer.

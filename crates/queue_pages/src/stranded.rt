@@ -162,7 +162,7 @@ fn words_of(finishings: Finishings) -> &'static str {
     }
 }
 
-/// The words for sides, in front of finishings.
+/// The words for sides, before finishings.
 fn sides_of(sides: Sides) -> &'static str {
     match sides {
         Sides::One => "",

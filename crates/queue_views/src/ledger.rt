@@ -1,4 +1,4 @@
-//! What a view needs beside the engine.
+//! What a view needs besides the engine.
 use crate::accounts::{AccountBook, DayAccounts};
 use crate::clock::Clock;
 use crate::figures::PrintedJob;

@@ -23,7 +23,7 @@ accept_line door id = codes "accept " ++ line_about (door_word door) id
 abbrev pub read_line : ℕ → List ℕ → List ℕ
 read_line id bytes = about (codes "read") id ++ (codes " " ++ (escaped bytes ++ codes "\n"))
 
--- the line in front of this many octets that were read and are written as they are
+-- the line before this many octets that were read and are written as they are
 abbrev pub octets_head : ℕ → ℕ → List ℕ
 octets_head id count = about (codes "octets") id ++ (codes " " ++ decimal count)
 

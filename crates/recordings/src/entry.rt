@@ -142,7 +142,7 @@ fn read_octets(alloc: Global, said: &[u8]) -> Result<Option<Entry>, AllocError> 
     Ok(Some(Entry::Octets(Came { id, bytes })))
 }
 
-/// Reads a number, the number of zeros, at least one, and the bytes in front of them.
+/// Reads a number, the number of zeros, at least one, and the bytes before them.
 fn read_zeros(alloc: Global, said: &[u8]) -> Result<Option<Entry>, AllocError> {
     let Some((digits, more)) = cut_at(said, b' ') else {
         return Ok(None);

@@ -9,7 +9,7 @@ const WORD: usize = 8;
 /// The number of words that are added side by side.
 const LANES: usize = 4;
 
-/// The sum of bytes that come in pieces, as `docs/TRACES.md` defines it. The bytes are words of eight bytes,
+/// The sum of bytes that come in chunks, as `docs/TRACES.md` defines it. The bytes are words of eight bytes,
 /// of which the last may be shorter. One number is the sum of the words, and another the sum of all those
 /// sums.
 #[derive(Clone, Copy)]
@@ -96,7 +96,7 @@ impl Sum {
         self.add_lane(fourth, 3);
     }
 
-    /// Adds a lane, whose words stand at this place of their groups. Each word counts in the sums from its own on: in
+    /// Adds a lane, whose words are at this place of their groups. Each word counts in the sums from its own on: in
     /// four for each group from its own on, less those at places before it.
     fn add_lane(&mut self, lane: Lane, place: u64) {
         let all = lane.sums.wrapping_mul(LANES as u64);

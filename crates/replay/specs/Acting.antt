@@ -85,7 +85,7 @@ Acts old bytes output None new output' =
     × TakesActions old new (λ actions. Plays old.log.texts old.log.names line (standing old) actions text (standing new)) × (output' ≡ output ++ text)
 Acts old bytes output (Some fault) new output' = IsBad old.log.names bytes (standing old) × (output' ≡ output)
 
--- the text and the status of lines, of which the first has this number, for each trace at which the server stood before, with the actions of the lines
+-- the text and the status of lines, of which the first has this number, for each trace at which the server was before, with the actions of the lines
 pub record PlaysAll (old : Play) (number : ℕ) (lines : List (List ℕ)) (before : List ℕ) (all : ProgramOutput) : Type 0 where
   pub actions : Trace
   pub said : ProgramOutput

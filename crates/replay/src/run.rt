@@ -155,7 +155,7 @@ fn run_lines(
     }
 }
 
-/// Acts on lines up to a bad line, and appends their text. `before` lines are in front of the first of them.
+/// Acts on lines up to a bad line, and appends their text. `before` lines are before the first of them.
 /// Returns the status.
 fn play_lines(
     alloc: Global,

@@ -12,7 +12,7 @@ use std::marker::Model;
 pub(crate) const AHEAD: usize = 65_536;
 
 /// Bytes that were read of a socket ahead of need, where many come: one call of the system reads bytes that
-/// are taken in many pieces. In clauses it is the list of the bytes that aren't taken yet.
+/// are taken by many reads. In clauses it is the list of the bytes that aren't taken yet.
 #[derive(Drop)]
 pub(crate) struct Ahead {
     alloc: Global,

@@ -80,7 +80,7 @@ impl<'a> Draft<'a> {
         Draft::begin(directory, number_behind(last)?, &head, time)
     }
 
-    /// The same file, whose lines stand behind others that are stored.
+    /// The same file, whose lines come after others that are stored.
     pub(crate) fn behind(self, stored: StoredLines) -> Draft<'a>
         ensures { result.stored ≡ stored }
     {

@@ -32,7 +32,7 @@ impl Directory<'_> {
         }
     }
 
-    /// Removes all files that stand before the base with a number, and those whose first lines weren't all written.
+    /// Removes all files before the base with a number, and those whose first lines weren't all written.
     pub(crate) fn clear(&self, listing: &Listing, base: u32, keep: bool) {
         self.clear_unfinished(listing);
         for number in &listing.traces {

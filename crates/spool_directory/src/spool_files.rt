@@ -105,7 +105,7 @@ impl<'a> SpoolFiles<'a> {
         }
     }
 
-    /// The files of a journal that goes on after a place. Files that stand before its base are let go.
+    /// The files of a journal that goes on after a place. Files before its base are let go.
     pub(crate) fn go_on(
         opened: SpoolDirectory<'a>,
         listing: &Listing,

@@ -1,4 +1,4 @@
-//! The first line of bytes that come in pieces.
+//! The first line of bytes that come in chunks.
 ghost use Rattle.std.specs.Prelude.{◌≡◌};
 ghost use Rattle.text.specs.FirstLine.{first_line_of};
 

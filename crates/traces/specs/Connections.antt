@@ -14,7 +14,7 @@ use Rattle.traces.specs.declared.peers.Connection.{Connection}
 abbrev pub numbered : ℕ → List Connection → Option Connection
 numbered number connections = find (λ c. c.number == number) connections
 
--- the connections with one more, in front of the first of a greater number
+-- the connections with one more, before the first of a greater number
 abbrev pub with_connection : Connection → List Connection → List Connection
 with_connection added connections = insert connections (position_or_len (λ c. nat_lt added.number c.number) connections) added
 

@@ -158,7 +158,7 @@ fn numbered(connections: &[Connection], number: u64) -> Option<&Connection>
         .find(|connection| connection.number == number)
 }
 
-/// Inserts a connection in front of the first of a greater number. The only error is out of memory.
+/// Inserts a connection before the first of a greater number. The only error is out of memory.
 fn put_connection(connections: &mut Vec<Connection>, added: Connection) -> Result<(), AllocError>
     ensures { OnOk result (connections.new.items ≡ with_connection added connections.old.items) }
 {
