@@ -6,7 +6,7 @@ const FIRST: u64 = 10_000;
 /// The most ms that a report has.
 const MOST: u64 = 2_147_483_647;
 
-/// When the job in hand should have ended, and what was reported to the server of that. An overdue device counts as
+/// When the job in hand should have ended, and what of that was reported to the server. An overdue device counts as
 /// busy for as long again as it is late.
 #[derive(Clone, Copy)]
 pub(crate) struct Overdue {

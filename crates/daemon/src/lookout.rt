@@ -1,14 +1,14 @@
-//! When it pays to look for events before a wait.
+//! When to look for events before a wait.
 use std::mem;
 
 /// The most waits in a row that come without a look.
 const MOST_UNLOOKED: u32 = 255;
 
-/// A lookout for events that come within microseconds, as from a client that asks again at once. A server that
-/// looks is not asleep then, and needs not be woken.
+/// Busy polling for events that come within microseconds, as from a client that asks again at once. A server that
+/// looks isn't asleep, and needs not be woken.
 ///
-/// It looks only after work, and only while that pays: after a look in vain one wait comes without a look,
-/// after the next such look three, then seven, up to [`MOST_UNLOOKED`]. A look that finds an event halves the
+/// It looks only after work, and backs off: after a look that finds nothing one wait comes without a look, after
+/// the next such look three, then seven, up to [`MOST_UNLOOKED`]. A look that finds an event halves the
 /// number.
 #[derive(Drop)]
 pub(crate) struct Lookout {

@@ -21,7 +21,7 @@ const HEADER_BYTES: usize = Limits::IPP_HEADER_BYTES;
 /// A decoder of a head whose bytes come in pieces of any length. In clauses it is a record of the bytes of
 /// the head that it keeps, the number of those that are read, the place after them, and its stage.
 ///
-/// Its result is that of [`crate::decode`] on all bytes joined, for each segmentation. It keeps only
+/// Its result is that of [`crate::decode`] on the joined bytes, for each segmentation. It keeps only
 /// the bytes of the head, and reads each of them once.
 #[derive(Drop)]
 pub struct Decoder {

@@ -3,7 +3,7 @@
 //! line for each, and ends with status 1 where one differs.
 //!
 //! What a trace or a plan gives is the contract of `replay` and of `plan_audit`; here the definitions
-//! after these contracts are held against rows that were worked out by hand. How the picture of a plan
+//! of these contracts are compared with rows that were worked out by hand. How the picture of a plan
 //! or of a day looks is in its rows alone.
 #![tactic(auto)]
 

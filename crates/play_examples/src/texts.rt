@@ -1,4 +1,4 @@
-//! The texts of plans that a replay writes, put before the checker.
+//! The texts of plans that a replay writes, read by the checker.
 
 use plan_audit::run_check;
 use replay::run_replay;

@@ -44,7 +44,7 @@ fn line_end(bytes: &[u8]) -> usize
 }
 
 impl Stream {
-    /// The number of next bytes that are read at once: those of a body or a data file, or of a line.
+    /// The number of leading bytes that are read at once: those of a body or a data file, or of a line.
     fn piece(&self, bytes: &[u8]) -> usize
         requires { 0 < length bytes.now }
         ensures low { 0 < result }

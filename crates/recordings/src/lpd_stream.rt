@@ -51,7 +51,7 @@ impl LpdStream {
         }
     }
 
-    /// The number of next bytes that are octets of a data file; other bytes are read by lines.
+    /// The number of leading bytes that are octets of a data file; other bytes are read by lines.
     pub(crate) fn body_front(&self, bytes: &[u8]) -> usize
         ensures { result ≤ length bytes.now }
     {
@@ -70,7 +70,7 @@ impl LpdStream {
         self.blank_line(&bytes[count..], output)
     }
 
-    /// Leaves out the octets of a data file at the beginning. Returns their number.
+    /// Leaves out the leading octets of a data file. Returns their number.
     fn pass_data(&mut self, bytes: &[u8], output: &mut Blanked) -> Result<usize, AllocError>
         ensures { IfOk result (λ count. count ≤ length bytes.now × (output.new ≡ output.old + count)) }
     {

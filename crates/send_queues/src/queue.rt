@@ -49,7 +49,7 @@ fn part(octets: &Octets, start: usize) -> (IoSlice<'_>, usize)
 #[derive(Drop)]
 struct Rest {
     octets: Octets,
-    /// The number of first octets that were taken.
+    /// The number of leading octets that were taken.
     start: usize,
 }
 

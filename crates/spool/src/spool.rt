@@ -27,7 +27,7 @@ use std::marker::Model;
 #[derive(Drop)]
 pub struct Spool {
     entries: IndexMap<u32, SpooledJob>,
-    /// The number of first jobs that are known to be finished; a plan skips them.
+    /// The number of leading jobs that are known to be finished; a plan skips them.
     front: usize,
     next: u32,
     alloc: Global,
@@ -49,7 +49,7 @@ impl Model for Spool {
     ghost invariant = { λ s. Keyed s.entries.entries 0 s.next × (1 ≤ s.next) × (s.next ≤ LAST_JOB_ID + 1) × (unfinished_jobs (jobs_of s.entries.entries) ≤ UNFINISHED_JOBS) × All IsSound (jobs_of s.entries.entries) × AllFinished s.front (jobs_of s.entries.entries) };
 }
 
-/// The number of first jobs known to be finished, after the job at a place is removed.
+/// The number of leading jobs known to be finished, after the job at a place is removed.
 fn front_without(front: usize, place: usize) -> usize
     ensures among { place < front → suc result ≡ front }
     ensures behind { front ≤ place → result ≡ front }
@@ -91,7 +91,7 @@ impl Spool {
         self.entries.values().as_slice()
     }
 
-    /// The number of first jobs that are known to be finished.
+    /// The number of leading jobs that are known to be finished.
     pub(crate) fn front(&self) -> usize
         ensures finished { AllFinished result self.now.jobs }
         ensures inside { result ≤ length self.now.jobs }
@@ -99,7 +99,7 @@ impl Spool {
         self.front
     }
 
-    /// The jobs after the first ones that are known to be finished. All ready jobs and all unfinished
+    /// The jobs after the leading ones that are known to be finished. All ready jobs and all unfinished
     /// jobs are among them.
     pub fn behind_finished(&self) -> &[SpooledJob]
         ensures ready { (paused : List Bool) → ready_jobs paused result.now ≡ ready_jobs paused self.now.jobs }
@@ -110,7 +110,7 @@ impl Spool {
         &self.jobs()[front..]
     }
 
-    /// Returns the number of first jobs that are finished, whether known to be finished or not.
+    /// Returns the number of leading jobs that are finished, whether known to be finished or not.
     fn count_finished(&self) -> usize
         ensures { AllFinished result self.now.jobs }
     {
@@ -125,7 +125,7 @@ impl Spool {
         jobs.len()
     }
 
-    /// Records the number of first jobs that are finished.
+    /// Records the number of leading jobs that are finished.
     pub(crate) fn note_finished(&mut self)
         ensures { self.new ≡ self.old }
     {
