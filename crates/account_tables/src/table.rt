@@ -149,7 +149,7 @@ impl AccountTable {
             .map_err(|_| AllocError)
     }
 
-    /// Ends a row.
+    /// Ends the current row, after which cells are those of the next.
     fn end_row(&mut self) -> Result<(), AllocError> {
         self.writer.write_fields(&[]).map_err(|_| AllocError)
     }

@@ -163,7 +163,7 @@ fn take_turns<P: Printer<Link>, R: Net + Files + Clock, L: Write, F: Write>(
     Ok(())
 }
 
-/// Takes a turn.
+/// Has the adapter take a turn, over the network of the runtime.
 fn take_turn<P: Printer<Link>, R: Net + Files>(
     alloc: Global,
     rt: &R,

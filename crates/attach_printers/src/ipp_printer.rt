@@ -155,7 +155,7 @@ impl IppPrinter {
         self.task != Task::Nothing
     }
 
-    /// Returns the next task.
+    /// Returns the next task: a cancel first, then a due question about the printer's state, then the job.
     fn next_task(&self, attachment: &Attachment, now: u64) -> Task {
         if let Some(job) = self.cancels {
             return Task::Cancel(job);

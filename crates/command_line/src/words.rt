@@ -18,7 +18,7 @@ const POLICIES: &[&str] = &[
     "shortest-first",
 ];
 
-/// A command.
+/// A command's name, its help and its arguments.
 pub(crate) struct CommandWords<'a> {
     pub(crate) name: &'a str,
     /// The text of help about the command.

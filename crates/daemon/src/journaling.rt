@@ -59,7 +59,7 @@ impl Server {
         self.engine.unfinished_jobs() == 0 && !self.engine.has_client()
     }
 
-    /// The engine.
+    /// The engine that takes the turns.
     pub fn engine(&self) -> &JournaledEngine
         ensures { result.now ≡ self.now.engine }
     {

@@ -95,7 +95,7 @@ fn recorder_of<'a, T: Tape>(
     Some(Recorder::new(recording.tape))
 }
 
-/// Takes the turns.
+/// Takes `turns` turns, with a pause after each, and then finishes the recording. Stops at the first error.
 fn take_turns<W: Write, T: Tape>(
     clock: &impl Clock,
     server: &mut Server,

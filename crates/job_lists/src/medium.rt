@@ -18,7 +18,7 @@ const SIZES: [(&str, &str); 11] = [
     ("statement", "na_invoice_5.5x8.5in"),
 ];
 
-/// The medium of a size.
+/// The medium of a size's name, in any case of letters.
 fn medium_of_size(name: &[u8]) -> Option<&'static [u8]> {
     for &(size, medium) in &SIZES {
         if size.as_bytes().eq_ignore_ascii_case(name) {

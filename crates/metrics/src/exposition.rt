@@ -123,7 +123,7 @@ impl Exposition {
         self.text.push_str(&text)
     }
 
-    /// The text.
+    /// The text of all metrics so far.
     pub(crate) fn into_text(self) -> String {
         self.text
     }

@@ -67,7 +67,7 @@ fn job_state(prospect: &Prospect) -> &'static str {
     }
 }
 
-/// The state of a device.
+/// The value of the label `state` for a device.
 fn device_state(device: &DeviceView) -> &'static str {
     match device.state {
         DeviceState::Away => "away",
@@ -83,7 +83,7 @@ fn name_of(name: &Text) -> &str {
     str::from_utf8(name.as_bytes()).unwrap_or("?")
 }
 
-/// The label of a printer.
+/// The label `printer` with a printer's name.
 fn printer_label(printer: &PrinterView) -> Label<'_> {
     Label {
         name: "printer",
@@ -91,7 +91,7 @@ fn printer_label(printer: &PrinterView) -> Label<'_> {
     }
 }
 
-/// The label of a state.
+/// The label `state` with this value.
 fn state_label(state: &'static str) -> Label<'static> {
     Label {
         name: "state",

@@ -59,7 +59,7 @@ fn read_from(alloc: Global, lines: &[&[u8]], rest: &[u8]) -> Result<PlanText, Re
     finished(draft, rest)
 }
 
-/// Reads the lines.
+/// The state after these first lines of a text.
 fn read_lines(alloc: Global, lines: &[&[u8]]) -> Result<Draft, ReadError>
     ensures { Gives draft_record result (lines_next (nothing_heard Limits.DEFAULT_PRIORITY) (map (λ line. line.now) lines.now)) }
 {

@@ -107,7 +107,7 @@ impl<'a> Planned<'a> {
         Ok(true)
     }
 
-    /// Sends a job.
+    /// Sends a job as a Print-Job request.
     fn send_job(&mut self, job: &ListedJob, now: u64) -> Result<Sent, AllocError> {
         let body = print_job(self.alloc, self.core.settings(), job)?;
         self.send_body(&body, now)

@@ -25,7 +25,7 @@ struct Waiting {
     device: Option<usize>,
 }
 
-/// A device.
+/// A device, with its load.
 #[derive(Clone, Copy)]
 struct Device {
     is_free: bool,

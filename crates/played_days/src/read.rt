@@ -39,7 +39,7 @@ struct Names {
     printers: Vec<Text>,
 }
 
-/// The names of printers.
+/// The names of the printers of some settings, in their order.
 fn printer_names(alloc: Global, settings: &Settings) -> Result<Vec<Text>, AllocError> {
     let mut names = Vec::new(alloc);
     for printer in &settings.printers {

@@ -114,7 +114,7 @@ pub(crate) fn stranded(alloc: Global, ready: &[ReadyJob<'_>]) -> Result<Vec<Stra
 }
 
 impl PrintRoom {
-    /// Returns whether a job is ready.
+    /// Returns whether a job is ready: pending, with a printer that isn't paused.
     pub(crate) fn has_ready_job(&self) -> bool
         ensures { result ≡ is_some_job (ready_of self.now) }
     {

@@ -192,7 +192,7 @@ impl fmt::Display for OffsetText {
     }
 }
 
-/// Writes a date.
+/// Writes a date as `YYYY-MM-DD`.
 fn write_date<W: fmt::Write>(f: &mut fmt::Formatter<W>, civil: &Civil) -> fmt::Result {
     let (year, month, day) = (civil.year, civil.month, civil.day);
     write!(f, "{year:04}-{month:02}-{day:02}")

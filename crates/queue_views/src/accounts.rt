@@ -94,7 +94,7 @@ impl JobAccount {
     }
 }
 
-/// The name of a printer.
+/// The name of a printer; `None` if the settings have no such printer.
 fn printer_name(settings: &Settings, printer: PrinterId) -> Option<&Text> {
     match settings.printers.get(printer.place()) {
         Some(printer) => Some(&printer.name),

@@ -22,7 +22,7 @@ pub struct QueueView {
     pub printed: Vec<PrintedJob>,
 }
 
-/// A printer.
+/// A printer, with its devices and totals.
 #[derive(Debug, Drop)]
 pub struct PrinterView {
     pub name: Text,
