@@ -5,7 +5,7 @@
 
 First a busy day: clients print, hold and cancel jobs, and devices print, fail, stop and come back. At each moment nobody
 acts for a while. The jobs that the server lists for a client of LPD (`lpq`) are compared with those of the page, their
-owners and titles too, and it is measured how long it takes until the page has them. Then a day of many jobs: of the server
+owners and titles too, and their ids with those of Get-Jobs; it is measured how long it takes until the page has them. Then a day of many jobs: of the server
 and the follower the processor time and the memory, after each tenth of the jobs, and how late the page is. Status 1 where
 a page differs, or is later than 1.5 s. --program is the program that ./printd runs, if it isn't given. Its memory is the
 program's own only if that was proved: one built with checks keeps memory of all that it does.
@@ -26,10 +26,11 @@ import time
 HERE = pathlib.Path(__file__).resolve().parent
 sys.path[:0] = [str(HERE), str(HERE / "clients"), str(HERE / "load")]
 from crash_days import Client  # noqa: E402
-from messages import CANCEL_JOB, INTEGER, KEYWORD, NAME, PRINT_JOB, attribute  # noqa: E402
+from messages import CANCEL_JOB, INTEGER, KEYWORD, NAME, PRINT_JOB, attribute, head, request, requested  # noqa: E402
 from peers import settings_of  # noqa: E402
 from running import Process, Running  # noqa: E402
 
+GET_JOBS = 0x000A
 # where the files are, so that a busy disk isn't measured
 MEMORY = "/dev/shm"
 # how late the page may be, and how long it is waited for, in s
@@ -149,15 +150,34 @@ def settled(port):
     return now
 
 
+def ids_by_ipp(port):
+    """The ids of the jobs that the server lists for a client of IPP."""
+    path = "/printers/lab"
+    body = request(GET_JOBS, f"ipp://localhost:{port}{path}", "ann", requested(["job-id"]))
+    with socket.create_connection(("127.0.0.1", port), timeout=30) as connection:
+        connection.sendall(head(path, port, len(body)).replace(b"Host:", b"Connection: close\r\nHost:") + body)
+        octets = b"".join(iter(lambda: connection.recv(65536), b""))
+    return {int.from_bytes(found, "big") for found in re.findall(rb"!\x00\x06job-id\x00\x04(.{4})", octets, re.DOTALL)}
+
+
 def compare(day, page):
-    """Compares the page with the server's listing. Returns the s until the page has it."""
+    """Compares the page with the server's listings. Returns the s until the page has the queue. A queue that changes by
+    itself meanwhile, as by a tick, is compared anew."""
     with day.acting:
-        began = time.monotonic()
-        wanted = listed(settled(day.server.lpd))
-        while time.monotonic() - began < PATIENCE:
+        wanted, began = None, 0.0
+        end = time.monotonic() + 3 * PATIENCE
+        while time.monotonic() < end:
+            now = listed(settled(day.server.lpd))
+            if now != wanted:
+                wanted, began = now, time.monotonic()
             if page.exists() and shown(page.read_text()) == wanted:
-                return time.monotonic() - began
-            time.sleep(0.01)
+                waited = time.monotonic() - began
+                ids = ids_by_ipp(day.server.ipp)
+                if ids != {*wanted[0], *wanted[1]} and listed(listing(day.server.lpd)) == wanted:
+                    day.wrong.append(f"Get-Jobs has {sorted(ids)}, and the page {wanted}")
+                return waited
+            if time.monotonic() - began > PATIENCE:
+                break
         day.wrong.append(f"the page has {shown(page.read_text())}, and the server {wanted}")
         return PATIENCE
 
