@@ -10,7 +10,7 @@ use settings_file::{PrinterSettings, Settings};
 use std::alloc::{AllocError, Global};
 
 /// The ports of the doors for clients.
-#[derive(Clone, Copy, Debug, PartialEq, Eq)]
+#[derive(Clone, Copy, PartialEq, Eq)]
 pub struct Ports {
     /// The port for clients of IPP.
     pub ipp: u16,

@@ -1,7 +1,7 @@
 use base_types::{Finishings, JobId, Sides, Text};
 
 /// A job, by the line that announces it. Its octets follow the line.
-#[derive(Debug, Drop)]
+#[derive(Drop)]
 pub struct JobOrder {
     pub job: JobId,
     /// The number of octets of its documents together, at most [`base_types::Limits::JOB_OCTETS`].
@@ -14,7 +14,7 @@ pub struct JobOrder {
 }
 
 /// An order of the server, by its line.
-#[derive(Debug, Drop)]
+#[derive(Drop)]
 pub enum Order {
     /// Print a job.
     Job(JobOrder),
@@ -23,7 +23,7 @@ pub enum Order {
 }
 
 /// An item of the server's stream. The items come in the order of the stream.
-#[derive(Debug, Drop)]
+#[derive(Drop)]
 pub enum OrderItem {
     Order(Order),
     /// Some octets of the last job, which the reader lends as its part.

@@ -1,5 +1,5 @@
 /// A status of a printer.
-#[derive(Clone, Copy, Debug, PartialEq, Eq)]
+#[derive(Clone, Copy, PartialEq, Eq)]
 pub enum Status {
     /// This many pages of the job are printed.
     Page(u32),

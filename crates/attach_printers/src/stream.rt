@@ -7,7 +7,7 @@ use std::io;
 use std::rt::Files;
 
 /// The peers of an adapter.
-#[derive(Clone, Copy, Debug, PartialEq, Eq)]
+#[derive(Clone, Copy, PartialEq, Eq)]
 pub enum Peer {
     Server,
     Printer,

@@ -3,7 +3,7 @@ ghost use Rattle.std.specs.Prelude.{◌≡◌, ◌+◌, ◌-◌, ◌*◌, nat_le
 
 /// The times of tries: a pause follows each try, and each pause is twice as long as the pause before, up to a
 /// longest one.
-#[derive(Clone, Copy, Debug)]
+#[derive(Clone, Copy)]
 pub struct Pauses {
     /// The moment of the next try, in ms.
     pub at: u64,

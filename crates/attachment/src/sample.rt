@@ -5,7 +5,7 @@ use base_types::Limits;
 
 /// A number of impressions of a job, all copies together, and the ms from the job's beginning until they were
 /// printed.
-#[derive(Clone, Copy, Debug, PartialEq, Eq)]
+#[derive(Clone, Copy, PartialEq, Eq)]
 pub struct Sample {
     pub impressions: u32,
     pub ms: u64,

@@ -7,7 +7,7 @@ use crate::text::Text;
 use std::marker::Model;
 
 /// A job on a running device.
-#[derive(Clone, Copy, Debug, PartialEq, Eq)]
+#[derive(Clone, Copy, PartialEq, Eq)]
 pub struct Printing {
     pub job: JobId,
     /// The moment at which the job is expected to end, in ms. It may be after the last moment.
@@ -15,7 +15,7 @@ pub struct Printing {
 }
 
 /// A job on a stopped device.
-#[derive(Clone, Copy, Debug, PartialEq, Eq)]
+#[derive(Clone, Copy, PartialEq, Eq)]
 pub struct Interrupted {
     pub job: JobId,
     /// The time that the job still takes, in ms.
@@ -23,21 +23,21 @@ pub struct Interrupted {
 }
 
 /// Whether a device runs, and the job that it has.
-#[derive(Clone, Copy, Debug, PartialEq, Eq)]
+#[derive(Clone, Copy, PartialEq, Eq)]
 pub enum Activity {
     Running(Option<Printing>),
     Stopped(Option<Interrupted>),
 }
 
 /// A medium that a device can hold.
-#[derive(Debug, Drop)]
+#[derive(Drop)]
 pub struct Medium {
     pub name: Text,
     pub loaded: bool,
 }
 
 /// The state of a device at a moment. In clauses it is a record of the same fields.
-#[derive(Debug, Drop)]
+#[derive(Drop)]
 pub struct DeviceNow {
     /// The time for an impression in a one-sided job, in ms: 1 to [`Limits::RATE`].
     pub rate_one: u32,
@@ -79,7 +79,7 @@ impl Model for DeviceNow {
 }
 
 /// The devices of a printer, in the order of the settings. In clauses it is the list of their places.
-#[derive(Debug, Drop)]
+#[derive(Drop)]
 pub struct PrinterSet {
     devices: Vec<DeviceId>,
 }

@@ -3,7 +3,7 @@ ghost use Rattle.std.specs.Prelude.{◌≡◌};
 ghost use Rattle.base_types.specs.Finishings.{no_finishings, has_finishings};
 
 /// The finishings that a job needs, or that a device has (RFC 8011, section 5.2.6).
-#[derive(Clone, Copy, Debug, PartialEq, Eq)]
+#[derive(Clone, Copy, PartialEq, Eq)]
 pub struct Finishings {
     /// The sheets of a copy are stapled.
     pub staple: bool,

@@ -3,7 +3,7 @@ ghost use Rattle.std.specs.Prelude.{◌≡◌};
 ghost use Rattle.base_types.specs.Hold.{hold_keyword, hold_of_keyword, hold_where, is_held};
 
 /// The values of job-hold-until that the server supports (RFC 8011, section 5.2.2).
-#[derive(Clone, Copy, Debug, PartialEq, Eq)]
+#[derive(Clone, Copy, PartialEq, Eq)]
 pub enum Hold {
     /// The job isn't held.
     NoHold,

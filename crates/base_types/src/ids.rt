@@ -47,7 +47,7 @@ impl JobId {
 }
 
 /// A device, by its place in the settings, counted from 0. In clauses it is that place.
-#[derive(Clone, Copy, Debug, PartialEq, Eq, PartialOrd, Ord)]
+#[derive(Clone, Copy, PartialEq, Eq, PartialOrd, Ord)]
 pub struct DeviceId {
     place: usize,
 }
@@ -77,7 +77,7 @@ impl DeviceId {
 }
 
 /// A printer, by its place in the settings, counted from 0. In clauses it is that place.
-#[derive(Clone, Copy, Debug, PartialEq, Eq, PartialOrd, Ord)]
+#[derive(Clone, Copy, PartialEq, Eq, PartialOrd, Ord)]
 pub struct PrinterId {
     place: usize,
 }

@@ -7,7 +7,7 @@ use std::marker::Model;
 
 /// A moment, in ms since the server's start: 0 to [`Limits::LAST_MOMENT`]. In clauses it is that
 /// number.
-#[derive(Clone, Copy, Debug, PartialEq, Eq, PartialOrd, Ord)]
+#[derive(Clone, Copy, PartialEq, Eq, PartialOrd, Ord)]
 pub struct Moment {
     millis: u64,
 }

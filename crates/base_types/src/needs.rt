@@ -8,7 +8,7 @@ use crate::text::Text;
 use std::marker::Model;
 
 /// The sides of the sheets that are printed (RFC 8011, section 5.2.8).
-#[derive(Clone, Copy, Debug, PartialEq, Eq)]
+#[derive(Clone, Copy, PartialEq, Eq)]
 pub enum Sides {
     /// One side of each sheet.
     One,
@@ -48,7 +48,7 @@ impl Sides {
 
 /// The cause that no device can print a job: the first of these tests that none of its printer's devices
 /// passes.
-#[derive(Clone, Copy, Debug, PartialEq, Eq)]
+#[derive(Clone, Copy, PartialEq, Eq)]
 pub enum Cause {
     /// The printer has no device.
     NoDevice,
@@ -65,14 +65,14 @@ pub enum Cause {
 }
 
 /// A ready job that no device can print, with the cause.
-#[derive(Clone, Copy, Debug, PartialEq, Eq)]
+#[derive(Clone, Copy, PartialEq, Eq)]
 pub struct Stranded {
     pub job: JobId,
     pub cause: Cause,
 }
 
 /// The needs of a job, and its length. In clauses it is a record of the same fields.
-#[derive(Debug, Drop)]
+#[derive(Drop)]
 pub struct Needs {
     /// The printer that the job was sent to.
     pub printer: PrinterId,

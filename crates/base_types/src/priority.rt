@@ -7,7 +7,7 @@ use std::marker::Model;
 
 /// The priority of a job: 1 to 100, 100 the most urgent (RFC 8011, section 5.2.1). In clauses it
 /// is that number.
-#[derive(Clone, Copy, Debug, PartialEq, Eq, PartialOrd, Ord)]
+#[derive(Clone, Copy, PartialEq, Eq, PartialOrd, Ord)]
 pub struct Priority {
     level: u8,
 }

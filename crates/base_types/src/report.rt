@@ -3,7 +3,7 @@ use crate::text::Text;
 /// A report of a device: a line that the device sent, or the end of its connection.
 ///
 /// A job is named by the number that the device wrote, which may be that of no job.
-#[derive(Debug, Drop)]
+#[derive(Drop)]
 pub enum Report {
     /// The device gives its name. It does that once, in its first line.
     Hello(Text),

@@ -7,7 +7,7 @@ use std::marker::Model;
 /// The unchanged bytes of a name or a text. In clauses it is the list of them.
 ///
 /// A name in the settings is ASCII; the name of an owner or of a job may have any bytes.
-#[derive(Debug, Drop)]
+#[derive(Drop, Debug)]
 pub struct Text {
     bytes: Vec<u8>,
 }

@@ -3,7 +3,7 @@ use base_types::{DeviceId, Report, Text};
 use events::Event;
 
 /// The purpose of the memory that was refused to a connection.
-#[derive(Clone, Copy, Debug, PartialEq, Eq)]
+#[derive(Clone, Copy, PartialEq, Eq)]
 pub enum Growth {
     /// To read the bytes that its peer sends.
     Input,
@@ -12,14 +12,14 @@ pub enum Growth {
 }
 
 /// The part of an LPD client's job that was lost, since memory for it was refused.
-#[derive(Clone, Copy, Debug, PartialEq, Eq)]
+#[derive(Clone, Copy, PartialEq, Eq)]
 pub enum Part {
     File,
     Job,
 }
 
 /// The client of an event, which decides the form of the reply.
-#[derive(Clone, Copy, Debug, PartialEq, Eq)]
+#[derive(Clone, Copy, PartialEq, Eq)]
 pub enum Client {
     /// An IPP client, by the request-id of its request.
     Ipp(u32),

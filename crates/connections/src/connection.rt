@@ -26,7 +26,7 @@ use std::marker::Model;
 use wires::{Door, Wire, WireId};
 
 /// The result of feeding a piece that was read.
-#[derive(Clone, Copy, Debug, PartialEq, Eq)]
+#[derive(Clone, Copy, PartialEq, Eq)]
 pub enum Fed {
     /// The connection is draining, and the piece was discarded.
     Discarded,

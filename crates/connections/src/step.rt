@@ -4,7 +4,7 @@ use events::Status;
 use http_front::HttpRejection;
 
 /// The bytes that a step makes due.
-#[derive(Clone, Copy, Debug, PartialEq, Eq)]
+#[derive(Clone, Copy, PartialEq, Eq)]
 pub enum Due {
     Nothing,
     /// An acknowledgement or a refusal of LPD (RFC 1179, section 6).

@@ -18,7 +18,7 @@ use std::time::{Clock, Duration, Instant};
 const RETRY: u64 = 1000;
 
 /// Why a server with a journal ended.
-#[derive(Clone, Copy, Debug, PartialEq, Eq)]
+#[derive(Clone, Copy, PartialEq, Eq)]
 pub enum Ended {
     /// It took all turns.
     Served,

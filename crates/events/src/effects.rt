@@ -12,7 +12,7 @@ use octets::Document;
 use std::alloc::Global;
 
 /// A cancel for a device that still has the job.
-#[derive(Clone, Copy, Debug, PartialEq, Eq)]
+#[derive(Clone, Copy, PartialEq, Eq)]
 pub struct Cancel {
     pub job: JobId,
     pub device: DeviceId,

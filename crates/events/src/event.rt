@@ -11,7 +11,7 @@ use printer_objects::Requested;
 use settings_file::PrinterSettings;
 
 /// The printer that a request's printer-uri names.
-#[derive(Debug, Drop)]
+#[derive(Drop)]
 pub enum Target {
     /// The printer of a name.
     Named(Text),
@@ -36,7 +36,7 @@ impl Target {
 }
 
 /// The job that a request names (RFC 8011, section 4.1.5).
-#[derive(Debug, Drop)]
+#[derive(Drop)]
 pub enum JobTarget {
     /// The job of an id, which a job-uri names.
     Numbered(JobId),

@@ -4,7 +4,7 @@ use job_objects::{JobReasons, JobState};
 use printer_objects::PrinterState;
 
 /// The form in which the jobs of a queue are listed.
-#[derive(Clone, Copy, Debug, PartialEq, Eq)]
+#[derive(Clone, Copy, PartialEq, Eq)]
 pub enum QueueForm {
     /// Id, state, owner, octets and name (RFC 1179, section 5.3).
     Short,

@@ -3,7 +3,7 @@ ghost use Rattle.std.specs.Prelude.{◌≡◌};
 ghost use Rattle.events.specs.Status.{code_of};
 
 /// The status of a response (RFC 8011, appendix B), of those that this server uses.
-#[derive(Clone, Copy, Debug, PartialEq, Eq)]
+#[derive(Clone, Copy, PartialEq, Eq)]
 pub enum Status {
     Ok,
     OkIgnoredOrSubstituted,

@@ -1,7 +1,7 @@
 use crate::refusal::HttpRejection;
 
 /// An item of a client's stream. The items come in the order of the stream.
-#[derive(Clone, Copy, Debug, PartialEq, Eq)]
+#[derive(Clone, Copy, PartialEq, Eq)]
 pub enum HttpItem {
     /// The head of a request that passed the checks.
     Head {

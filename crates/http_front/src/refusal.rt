@@ -5,7 +5,7 @@ ghost use Rattle.http_front.specs.Reply.{status_of};
 use http::StatusCode;
 
 /// Why a request is refused, by the status of the reply (RFC 9110, sections 15.5 and 15.6).
-#[derive(Clone, Copy, Debug, PartialEq, Eq)]
+#[derive(Clone, Copy, PartialEq, Eq)]
 pub enum HttpRejection {
     /// 400: a head, a framing or a chunk that violates the grammar.
     BadRequest,

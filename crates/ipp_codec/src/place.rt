@@ -10,7 +10,7 @@ use crate::shape::has_shape;
 use base_types::Limits;
 
 /// A place in a head, by the element before it. A number counts the collections around the innermost one.
-#[derive(Clone, Copy, Debug, PartialEq, Eq)]
+#[derive(Clone, Copy, PartialEq, Eq)]
 pub enum Place {
     /// No group.
     Outside,
@@ -166,7 +166,7 @@ fn next_of(place: Place, bytes: &[u8]) -> Result<Option<(Place, &[u8])>, CodecFa
 }
 
 /// A walk through consecutive elements.
-#[derive(Clone, Copy, Debug, PartialEq, Eq)]
+#[derive(Clone, Copy, PartialEq, Eq)]
 pub struct Walk {
     /// The place after the elements.
     pub place: Place,

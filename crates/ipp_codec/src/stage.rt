@@ -3,7 +3,7 @@ use crate::fault::CodecFault;
 use crate::place::Place;
 
 /// The stage of a decoder.
-#[derive(Clone, Copy, Debug, PartialEq, Eq)]
+#[derive(Clone, Copy, PartialEq, Eq)]
 pub enum Stage {
     /// More bytes of the head are awaited.
     Awaiting,
@@ -14,7 +14,7 @@ pub enum Stage {
 }
 
 /// The result of a chunk without a fault.
-#[derive(Clone, Copy, Debug, PartialEq, Eq)]
+#[derive(Clone, Copy, PartialEq, Eq)]
 pub enum Fed {
     /// More bytes of the head are awaited.
     More,
@@ -23,7 +23,7 @@ pub enum Fed {
 }
 
 /// The progress of a decoder, to which it may return.
-#[derive(Clone, Copy, Debug, PartialEq, Eq)]
+#[derive(Clone, Copy, PartialEq, Eq)]
 pub struct Reached {
     /// The number of bytes that it kept.
     pub(crate) length: usize,

@@ -4,7 +4,7 @@ ghost use Rattle.std.specs.Prelude.{◌≡◌};
 use std::marker::Model;
 
 /// The tag of a group (RFC 8010, section 3.5.1). In clauses it is its number.
-#[derive(Clone, Copy, Debug, PartialEq, Eq)]
+#[derive(Clone, Copy, PartialEq, Eq)]
 pub struct GroupTag {
     number: u8,
 }
@@ -45,7 +45,7 @@ impl GroupTag {
 }
 
 /// The tag of a value (RFC 8010, section 3.5.2). In clauses it is its number.
-#[derive(Clone, Copy, Debug, PartialEq, Eq)]
+#[derive(Clone, Copy, PartialEq, Eq)]
 pub struct ValueTag {
     number: u8,
 }

@@ -9,7 +9,7 @@ use crate::tag::{GroupTag, ValueTag};
 use crate::walk::{next_attribute, next_group, next_value};
 
 /// The version of a message, such as 1.1.
-#[derive(Clone, Copy, Debug, PartialEq, Eq)]
+#[derive(Clone, Copy, PartialEq, Eq)]
 pub struct Version {
     pub major: u8,
     pub minor: u8,

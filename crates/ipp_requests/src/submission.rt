@@ -19,7 +19,7 @@ const PAUSE_PRINTER: u16 = 0x0010;
 
 /// The attributes of a Create-Job (RFC 8011, section 4.2.4). The printer is to refuse the job if it doesn't support
 /// all of them.
-#[derive(Clone, Copy, Debug)]
+#[derive(Clone, Copy)]
 pub struct Creation<'a> {
     /// The name of the user, who owns the job.
     pub user: &'a [u8],

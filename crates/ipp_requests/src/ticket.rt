@@ -8,7 +8,7 @@ use ipp_codec::{Group, GroupTag, ValueTag};
 use std::alloc::{AllocError, Global};
 
 /// The options of a Print-Job (RFC 8011, section 4.2.1.1). The printer chooses those that are `None`.
-#[derive(Clone, Copy, Debug)]
+#[derive(Clone, Copy)]
 pub struct Ticket<'a> {
     /// The job's name.
     pub name: &'a [u8],

@@ -40,7 +40,7 @@ pub(crate) enum LineError {
 }
 
 /// The place of a fault.
-#[derive(Debug, Drop)]
+#[derive(Drop, Debug)]
 pub struct FaultPlace {
     /// The line, counted from 1.
     pub line: u64,

@@ -3,7 +3,7 @@ use base_types::{JobId, Moment, Needs, Priority, Text};
 use std::marker::Model;
 
 /// The role of the user who canceled a job.
-#[derive(Clone, Copy, Debug, PartialEq, Eq)]
+#[derive(Clone, Copy, PartialEq, Eq)]
 pub enum Canceler {
     /// The job's owner.
     Owner,
@@ -12,7 +12,7 @@ pub enum Canceler {
 }
 
 /// A job that the server took, without its documents. In clauses it is a record of the same fields.
-#[derive(Debug, Drop)]
+#[derive(Drop)]
 pub struct Job {
     pub id: JobId,
     pub owner: Text,

@@ -7,7 +7,7 @@ use crate::job_state::JobState;
 use base_types::Moment;
 
 /// A change of a job (RFC 8011, section 5.3.7).
-#[derive(Clone, Copy, Debug, PartialEq, Eq)]
+#[derive(Clone, Copy, PartialEq, Eq)]
 pub enum JobChange {
     /// The last document is taken.
     Close,
@@ -43,7 +43,7 @@ impl JobChange {
 }
 
 /// Why a job isn't changed.
-#[derive(Clone, Copy, Debug, PartialEq, Eq)]
+#[derive(Clone, Copy, PartialEq, Eq)]
 pub enum StateRefusal {
     /// The job's state doesn't allow the change.
     NotPossible,

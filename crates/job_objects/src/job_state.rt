@@ -3,7 +3,7 @@ ghost use Rattle.std.specs.Prelude.{◌≡◌};
 ghost use Rattle.job_objects.specs.JobState.{state_code, is_finished, is_pending, waiting_state};
 
 /// The state of a job (RFC 8011, section 5.3.7).
-#[derive(Clone, Copy, Debug, PartialEq, Eq)]
+#[derive(Clone, Copy, PartialEq, Eq)]
 pub enum JobState {
     /// The job is complete, and isn't held.
     Pending,

@@ -5,7 +5,7 @@ use std::marker::Model;
 
 /// The part of a printer that changes: whether it is paused (RFC 8011, section 4.2.7). A paused printer takes
 /// jobs and starts none. In clauses it is the boolean of that.
-#[derive(Clone, Copy, Debug, PartialEq, Eq)]
+#[derive(Clone, Copy, PartialEq, Eq)]
 pub struct Printer {
     paused: bool,
 }

@@ -6,7 +6,7 @@ use crate::job::{Canceler, Job};
 use crate::job_state::JobState;
 
 /// A reason of a job's state (RFC 8011, section 5.3.8).
-#[derive(Clone, Copy, Debug, PartialEq, Eq)]
+#[derive(Clone, Copy, PartialEq, Eq)]
 pub enum Reason {
     /// The keyword `none`.
     Nothing,
@@ -28,7 +28,7 @@ pub enum Reason {
 }
 
 /// The reasons of a job: one, or two in order.
-#[derive(Clone, Copy, Debug, PartialEq, Eq)]
+#[derive(Clone, Copy, PartialEq, Eq)]
 pub struct JobReasons {
     pub first: Reason,
     pub second: Option<Reason>,

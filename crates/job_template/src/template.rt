@@ -16,7 +16,7 @@ use std::marker::Model;
 
 /// The template of a job, without its medium. An attribute that is missing or isn't supported has its
 /// default. In clauses it is a record of the same fields.
-#[derive(Debug, Drop)]
+#[derive(Drop)]
 pub struct JobTemplate {
     pub priority: Priority,
     pub sides: Sides,

@@ -11,7 +11,7 @@ use std::alloc::AllocError;
 use wires::Wire;
 
 /// Why a turn isn't stored. The engine has taken it, so that it is at no trace of the stored lines.
-#[derive(Clone, Copy, Debug, PartialEq, Eq)]
+#[derive(Clone, Copy, PartialEq, Eq)]
 pub enum FilingFault {
     /// Memory was refused in the turn or for its lines.
     OutOfMemory,

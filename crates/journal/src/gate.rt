@@ -7,7 +7,7 @@ use std::io::IoSlice;
 use wires::{Door, Progress, Wire, WireId};
 
 /// Which calls of a wire pass. A close always passes.
-#[derive(Clone, Copy, Debug, PartialEq, Eq)]
+#[derive(Clone, Copy, PartialEq, Eq)]
 pub enum Pass {
     All,
     /// Accepts and reads: what comes.

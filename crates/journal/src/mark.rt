@@ -5,7 +5,7 @@ use text::decimal;
 
 /// A comment after a turn: whether jobs are unfinished. A server that can't take the turns of a journal, since another
 /// version wrote it, begins anew where none was unfinished at its end.
-#[derive(Clone, Copy, Debug, PartialEq, Eq)]
+#[derive(Clone, Copy, PartialEq, Eq)]
 pub enum Mark {
     /// No job is unfinished, and the next job gets the id of this number.
     Quiet(u32),

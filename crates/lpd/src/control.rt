@@ -64,7 +64,7 @@ impl From<AllocError> for ControlError {
 }
 
 /// The format of a data file, by the letter of its print line (RFC 1179, sections 7.15 to 7.29).
-#[derive(Clone, Copy, Debug, PartialEq, Eq)]
+#[derive(Clone, Copy, PartialEq, Eq)]
 pub enum PrintFormat {
     /// Text, formatted or paginated.
     PlainText,
@@ -74,7 +74,7 @@ pub enum PrintFormat {
 }
 
 /// A print line: a data file and its format.
-#[derive(Debug, Drop)]
+#[derive(Drop)]
 pub struct Print {
     pub format: PrintFormat,
     /// The name of the data file.
@@ -82,7 +82,7 @@ pub struct Print {
 }
 
 /// The job that a control file describes. In clauses it is a record of the same fields.
-#[derive(Debug, Drop)]
+#[derive(Drop)]
 pub struct Control {
     /// The client's host.
     pub host: Text,

@@ -1,7 +1,7 @@
 use base_types::Text;
 
 /// The kind of a file (RFC 1179, sections 6.2 and 6.3).
-#[derive(Clone, Copy, Debug, PartialEq, Eq)]
+#[derive(Clone, Copy, PartialEq, Eq)]
 pub enum FileKind {
     /// A control file, which describes a job.
     Control,
@@ -11,7 +11,7 @@ pub enum FileKind {
 
 /// A command (RFC 1179, section 5). The queue is the text before the first space. Empty operands are left
 /// out.
-#[derive(Debug, Drop)]
+#[derive(Drop)]
 pub enum LpdCommand {
     /// Print any waiting jobs.
     PrintWaiting {
@@ -41,7 +41,7 @@ pub enum LpdCommand {
 }
 
 /// An announced file.
-#[derive(Debug, Drop)]
+#[derive(Drop)]
 pub struct FileHead {
     pub kind: FileKind,
     /// The length of the file in bytes: at least 1, and at most the limit of its kind.
@@ -51,7 +51,7 @@ pub struct FileHead {
 }
 
 /// An item of an LPD client's stream.
-#[derive(Debug, Drop)]
+#[derive(Drop)]
 pub enum LpdItem {
     Command(LpdCommand),
     /// The client drops the pending files of its session (RFC 1179, section 6.1).

@@ -22,7 +22,7 @@ use std::io::{Read, Write};
 use std::marker::Model;
 
 /// The end of an audit.
-#[derive(Clone, Copy, Debug, PartialEq, Eq)]
+#[derive(Clone, Copy, PartialEq, Eq)]
 pub struct Audit {
     pub status: ExitStatus,
     /// The objection: present exactly where the status is that of a refusal or of a no.

@@ -9,7 +9,7 @@ const INPUT: &str = "<standard input>";
 
 /// The reason why an input is no plan that is proved best. `Display` writes it as a sentence without a line
 /// feed, which begins with the name of standard input.
-#[derive(Clone, Copy, Debug, PartialEq, Eq)]
+#[derive(Clone, Copy, PartialEq, Eq)]
 pub enum Objection {
     /// The input has more bytes than [`base_types::Limits::INPUT_BYTES`].
     Size,

@@ -1,5 +1,5 @@
 /// The fault of a priced way. The faults are checked in this order.
-#[derive(Clone, Copy, Debug, PartialEq, Eq)]
+#[derive(Clone, Copy, PartialEq, Eq)]
 pub enum Fault {
     /// A list has a job that isn't of the class.
     UnknownName,
@@ -21,7 +21,7 @@ pub enum Fault {
 }
 
 /// The verdict on a priced way.
-#[derive(Clone, Copy, Debug, PartialEq, Eq)]
+#[derive(Clone, Copy, PartialEq, Eq)]
 pub enum Verdict {
     /// The prices prove the way best.
     Yes,
@@ -33,7 +33,7 @@ pub enum Verdict {
 ///
 /// A fault has the place of its class, by which a reader of the verdict finds the class's priority. A yes has
 /// none.
-#[derive(Clone, Copy, Debug, PartialEq, Eq)]
+#[derive(Clone, Copy, PartialEq, Eq)]
 pub enum PlanVerdict {
     /// Each class is proved best.
     Yes,

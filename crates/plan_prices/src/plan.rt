@@ -7,7 +7,7 @@ use plan_problem::ClassProblem;
 use std::marker::Model;
 
 /// The class of one priority: its problem, and a way with prices and total.
-#[derive(Debug, Drop)]
+#[derive(Drop)]
 pub struct PlannedClass {
     pub priority: Priority,
     pub problem: ClassProblem,
@@ -15,7 +15,7 @@ pub struct PlannedClass {
 }
 
 /// A plan. In clauses it is a record of the same lists.
-#[derive(Debug, Drop)]
+#[derive(Drop)]
 pub struct Plan {
     /// The classes, from the highest priority down.
     pub classes: Vec<PlannedClass>,

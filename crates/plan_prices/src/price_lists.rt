@@ -6,7 +6,7 @@ use std::marker::Model;
 
 /// The prices of the used places of one device, the last place first, in ms. In clauses it is the
 /// list of them.
-#[derive(Debug, Drop)]
+#[derive(Drop)]
 pub struct PlacePrices {
     prices: Vec<i64>,
 }
@@ -37,7 +37,7 @@ impl PlacePrices {
 
 /// A price for each job of a class, by rising id, and a price for each used place of each device. In clauses
 /// it is a record of these lists.
-#[derive(Debug, Drop)]
+#[derive(Drop)]
 pub struct Prices {
     jobs: Vec<i64>,
     places: Vec<PlacePrices>,
@@ -75,7 +75,7 @@ impl Prices {
 }
 
 /// A way with prices and a total in ms. The prices may or may not prove it best.
-#[derive(Debug, Drop)]
+#[derive(Drop)]
 pub struct PricedWay {
     pub way: Way,
     pub prices: Prices,

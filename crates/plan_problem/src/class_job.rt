@@ -16,7 +16,7 @@ use std::alloc::{AllocError, Global};
 use std::marker::Model;
 
 /// A job of a class, with its needs. In clauses it is a record of the same fields.
-#[derive(Debug, Drop)]
+#[derive(Drop)]
 pub struct ClassJob<'a> {
     pub id: JobId,
     pub needs: &'a Needs,

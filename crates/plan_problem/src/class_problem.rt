@@ -9,7 +9,7 @@ use std::marker::Model;
 
 /// The problem of one class: its jobs by rising id, the time of each able pair, and the wait of
 /// each device, in the order of the settings. In clauses it is a record of these lists.
-#[derive(Debug, Drop)]
+#[derive(Drop)]
 pub struct ClassProblem {
     ids: Vec<JobId>,
     rows: Vec<Row>,

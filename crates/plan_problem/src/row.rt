@@ -7,7 +7,7 @@ use std::marker::Model;
 
 /// The times of one job in ms, one for each device, `None` if the device isn't able. In clauses it is the
 /// list of them.
-#[derive(Debug, Drop)]
+#[derive(Drop)]
 pub struct Row {
     times: Vec<Option<u64>>,
 }

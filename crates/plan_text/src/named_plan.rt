@@ -6,7 +6,7 @@ use plan_prices::Plan;
 use std::marker::Model;
 
 /// A plan with the names of its devices, as its text has them. In clauses it is a record of the same fields.
-#[derive(Debug, Drop)]
+#[derive(Drop)]
 pub struct PlanText {
     devices: Vec<Text>,
     plan: Plan,

@@ -7,7 +7,7 @@ use settings_file::{Settings, SettingsFault, explain, read_settings_bytes};
 use std::alloc::{AllocError, Global};
 
 /// Why a recorded day isn't played further.
-#[derive(Debug, Drop)]
+#[derive(Drop)]
 pub enum DayFault {
     /// The exit status, and the reason as a sentence, which begins with the name of the day's file.
     Said(ExitStatus, String),

@@ -18,7 +18,7 @@ use std::io::{ErrorKind, Read, Write};
 const PRINTED: usize = 65_536;
 
 /// The output of playing a recorded day.
-#[derive(Clone, Copy, Debug, PartialEq, Eq)]
+#[derive(Clone, Copy, PartialEq, Eq)]
 pub enum Shows {
     /// The bytes that each connection gets, the plans, with or without their texts, the starts and the
     /// cancels.
@@ -30,7 +30,7 @@ pub enum Shows {
 }
 
 /// The end of a play.
-#[derive(Debug, Drop)]
+#[derive(Drop)]
 pub struct Played {
     pub status: ExitStatus,
     /// Why the day wasn't played to its end, in a sentence. `None` if it was, or if memory for the sentence

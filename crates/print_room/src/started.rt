@@ -1,7 +1,7 @@
 use base_types::{DeviceId, JobId};
 
 /// A job that a device begins.
-#[derive(Clone, Copy, Debug, PartialEq, Eq)]
+#[derive(Clone, Copy, PartialEq, Eq)]
 pub struct Started {
     pub job: JobId,
     pub device: DeviceId,

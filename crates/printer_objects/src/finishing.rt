@@ -12,7 +12,7 @@ use std::alloc::{AllocError, Global};
 pub const NO_FINISHING: u32 = 3;
 
 /// A finishing of a job's sheets (RFC 8011, section 5.2.6).
-#[derive(Clone, Copy, Debug, PartialEq, Eq)]
+#[derive(Clone, Copy, PartialEq, Eq)]
 pub enum Finishing {
     Staple,
     Punch,

@@ -7,7 +7,7 @@ use base_types::Text;
 use std::alloc::{AllocError, Global};
 
 /// An attribute of a job (RFC 8011, sections 5.3 and 5.2).
-#[derive(Clone, Copy, Debug, PartialEq, Eq)]
+#[derive(Clone, Copy, PartialEq, Eq)]
 pub enum JobAttribute {
     Uri,
     Id,

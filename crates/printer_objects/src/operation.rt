@@ -3,7 +3,7 @@ ghost use Rattle.std.specs.Prelude.{◌≡◌};
 ghost use Rattle.printer_objects.specs.Operation.{operation_code, operation_table};
 
 /// An operation that printers offer (RFC 8011, section 5.4.15).
-#[derive(Clone, Copy, Debug, PartialEq, Eq)]
+#[derive(Clone, Copy, PartialEq, Eq)]
 pub enum Operation {
     PrintJob,
     ValidateJob,

@@ -7,7 +7,7 @@ use crate::requested::is_requested;
 use base_types::Text;
 
 /// An attribute of a printer (RFC 8011, sections 5.4 and 5.2).
-#[derive(Clone, Copy, Debug, PartialEq, Eq)]
+#[derive(Clone, Copy, PartialEq, Eq)]
 pub enum PrinterAttribute {
     UriSupported,
     UriSecuritySupported,

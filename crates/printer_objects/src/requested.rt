@@ -7,7 +7,7 @@ use std::alloc::{AllocError, Global};
 use std::marker::Model;
 
 /// The values of requested-attributes, in order. In clauses they are the list of their texts.
-#[derive(Debug, Drop)]
+#[derive(Drop)]
 pub struct Requested {
     names: Vec<Text>,
 }

@@ -6,7 +6,7 @@ use base_types::PrinterId;
 use job_objects::{Job, JobState, Printer};
 
 /// The state of a printer (RFC 8011, section 5.4.11).
-#[derive(Clone, Copy, Debug, PartialEq, Eq)]
+#[derive(Clone, Copy, PartialEq, Eq)]
 pub enum PrinterState {
     /// No job of the printer is on a device, and one may start.
     Idle,
@@ -17,7 +17,7 @@ pub enum PrinterState {
 }
 
 /// The reason of a printer's state (RFC 8011, section 5.4.12).
-#[derive(Clone, Copy, Debug, PartialEq, Eq)]
+#[derive(Clone, Copy, PartialEq, Eq)]
 pub enum PrinterReason {
     /// The keyword `none`.
     Nothing,

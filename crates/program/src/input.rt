@@ -6,7 +6,7 @@ use std::alloc::Global;
 use std::io::Read;
 
 /// Why an input isn't read as a whole.
-#[derive(Clone, Copy, Debug, PartialEq, Eq)]
+#[derive(Clone, Copy, PartialEq, Eq)]
 pub enum InputFault {
     /// The input has too many bytes.
     Size,

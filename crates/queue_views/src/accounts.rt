@@ -6,7 +6,7 @@ use settings_file::Settings;
 use std::alloc::{AllocError, Global};
 
 /// A job of a day, as it was at its end, or at the end of the day.
-#[derive(Debug, Drop)]
+#[derive(Drop)]
 pub struct JobAccount {
     pub id: JobId,
     /// The name of the job's printer.
@@ -37,7 +37,7 @@ pub struct JobAccount {
 }
 
 /// The accounts of a day, and the clock of their moments.
-#[derive(Debug, Drop)]
+#[derive(Drop)]
 pub struct DayAccounts {
     pub clock: Clock,
     /// The jobs that came, by rising id.

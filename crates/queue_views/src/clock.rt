@@ -5,7 +5,7 @@ use std::alloc::{AllocError, Global};
 use std::str::FromStr;
 
 /// A time of moment 0, in ms since the beginning of 1970, that is valid from a moment on.
-#[derive(Clone, Copy, Debug)]
+#[derive(Clone, Copy)]
 struct Zero {
     /// The ms of the moment.
     from: u64,
@@ -14,7 +14,7 @@ struct Zero {
 
 /// The times of an engine's moments. The moments of a server that was started again go on from the last turn
 /// before, so that the time of moment 0 is another from then on.
-#[derive(Debug, Drop)]
+#[derive(Drop)]
 pub struct Clock {
     /// By rising `from`.
     zeros: Vec<Zero>,

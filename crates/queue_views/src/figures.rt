@@ -3,7 +3,7 @@ use crate::view::{Prospect, QueueView};
 use base_types::{Moment, PrinterId};
 
 /// A job that was printed.
-#[derive(Clone, Copy, Debug)]
+#[derive(Clone, Copy)]
 pub struct PrintedJob {
     pub printer: PrinterId,
     pub ended: Moment,
@@ -12,7 +12,7 @@ pub struct PrintedJob {
 }
 
 /// The figures of a printer.
-#[derive(Clone, Copy, Debug, PartialEq, Eq)]
+#[derive(Clone, Copy, PartialEq, Eq)]
 pub struct Figures {
     /// The unfinished jobs that no device has.
     pub waiting: u64,

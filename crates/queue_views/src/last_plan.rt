@@ -5,7 +5,7 @@ use plan_problem::ClassProblem;
 use std::alloc::{AllocError, Global};
 
 /// A job that a plan has on a device, with its start and its end in ms.
-#[derive(Clone, Copy, Debug)]
+#[derive(Clone, Copy)]
 pub(crate) struct PlannedJob {
     pub(crate) job: JobId,
     pub(crate) device: DeviceId,

@@ -5,7 +5,7 @@ use server::Engine;
 use std::alloc::{AllocError, Global};
 
 /// What a device does, by which a change is noticed.
-#[derive(Clone, Copy, Debug, PartialEq, Eq)]
+#[derive(Clone, Copy, PartialEq, Eq)]
 pub(crate) enum Standing {
     Away,
     Stopped,
@@ -14,7 +14,7 @@ pub(crate) enum Standing {
 }
 
 /// What a device does, and since when; `None` if it has since before it was observed.
-#[derive(Clone, Copy, Debug)]
+#[derive(Clone, Copy)]
 pub(crate) struct Stood {
     pub(crate) standing: Standing,
     pub(crate) since: Option<Moment>,

@@ -5,7 +5,7 @@ use job_objects::{Job, JobState};
 use std::alloc::{AllocError, Global};
 
 /// The totals of a printer's jobs since the ledger began, with those that ended.
-#[derive(Clone, Copy, Debug, PartialEq, Eq)]
+#[derive(Clone, Copy, PartialEq, Eq)]
 pub struct PrinterTotals {
     pub completed: u64,
     pub canceled: u64,

@@ -6,7 +6,7 @@ use base_types::{Cause, DeviceId, Finishings, JobId, Moment, PrinterId, Sides, T
 use job_objects::JobState;
 
 /// The queue of a print server at a moment.
-#[derive(Debug, Drop)]
+#[derive(Drop)]
 pub struct QueueView {
     pub moment: Moment,
     pub clock: Clock,
@@ -23,7 +23,7 @@ pub struct QueueView {
 }
 
 /// A printer, with its devices and totals.
-#[derive(Debug, Drop)]
+#[derive(Drop)]
 pub struct PrinterView {
     pub name: Text,
     pub paused: bool,
@@ -32,7 +32,7 @@ pub struct PrinterView {
 }
 
 /// The state of a device.
-#[derive(Clone, Copy, Debug, PartialEq, Eq)]
+#[derive(Clone, Copy, PartialEq, Eq)]
 pub enum DeviceState {
     /// It isn't connected.
     Away,
@@ -47,7 +47,7 @@ pub enum DeviceState {
 }
 
 /// A device.
-#[derive(Debug, Drop)]
+#[derive(Drop)]
 pub struct DeviceView {
     pub name: Text,
     pub state: DeviceState,
@@ -63,14 +63,14 @@ pub struct DeviceView {
 }
 
 /// A medium that a device can hold.
-#[derive(Debug, Drop)]
+#[derive(Drop)]
 pub struct MediumView {
     pub name: Text,
     pub loaded: bool,
 }
 
 /// The job that a device has.
-#[derive(Clone, Copy, Debug)]
+#[derive(Clone, Copy)]
 pub struct TakenJob {
     pub job: JobId,
     /// The impressions in all copies.
@@ -85,7 +85,7 @@ pub struct TakenJob {
 }
 
 /// An unfinished job.
-#[derive(Debug, Drop)]
+#[derive(Drop)]
 pub struct JobView {
     pub id: JobId,
     pub printer: PrinterId,
@@ -99,7 +99,7 @@ pub struct JobView {
 }
 
 /// What a job needs of a device.
-#[derive(Debug, Drop)]
+#[derive(Drop)]
 pub struct NeedsView {
     pub media: Text,
     pub formats: Vec<Text>,
@@ -108,7 +108,7 @@ pub struct NeedsView {
 }
 
 /// What is to become of a job.
-#[derive(Debug, Drop)]
+#[derive(Drop)]
 pub enum Prospect {
     /// A device has it, and is estimated to end it at this ms; `None` on a stopped device.
     Taken {
@@ -138,7 +138,7 @@ pub enum Prospect {
 }
 
 /// A finished job.
-#[derive(Debug, Drop)]
+#[derive(Drop)]
 pub struct FinishedJob {
     pub id: JobId,
     pub printer: PrinterId,

@@ -10,7 +10,7 @@ const INPUT: &str = "<standard input>";
 
 /// Why an input isn't a trace that can be played to its end. Displayed, it is a sentence without a line feed,
 /// which begins with the name of standard input.
-#[derive(Debug, Drop)]
+#[derive(Drop)]
 pub enum Objection {
     /// The input has more bytes than [`base_types::Limits::INPUT_BYTES`].
     Size,

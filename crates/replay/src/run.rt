@@ -24,7 +24,7 @@ use std::io::{Read, Write};
 use traces::{LineFault, next_line, split_settings};
 
 /// The end of a replay.
-#[derive(Debug, Drop)]
+#[derive(Drop)]
 pub struct Replayed {
     pub status: ExitStatus,
     /// Why the trace is refused, if the status states that it is.

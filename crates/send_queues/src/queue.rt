@@ -21,7 +21,7 @@ use wires::{Progress, Wire, WireId};
 pub const RESERVED_BYTES: usize = 256;
 
 /// The result of an offer.
-#[derive(Clone, Copy, Debug, PartialEq, Eq)]
+#[derive(Clone, Copy, PartialEq, Eq)]
 pub enum Offered {
     /// No bytes wait, or there is no connection.
     Nothing,

@@ -14,7 +14,7 @@ use wires::WireId;
 
 /// A logged note. A dispatch is several logged notes: its plan, if a job was ready, and then each job that
 /// begins.
-#[derive(Debug, Drop)]
+#[derive(Drop)]
 pub enum LoggedNote {
     /// A plan was made. The next logged notes are its classes, from the highest priority down, and then its
     /// stranded jobs, by rising id.

@@ -1,7 +1,7 @@
 //! The progress of reading a text of settings.
 
 /// The table of a text of settings that was read last. The fault of a refused text is in that table.
-#[derive(Clone, Copy, Debug, PartialEq, Eq)]
+#[derive(Clone, Copy, PartialEq, Eq)]
 pub enum LastTable {
     /// The root table, which is read first.
     Root,

@@ -6,7 +6,7 @@ use std::alloc::{AllocError, Global};
 use std::marker::Model;
 
 /// The settings of a server. In clauses they are a record of the same fields.
-#[derive(Debug, Drop)]
+#[derive(Drop)]
 pub struct Settings {
     /// The beginning of the URIs of printers and jobs: 1 to [`base_types::Limits::URI_BASE_BYTES`] bytes that
     /// print, without spaces.
@@ -84,7 +84,7 @@ impl Settings {
 }
 
 /// The settings of a device. In clauses it is a record of the same fields.
-#[derive(Debug, Drop)]
+#[derive(Drop)]
 pub struct DeviceSettings {
     pub name: Text,
     /// The time for an impression in a one-sided job, in ms: 1 to [`base_types::Limits::RATE`].
@@ -122,7 +122,7 @@ impl Model for DeviceSettings {
 }
 
 /// The settings of a printer. In clauses it is a record of the same fields.
-#[derive(Debug, Drop)]
+#[derive(Drop)]
 pub struct PrinterSettings {
     pub name: Text,
     /// The printer's devices, in the order of the settings' list: at most [`base_types::Limits::DEVICES`].

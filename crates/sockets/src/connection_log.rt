@@ -4,7 +4,7 @@ use std::net::SocketAddr;
 use wires::{Door, WireId};
 
 /// Why a connection is closed.
-#[derive(Clone, Copy, Debug, PartialEq, Eq)]
+#[derive(Clone, Copy, PartialEq, Eq)]
 pub enum CloseReason {
     /// The server is done with the connection.
     Served,

@@ -8,7 +8,7 @@ use std::net::{Net, SocketAddr};
 use wires::Door;
 
 /// An address at which a door listens. Its port is 0 for any free port.
-#[derive(Clone, Copy, Debug, PartialEq, Eq)]
+#[derive(Clone, Copy, PartialEq, Eq)]
 pub struct Listening {
     pub door: Door,
     pub address: SocketAddr,

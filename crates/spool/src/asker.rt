@@ -9,7 +9,7 @@ use std::marker::Model;
 
 /// An asker: the name that the request claims, and whether it is an operator's. In clauses it is a record of
 /// the same fields.
-#[derive(Debug, Drop)]
+#[derive(Drop)]
 pub struct Asker<'a> {
     pub name: &'a Text,
     pub is_operator: bool,

@@ -2,7 +2,7 @@ use crate::new_job::NewJob;
 use octets::Document;
 
 /// Why a call is refused.
-#[derive(Clone, Copy, Debug, PartialEq, Eq)]
+#[derive(Clone, Copy, PartialEq, Eq)]
 pub enum SpoolRefusal {
     /// Too many jobs are unfinished, or the last id is used.
     Busy,

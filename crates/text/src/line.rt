@@ -5,7 +5,7 @@ ghost use Rattle.text.specs.FirstLine.{first_line_of};
 use crate::bytes::find_byte;
 
 /// The beginning of bytes that are read line by line.
-#[derive(Clone, Copy, Debug, PartialEq, Eq)]
+#[derive(Clone, Copy, PartialEq, Eq)]
 pub enum FirstLine {
     /// A line of this many bytes, and its line feed.
     Whole(usize),

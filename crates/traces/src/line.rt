@@ -32,7 +32,7 @@ pub enum Line {
 }
 
 /// A connection that is opened.
-#[derive(Clone, Copy, Debug)]
+#[derive(Clone, Copy)]
 pub struct Opening {
     /// The number of the connection from now on.
     pub number: u64,

@@ -3,7 +3,7 @@
 use std::fmt;
 
 /// The fault of a line after the settings.
-#[derive(Clone, Copy, Debug, PartialEq, Eq)]
+#[derive(Clone, Copy, PartialEq, Eq)]
 pub enum LineFault {
     /// The line doesn't begin with a word of a trace.
     Word,

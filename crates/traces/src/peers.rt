@@ -13,7 +13,7 @@ use std::alloc::{AllocError, Global};
 use wires::{Door, MemoryPeer};
 
 /// A connection of a trace.
-#[derive(Clone, Copy, Debug)]
+#[derive(Clone, Copy)]
 pub struct Connection {
     /// The number of the connection in the trace.
     pub number: u64,
