@@ -8,7 +8,7 @@ use Rattle.journal.specs.declared.gate.Pass.{Pass}
 use Rattle.journal.specs.declared.gate.Pass.TheVariants.{All, Inward, Outward, Shut}
 use Rattle.journal.specs.Passing.{calls_in, after, Passes, ArePassed, passes, passed}
 use Rattle.daemon.specs.Serving.{AreUntold}
-use Rattle.daemon.proofs.Noted.{true-false}
+use Rattle.daemon.proofs.RecordingWire.{true-false}
 
 -- a call that passes follows the earlier calls; any other leaves them
 pub one_called : {W : Type 0} (calls : W → List Poll) (pass : Pass) (old : W) (poll : Poll) (new : W)

@@ -1,3 +1,3 @@
-pub mod Ends
+pub mod RunningJobs
 pub mod Serving
 pub mod Journaling

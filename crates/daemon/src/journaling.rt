@@ -7,11 +7,11 @@ ghost use Rattle.journal.specs.declared.gate.Pass.TheVariants.{Inward, Outward};
 ghost use Rattle.daemon.specs.Serving.{calls_of, Idles, ServesTurn};
 ghost use Rattle.daemon.specs.Journaling.{IsFiled, KeepsFiled, FilesTurn, SendsStored};
 
-use crate::chronicle::Chronicle;
+use crate::log_formatter::LogFormatter;
 use crate::serving::{NoListener, Server};
 use base_types::{Moment, Text};
 use journal::{Gate, JournaledEngine, Pass, Storage, sent_bytes_were_due};
-use recordings::Noted;
+use recordings::RecordingWire;
 use server::NoteLog;
 use sockets::Sockets;
 use std::alloc::{AllocError, Global};
@@ -29,8 +29,8 @@ impl Server {
         ensures filed { (opening : State) (stored : List ℕ) → HasPlayed opening stored engine → (trace : Trace) × IsFiled opening trace result stored }
         ensures calls { calls_of result ≡ sockets.history.calls }
     {
-        let chronicle = Chronicle::new(alloc, names, &engine);
-        let mut server = Server::over(alloc, sockets, engine, chronicle);
+        let formatter = LogFormatter::new(alloc, names, &engine);
+        let mut server = Server::over(alloc, sockets, engine, formatter);
         server.wire.notes.begin(false);
         server.journaled = true;
         server
@@ -71,7 +71,7 @@ impl Server {
         ensures { result.history ≡ self.wire.wire.wire.history }
     {
         let Server { wire: noted, .. } = self;
-        let Noted { wire: gate, .. } = noted;
+        let RecordingWire { wire: gate, .. } = noted;
         let Gate {
             wire: mut sockets,
             ..

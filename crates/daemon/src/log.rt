@@ -1,7 +1,7 @@
-//! [`Lines`] appends the lines of a log: each for a connection, a plan, a job or a refusal.
-use crate::ends::Ended;
-use crate::last_plan::LastPlan;
+//! [`LogLines`] appends the lines of a log: each for a connection, a plan, a job or a refusal.
+use crate::logged_plan::LoggedPlan;
 use crate::overdue::Late;
+use crate::running_jobs::Ended;
 use base_types::{DeviceId, JobId, Moment, Text};
 use dispatcher::{AllocationSite, DeviceRefusal};
 use job_objects::{Job, JobState};
@@ -14,9 +14,9 @@ use std::alloc::{AllocError, Global};
 use std::net::SocketAddr;
 use wires::{Door, WireId};
 
-/// Lines with the same word at the beginning of each.
+/// LogLines with the same word at the beginning of each.
 #[derive(Drop)]
-pub(crate) struct Lines<'a> {
+pub(crate) struct LogLines<'a> {
     alloc: Global,
     names: &'a [Text],
     /// The ms since the start, at the beginning of each line. `None` if each line is a comment of a recording.
@@ -26,10 +26,10 @@ pub(crate) struct Lines<'a> {
     is_cut: bool,
 }
 
-impl<'a> Lines<'a> {
+impl<'a> LogLines<'a> {
     /// Creates lines for a moment, none so far. `names` are those of the devices.
-    pub(crate) fn new(alloc: Global, names: &'a [Text], moment: Moment) -> Lines<'a> {
-        Lines {
+    pub(crate) fn new(alloc: Global, names: &'a [Text], moment: Moment) -> LogLines<'a> {
+        LogLines {
             alloc,
             names,
             millis: Some(moment.millis()),
@@ -39,8 +39,8 @@ impl<'a> Lines<'a> {
     }
 
     /// Creates comments of a recording, none so far. `names` are those of the devices.
-    pub(crate) fn comments(alloc: Global, names: &'a [Text]) -> Lines<'a> {
-        Lines {
+    pub(crate) fn comments(alloc: Global, names: &'a [Text]) -> LogLines<'a> {
+        LogLines {
             alloc,
             names,
             millis: None,
@@ -63,7 +63,7 @@ impl<'a> Lines<'a> {
     }
 
     /// Adds the lines for the notes of the engine.
-    pub(crate) fn add_heard(&mut self, heard: &[LoggedNote], plan: &mut LastPlan) {
+    pub(crate) fn add_heard(&mut self, heard: &[LoggedNote], plan: &mut LoggedPlan) {
         for one in heard {
             self.add_one(one, plan);
         }
@@ -152,10 +152,12 @@ impl<'a> Lines<'a> {
     }
 
     /// Adds what a note needs: a line, or a word in the line of its plan.
-    fn add_one(&mut self, heard: &LoggedNote, plan: &mut LastPlan) {
+    fn add_one(&mut self, heard: &LoggedNote, plan: &mut LoggedPlan) {
         match heard {
-            LoggedNote::Class { priority, total } => self.heed(plan.add_class(*priority, *total)),
-            LoggedNote::Stranded(stranded) => self.heed(plan.add_stranded(stranded)),
+            LoggedNote::Class { priority, total } => self.record_result(plan.add_class(
+                *priority, *total,
+            )),
+            LoggedNote::Stranded(stranded) => self.record_result(plan.add_stranded(stranded)),
             LoggedNote::Planned => {
                 self.add_plan(plan, false);
                 plan.begin();
@@ -180,7 +182,7 @@ impl<'a> Lines<'a> {
     }
 
     /// Adds the line of the last plan, if it is due. `begins` indicates whether the plan begins a job.
-    fn add_plan(&mut self, plan: &mut LastPlan, begins: bool) {
+    fn add_plan(&mut self, plan: &mut LoggedPlan, begins: bool) {
         if plan.take_due(begins) {
             self.begin("plan");
             self.put(plan.totals());
@@ -192,7 +194,7 @@ impl<'a> Lines<'a> {
     fn add_job(&mut self, word: &str, job: JobId, device: DeviceId) {
         self.begin_line();
         let done = put_job_words(self.alloc, &mut self.text, word, self.names, job, device);
-        self.heed(done);
+        self.record_result(done);
     }
 
     /// Adds the line for a device's connection that was refused, with the name that the peer gave, if it gave
@@ -275,11 +277,11 @@ impl<'a> Lines<'a> {
 
     fn put(&mut self, bytes: &[u8]) {
         let done = self.text.extend_from_slice(bytes);
-        self.heed(done);
+        self.record_result(done);
     }
 
     /// Records whether memory was refused.
-    fn heed(&mut self, done: Result<(), AllocError>) {
+    fn record_result(&mut self, done: Result<(), AllocError>) {
         if done.is_err() {
             self.is_cut = true;
         }

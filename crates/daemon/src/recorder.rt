@@ -1,7 +1,7 @@
 //! The recorder of turns, which never makes the server wait.
 use crate::pace::Pace;
 use base_types::Moment;
-use recordings::NoteText;
+use recordings::RecordedText;
 
 /// The output of a recording.
 pub trait Tape {
@@ -33,7 +33,7 @@ impl<'a, T: Tape> Recorder<'a, T> {
 
     /// Writes the kept lines after a turn at `moment`, if they are many or old. If memory for a line was refused,
     /// ends the recording.
-    pub(crate) fn heed(&mut self, notes: &mut NoteText, moment: Moment) {
+    pub(crate) fn write_if_due(&mut self, notes: &mut RecordedText, moment: Moment) {
         if self.ended {
             return;
         }
@@ -47,14 +47,14 @@ impl<'a, T: Tape> Recorder<'a, T> {
     }
 
     /// Writes the kept lines after the last turn.
-    pub(crate) fn finish(&mut self, notes: &mut NoteText) {
+    pub(crate) fn finish(&mut self, notes: &mut RecordedText) {
         if !self.ended && !notes.text().is_empty() {
             self.put(notes);
         }
     }
 
     /// Returns the ms from `moment` until the kept lines are old, at most `most`.
-    pub(crate) fn time_left(&self, notes: &NoteText, moment: Moment, most: u64) -> u64 {
+    pub(crate) fn time_left(&self, notes: &RecordedText, moment: Moment, most: u64) -> u64 {
         if self.ended {
             return most;
         }
@@ -62,7 +62,7 @@ impl<'a, T: Tape> Recorder<'a, T> {
     }
 
     /// Writes the kept lines. If the tape fails, no lines are kept any more.
-    fn put(&mut self, notes: &mut NoteText) {
+    fn put(&mut self, notes: &mut RecordedText) {
         if self.tape.put(notes.text()) {
             notes.clear();
         } else {

@@ -109,7 +109,7 @@ fn take_turns<W: Write, T: Tape>(
     for _ in 0..turns {
         let moment = moment_since(clock, &start)?;
         take_turn(server, moment, log);
-        let pause = heed(server, recorder, moment);
+        let pause = write_recording(server, recorder, moment);
         server.rest(pause)?;
     }
     finish(server, recorder);
@@ -128,7 +128,11 @@ fn take_turn<W: Write>(server: &mut Server, moment: Moment, log: &mut Option<Log
 
 /// Writes the notes of a turn at a moment to the recording, if they are due. Returns the ms for which the
 /// server may wait then at most.
-fn heed<T: Tape>(server: &mut Server, recorder: &mut Option<Recorder<'_, T>>, moment: Moment) -> u64
+fn write_recording<T: Tape>(
+    server: &mut Server,
+    recorder: &mut Option<Recorder<'_, T>>,
+    moment: Moment,
+) -> u64
     ensures { Idles server.old server.new }
 {
     match recorder {

@@ -7,11 +7,11 @@ ghost use Rattle.journal.specs.declared.gate.Pass.TheVariants.{All};
 ghost use Rattle.daemon.specs.Serving.{calls_of, Idles, Rests, TakesTurn, ServesTurn, AddsLines};
 ghost use Rattle.daemon.specs.Journaling.{FilesTurn, NotesEnd, AddsComments};
 
-use crate::chronicle::Chronicle;
+use crate::busy_poll::BusyPoll;
 use crate::clock::time_of_zero;
-use crate::lookout::Lookout;
+use crate::log_formatter::LogFormatter;
+use crate::observation_flags::ObservationFlags;
 use crate::recorder::{Recorder, Tape};
-use crate::witness::Witness;
 use base_types::Moment;
 use dispatcher::{AllocationSite, DeviceRefusal, Dispatched, Listener};
 use events::Cancel;
@@ -19,7 +19,7 @@ use journal::{
     Gate, JournaledEngine, Mark, Pass, Pausable, quiet_turns_change_nothing, turns_append_to_files,
 };
 use plan_solver::AugmentingPaths;
-use recordings::Noted;
+use recordings::RecordingWire;
 use server::{Engine, NoteLog};
 use settings_file::Settings;
 use sockets::{ConnectionEvent, ConnectionLog, Listening, Sockets};
@@ -28,14 +28,14 @@ use std::io;
 use std::time::{Clock, Duration};
 use wires::WireId;
 
-/// A server: its engine, its sockets, the chronicle of its log, and the lookout before its waits.
+/// A server: its engine, its sockets, the formatter of its log, and the busy polling before its waits.
 #[derive(Drop)]
 pub struct Server {
     pub(crate) alloc: Global,
     pub(crate) engine: JournaledEngine,
-    pub(crate) wire: Noted<Gate<Sockets>>,
-    chronicle: Chronicle,
-    lookout: Lookout,
+    pub(crate) wire: RecordingWire<Gate<Sockets>>,
+    formatter: LogFormatter,
+    busy_poll: BusyPoll,
     /// Whether the notes are those of a journal. It has no turn in which memory was refused: such a turn can't be
     /// taken again.
     pub(crate) journaled: bool,
@@ -88,8 +88,8 @@ impl Server {
         let names = settings.device_names(alloc)?;
         let planner = Pausable::new(AugmentingPaths::new(alloc));
         let engine = Engine::new(alloc, settings, planner)?;
-        let chronicle = Chronicle::new(alloc, names, &engine);
-        Ok(Server::over(alloc, sockets, engine, chronicle))
+        let formatter = LogFormatter::new(alloc, names, &engine);
+        Ok(Server::over(alloc, sockets, engine, formatter))
     }
 
     /// Creates a server of an engine, over sockets that listen.
@@ -97,7 +97,7 @@ impl Server {
         alloc: Global,
         sockets: Sockets,
         engine: JournaledEngine,
-        chronicle: Chronicle,
+        formatter: LogFormatter,
     ) -> Server
         ensures engine { result.engine ≡ engine }
         ensures calls { calls_of result ≡ sockets.history.calls }
@@ -105,9 +105,9 @@ impl Server {
         Server {
             alloc,
             engine,
-            wire: Noted::new(alloc, Gate::new(alloc, sockets)),
-            chronicle,
-            lookout: Lookout::new(),
+            wire: RecordingWire::new(alloc, Gate::new(alloc, sockets)),
+            formatter,
+            busy_poll: BusyPoll::new(),
             journaled: false,
             marked: None,
         }
@@ -123,7 +123,7 @@ impl Server {
         ensures { Idles self.old self.new }
     {
         let zero = time_of_zero(clock, now)?;
-        self.chronicle.set_zero(zero);
+        self.formatter.set_zero(zero);
         Ok(())
     }
 
@@ -145,7 +145,7 @@ impl Server {
     ) -> u64
         ensures { Idles self.old self.new }
     {
-        recorder.heed(&mut self.wire.notes, moment);
+        recorder.write_if_due(&mut self.wire.notes, moment);
         recorder.time_left(&self.wire.notes, moment, most)
     }
 
@@ -183,7 +183,7 @@ impl Server {
     {
         let heard = taken.listener.take()?;
         match &taken.visits {
-            Ok(visits) => self.chronicle.lines(moment, visits, &heard, &self.engine),
+            Ok(visits) => self.formatter.lines(moment, visits, &heard, &self.engine),
             Err(_) => Err(AllocError),
         }
     }
@@ -218,10 +218,15 @@ impl Server {
     }
 
     /// Takes one turn of the engine, which notifies the listener of its notes.
-    fn run_turn<N: Listener>(&mut self, pass: Pass, moment: Moment, listener: N) -> Witness<N>
+    fn run_turn<N: Listener>(
+        &mut self,
+        pass: Pass,
+        moment: Moment,
+        listener: N,
+    ) -> ObservationFlags<N>
         ensures { TakesTurn pass moment result.told self.old self.new }
     {
-        let mut witness = Witness::new(listener);
+        let mut witness = ObservationFlags::new(listener);
         self.wire.wire.wire.set_moment(moment);
         self.wire.wire.set(pass);
         self.engine.turn(&mut self.wire, &mut witness, moment);
@@ -247,7 +252,7 @@ impl Server {
         ensures { Rests self.old self.new }
     {
         let visits = all_of(self.alloc, self.wire.wire.wire.take_visits());
-        self.chronicle.begin(moment, shows(ticks, told, &visits));
+        self.formatter.begin(moment, shows(ticks, told, &visits));
         visits
     }
 
@@ -332,8 +337,8 @@ impl Server {
         visits: &Result<Vec<ConnectionEvent>, AllocError>,
     ) -> Result<Vec<u8>, AllocError> {
         match visits {
-            Ok(visits) => self.chronicle.comments(visits),
-            Err(_) => self.chronicle.comments(&[]),
+            Ok(visits) => self.formatter.comments(visits),
+            Err(_) => self.formatter.comments(&[]),
         }
     }
 
@@ -364,16 +369,16 @@ impl Server {
     {
         let sockets = &mut self.wire.wire.wire;
         if sockets.take_worked() {
-            self.lookout.works();
+            self.busy_poll.works();
             return if sockets.take_more() && sockets.has_just_waited() {
                 Ok(())
             } else {
                 sockets.wait(Duration::ZERO)
             };
         }
-        if self.lookout.is_due() {
+        if self.busy_poll.is_due() {
             let found = sockets.look()?;
-            self.lookout.looked(found);
+            self.busy_poll.looked(found);
             if found {
                 return Ok(());
             }

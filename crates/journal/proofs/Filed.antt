@@ -12,7 +12,7 @@ use Rattle.server.specs.Turn.{Turned}
 use Rattle.journal.specs.Passing.{calls_in}
 use Rattle.journal.specs.File.{IsTurnText, KeepsPlayed}
 use Rattle.journal.specs.Resuming.{Turns}
-use Rattle.journal.proofs.Noted.{added_line, turns_as}
+use Rattle.journal.proofs.RecordingWire.{added_line, turns_as}
 use Rattle.journal.proofs.Played.{filed_behind}
 
 -- the lines, where lines are kept

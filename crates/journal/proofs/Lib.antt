@@ -3,7 +3,7 @@ pub mod Quiet
 pub mod Sent
 pub mod WaitingJobs
 pub mod Lost
-pub mod Noted
+pub mod RecordingWire
 pub mod Played
 pub mod LostTurn
 pub mod Filed

@@ -21,7 +21,7 @@ use Rattle.journal.specs.declared.resumption.Resumption.{Resumption}
 use Rattle.journal.specs.declared.restarting.Restarted.{Restarted}
 use Rattle.journal.proofs.WaitingJobs.{stay_is}
 use Rattle.journal.proofs.Lost.{waiting_stay}
-use Rattle.journal.proofs.Noted.{Adds, are_added, first_lines, lost_text}
+use Rattle.journal.proofs.RecordingWire.{Adds, are_added, first_lines, lost_text}
 use Rattle.journal.proofs.Played.{filed_behind}
 
 -- ---- the happenings of such a turn

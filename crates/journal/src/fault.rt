@@ -1,5 +1,5 @@
 //! Why a file isn't played.
-use recordings::Stray;
+use recordings::Divergence;
 use std::alloc::{AllocError, AllocFailed};
 
 /// Why a line of a file isn't played.
@@ -8,7 +8,7 @@ pub enum PlayFault {
     /// The line isn't one of a journal, or is where none of its kind may be.
     BadLine,
     /// In the turn that the line ends, the engine makes another call than the file contains.
-    Differs(Stray),
+    Differs(Divergence),
     /// In the turn that the line ends, the engine makes the calls of the file, but notes them otherwise.
     NotedOtherwise,
     OutOfMemory,

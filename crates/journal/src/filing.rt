@@ -6,7 +6,7 @@ use crate::restart_witness::RestartWitness;
 use crate::resumption::JournaledEngine;
 use crate::storage::Storage;
 use base_types::Moment;
-use recordings::Noted;
+use recordings::RecordingWire;
 use std::alloc::AllocError;
 use wires::Wire;
 
@@ -29,7 +29,7 @@ impl From<AllocError> for FilingFault {
 /// storage. If the engine was at the trace of the stored lines, it is at the trace of those stored now.
 pub fn file_turn<W: Wire, T: Storage>(
     engine: &mut JournaledEngine,
-    wire: &mut Noted<W>,
+    wire: &mut RecordingWire<W>,
     moment: Moment,
     storage: &mut T,
 ) -> Result<(), FilingFault>

@@ -8,7 +8,7 @@ use crate::restart_witness::RestartWitness;
 use crate::resumption::{JournaledEngine, Resumption, turn_paused};
 use crate::storage::StoredLines;
 use base_types::Moment;
-use recordings::{NoteText, Noted};
+use recordings::{RecordedText, RecordingWire};
 use std::alloc::Global;
 
 /// An engine that was restarted, and whose connections were lost.
@@ -82,7 +82,7 @@ fn lose_all(
     if engine.is_tick_due(moment) || !engine.is_settled() {
         return Err(PlayFault::OutOfMemory);
     }
-    let mut wire = Noted::new(alloc, LostWire::new());
+    let mut wire = RecordingWire::new(alloc, LostWire::new());
     let mut witness = RestartWitness::new();
     wire.notes.begin(false);
     turn_paused(alloc, engine, &mut wire, &mut witness, moment);
@@ -95,7 +95,7 @@ fn lose_all(
 }
 
 /// The text of notes whose lines are kept.
-fn kept_text(alloc: Global, notes: &NoteText) -> Result<Vec<u8>, PlayFault>
+fn kept_text(alloc: Global, notes: &RecordedText) -> Result<Vec<u8>, PlayFault>
     ensures { IfOk result (λ text. notes.now.lines ≡ Some text.items) }
 {
     if !notes.keeps() {

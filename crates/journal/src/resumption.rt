@@ -16,7 +16,7 @@ use crate::storage::StoredLines;
 use base_types::{JobId, Moment};
 use dispatcher::Listener;
 use plan_solver::AugmentingPaths;
-use recordings::{Entry, Noted, Script, are_comments, read_entry};
+use recordings::{Entry, RecordingWire, ReplayWire, are_comments, read_entry};
 use server::Engine;
 use settings_file::Settings;
 use std::alloc::{AllocError, Global};
@@ -31,7 +31,7 @@ pub type JournaledEngine = Engine<Pausable<AugmentingPaths>>;
 pub struct Resumption {
     pub(crate) alloc: Global,
     pub(crate) engine: JournaledEngine,
-    pub(crate) wire: Noted<Script>,
+    pub(crate) wire: RecordingWire<ReplayWire>,
     /// The lines of the calls of the turn that hasn't ended, and after them its comments.
     pub(crate) lines: Vec<u8>,
     pub(crate) comments: Vec<u8>,
@@ -52,7 +52,7 @@ impl Resumption {
     {
         let planner = Pausable::new(AugmentingPaths::new(alloc));
         let engine = Engine::starting_at(alloc, settings, planner, first)?;
-        let mut wire = Noted::new(alloc, Script::new(alloc));
+        let mut wire = RecordingWire::new(alloc, ReplayWire::new(alloc));
         wire.notes.begin(false);
         Ok(Resumption {
             alloc,

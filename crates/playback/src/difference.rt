@@ -1,7 +1,7 @@
 //! The lines for a difference: the server made a call that isn't the recorded one.
 
 use base_types::Moment;
-use recordings::{Entry, Sent, ServerCall, Stray, put_entry, put_turn};
+use recordings::{Divergence, Entry, Sent, ServerCall, put_entry, put_turn};
 use std::alloc::{AllocError, Global};
 use traces::put_out;
 use wires::WireId;
@@ -33,7 +33,7 @@ fn connection_in(did: &ServerCall) -> Option<WireId> {
 }
 
 /// The connection of a difference.
-fn connection_at(stray: &Stray) -> Option<WireId> {
+fn connection_at(stray: &Divergence) -> Option<WireId> {
     if let Some(id) = connection_in(&stray.did) {
         return Some(id);
     }
@@ -44,7 +44,7 @@ fn connection_at(stray: &Stray) -> Option<WireId> {
 }
 
 /// Appends the recorded line.
-fn put_wanted(output: &mut Vec<u8>, stray: &Stray, moment: Moment) -> Result<(), AllocError> {
+fn put_wanted(output: &mut Vec<u8>, stray: &Divergence, moment: Moment) -> Result<(), AllocError> {
     output.extend_from_slice(b"was ")?;
     match &stray.wanted {
         Some(line) => put_entry(output, &line.entry),
@@ -88,7 +88,7 @@ fn put_call(
 pub(crate) fn put_difference(
     alloc: Global,
     output: &mut Vec<u8>,
-    stray: &Stray,
+    stray: &Divergence,
     number: u64,
     moment: Moment,
 ) -> Result<(), AllocError> {

@@ -10,7 +10,7 @@ use base_types::{JobId, Limits, Moment};
 use journal::{JournaledEngine, Pausable};
 use plan_solver::AugmentingPaths;
 use queue_views::{Clock, DayAccounts, Ledger, QueueView, read_clock};
-use recordings::{Entry, GOES_ON, Script, read_entry};
+use recordings::{Entry, GOES_ON, ReplayWire, read_entry};
 use server::Engine;
 use settings_file::Settings;
 use std::alloc::{AllocError, Global};
@@ -21,7 +21,7 @@ use std::mem;
 struct Playing {
     alloc: Global,
     engine: JournaledEngine,
-    script: Script,
+    script: ReplayWire,
     ledger: Ledger,
     /// The time of moment 0, which a comment of the turn that hasn't ended gives.
     zero: Option<u64>,
@@ -260,7 +260,7 @@ impl Playing {
         Ok(Playing {
             alloc,
             engine,
-            script: Script::new(alloc),
+            script: ReplayWire::new(alloc),
             ledger,
             zero: None,
             restarted: false,
@@ -269,7 +269,7 @@ impl Playing {
 
     /// Drops the lines of the turn that hasn't ended.
     fn drop_turn(&mut self) {
-        self.script = Script::new(self.alloc);
+        self.script = ReplayWire::new(self.alloc);
         self.zero = None;
         self.restarted = false;
     }

@@ -17,7 +17,7 @@ mod beginning;
 mod difference;
 mod fault;
 mod follower;
-mod listener;
+mod observation;
 mod player;
 mod playing;
 mod turning;

@@ -1,14 +1,14 @@
 //! A server that takes recorded turns.
 
 use crate::difference::put_difference;
-use crate::listener::Told;
+use crate::observation::Observation;
 use crate::playing::Shows;
 use crate::turning::take_turn;
 use base_types::Moment;
-use daemon::Chronicle;
+use daemon::LogFormatter;
 use journal::JournaledEngine;
 use quotes::Escaped;
-use recordings::{Entry, Moved, Script, read_entry};
+use recordings::{Entry, ReplayWire, ReplayedOutput, read_entry};
 use std::alloc::{AllocError, Global};
 use traces::{put_gone, put_out};
 
@@ -35,11 +35,11 @@ pub(crate) enum DayEnd {
     WithinTurn { ended: u64 },
 }
 
-/// The listener of a server, and the chronicle for the lines of a log.
+/// The listener of a server, and the formatter for the lines of a log.
 #[derive(Drop)]
-pub(crate) struct Audience {
-    told: Told,
-    chronicle: Chronicle,
+pub(crate) struct LogSinks {
+    observation: Observation,
+    formatter: LogFormatter,
 }
 
 /// A server that has started, and plays recorded lines.
@@ -47,9 +47,9 @@ pub(crate) struct Audience {
 pub(crate) struct Player<'a> {
     alloc: Global,
     engine: &'a mut JournaledEngine,
-    script: Script,
+    script: ReplayWire,
     shows: Shows,
-    audience: Audience,
+    sinks: LogSinks,
     /// The comments of a turn, one line each: `comings` are the comments of connections that came, and all
     /// other comments; `goings` are the comments of connections that went.
     comings: Vec<u8>,
@@ -73,15 +73,23 @@ pub(crate) fn turn_of(entry: &Entry) -> Option<Moment> {
 }
 
 /// Appends the bytes that a connection got, or its close.
-fn put_moved(alloc: Global, output: &mut Vec<u8>, moved: &Moved) -> Result<(), AllocError> {
+fn put_moved(
+    alloc: Global,
+    output: &mut Vec<u8>,
+    moved: &ReplayedOutput,
+) -> Result<(), AllocError> {
     match moved {
-        Moved::Got { id, bytes } => put_out(alloc, output, u64::from(*id), bytes),
-        Moved::Gone(id) => put_gone(alloc, output, u64::from(*id)),
+        ReplayedOutput::Got { id, bytes } => put_out(alloc, output, u64::from(*id), bytes),
+        ReplayedOutput::Gone(id) => put_gone(alloc, output, u64::from(*id)),
     }
 }
 
 /// Appends the bytes that connections got, and their closes.
-fn put_all_moved(alloc: Global, output: &mut Vec<u8>, all: &[Moved]) -> Result<(), AllocError> {
+fn put_all_moved(
+    alloc: Global,
+    output: &mut Vec<u8>,
+    all: &[ReplayedOutput],
+) -> Result<(), AllocError> {
     for moved in all {
         put_moved(alloc, output, moved)?;
     }
@@ -104,17 +112,20 @@ fn put_dated(
     Ok(())
 }
 
-impl Audience {
-    /// Creates the audience of a server that has only started, without notes.
+impl LogSinks {
+    /// Creates the sinks of a server that has only started, without notes.
     pub(crate) fn new(
         alloc: Global,
         engine: &JournaledEngine,
         shows: Shows,
-    ) -> Result<Audience, AllocError> {
+    ) -> Result<LogSinks, AllocError> {
         let settings = engine.settings();
-        let told = Told::new(alloc, shows, settings.device_names(alloc)?);
-        let chronicle = Chronicle::new(alloc, settings.device_names(alloc)?, engine);
-        Ok(Audience { told, chronicle })
+        let observation = Observation::new(alloc, shows, settings.device_names(alloc)?);
+        let formatter = LogFormatter::new(alloc, settings.device_names(alloc)?, engine);
+        Ok(LogSinks {
+            observation,
+            formatter,
+        })
     }
 }
 
@@ -124,14 +135,14 @@ impl<'a> Player<'a> {
         alloc: Global,
         engine: &'a mut JournaledEngine,
         shows: Shows,
-        audience: Audience,
+        sinks: LogSinks,
     ) -> Player<'a> {
         Player {
             alloc,
             engine,
-            script: Script::new(alloc),
+            script: ReplayWire::new(alloc),
             shows,
-            audience,
+            sinks,
             comings: Vec::new(alloc),
             goings: Vec::new(alloc),
             printed: None,
@@ -233,12 +244,12 @@ impl<'a> Player<'a> {
 
     /// Has the server take a turn.
     fn turn_engine(&mut self, moment: Moment) {
-        self.audience.told.set_unplanned(self.restarted);
+        self.sinks.observation.set_unplanned(self.restarted);
         take_turn(
             self.alloc,
             self.engine,
             &mut self.script,
-            &mut self.audience.told,
+            &mut self.sinks.observation,
             moment,
             self.restarted,
         );
@@ -247,7 +258,7 @@ impl<'a> Player<'a> {
 
     /// Appends the text of a turn.
     fn put_turn(&mut self, moment: Moment, output: &mut Vec<u8>) -> Result<(), AllocError> {
-        if self.audience.told.is_lost() {
+        if self.sinks.observation.is_lost() {
             return Err(AllocError);
         }
         let moved = self.script.take_moved();
@@ -263,10 +274,10 @@ impl<'a> Player<'a> {
     fn put_happenings(
         &mut self,
         moment: Moment,
-        moved: &[Moved],
+        moved: &[ReplayedOutput],
         output: &mut Vec<u8>,
     ) -> Result<(), AllocError> {
-        let text = self.audience.told.take();
+        let text = self.sinks.observation.take();
         if text.is_empty() && moved.is_empty() {
             return Ok(());
         }
@@ -283,10 +294,10 @@ impl<'a> Player<'a> {
     /// Appends the lines of a log: connections that came, notes that were received, jobs that ended, and
     /// connections that went.
     fn put_log(&mut self, moment: Moment, output: &mut Vec<u8>) -> Result<(), AllocError> {
-        let heard = self.audience.told.take_heard()?;
+        let heard = self.sinks.observation.take_heard()?;
         let lines = self
-            .audience
-            .chronicle
+            .sinks
+            .formatter
             .lines(moment, &[], &heard, self.engine)?;
         put_dated(self.alloc, output, moment, &self.comings)?;
         output.extend_from_slice(&lines)?;

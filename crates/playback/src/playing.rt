@@ -2,7 +2,7 @@
 ghost use Rattle.settings_file.specs.Settings.{MeetsLimits};
 
 use crate::fault::{DayFault, settings_of};
-use crate::player::{Audience, DayEnd, Player, Step};
+use crate::player::{DayEnd, LogSinks, Player, Step};
 use base_types::{JobId, Limits};
 use journal::{JournaledEngine, Pausable};
 use plan_solver::AugmentingPaths;
@@ -172,7 +172,7 @@ impl<'file, 'output, W: Write> Day<'file, 'output, W> {
     }
 
     /// Appends the printed text of a step, and returns the fault of a line that wasn't just played.
-    fn heed(&mut self, number: u64, step: Step) -> Result<(), Fault> {
+    fn put_step(&mut self, number: u64, step: Step) -> Result<(), Fault> {
         let (alloc, file) = (self.alloc, self.file);
         match step {
             Step::Played => Ok(()),
@@ -203,7 +203,7 @@ impl<'file, 'output, W: Write> Day<'file, 'output, W> {
         line: &[u8],
     ) -> Result<(), Fault> {
         let step = player.play(number, line, &mut self.output)?;
-        self.heed(number, step)?;
+        self.put_step(number, step)?;
         self.put_out(PRINTED)
     }
 
@@ -229,9 +229,9 @@ impl<'file, 'output, W: Write> Day<'file, 'output, W> {
         &mut self,
         lines: &mut LineReader<'_, R>,
         engine: &mut JournaledEngine,
-        audience: Audience,
+        sinks: LogSinks,
     ) -> Result<DayEnd, Fault> {
-        let mut player = Player::new(self.alloc, engine, self.shows, audience);
+        let mut player = Player::new(self.alloc, engine, self.shows, sinks);
         self.play_turns(lines, &mut player)
     }
 
@@ -249,8 +249,8 @@ impl<'file, 'output, W: Write> Day<'file, 'output, W> {
         let Ok(mut engine) = Engine::starting_at(self.alloc, settings, planner, first) else {
             return Err(Fault::OutOfMemory);
         };
-        let audience = Audience::new(self.alloc, &engine, self.shows)?;
-        self.play_on(lines, &mut engine, audience)
+        let sinks = LogSinks::new(self.alloc, &engine, self.shows)?;
+        self.play_on(lines, &mut engine, sinks)
     }
 
     /// Plays the whole day.

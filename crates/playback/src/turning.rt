@@ -3,7 +3,7 @@ use base_types::Moment;
 use dispatcher::Listener;
 use journal::{JournaledEngine, Pausable};
 use plan_solver::AugmentingPaths;
-use recordings::Script;
+use recordings::ReplayWire;
 use std::alloc::Global;
 
 /// Has a server take the turn of a script at a moment. In a turn in which a restarted server lost its connections no
@@ -11,7 +11,7 @@ use std::alloc::Global;
 pub(crate) fn take_turn<N: Listener>(
     alloc: Global,
     engine: &mut JournaledEngine,
-    script: &mut Script,
+    script: &mut ReplayWire,
     listener: &mut N,
     moment: Moment,
     restarted: bool,

@@ -1,8 +1,8 @@
 //! The stream of an IPP client.
 ghost use Rattle.std.specs.Prelude.{◌≡◌, ◌≤◌, ◌+◌, OnOk, IfOk, length};
 
-use crate::blanked::Blanked;
 use crate::message::Message;
+use crate::redacted_read::RedactedRead;
 use http_front::{HttpItem, HttpReader};
 use std::alloc::{AllocError, Global};
 use std::cmp::min;
@@ -42,17 +42,21 @@ impl HttpStream {
     ///
     /// A part of a body is at the beginning of the bytes, since a head and the line of a chunk's size end in a
     /// line feed.
-    pub(crate) fn blank(&mut self, bytes: &[u8], output: &mut Blanked) -> Result<(), AllocError>
+    pub(crate) fn redact(
+        &mut self,
+        bytes: &[u8],
+        output: &mut RedactedRead,
+    ) -> Result<(), AllocError>
         ensures { OnOk result (output.new ≡ output.old + length bytes.now) }
     {
         if self.over {
             return output.leave_out(bytes.len());
         }
         if self.pass_body(bytes) {
-            return self.message.blank(bytes, output);
+            return self.message.redact(bytes, output);
         }
         self.reader.feed(bytes)?;
-        let count = self.blank_parts(bytes, output)?;
+        let count = self.redact_parts(bytes, output)?;
         output.keep(&bytes[count..])
     }
 
@@ -67,7 +71,7 @@ impl HttpStream {
 
     /// Reads the bytes that were fed, and leaves out the octets of documents in the parts of a body. Returns
     /// the number of bytes in these parts.
-    fn blank_parts(&mut self, bytes: &[u8], output: &mut Blanked) -> Result<usize, AllocError>
+    fn redact_parts(&mut self, bytes: &[u8], output: &mut RedactedRead) -> Result<usize, AllocError>
         ensures { IfOk result (λ count. count ≤ length bytes.now × (output.new ≡ output.old + count)) }
     {
         let mut count = 0usize;
@@ -85,7 +89,7 @@ impl HttpStream {
         &mut self,
         item: HttpItem,
         bytes: &[u8],
-        output: &mut Blanked,
+        output: &mut RedactedRead,
     ) -> Result<usize, AllocError>
         ensures { IfOk result (λ count. count ≤ length bytes.now × (output.new ≡ output.old + count)) }
     {
@@ -99,11 +103,11 @@ impl HttpStream {
     }
 
     /// Takes the part of a body at the beginning of the bytes. Returns its length.
-    fn take_part(&mut self, bytes: &[u8], output: &mut Blanked) -> Result<usize, AllocError>
+    fn take_part(&mut self, bytes: &[u8], output: &mut RedactedRead) -> Result<usize, AllocError>
         ensures { IfOk result (λ count. count ≤ length bytes.now × (output.new ≡ output.old + count)) }
     {
         let count = min(self.reader.part().len(), bytes.len());
-        self.message.blank(&bytes[..count], output)?;
+        self.message.redact(&bytes[..count], output)?;
         Ok(count)
     }
 }

@@ -1,7 +1,7 @@
 //! The stream of an LPD client.
 ghost use Rattle.std.specs.Prelude.{◌≡◌, ◌+◌, ◌≤◌, OnOk, IfOk, length};
 
-use crate::blanked::Blanked;
+use crate::redacted_read::RedactedRead;
 use lpd::{FileKind, LpdError, LpdItem, LpdReader};
 use std::alloc::{AllocError, Global};
 use std::cmp::min;
@@ -63,15 +63,19 @@ impl LpdStream {
 
     /// Reads bytes up to a line feed, or of a data file, and leaves out the octets of data files. The only
     /// error is out of memory.
-    pub(crate) fn blank(&mut self, bytes: &[u8], output: &mut Blanked) -> Result<(), AllocError>
+    pub(crate) fn redact(
+        &mut self,
+        bytes: &[u8],
+        output: &mut RedactedRead,
+    ) -> Result<(), AllocError>
         ensures { OnOk result (output.new ≡ output.old + length bytes.now) }
     {
         let count = self.pass_data(bytes, output)?;
-        self.blank_line(&bytes[count..], output)
+        self.redact_line(&bytes[count..], output)
     }
 
     /// Leaves out the leading octets of a data file. Returns their number.
-    fn pass_data(&mut self, bytes: &[u8], output: &mut Blanked) -> Result<usize, AllocError>
+    fn pass_data(&mut self, bytes: &[u8], output: &mut RedactedRead) -> Result<usize, AllocError>
         ensures { IfOk result (λ count. count ≤ length bytes.now × (output.new ≡ output.old + count)) }
     {
         let count = self.body_front(bytes);
@@ -87,7 +91,7 @@ impl LpdStream {
     }
 
     /// Reads bytes that aren't of a data file.
-    fn blank_line(&mut self, bytes: &[u8], output: &mut Blanked) -> Result<(), AllocError>
+    fn redact_line(&mut self, bytes: &[u8], output: &mut RedactedRead) -> Result<(), AllocError>
         ensures { OnOk result (output.new ≡ output.old + length bytes.now) }
     {
         if bytes.is_empty() {
@@ -104,7 +108,7 @@ impl LpdStream {
     }
 
     /// Reads the zero byte after a data file, which is left out with the file, and the bytes after it.
-    fn end_data(&mut self, bytes: &[u8], output: &mut Blanked) -> Result<(), AllocError>
+    fn end_data(&mut self, bytes: &[u8], output: &mut RedactedRead) -> Result<(), AllocError>
         ensures { OnOk result (output.new ≡ output.old + length bytes.now) }
     {
         match bytes.split_first() {

@@ -1,7 +1,7 @@
 //! The reader of IPP messages that finds where the document begins.
 ghost use Rattle.std.specs.Prelude.{◌≡◌, ◌+◌, ◌≤◌, OnOk, length};
 
-use crate::blanked::Blanked;
+use crate::redacted_read::RedactedRead;
 use base_types::Limits;
 use std::alloc::AllocError;
 
@@ -82,7 +82,11 @@ impl Message {
     }
 
     /// Reads bytes, and leaves out those of the document. The only error is out of memory.
-    pub(crate) fn blank(&mut self, bytes: &[u8], output: &mut Blanked) -> Result<(), AllocError>
+    pub(crate) fn redact(
+        &mut self,
+        bytes: &[u8],
+        output: &mut RedactedRead,
+    ) -> Result<(), AllocError>
         ensures { OnOk result (output.new ≡ output.old + length bytes.now) }
     {
         let place = self.read(bytes);

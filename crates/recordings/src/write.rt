@@ -3,9 +3,9 @@ ghost use Rattle.std.specs.Prelude.{◌≡◌, ◌++◌, OnOk, codes};
 ghost use Rattle.std.specs.Fmt.{decimal};
 ghost use Rattle.recordings.specs.Lines.{about, line_about, accept_line, read_line, octets_line, zeros_line, came_line, sent_line, sum_words, turn_line, entry_line};
 
-use crate::blanked::Blanked;
 use crate::data::put_data;
 use crate::entry::{Accepted, Entry, Sent};
+use crate::redacted_read::RedactedRead;
 use base_types::{JobId, Moment};
 use itoa::Buffer;
 use std::alloc::AllocError;
@@ -103,15 +103,15 @@ fn put_zeros(output: &mut Vec<u8>, id: WireId, zeros: usize, bytes: &[u8]) -> Re
 }
 
 /// Appends the line of a read without documents.
-pub(crate) fn put_blanked(
+pub(crate) fn put_redacted(
     output: &mut Vec<u8>,
     id: WireId,
-    blanked: &Blanked,
+    redacted: &RedactedRead,
 ) -> Result<(), AllocError> {
-    if blanked.zeros() == 0 {
-        put_came(output, id, blanked.bytes())
+    if redacted.zeros() == 0 {
+        put_came(output, id, redacted.bytes())
     } else {
-        put_zeros(output, id, blanked.zeros(), blanked.bytes())
+        put_zeros(output, id, redacted.zeros(), redacted.bytes())
     }
 }
 

@@ -6,7 +6,7 @@ use crate::client::Client;
 use crate::fault::ResubmissionFault;
 use base_types::Moment;
 use journal::{JournaledEngine, Storage, file_turn};
-use recordings::Noted;
+use recordings::RecordingWire;
 use std::alloc::Global;
 
 /// Has an engine take turns at a moment until a client's connection is closed, and appends them to a storage.
@@ -19,7 +19,7 @@ pub(crate) fn serve<T: Storage>(
 ) -> Result<(), ResubmissionFault>
     ensures { OnOk result (KeepsPlayed (T.stored storage.old) engine.old (T.stored storage.new) engine.new) }
 {
-    let mut wire = Noted::new(alloc, client);
+    let mut wire = RecordingWire::new(alloc, client);
     wire.notes.begin(false);
     for _ in 0..u64::MAX {
         file_turn(engine, &mut wire, moment, storage)?;

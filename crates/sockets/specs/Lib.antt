@@ -1,3 +1,3 @@
-pub mod Allowance
+pub mod LingerLimit
 pub mod Call
-pub mod Patience
+pub mod IdleTimeout

@@ -9,18 +9,18 @@
 //! Tests: `server_tests`.
 #![tactic(auto)]
 
-mod ahead;
-mod allowance;
 mod call_history;
 mod connection_log;
-mod entrance;
+mod idle_timeout;
 mod keepalive;
+mod linger_limit;
 mod lingering;
 mod link;
-mod patience;
+mod listen_socket;
+mod read_ahead;
 mod sockets;
 
 pub use call_history::CallHistory;
 pub use connection_log::{CloseReason, ConnectionEvent, ConnectionLog};
-pub use entrance::Listening;
+pub use listen_socket::Listening;
 pub use sockets::Sockets;

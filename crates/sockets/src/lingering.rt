@@ -2,8 +2,8 @@
 //!
 //! A socket that is closed while bytes of its peer are unread resets the connection, and the bytes that were
 //! written last may never arrive (RFC 9112, section 9.6). Therefore its writing side is shut first, and the
-//! bytes that come are dropped until the peer has ended too, or the allowance is used up.
-use crate::allowance::Allowance;
+//! bytes that come are dropped until the peer has ended too, or the linger limit is used up.
+use crate::linger_limit::LingerLimit;
 use base_types::Moment;
 use mio::event::Event;
 use mio::net::TcpStream;
@@ -30,7 +30,7 @@ const FIRST: usize = 0x1_0000_0000;
 #[derive(Drop)]
 struct Lingering {
     stream: TcpStream,
-    allowance: Allowance,
+    linger_limit: LingerLimit,
     readable: bool,
 }
 
@@ -38,7 +38,7 @@ impl Lingering {
     /// Drops the bytes that have come. Returns whether the connection is to be closed now.
     fn ends(&mut self, moment: Moment) -> bool {
         for _ in 0..PIECES {
-            if self.allowance.is_used_up(moment) {
+            if self.linger_limit.is_used_up(moment) {
                 return true;
             }
             if !self.readable {
@@ -56,7 +56,7 @@ impl Lingering {
         let mut piece = [0u8; PIECE];
         match self.stream.read(&mut piece) {
             Ok(count) => {
-                self.allowance.dropped(count);
+                self.linger_limit.dropped(count);
                 count == 0
             }
             Err(error) => {
@@ -98,14 +98,14 @@ impl Lingerings {
             .reregister(&mut stream, token, Interest::READABLE)?;
         self.all.insert(Lingering {
             stream,
-            allowance: Allowance::new(moment),
+            linger_limit: LingerLimit::new(moment),
             readable: true,
         })?;
         Ok(())
     }
 
     /// Takes an event of the poll. Returns whether it is of a lingering connection.
-    pub(crate) fn told(&mut self, event: &Event) -> bool {
+    pub(crate) fn notified(&mut self, event: &Event) -> bool {
         let Token(key) = event.token();
         let Some(key) = key.checked_sub(FIRST) else {
             return false;
@@ -119,7 +119,7 @@ impl Lingerings {
         }
     }
 
-    /// Drops the bytes that have come, and closes the connections that have ended or used up their allowance.
+    /// Drops the bytes that have come, and closes the connections that have ended or used up their linger limit.
     pub(crate) fn drain(&mut self, moment: Moment) {
         if self.all.is_empty() {
             return;
@@ -135,7 +135,7 @@ impl Lingerings {
         }
     }
 
-    /// Returns the ms until the first allowance is used up, at most `most`.
+    /// Returns the ms until the first linger limit is used up, at most `most`.
     pub(crate) fn left(&self, moment: Moment, most: u64) -> u64 {
         if self.all.is_empty() {
             return most;
@@ -143,7 +143,7 @@ impl Lingerings {
         let mut least = most;
         for key in 0..self.all.capacity() {
             if let Some(one) = self.all.get(key) {
-                least = one.allowance.left(moment).min(least);
+                least = one.linger_limit.left(moment).min(least);
             }
         }
         least

@@ -2,9 +2,9 @@
 ghost use Rattle.std.specs.Io.{ReadsAtMost, WritesAtMost};
 ghost use Rattle.std.specs.Io.Slices.{io_slices_bytes};
 
-use crate::ahead::{AHEAD, Ahead};
 use crate::connection_log::CloseReason;
-use crate::patience::Patience;
+use crate::idle_timeout::IdleTimeout;
+use crate::read_ahead::{READ_AHEAD, ReadAhead};
 use base_types::Moment;
 use mio::event::Event;
 use mio::net::TcpStream;
@@ -24,8 +24,8 @@ pub(crate) struct Link {
     ends: bool,
     /// Whether the last read gave all bytes that it asked for, and more may be there.
     much: bool,
-    ahead: Ahead,
-    patience: Patience,
+    ahead: ReadAhead,
+    idle_timeout: IdleTimeout,
     leave: CloseReason,
 }
 
@@ -46,8 +46,8 @@ impl Link {
             writable: true,
             ends: false,
             much: false,
-            ahead: Ahead::new(alloc),
-            patience: Patience::new(moment, device),
+            ahead: ReadAhead::new(alloc),
+            idle_timeout: IdleTimeout::new(moment, device),
             leave: CloseReason::Served,
         }
     }
@@ -68,7 +68,7 @@ impl Link {
     }
 
     /// Records an event of the poll.
-    pub(crate) fn told(&mut self, event: &Event) {
+    pub(crate) fn notified(&mut self, event: &Event) {
         self.ends |= event.is_read_closed() || event.is_error();
         self.readable |= event.is_readable() || self.ends;
         self.writable |= event.is_writable() || event.is_write_closed() || event.is_error();
@@ -76,14 +76,14 @@ impl Link {
 
     /// Returns the ms that the peer has left, if its time is counted.
     pub(crate) fn left(&self, moment: Moment) -> Option<u64> {
-        self.patience.left(moment)
+        self.idle_timeout.left(moment)
     }
 
     /// Returns whether the peer has no time left. If so, the next call asks the system, whatever the poll
     /// reported before: a process that was stopped for a while may have missed a report of bytes that are
     /// there.
     pub(crate) fn is_over(&mut self, moment: Moment) -> bool {
-        let over = self.patience.left(moment) == Some(0);
+        let over = self.idle_timeout.left(moment) == Some(0);
         self.readable |= over;
         self.writable |= over;
         over
@@ -98,7 +98,7 @@ impl Link {
     /// Returns whether a write may take bytes: the poll has reported room since the last write that had to wait, or
     /// the peer has no time left.
     pub(crate) fn may_write(&self, moment: Moment) -> bool {
-        self.writable || self.patience.left(moment) == Some(0)
+        self.writable || self.idle_timeout.left(moment) == Some(0)
     }
 
     /// Reads bytes into `buffer`: those read ahead, or else those of the socket. Returns 0 at the end of the
@@ -108,7 +108,7 @@ impl Link {
     {
         let read = self.next(buffer);
         if let Ok(count) = &read {
-            self.patience.came(*count, moment);
+            self.idle_timeout.came(*count, moment);
         }
         read
     }
@@ -128,9 +128,9 @@ impl Link {
     }
 
     /// Frees the memory for reading ahead, if no bytes are left in it.
-    pub(crate) fn rest(&mut self) {
+    pub(crate) fn release(&mut self) {
         if self.ahead.is_empty() {
-            self.ahead.rest();
+            self.ahead.release();
         }
     }
 
@@ -139,19 +139,19 @@ impl Link {
         ensures { ReadsAtMost result buffer.new }
     {
         let read = self.stream.read(buffer);
-        self.heed(&read, buffer.len());
+        self.record_read(&read, buffer.len());
         read
     }
 
     /// Reads from the socket into the buffer for reading ahead.
     fn read_ahead(&mut self) -> io::Result<usize> {
         let read = self.ahead.read(&mut self.stream);
-        self.heed(&read, AHEAD);
+        self.record_read(&read, READ_AHEAD);
         read
     }
 
     /// Records the result of a read that asked for `asked` bytes. If it gave fewer, no more are there.
-    fn heed(&mut self, read: &io::Result<usize>, asked: usize) {
+    fn record_read(&mut self, read: &io::Result<usize>, asked: usize) {
         match read {
             Ok(count) => {
                 self.much = *count == asked;
@@ -173,7 +173,7 @@ impl Link {
             parts => self.stream.write_vectored(parts),
         };
         match &written {
-            Ok(_) => self.patience.went(moment),
+            Ok(_) => self.idle_timeout.went(moment),
             Err(error) => self.writable = error.kind() != ErrorKind::WouldBlock,
         }
         written

@@ -5,10 +5,10 @@ ghost use Rattle.wires.specs.Poll.{HasCause, IsCount};
 
 use crate::call_history::{Call, CallHistory};
 use crate::connection_log::{CloseReason, ConnectionEvent, ConnectionLog};
-use crate::entrance::{Entrance, Entrances, Listening};
 use crate::keepalive::probe;
 use crate::lingering::Lingerings;
 use crate::link::Link;
+use crate::listen_socket::{ListenSocket, ListenSockets, Listening};
 use base_types::Moment;
 use mio::{Events, Interest, Poll, Token};
 use slab::Slab;
@@ -38,7 +38,7 @@ const FIRST_LISTENER: usize = usize::MAX;
 #[derive(Drop)]
 pub struct Sockets {
     alloc: Global,
-    entrances: Entrances,
+    listen_sockets: ListenSockets,
     links: Slab<Link>,
     /// The connections that were given up, and are read for a while.
     lingerings: Lingerings,
@@ -62,16 +62,16 @@ pub struct Sockets {
 /// Hands each socket the events that a wait reported for it.
 fn tell(
     events: &Events,
-    entrances: &mut Entrances,
+    listen_sockets: &mut ListenSockets,
     links: &mut Slab<Link>,
     lingerings: &mut Lingerings,
 ) {
     for event in events.iter() {
         let Token(key) = event.token();
         match links.get_mut(key) {
-            Some(link) => link.told(event),
-            None if lingerings.told(event) => {}
-            None => entrances.told(FIRST_LISTENER - key),
+            Some(link) => link.notified(event),
+            None if lingerings.notified(event) => {}
+            None => listen_sockets.notified(FIRST_LISTENER - key),
         }
     }
 }
@@ -80,7 +80,7 @@ fn tell(
 fn rest(links: &mut Slab<Link>) {
     for key in 0..links.capacity() {
         if let Some(link) = links.get_mut(key) {
-            link.rest();
+            link.release();
         }
     }
 }
@@ -92,7 +92,7 @@ impl Sockets {
     {
         Ok(Sockets {
             alloc,
-            entrances: Entrances::new(alloc),
+            listen_sockets: ListenSockets::new(alloc),
             links: Slab::new(alloc),
             lingerings: Lingerings::new(alloc)?,
             events: Events::with_capacity(alloc, EVENTS)?,
@@ -112,14 +112,14 @@ impl Sockets {
     pub fn listen(&mut self, net: &impl Net, listening: Listening) -> io::Result<()>
         ensures { self.new.history ≡ self.old.history }
     {
-        let token = Token(FIRST_LISTENER - self.entrances.count());
-        let entrance = Entrance::open(net, &self.poll, listening, token)?;
-        self.entrances.push(entrance)
+        let token = Token(FIRST_LISTENER - self.listen_sockets.count());
+        let listen_socket = ListenSocket::open(net, &self.poll, listening, token)?;
+        self.listen_sockets.push(listen_socket)
     }
 
     /// The addresses at which it listens, in the order in which they were opened.
     pub fn listening(&self) -> io::Result<Vec<Listening>> {
-        self.entrances.listening(self.alloc)
+        self.listen_sockets.listening(self.alloc)
     }
 
     /// Sets the moment by which silence is measured.
@@ -167,7 +167,7 @@ impl Sockets {
         }
         tell(
             &self.events,
-            &mut self.entrances,
+            &mut self.listen_sockets,
             &mut self.links,
             &mut self.lingerings,
         );
@@ -204,7 +204,7 @@ impl Sockets {
         }
     }
 
-    /// Returns the ms until the first peer has no time left or the first allowance is used up, at most
+    /// Returns the ms until the first peer has no time left or the first linger limit is used up, at most
     /// `most`.
     pub fn time_left(&self, most: u64) -> u64 {
         let mut least = self.lingerings.left(self.moment, most);
@@ -242,7 +242,7 @@ impl Sockets {
         ensures failures { self.new.failures ≡ self.old.failures }
         ensures calls { self.new.history ≡ self.old.history }
     {
-        let (mut stream, peer) = self.entrances.accept(door)?;
+        let (mut stream, peer) = self.listen_sockets.accept(door)?;
         stream.set_nodelay(true)?;
         self.poll.registry().register(
             &mut stream,
@@ -260,7 +260,7 @@ impl Sockets {
         ensures failures { self.new.failures ≡ self.old.failures }
         ensures calls { self.new.history ≡ self.old.history }
     {
-        if self.entrances.failed(door) {
+        if self.listen_sockets.failed(door) {
             self.note(ConnectionEvent::Missed(door));
         }
     }
@@ -338,7 +338,7 @@ impl Sockets {
         ensures cause { HasCause self.old.failures self.new.failures result }
         ensures calls { self.new.history ≡ self.old.history }
     {
-        if !self.entrances.may_have(door) {
+        if !self.listen_sockets.may_have(door) {
             return Progress::Waiting;
         }
         let (link, peer) = match self.accept(door) {

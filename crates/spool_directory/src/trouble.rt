@@ -1,7 +1,7 @@
 //! What went wrong while a file was read, without the file's name.
 use crate::fault::Why;
 use journal::PlayFault;
-use recordings::Stray;
+use recordings::Divergence;
 use std::alloc::{AllocError, AllocFailed, Global};
 use std::io;
 
@@ -40,7 +40,7 @@ pub(crate) fn bad_line(number: u64) -> Trouble {
 }
 
 /// The number of the line at which the engine strayed; `number` where it isn't known.
-fn line_of(number: u64, stray: &Stray) -> u64 {
+fn line_of(number: u64, stray: &Divergence) -> u64 {
     match &stray.wanted {
         Some(wanted) => wanted.number,
         None => number,

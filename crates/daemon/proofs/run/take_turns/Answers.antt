@@ -12,7 +12,7 @@ pub loop-preserved : goal.loop-preserved
 loop-preserved g c =
     let (moments, served, count) = c.loop.invariant in
     let moment = c.in_ok-moment.moment in
-    let idles = idles_then c.take_turn.new.server c.heed-pause.new.server c.rest.new.self c.heed-pause.ensures c.rest.ensures.0 in
+    let idles = idles_then c.take_turn.new.server c.write_recording-pause.new.server c.rest.new.self c.write_recording-pause.ensures c.rest.ensures.0 in
     (moments ++ moment ∷ [], one_more moments moment c.args.server.now c.loop.server c.take_turn.new.server c.rest.new.self served c.take_turn.ensures idles, omega (arith, length-append moments (moment ∷ [])))
 
 pub returns-in_err-moment : goal.returns-in_err-moment
@@ -22,7 +22,7 @@ pub returns-in_err-rest : goal.returns-in_err-rest
 returns-in_err-rest g c =
     let (moments, served, count) = c.loop.invariant in
     let moment = c.in_ok-moment.moment in
-    let idles = idles_then c.take_turn.new.server c.heed-pause.new.server c.rest.new.self c.heed-pause.ensures c.rest.ensures.0 in
+    let idles = idles_then c.take_turn.new.server c.write_recording-pause.new.server c.rest.new.self c.write_recording-pause.ensures c.rest.ensures.0 in
     (moments ++ moment ∷ [], one_more moments moment c.args.server.now c.loop.server c.take_turn.new.server c.rest.new.self served c.take_turn.ensures idles, search rules)
 
 pub returns : goal.returns

@@ -1,7 +1,7 @@
 use Rattle.std.proofs.Common.{◌≡◌, ◌∙◌, ◌++◌, List, ℕ, sym, ap, subst, rules}
 use Rattle.journal.specs.File.{KeepsPlayed}
 use Rattle.journal.proofs.Filed.{kept_lines, keeps_turn}
-use Rattle.journal.proofs.Noted.{turns_as}
+use Rattle.journal.proofs.RecordingWire.{turns_as}
 use Rattle.journal.proofs.Played.{no_notes}
 use Rattle.journal.proofs.filing.file_turn.Goals as goal
 

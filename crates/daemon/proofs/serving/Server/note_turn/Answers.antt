@@ -1,4 +1,4 @@
-use Rattle.daemon.proofs.Noted.{lines_then, journal_then}
+use Rattle.daemon.proofs.RecordingWire.{lines_then, journal_then}
 use Rattle.daemon.proofs.serving.Server.note_turn.Goals as goal
 
 pub returns-clause-notes : goal.returns-clause-notes

@@ -1,7 +1,7 @@
 use Rattle.std.proofs.Common.{◌≡◌, ◌∷◌, [], ◌∙◌, refl, ap, subst, ◌++◌}
 use Rattle.journal.specs.declared.gate.Pass.{Pass}
 use Rattle.journal.specs.Passing.{calls_in, passed, ArePassed}
-use Rattle.daemon.proofs.Noted.{are_noted}
+use Rattle.daemon.proofs.RecordingWire.{are_noted}
 use Rattle.daemon.proofs.Gates.{are_called, are_passed, are_untold}
 use Rattle.daemon.proofs.serving.Server.run_turn.Goals as goal
 

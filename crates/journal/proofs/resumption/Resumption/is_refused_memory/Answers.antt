@@ -1,5 +1,5 @@
 use Rattle.std.proofs.Common.{refl, ap}
-use Rattle.journal.proofs.Noted.{turns_as}
+use Rattle.journal.proofs.RecordingWire.{turns_as}
 use Rattle.journal.proofs.resumption.Resumption.is_refused_memory.Goals as goal
 
 pub returns-then-self : goal.returns-then-self

@@ -4,9 +4,9 @@ ghost use Rattle.std.specs.Io.Slices.{io_slices_bytes};
 ghost use Rattle.wires.specs.Poll.{Accepts, Reads, Writes, Closes, bytes_read, IsCount};
 ghost use Rattle.recordings.specs.Noting.{NoteState, Notes, NotesComments, EndsTurn, with_note, restarted_line};
 
-use crate::blanked::Blanked;
-use crate::blanker::Blanker;
-use crate::note_lines::NoteLines;
+use crate::recorded_lines::RecordedLines;
+use crate::redacted_read::RedactedRead;
+use crate::redactor::Redactor;
 use crate::sum::sum_of_front;
 use base_types::Moment;
 use std::alloc::{AllocError, Global};
@@ -17,17 +17,17 @@ use wires::{Door, Progress, Wire, WireId};
 /// The notes of calls: their lines since the last `clear`. `None` if no lines are kept, or memory for one was
 /// refused.
 #[derive(Drop)]
-pub struct NoteText {
-    lines: NoteLines,
+pub struct RecordedText {
+    lines: RecordedLines,
     /// The bytes of the last read, without documents, if documents are left out.
-    blanked: Blanked,
+    redacted: RedactedRead,
     /// Whether the octets of documents are left out, and the sums of the bytes that devices get too.
     heads: bool,
     /// The connections, if documents are left out.
-    blanker: Blanker,
+    redactor: Redactor,
 }
 
-impl Model for NoteText {
+impl Model for RecordedText {
     ghost use Rattle.recordings.specs.Noting.{NoteState};
 
     ghost Value = { NoteState };
@@ -38,21 +38,21 @@ impl Model for NoteText {
 /// A wire that passes each call to another wire, and notes it, unless the call would have to wait or is an
 /// accept without a connection.
 #[derive(Drop)]
-pub struct Noted<W: Wire> {
+pub struct RecordingWire<W: Wire> {
     pub wire: W,
-    pub notes: NoteText,
+    pub notes: RecordedText,
 }
 
-impl NoteText {
+impl RecordedText {
     /// Creates notes that keep no lines.
-    pub fn new(alloc: Global) -> NoteText
+    pub fn new(alloc: Global) -> RecordedText
         ensures { result ≡ record { lines = None; heads = false } }
     {
-        NoteText {
-            lines: NoteLines::new(alloc),
-            blanked: Blanked::new(alloc),
+        RecordedText {
+            lines: RecordedLines::new(alloc),
+            redacted: RedactedRead::new(alloc),
             heads: false,
-            blanker: Blanker::new(alloc),
+            redactor: Redactor::new(alloc),
         }
     }
 
@@ -134,7 +134,7 @@ impl NoteText {
         ensures { self.new ≡ self.old }
     {
         match answer {
-            Progress::Done(id) => self.blanker.open(id, door),
+            Progress::Done(id) => self.redactor.open(id, door),
             Progress::Waiting | Progress::End | Progress::Fault => Ok(()),
         }
     }
@@ -154,19 +154,19 @@ impl NoteText {
     fn read_heads(&mut self, id: WireId, bytes: &[u8])
         ensures { self.new.heads ≡ self.old.heads }
     {
-        if self.blank(id, bytes).is_err() {
+        if self.redact(id, bytes).is_err() {
             self.stop();
             return;
         }
-        self.lines.came(id, &self.blanked);
+        self.lines.came(id, &self.redacted);
     }
 
     /// Stores bytes that were read, without documents. The only error is out of memory.
-    fn blank(&mut self, id: WireId, bytes: &[u8]) -> Result<(), AllocError>
+    fn redact(&mut self, id: WireId, bytes: &[u8]) -> Result<(), AllocError>
         ensures { self.new ≡ self.old }
     {
-        self.blanked.clear();
-        self.blanker.blank(id, bytes, &mut self.blanked)
+        self.redacted.clear();
+        self.redactor.redact(id, bytes, &mut self.redacted)
     }
 
     /// Notes a write with its answer.
@@ -187,7 +187,7 @@ impl NoteText {
 
     /// Returns whether the sums of a connection's writes are noted.
     fn notes_sum(&self, id: WireId) -> bool {
-        self.lines.keeps() && !(self.heads && self.blanker.is_device(id))
+        self.lines.keeps() && !(self.heads && self.redactor.is_device(id))
     }
 
     /// Notes the close of a connection.
@@ -195,24 +195,24 @@ impl NoteText {
         ensures { Notes (Closes id) self.old self.new }
     {
         self.lines.closed(id);
-        self.blanker.close(id);
+        self.redactor.close(id);
     }
 }
 
-impl<W: Wire> Noted<W> {
+impl<W: Wire> RecordingWire<W> {
     /// Creates a wire of which nothing is noted.
-    pub fn new(alloc: Global, wire: W) -> Noted<W>
+    pub fn new(alloc: Global, wire: W) -> RecordingWire<W>
         ensures wire { result.wire ≡ wire }
         ensures notes { result.notes ≡ record { lines = None; heads = false } }
     {
-        Noted {
+        RecordingWire {
             wire,
-            notes: NoteText::new(alloc),
+            notes: RecordedText::new(alloc),
         }
     }
 }
 
-impl<W: Wire> Wire for Noted<W> {
+impl<W: Wire> Wire for RecordingWire<W> {
     ghost polled = { λ old poll new. W.polled old.wire poll new.wire × Notes poll old.notes new.notes };
 
     ghost faults = { λ n. W.faults n.wire };

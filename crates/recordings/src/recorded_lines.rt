@@ -3,10 +3,10 @@ ghost use Rattle.std.specs.Prelude.{◌≡◌, ◌⊎◌, ℕ, List, Some, None,
 ghost use Rattle.wires.specs.Poll.{Accepts, Reads, Writes, Closes, bytes_read, IsCount};
 ghost use Rattle.recordings.specs.Noting.{note_of, written_note, end_of, restarted_line, with_note, NotesLine, NotesComments, EndsTurn};
 
-use crate::blanked::Blanked;
 use crate::comments::are_comments;
 use crate::note::{put_accept, put_end, put_read, put_write};
-use crate::write::{put_blanked, put_line};
+use crate::redacted_read::RedactedRead;
+use crate::write::{put_line, put_redacted};
 use base_types::Moment;
 use std::alloc::{AllocError, Global};
 use std::marker::Model;
@@ -14,12 +14,12 @@ use wires::{Door, Progress, WireId};
 
 /// The lines of calls since the last `clear`. `None` if no lines are kept, or memory for one was refused.
 #[derive(Drop)]
-pub(crate) struct NoteLines {
+pub(crate) struct RecordedLines {
     text: Vec<u8>,
     keeps: bool,
 }
 
-impl Model for NoteLines {
+impl Model for RecordedLines {
     ghost use Rattle.std.specs.Prelude.{ℕ, List, Option, Some, None, if◌then◌else◌};
 
     ghost Value = { Option (List ℕ) };
@@ -27,12 +27,12 @@ impl Model for NoteLines {
     ghost view = { λ n. if n.keeps then Some n.text.items else None };
 }
 
-impl NoteLines {
+impl RecordedLines {
     /// Creates a store that keeps no lines.
-    pub(crate) fn new(alloc: Global) -> NoteLines
+    pub(crate) fn new(alloc: Global) -> RecordedLines
         ensures { result ≡ None }
     {
-        NoteLines {
+        RecordedLines {
             text: Vec::new(alloc),
             keeps: false,
         }
@@ -124,8 +124,8 @@ impl NoteLines {
     }
 
     /// Notes the bytes of a read, without documents.
-    pub(crate) fn came(&mut self, id: WireId, blanked: &Blanked) {
-        if self.keeps && put_blanked(&mut self.text, id, blanked).is_err() {
+    pub(crate) fn came(&mut self, id: WireId, redacted: &RedactedRead) {
+        if self.keeps && put_redacted(&mut self.text, id, redacted).is_err() {
             self.stop();
         }
     }

@@ -9,12 +9,12 @@ use std::io::Read;
 use std::marker::Model;
 
 /// The number of bytes that one read ahead asks for.
-pub(crate) const AHEAD: usize = 65_536;
+pub(crate) const READ_AHEAD: usize = 65_536;
 
 /// Bytes that were read of a socket ahead of need, where many come: one call of the system reads bytes that
 /// are taken by many reads. In clauses it is the list of the bytes that aren't taken yet.
 #[derive(Drop)]
-pub(crate) struct Ahead {
+pub(crate) struct ReadAhead {
     alloc: Global,
     bytes: Vec<u8>,
     /// The range of `bytes` that isn't taken yet.
@@ -22,7 +22,7 @@ pub(crate) struct Ahead {
     end: usize,
 }
 
-impl Model for Ahead {
+impl Model for ReadAhead {
     ghost use Rattle.std.specs.Prelude.{ℕ, List, ◌-◌, ◌≤◌, take, drop, length};
 
     ghost Value = { List ℕ };
@@ -32,10 +32,10 @@ impl Model for Ahead {
     ghost invariant = { λ a. (a.start ≤ a.end) × (a.end ≤ length a.bytes.items) };
 }
 
-impl Ahead {
+impl ReadAhead {
     /// Creates an empty buffer, which takes no memory yet.
-    pub(crate) fn new(alloc: Global) -> Ahead {
-        Ahead {
+    pub(crate) fn new(alloc: Global) -> ReadAhead {
+        ReadAhead {
             alloc,
             bytes: Vec::new(alloc),
             start: 0,
@@ -64,7 +64,7 @@ impl Ahead {
         if self.bytes.is_empty() {
             self.start = 0;
             self.end = 0;
-            match vec![in self.alloc; 0; AHEAD] {
+            match vec![in self.alloc; 0; READ_AHEAD] {
                 Ok(bytes) => self.bytes = bytes,
                 Err(AllocError) => return false,
             }
@@ -83,7 +83,7 @@ impl Ahead {
     }
 
     /// Frees the buffer's memory. Bytes that weren't taken are dropped.
-    pub(crate) fn rest(&mut self) {
+    pub(crate) fn release(&mut self) {
         self.start = 0;
         self.end = 0;
         self.bytes = Vec::new(self.alloc);

@@ -13,7 +13,7 @@ use wires::WireId;
 /// A listener that stores the lines of each dispatch and of each cancel, as a trace prints them; or all
 /// notes, for a log.
 #[derive(Drop)]
-pub(crate) struct Told {
+pub(crate) struct Observation {
     alloc: Global,
     shows: Shows,
     names: Vec<Text>,
@@ -24,7 +24,7 @@ pub(crate) struct Told {
     unplanned: bool,
 }
 
-impl Listener for Told {
+impl Listener for Observation {
     ghost told = { λ old note new. Unit {0} };
 
     fn dispatched(&mut self, made: &Dispatched<'_>) {
@@ -56,10 +56,10 @@ impl Listener for Told {
     }
 }
 
-impl Told {
+impl Observation {
     /// Creates a listener without notes. `names` are those of the devices.
-    pub(crate) fn new(alloc: Global, shows: Shows, names: Vec<Text>) -> Told {
-        Told {
+    pub(crate) fn new(alloc: Global, shows: Shows, names: Vec<Text>) -> Observation {
+        Observation {
             alloc,
             shows,
             names,

@@ -17,7 +17,7 @@ pub struct Listening {
 /// A listener of a door, and whether a connection may wait at it. After an accept that would have to wait, no
 /// accept is tried until the system reports a connection. A failed accept is tried again each time.
 #[derive(Drop)]
-pub(crate) struct Entrance {
+pub(crate) struct ListenSocket {
     door: Door,
     listener: TcpListener,
     ready: bool,
@@ -25,18 +25,18 @@ pub(crate) struct Entrance {
     failing: bool,
 }
 
-impl Entrance {
+impl ListenSocket {
     /// Opens the listener, and registers it at the poll under `token`.
     pub(crate) fn open(
         net: &impl Net,
         poll: &Poll,
         listening: Listening,
         token: Token,
-    ) -> io::Result<Entrance> {
+    ) -> io::Result<ListenSocket> {
         let mut listener = TcpListener::bind(net, listening.address)?;
         poll.registry()
             .register(&mut listener, token, Interest::READABLE)?;
-        Ok(Entrance {
+        Ok(ListenSocket {
             door: listening.door,
             listener,
             ready: true,
@@ -53,7 +53,7 @@ impl Entrance {
     }
 
     /// Records that a connection may wait at the listener.
-    fn told(&mut self) {
+    fn notified(&mut self) {
         self.ready = true;
     }
 
@@ -98,49 +98,49 @@ fn has_to_wait(accepted: &io::Result<(TcpStream, SocketAddr)>) -> bool {
 
 /// The listeners of all doors, in the order in which they were opened. A door may have several.
 #[derive(Drop)]
-pub(crate) struct Entrances {
-    entrances: Vec<Entrance>,
+pub(crate) struct ListenSockets {
+    listen_sockets: Vec<ListenSocket>,
 }
 
-impl Entrances {
+impl ListenSockets {
     /// Creates an empty list of listeners.
-    pub(crate) fn new(alloc: Global) -> Entrances {
-        Entrances {
-            entrances: Vec::new(alloc),
+    pub(crate) fn new(alloc: Global) -> ListenSockets {
+        ListenSockets {
+            listen_sockets: Vec::new(alloc),
         }
     }
 
     /// Returns the number of listeners.
     pub(crate) fn count(&self) -> usize {
-        self.entrances.len()
+        self.listen_sockets.len()
     }
 
     /// Appends a listener.
-    pub(crate) fn push(&mut self, entrance: Entrance) -> io::Result<()> {
-        self.entrances.push(entrance)?;
+    pub(crate) fn push(&mut self, listen_socket: ListenSocket) -> io::Result<()> {
+        self.listen_sockets.push(listen_socket)?;
         Ok(())
     }
 
     /// The address of each listener, in the order in which they were opened.
     pub(crate) fn listening(&self, alloc: Global) -> io::Result<Vec<Listening>> {
         let mut all = Vec::new(alloc);
-        for entrance in &self.entrances {
-            all.push(entrance.listening()?)?;
+        for listen_socket in &self.listen_sockets {
+            all.push(listen_socket.listening()?)?;
         }
         Ok(all)
     }
 
     /// Records that a connection may wait at the listener at a place.
-    pub(crate) fn told(&mut self, place: usize) {
-        if let Some(entrance) = self.entrances.get_mut(place) {
-            entrance.told();
+    pub(crate) fn notified(&mut self, place: usize) {
+        if let Some(listen_socket) = self.listen_sockets.get_mut(place) {
+            listen_socket.notified();
         }
     }
 
     /// Returns whether a connection may wait at a door.
     pub(crate) fn may_have(&self, door: Door) -> bool {
-        for entrance in &self.entrances {
-            if entrance.door == door && entrance.ready {
+        for listen_socket in &self.listen_sockets {
+            if listen_socket.door == door && listen_socket.ready {
                 return true;
             }
         }
@@ -149,9 +149,9 @@ impl Entrances {
 
     /// Accepts the next connection that waits at a door.
     pub(crate) fn accept(&mut self, door: Door) -> io::Result<(TcpStream, SocketAddr)> {
-        for entrance in &mut self.entrances {
-            if entrance.door == door {
-                let accepted = entrance.accept();
+        for listen_socket in &mut self.listen_sockets {
+            if listen_socket.door == door {
+                let accepted = listen_socket.accept();
                 if !has_to_wait(&accepted) {
                     return accepted;
                 }
@@ -164,9 +164,9 @@ impl Entrances {
     /// that didn't fail.
     pub(crate) fn failed(&mut self, door: Door) -> bool {
         let mut first = false;
-        for entrance in &mut self.entrances {
-            if entrance.door == door {
-                first |= entrance.failed();
+        for listen_socket in &mut self.listen_sockets {
+            if listen_socket.door == door {
+                first |= listen_socket.failed();
             }
         }
         first

@@ -7,14 +7,14 @@ use std::marker::Model;
 /// Bytes that were read, and octets of documents after them that are left out; zeros take their place. In
 /// clauses it is the number of bytes that were read.
 #[derive(Drop)]
-pub(crate) struct Blanked {
+pub(crate) struct RedactedRead {
     /// The bytes, with zeros for the octets that are left out between them.
     bytes: Vec<u8>,
     /// The number of octets after the bytes that are left out.
     zeros: usize,
 }
 
-impl Model for Blanked {
+impl Model for RedactedRead {
     ghost use Rattle.std.specs.Prelude.{ℕ, ◌+◌, length};
 
     ghost Value = { ℕ };
@@ -22,12 +22,12 @@ impl Model for Blanked {
     ghost view = { λ b. length b.bytes.items + b.zeros };
 }
 
-impl Blanked {
+impl RedactedRead {
     /// Creates the record of a read of no bytes.
-    pub(crate) fn new(alloc: Global) -> Blanked
+    pub(crate) fn new(alloc: Global) -> RedactedRead
         ensures { result ≡ 0 }
     {
-        Blanked {
+        RedactedRead {
             bytes: Vec::new(alloc),
             zeros: 0,
         }

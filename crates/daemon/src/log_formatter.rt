@@ -1,10 +1,10 @@
 //! The lines of a log for the turns of a server.
 use crate::arrivals::Arrivals;
 use crate::calendar::Calendar;
-use crate::ends::Begun;
-use crate::last_plan::LastPlan;
-use crate::log::Lines;
+use crate::log::LogLines;
+use crate::logged_plan::LoggedPlan;
 use crate::overdue::Overdue;
+use crate::running_jobs::RunningJobs;
 use base_types::{Moment, Text};
 use journal::JournaledEngine;
 use server::LoggedNote;
@@ -14,28 +14,28 @@ use std::alloc::{AllocError, Global};
 /// What the lines of a log need besides the turn's own record: the names of a server's devices, the jobs that
 /// came, those that devices began, the last plan, and the date.
 #[derive(Drop)]
-pub struct Chronicle {
+pub struct LogFormatter {
     alloc: Global,
     names: Vec<Text>,
     arrivals: Arrivals,
-    begun: Begun,
+    begun: RunningJobs,
     overdue: Overdue,
-    plan: LastPlan,
+    plan: LoggedPlan,
     calendar: Option<Calendar>,
     /// Whether the lines and the comments of the turn have the date.
     dated: bool,
 }
 
-impl Chronicle {
-    /// Creates a chronicle of an engine, without a plan and without a date. `names` are those of the devices.
-    pub fn new(alloc: Global, names: Vec<Text>, engine: &JournaledEngine) -> Chronicle {
-        Chronicle {
+impl LogFormatter {
+    /// Creates a formatter of an engine, without a plan and without a date. `names` are those of the devices.
+    pub fn new(alloc: Global, names: Vec<Text>, engine: &JournaledEngine) -> LogFormatter {
+        LogFormatter {
             alloc,
             names,
             arrivals: Arrivals::new(alloc, engine),
-            begun: Begun::new(alloc),
+            begun: RunningJobs::new(alloc),
             overdue: Overdue::new(alloc),
-            plan: LastPlan::new(alloc),
+            plan: LoggedPlan::new(alloc),
             calendar: None,
             dated: false,
         }
@@ -69,7 +69,7 @@ impl Chronicle {
         let ended = self.begun.take_ended(self.alloc, engine)?;
         let late = self.overdue.take(engine, self.begun.jobs(), moment)?;
         let date = self.date()?;
-        let mut lines = Lines::new(self.alloc, &self.names, moment);
+        let mut lines = LogLines::new(self.alloc, &self.names, moment);
         lines.add_date(date.as_deref());
         lines.add_comings(visits);
         lines.add_arrivals(&news.came, engine);
@@ -85,7 +85,7 @@ impl Chronicle {
     /// error is out of memory.
     pub(crate) fn comments(&self, visits: &[ConnectionEvent]) -> Result<Vec<u8>, AllocError> {
         let date = self.date()?;
-        let mut lines = Lines::comments(self.alloc, &self.names);
+        let mut lines = LogLines::comments(self.alloc, &self.names);
         lines.add_date(date.as_deref());
         lines.add_comings(visits);
         lines.add_goings(visits);

@@ -1,6 +1,6 @@
 //! The time and the bytes for which a connection that was given up is still read.
 ghost use Rattle.std.specs.Prelude.{◌≡◌, ◌-◌};
-ghost use Rattle.sockets.specs.Allowance.{is_used_up};
+ghost use Rattle.sockets.specs.LingerLimit.{is_used_up};
 
 use base_types::Moment;
 use std::marker::Model;
@@ -14,27 +14,27 @@ const DROPPED: usize = 1_048_576;
 /// The time and the bytes that are left to a peer whose connection was given up. In clauses it is a record of
 /// the moment at which it was given up, and the number of bytes that may still come.
 #[derive(Clone, Copy)]
-pub(crate) struct Allowance {
+pub(crate) struct LingerLimit {
     from: Moment,
     bytes: usize,
 }
 
-impl Model for Allowance {
-    ghost use Rattle.sockets.specs.Allowance.{AllowanceRecord};
+impl Model for LingerLimit {
+    ghost use Rattle.sockets.specs.LingerLimit.{LingerLimitRecord};
 
-    ghost Value = { AllowanceRecord };
+    ghost Value = { LingerLimitRecord };
 
     ghost view = { λ a. record { from = a.from; bytes = a.bytes } };
 
     ghost inverse = { λ a. record { from = a.from; bytes = a.bytes } };
 }
 
-impl Allowance {
-    /// Creates the allowance of a peer whose connection is given up now.
-    pub(crate) fn new(moment: Moment) -> Allowance
+impl LingerLimit {
+    /// Creates the linger limit of a peer whose connection is given up now.
+    pub(crate) fn new(moment: Moment) -> LingerLimit
         ensures { result ≡ record { from = moment; bytes = 1048576 } }
     {
-        Allowance {
+        LingerLimit {
             from: moment,
             bytes: DROPPED,
         }

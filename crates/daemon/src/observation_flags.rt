@@ -8,19 +8,19 @@ use wires::WireId;
 /// A listener that passes its notes on, and records whether it was notified, and whether a growth was
 /// refused.
 #[derive(Drop)]
-pub(crate) struct Witness<N: Listener> {
+pub(crate) struct ObservationFlags<N: Listener> {
     pub(crate) listener: N,
     pub(crate) told: bool,
     pub(crate) refused: bool,
 }
 
-impl<N: Listener> Witness<N> {
+impl<N: Listener> ObservationFlags<N> {
     /// Creates a listener that was not notified yet.
-    pub(crate) fn new(listener: N) -> Witness<N>
+    pub(crate) fn new(listener: N) -> ObservationFlags<N>
         ensures listener { result.listener ≡ listener }
         ensures told { result.told ≡ false }
     {
-        Witness {
+        ObservationFlags {
             listener,
             told: false,
             refused: false,
@@ -28,7 +28,7 @@ impl<N: Listener> Witness<N> {
     }
 }
 
-impl<N: Listener> Listener for Witness<N> {
+impl<N: Listener> Listener for ObservationFlags<N> {
     ghost told = { λ old note new. N.told old.listener note new.listener × (new.told ≡ true) };
 
     fn dispatched(&mut self, made: &Dispatched<'_>) {

@@ -11,7 +11,7 @@ const MOST_UNLOOKED: u32 = 255;
 /// the next such look three, then seven, up to [`MOST_UNLOOKED`]. A look that finds an event halves the
 /// number.
 #[derive(Drop)]
-pub(crate) struct Lookout {
+pub(crate) struct BusyPoll {
     /// Whether there was work since the last wait.
     worked: bool,
     /// The number of waits without a look after the last look.
@@ -20,10 +20,10 @@ pub(crate) struct Lookout {
     left: u32,
 }
 
-impl Lookout {
-    /// Creates a lookout before any work.
-    pub(crate) fn new() -> Lookout {
-        Lookout {
+impl BusyPoll {
+    /// Creates the record before any work.
+    pub(crate) fn new() -> BusyPoll {
+        BusyPoll {
             worked: false,
             unlooked: 0,
             left: 0,

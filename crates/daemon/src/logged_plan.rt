@@ -1,4 +1,4 @@
-//! [`LastPlan`] keeps what the log reports of the last plan, and decides whether it gets a line.
+//! [`LoggedPlan`] keeps what the log reports of the last plan, and decides whether it gets a line.
 use base_types::{Cause, JobId, Priority, Stranded};
 use plan_text::{put_class_word, put_stranded_word};
 use std::alloc::{AllocError, Global};
@@ -10,7 +10,7 @@ use std::mem;
 /// before, or for another cause. While a job waits the server plans each second, and a line for each plan, or
 /// a word for each stranded job in each line, would fill a log with what it has already.
 #[derive(Drop)]
-pub(crate) struct LastPlan {
+pub(crate) struct LoggedPlan {
     alloc: Global,
     /// The words for the totals of the classes.
     totals: Vec<u8>,
@@ -30,10 +30,10 @@ fn has(jobs: &[Stranded], job: JobId, cause: Cause) -> bool {
     }
 }
 
-impl LastPlan {
+impl LoggedPlan {
     /// Creates the record without a plan.
-    pub(crate) fn new(alloc: Global) -> LastPlan {
-        LastPlan {
+    pub(crate) fn new(alloc: Global) -> LoggedPlan {
+        LoggedPlan {
             alloc,
             totals: Vec::new(alloc),
             stranded: Vec::new(alloc),

@@ -1,7 +1,7 @@
 //! The jobs that devices began, and how they end.
 ghost use Rattle.std.specs.Prelude.{◌≡◌, ◌++◌, [], IfOk, OnOk, OnErr, filter, flat_map, map, not, option_map};
 ghost use Rattle.std.specs.Option.{option_copied};
-ghost use Rattle.daemon.specs.Ends.{begun_by, ended_in, has_job, is_at, is_on};
+ghost use Rattle.daemon.specs.RunningJobs.{begun_by, ended_in, has_job, is_at, is_on};
 
 use base_types::{Activity, DeviceNow, JobId};
 use dispatcher::Started;
@@ -21,11 +21,11 @@ pub(crate) struct Ended {
 /// The jobs that devices began and that hadn't ended at the last call of `take_ended`. In clauses it is their
 /// list.
 #[derive(Drop)]
-pub(crate) struct Begun {
+pub(crate) struct RunningJobs {
     started: Vec<Started>,
 }
 
-impl Model for Begun {
+impl Model for RunningJobs {
     ghost use Rattle.std.specs.Prelude.{List};
     ghost use Rattle.print_room.specs.declared.started.Started.{Started};
 
@@ -79,12 +79,12 @@ fn end_of<P: Planner + Drop>(engine: &Engine<P>, started: Started) -> Ended
     }
 }
 
-impl Begun {
+impl RunningJobs {
     /// Creates an empty list.
-    pub(crate) fn new(alloc: Global) -> Begun
+    pub(crate) fn new(alloc: Global) -> RunningJobs
         ensures { result ≡ [] }
     {
-        Begun {
+        RunningJobs {
             started: Vec::new(alloc),
         }
     }

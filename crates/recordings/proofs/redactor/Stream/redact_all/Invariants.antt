@@ -1,5 +1,5 @@
 use Rattle.std.proofs.Common.{length, ◌+◌, ◌≡◌}
-use Rattle.recordings.proofs.blanker.Stream.blank_all.Given as goal
+use Rattle.recordings.proofs.redactor.Stream.redact_all.Given as goal
 
 abbrev pub invariant-loop-rest : goal.invariant-loop-rest
 invariant-loop-rest l = l.output + length l.rest ≡ l.initial.output + length l.bytes

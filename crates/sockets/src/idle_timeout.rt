@@ -1,21 +1,21 @@
 //! The time for which a silent peer is awaited.
 ghost use Rattle.std.specs.Prelude.{◌≡◌, ◌-◌, false};
-ghost use Rattle.sockets.specs.Patience.{after_coming, left_at};
+ghost use Rattle.sockets.specs.IdleTimeout.{after_coming, left_at};
 
 use base_types::Moment;
 use std::marker::Model;
 
 /// The time for which a peer may be silent, and the time for [`PART`] bytes of it, in ms.
-const PATIENCE: u64 = 60_000;
+const IDLE_MILLIS: u64 = 60_000;
 
-/// The number of a peer's bytes that may take [`PATIENCE`] together, counted from the first of them.
+/// The number of a peer's bytes that may take [`IDLE_MILLIS`] together, counted from the first of them.
 const PART: usize = 4096;
 
 /// The time that a peer has used up. Of a device only the time until its first byte counts; it may be silent
 /// from then on. In clauses it is a record of the moment from which the time counts, the number of bytes that
 /// came since (0 while the peer is silent), whether the peer is a device, and whether a byte of it came.
 #[derive(Clone, Copy)]
-pub(crate) struct Patience {
+pub(crate) struct IdleTimeout {
     from: Moment,
     came: usize,
     device: bool,
@@ -23,22 +23,22 @@ pub(crate) struct Patience {
     spoke: bool,
 }
 
-impl Model for Patience {
-    ghost use Rattle.sockets.specs.Patience.{PatienceRecord};
+impl Model for IdleTimeout {
+    ghost use Rattle.sockets.specs.IdleTimeout.{IdleTimeoutRecord};
 
-    ghost Value = { PatienceRecord };
+    ghost Value = { IdleTimeoutRecord };
 
     ghost view = { λ p. record { from = p.from; came = p.came; device = p.device; spoke = p.spoke } };
 
     ghost inverse = { λ p. record { from = p.from; came = p.came; device = p.device; spoke = p.spoke } };
 }
 
-impl Patience {
+impl IdleTimeout {
     /// Creates the record of a peer whose connection was just accepted. `device` indicates whether it is a device.
-    pub(crate) fn new(moment: Moment, device: bool) -> Patience
+    pub(crate) fn new(moment: Moment, device: bool) -> IdleTimeout
         ensures { result ≡ record { from = moment; came = 0; device = device; spoke = false } }
     {
-        Patience {
+        IdleTimeout {
             from: moment,
             came: 0,
             device,
@@ -80,6 +80,6 @@ impl Patience {
             return None;
         }
         let passed = moment.millis().saturating_sub(self.from.millis());
-        Some(PATIENCE.saturating_sub(passed))
+        Some(IDLE_MILLIS.saturating_sub(passed))
     }
 }

@@ -13,14 +13,14 @@ use wires::{Door, Progress, Wire, WireId};
 
 /// A line of a turn, with its number in its file.
 #[derive(Drop)]
-pub struct Scripted {
+pub struct NumberedEntry {
     pub number: u64,
     pub entry: Entry,
 }
 
 /// The bytes that a connection got, or its close.
 #[derive(Drop)]
-pub enum Moved {
+pub enum ReplayedOutput {
     Got { id: WireId, bytes: Vec<u8> },
     Gone(WireId),
 }
@@ -42,32 +42,32 @@ pub enum ServerCall {
 
 /// The place where a server makes a call that isn't the recorded one.
 #[derive(Drop)]
-pub struct Stray {
+pub struct Divergence {
     /// The next line, if the turn has one more.
-    pub wanted: Option<Scripted>,
+    pub wanted: Option<NumberedEntry>,
     pub did: ServerCall,
 }
 
 /// A wire that answers each call by the next line of a turn, if that is the line of such a call. Any other
 /// call would have to wait.
 #[derive(Drop)]
-pub struct Script {
+pub struct ReplayWire {
     alloc: Global,
     /// The lines of the turn.
-    lines: Vec<Scripted>,
+    lines: Vec<NumberedEntry>,
     /// The number of lines that were played.
     played: usize,
     /// The bytes that connections got, and their closes.
-    moved: Vec<Moved>,
+    moved: Vec<ReplayedOutput>,
     /// The first call that isn't the recorded one.
     did: Option<ServerCall>,
     faults: u64,
 }
 
-impl Script {
+impl ReplayWire {
     /// Creates the script of a turn without lines.
-    pub fn new(alloc: Global) -> Script {
-        Script {
+    pub fn new(alloc: Global) -> ReplayWire {
+        ReplayWire {
             alloc,
             lines: Vec::new(alloc),
             played: 0,
@@ -79,7 +79,7 @@ impl Script {
 
     /// Appends a line of the turn. The only error is out of memory.
     pub fn add(&mut self, number: u64, entry: Entry) -> Result<(), AllocError> {
-        self.lines.push(Scripted { number, entry })?;
+        self.lines.push(NumberedEntry { number, entry })?;
         Ok(())
     }
 
@@ -94,19 +94,19 @@ impl Script {
     }
 
     /// Removes and returns the bytes that connections got in the turn, and their closes.
-    pub fn take_moved(&mut self) -> Vec<Moved> {
+    pub fn take_moved(&mut self) -> Vec<ReplayedOutput> {
         mem::replace(&mut self.moved, Vec::new(self.alloc))
     }
 
     /// Ends the turn. Returns the place where the server made a call that isn't the recorded one, if it did.
-    pub fn end_turn(&mut self) -> Option<Stray> {
+    pub fn end_turn(&mut self) -> Option<Divergence> {
         let lines = mem::replace(&mut self.lines, Vec::new(self.alloc));
         let played = mem::replace(&mut self.played, 0);
         let did = mem::replace(&mut self.did, None);
         let wanted = nth(lines, played);
         match did {
-            Some(did) => Some(Stray { wanted, did }),
-            None if wanted.is_some() => Some(Stray {
+            Some(did) => Some(Divergence { wanted, did }),
+            None if wanted.is_some() => Some(Divergence {
                 wanted,
                 did: ServerCall::Nothing,
             }),
@@ -154,7 +154,7 @@ impl Script {
     }
 
     /// Stores the bytes that a connection got, or its close.
-    fn keep(&mut self, moved: Moved)
+    fn keep(&mut self, moved: ReplayedOutput)
         ensures { self.new.faults ≡ self.old.faults }
     {
         if self.moved.push(moved).is_err() {
@@ -182,7 +182,7 @@ impl Script {
             return Progress::Waiting;
         }
         self.pass();
-        self.keep(Moved::Got { id, bytes });
+        self.keep(ReplayedOutput::Got { id, bytes });
         Progress::Done(count)
     }
 
@@ -229,11 +229,11 @@ fn read_into(buffer: &mut [u8], bytes: &[u8], zeros: usize) -> usize
 }
 
 /// The element at a place.
-fn nth(lines: Vec<Scripted>, place: usize) -> Option<Scripted> {
+fn nth(lines: Vec<NumberedEntry>, place: usize) -> Option<NumberedEntry> {
     lines.into_iter().nth(place)
 }
 
-impl Wire for Script {
+impl Wire for ReplayWire {
     ghost polled = { λ old poll new. Unit {0} };
 
     ghost faults = { λ s. s.faults };
@@ -288,7 +288,7 @@ impl Wire for Script {
         match self.next() {
             Some(Entry::Closed(closed)) if *closed == id => {
                 self.pass();
-                self.keep(Moved::Gone(id));
+                self.keep(ReplayedOutput::Gone(id));
             }
             _ => self.strays(ServerCall::Closes(id)),
         }

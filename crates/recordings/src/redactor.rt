@@ -1,9 +1,9 @@
 //! The connections of a server, with the readers that find the octets of documents.
 ghost use Rattle.std.specs.Prelude.{◌≡◌, ◌<◌, ◌≤◌, ◌+◌, OnOk, length};
 
-use crate::blanked::Blanked;
 use crate::http_stream::HttpStream;
 use crate::lpd_stream::LpdStream;
+use crate::redacted_read::RedactedRead;
 use memchr::memchr;
 use std::alloc::{AllocError, Global};
 use wires::{Door, WireId};
@@ -19,16 +19,16 @@ enum Stream {
 
 /// A connection.
 #[derive(Drop)]
-struct Heard {
+struct RedactedConnection {
     id: WireId,
     stream: Stream,
 }
 
 /// The open connections, with their readers.
 #[derive(Drop)]
-pub(crate) struct Blanker {
+pub(crate) struct Redactor {
     alloc: Global,
-    heard: Vec<Heard>,
+    heard: Vec<RedactedConnection>,
 }
 
 /// The number of bytes up to and with the first line feed, or of all bytes.
@@ -59,34 +59,34 @@ impl Stream {
     }
 
     /// Reads a piece, and leaves out the octets of documents. The only error is out of memory.
-    fn blank(&mut self, bytes: &[u8], output: &mut Blanked) -> Result<(), AllocError>
+    fn redact(&mut self, bytes: &[u8], output: &mut RedactedRead) -> Result<(), AllocError>
         ensures { OnOk result (output.new ≡ output.old + length bytes.now) }
     {
         match self {
-            Stream::Http(http) => http.blank(bytes, output),
-            Stream::Lpd(lpd) => lpd.blank(bytes, output),
+            Stream::Http(http) => http.redact(bytes, output),
+            Stream::Lpd(lpd) => lpd.redact(bytes, output),
             Stream::Device => output.keep(bytes),
         }
     }
 
     /// Reads bytes, piece by piece. The only error is out of memory.
-    fn blank_all(&mut self, bytes: &[u8], output: &mut Blanked) -> Result<(), AllocError>
+    fn redact_all(&mut self, bytes: &[u8], output: &mut RedactedRead) -> Result<(), AllocError>
         ensures { OnOk result (output.new ≡ output.old + length bytes.now) }
     {
         let mut rest = bytes;
         while !rest.is_empty() {
             let (piece, later) = rest.split_at(self.piece(rest));
-            self.blank(piece, output)?;
+            self.redact(piece, output)?;
             rest = later;
         }
         Ok(())
     }
 }
 
-impl Blanker {
-    /// Creates a blanker without connections.
-    pub(crate) fn new(alloc: Global) -> Blanker {
-        Blanker {
+impl Redactor {
+    /// Creates a redactor without connections.
+    pub(crate) fn new(alloc: Global) -> Redactor {
+        Redactor {
             alloc,
             heard: Vec::new(alloc),
         }
@@ -99,7 +99,7 @@ impl Blanker {
             Door::Lpd => Stream::Lpd(LpdStream::new(self.alloc)),
             Door::Devices => Stream::Device,
         };
-        self.heard.push(Heard { id, stream })?;
+        self.heard.push(RedactedConnection { id, stream })?;
         Ok(())
     }
 
@@ -124,17 +124,17 @@ impl Blanker {
     }
 
     /// Reads bytes of a connection, and leaves out the octets of documents. The only error is out of memory.
-    pub(crate) fn blank(
+    pub(crate) fn redact(
         &mut self,
         id: WireId,
         bytes: &[u8],
-        output: &mut Blanked,
+        output: &mut RedactedRead,
     ) -> Result<(), AllocError>
         ensures { OnOk result (output.new ≡ output.old + length bytes.now) }
     {
         match self.place_of(id) {
             Some(place) if place < self.heard.len() => {
-                self.heard[place].stream.blank_all(bytes, output)
+                self.heard[place].stream.redact_all(bytes, output)
             }
             _ => output.leave_out(bytes.len()),
         }
