@@ -1,6 +1,6 @@
 //! Accounts: the table of the jobs of each recorded day must equal its file.
 
-use account_tables::AccountTable;
+use queue_reports::AccountTable;
 use playback::Follower;
 use std::alloc::Global;
 

@@ -3,7 +3,7 @@
 use base_types::Moment;
 use jiff::tz::{Offset, TimeZone};
 use playback::Follower;
-use queue_pages::{PageOptions, write_page};
+use queue_reports::{PageOptions, write_page};
 use std::alloc::Global;
 
 /// A page of a recorded day: the file of the day, its moment in ms, and the file with the page's body. Without a moment

@@ -6,7 +6,7 @@ use command_line::Paging;
 use jiff::tz::TimeZone;
 use playback::Follower;
 use program::ExitStatus;
-use queue_pages::{PageOptions, write_page};
+use queue_reports::{PageOptions, write_page};
 use recordings::fill;
 use std::fs::File;
 use std::os::unix::fs::MetadataExt;

@@ -1,7 +1,7 @@
 //! `printd jobs`: the jobs of recorded days.
 use crate::failure::{cannot, cannot_with, out_of_memory, say};
 use crate::input::open;
-use account_tables::AccountTable;
+use queue_reports::AccountTable;
 use playback::{DayFault, Follower, peek};
 use program::ExitStatus;
 use recordings::{GOES_ON, fill};

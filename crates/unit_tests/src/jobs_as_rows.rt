@@ -1,5 +1,5 @@
 //! The jobs of a day as comma-separated values.
-use account_tables::AccountTable;
+use queue_reports::AccountTable;
 use base_types::{Finishings, JobId, Moment, Priority, Sides, Text};
 use job_lists::read_list;
 use job_objects::JobState;

@@ -1,6 +1,6 @@
 //! A queue as metrics.
 use base_types::{DeviceId, Finishings, JobId, Moment, PrinterId, Sides, Text};
-use metrics::metrics_of;
+use queue_reports::metrics_of;
 use queue_views::{
     Clock, DeviceState, DeviceView, JobView, NeedsView, PrinterTotals, PrinterView, Prospect,
     QueueView,

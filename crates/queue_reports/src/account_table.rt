@@ -1,6 +1,6 @@
 //! The table of accounts.
 
-use crate::cell::{FinishingNames, Seconds, state_name, text_cell, time_cell};
+use crate::account_cell::{FinishingNames, Seconds, state_name, text_cell, time_cell};
 use base_types::{Moment, Text};
 use csv::{Writer, WriterBuilder};
 use queue_views::{Clock, DayAccounts, JobAccount};
