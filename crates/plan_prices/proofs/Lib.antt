@@ -11,3 +11,7 @@ pub mod Steps
 pub mod Timetables
 pub mod WayTimetable
 pub mod Starts
+pub mod Renaming
+pub mod Settling
+pub mod Written
+pub mod Latest

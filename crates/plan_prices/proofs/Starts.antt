@@ -51,7 +51,7 @@ slot_in_list c d free (j ∷ js) (suc i) l =
     contains_later (record { job = j; device = d; start = free }) (slots_of_list c d (free + time_on c j d) js) (slot (free + (time_on c j d + busy_time c d (take i js))))
     (rw e at (slot_in_list c d (free + time_on c j d) js i (omega arith)))
 
-slot_from : (c : Class) (d : ℕ) (qs : List (List ℕ)) (n i : ℕ) → n < length qs → i < length (get_or qs n []) → Contains (slots_from c d qs) (record { job = get_or (get_or qs n []) i 0; device = d + n; start = wait_in c (d + n) + busy_time c (d + n) (take i (get_or qs n [])) })
+pub slot_from : (c : Class) (d : ℕ) (qs : List (List ℕ)) (n i : ℕ) → n < length qs → i < length (get_or qs n []) → Contains (slots_from c d qs) (record { job = get_or (get_or qs n []) i 0; device = d + n; start = wait_in c (d + n) + busy_time c (d + n) (take i (get_or qs n [])) })
 slot_from c d [] n i l m = absurd (omega arith)
 slot_from c d (q ∷ qs) zero i l m =
     rw add-zero (contains_left (slots_of_list c d (wait_in c d) q) (slots_from c (suc d) qs) (record { job = get_or q i 0; device = d; start = wait_in c d + busy_time c d (take i q) }) (slot_in_list c d (wait_in c d) q i m))

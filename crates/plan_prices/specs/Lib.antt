@@ -5,3 +5,6 @@ pub mod Timetable
 pub mod Prices
 pub mod Plan
 pub mod Able
+pub mod Order
+pub mod Settling
+pub mod Rising

@@ -9,10 +9,14 @@
 #![tactic(auto)]
 
 mod able;
+mod ends;
+mod exchange;
 mod laws;
+mod order;
 mod plan;
 mod planner;
 mod price_lists;
+mod rising;
 mod way;
 mod way_facts;
 mod way_start;
@@ -25,6 +29,7 @@ pub use laws::{
     best_at_most_timetables, fair_is_best, fair_prices_bounded, timetable_no_better,
     way_is_timetable,
 };
+pub use order::in_order;
 pub use plan::{Plan, PlannedClass};
 pub use planner::Planner;
 pub use price_lists::{PlacePrices, PricedWay, Prices};
