@@ -2,8 +2,9 @@
 //!
 //! Totals, waits and starts are exact. The laws make prices a proof: a way with fair prices is best, and no
 //! timetable, with any gaps, is better than a best way. [`Planner`] is the contract of each planner: a print
-//! room is generic in its planner, so its plans are best by the contract and not by one algorithm. The crate
-//! neither finds a way nor checks one: `plan_solver` finds ways, and `plan_checker` checks them.
+//! room is generic in its planner, so its plans are best by the contract and not by one algorithm. A planner
+//! may leave equal jobs to [`in_order`]. The crate neither finds a way nor checks one: `plan_solver` finds
+//! ways, and `plan_checker` checks them.
 //!
 //! Examples: the plans in `crates/play_examples/data`; tests: `unit_tests`.
 #![tactic(auto)]

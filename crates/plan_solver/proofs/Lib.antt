@@ -8,6 +8,7 @@ pub mod Gaps
 pub mod Laid
 pub mod ColumnGrowth
 pub mod Listed
+pub mod Marked
 pub mod Nearest
 pub mod Opening
 pub mod Proving

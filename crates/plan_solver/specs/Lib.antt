@@ -2,6 +2,7 @@ pub mod Costs
 pub mod Matching
 pub mod Search
 pub mod Layout
+pub mod Marks
 pub mod Entries
 pub mod Answer
 pub mod AllPlaces

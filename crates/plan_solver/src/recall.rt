@@ -58,7 +58,7 @@ fn hint_after(
 /// The hint by a matching of jobs of the next class. The only error is out of memory.
 fn hint_by(alloc: Global, matching: &Matching, entries: &Entries) -> Result<Hint, AllocError> {
     let mut guesses = guesses(alloc, matching, entries.ids.len())?;
-    order_equal(alloc, &entries.costs, &mut guesses)?;
+    order_equal(alloc, entries, &mut guesses)?;
     Ok(Hint::new(guesses))
 }
 

@@ -4,6 +4,7 @@ ghost use Rattle.plan_problem.specs.Class.{Class, IsClass, place_of, time_in};
 ghost use Rattle.plan_solver.specs.Entries.{IsRead, IsReadRow};
 
 use crate::costs::{Costs, TimeRow, UNABLE};
+use crate::marks::marks;
 use base_types::{DeviceId, JobId};
 use plan_problem::ClassProblem;
 use std::alloc::{AllocError, Global};
@@ -110,11 +111,12 @@ fn entry(class: &ClassProblem, place: usize, device: DeviceId) -> Option<u64>
     }
 }
 
-/// The jobs, waits and times of a class problem.
+/// The jobs, waits and times of a class problem, and the marks of the jobs.
 #[derive(Drop)]
 pub(crate) struct Entries {
     pub(crate) ids: Vec<JobId>,
     pub(crate) costs: Costs,
+    pub(crate) marks: Vec<u64>,
 }
 
 /// Reads each time once. The only error is out of memory.
@@ -131,10 +133,9 @@ pub(crate) fn read<T: Times>(alloc: Global, times: &mut T) -> Result<Entries, Al
     for place in 0..ids.len() {
         rows.push(read_row(alloc, times, ids[place], waits.len())?)?;
     }
-    Ok(Entries {
-        ids,
-        costs: Costs { waits, rows },
-    })
+    let costs = Costs { waits, rows };
+    let marks = marks(alloc, &costs)?;
+    Ok(Entries { ids, costs, marks })
 }
 
 /// Reads the times of a job. The only error is out of memory.

@@ -7,6 +7,7 @@ use Rattle.plan_prices.proofs.Bounds.{total_small}
 use Rattle.plan_solver.specs.Answer.{way_of}
 use Rattle.plan_solver.proofs.Filled.{Solves, charged_low, job_in}
 use Rattle.plan_solver.proofs.Fill.{can_fill}
+use Rattle.plan_solver.proofs.Marked.{are_marks}
 use Rattle.plan_solver.proofs.Proving.{IsCharged, is_way, proved_as, total_is}
 use Rattle.plan_solver.proofs.planner.plan.Goals as goal
 
@@ -81,3 +82,6 @@ pub match_all-requires : goal.match_all-requires
 match_all-requires g c =
     let read = c.in_ok-entries.ensures {u = tt} in
     can_fill (g.T.Times.class c.args.times.now) c.in_ok-entries.entries c.read.ensures.class c.requires.able read.read
+
+pub returns-clause-marks : goal.returns-clause-marks
+returns-clause-marks g c = are_marks (g.T.Times.class c.args.times.now) c.in_ok-entries.entries (c.in_ok-entries.ensures {u = tt}).read
