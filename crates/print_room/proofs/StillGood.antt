@@ -67,6 +67,7 @@ module _ (s : State) (last : ℕ) (kept : Option PlanRecord) (begun : List Start
       proved = best.proved;
       in_range = best.in_range;
       bounded = best.bounded;
+      order = best.order;
     }
 
     all_over : (waits : List ℕ) (planned : List PlannedClass) → AllPlannedBest s waits planned → AllPlannedBest (record s { last = last; plan = kept; begun = begun; spool = record s.spool { jobs = jobs } }) waits planned

@@ -9,6 +9,7 @@ use Rattle.plan_prices.specs.Plan.{PlanRecord}
 use Rattle.plan_prices.specs.Total.{IsBest, total_of}
 use Rattle.plan_prices.specs.Timetable.{Slot, IsTimetable, slots_total}
 use Rattle.plan_prices.specs.Prices.{IsProved}
+use Rattle.plan_prices.specs.Order.{KeepsOrder}
 use Rattle.plan_prices.specs.Waits.{waits_after}
 use Rattle.plan_checker.specs.Plan.{IsPlanVerdict}
 use Rattle.plan_checker.specs.declared.verdict.PlanVerdict.TheVariants.{Yes}
@@ -36,7 +37,7 @@ priorities_of state = filter (λ priority. is_some_job (class_of state priority)
 abbrev pub job_of_class : JobRecord → JobOfClass
 job_of_class job = record { id = job.id; needs = job.needs }
 
--- A class, planned under these waits. Its problem has exactly the class's jobs, each with its time on each device that can print it. No way to assign and order the jobs has a smaller total of completion times, and no timetable with gaps has. The prices prove that, and the total is stated. The numbers of the problem are within their ranges, and the total is within that of a text.
+-- A class, planned under these waits. Its problem has exactly the class's jobs, each with its time on each device that can print it. No way to assign and order the jobs has a smaller total of completion times, and no timetable with gaps has. The prices prove that, and the total is stated. The numbers of the problem are within their ranges, and the total is within that of a text. Of two jobs that take the same time on each device, the older one completes no later.
 pub record IsPlannedBest (state : State) (waits : List ℕ) (class : PlannedClass) : Type 0 where
   pub problem : IsClassOf (map job_of_class (class_of state class.priority)) state.devices (sets_of state.settings) waits class.problem
   pub best : IsBest class.problem class.priced.way
@@ -44,6 +45,7 @@ pub record IsPlannedBest (state : State) (waits : List ℕ) (class : PlannedClas
   pub proved : IsProved class.problem class.priced.way class.priced.prices class.priced.total
   pub in_range : IsClass class.problem
   pub bounded : class.priced.total ≤ AMOUNT
+  pub order : KeepsOrder class.problem class.priced.way
 
 -- each class is best under the waits that the classes above it leave; the first class has these waits
 abbrev pub AllPlannedBest : State → List ℕ → List PlannedClass → Type 0

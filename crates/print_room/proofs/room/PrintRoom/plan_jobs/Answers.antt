@@ -39,6 +39,7 @@ returns-clause-best g c =
       proved = proved;
       in_range = c.ids-problem.ensures.class;
       bounded = total_bounded c.in_ok-problem.problem c.in_ok-priced.priced.way c.in_ok-priced.priced.total c.ids-problem.ensures.class short proved.is_way proved.stated;
+      order = c.in_ok-priced.ensures.order;
     }
 
 pub returns-clause-one_each : goal.returns-clause-one_each
