@@ -55,8 +55,8 @@ fn best_of_three(rt: HostRuntime) -> Result<(), Fail> {
         return Err(Fail::from("a job without a device"));
     }
     let mut counted = Counted::new(&class);
-    let priced = AugmentingPaths::new(alloc).plan_counted(&mut counted)?;
-    assert_eq!(rt; priced.total, 45);
+    let marked = AugmentingPaths::new(alloc).plan_counted(&mut counted)?;
+    assert_eq!(rt; marked.priced.total, 45);
     assert!(rt; counted.looks() <= 6);
     Ok(())
 }
