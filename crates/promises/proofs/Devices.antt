@@ -20,10 +20,10 @@ use Rattle.connections.specs.Asking.{ItemComes, StepsTo}
 use Rattle.connections.specs.Steps.{StepsHello, StepsDevice}
 use Rattle.promises.specs.Answers.{ClientTalk}
 use Rattle.promises.specs.Heard.{said_on, IsRead}
-use Rattle.promises.proofs.Typing.{EventOf}
-use Rattle.promises.proofs.Sending.{no_true}
-use Rattle.promises.proofs.Stepping.{IsClientAsk, IsClientStep}
-use Rattle.promises.proofs.Speaking.{Grows, grows_as, first_read, none_read, no_both}
+use Rattle.promises.proofs.AnswerKinds.{EventOf}
+use Rattle.promises.proofs.SentToDevices.{no_true}
+use Rattle.promises.proofs.StreamSteps.{IsClientAsk, IsClientStep}
+use Rattle.promises.proofs.DeviceReports.{Grows, grows_as, first_read, none_read, no_both}
 
 -- ---- the asks of a connection
 

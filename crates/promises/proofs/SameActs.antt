@@ -25,9 +25,9 @@ use Rattle.server.specs.Acting.{place_of, place_of_part, ActsOn}
 use Rattle.promises.specs.Keyed.{keyed}
 use Rattle.promises.specs.OneLedger.{StepsOnce, SameQueries}
 use Rattle.promises.proofs.Lowest.{as_device, other_one, one_ending}
-use Rattle.promises.proofs.Same.{Calm, Same, One, same_nothing, same_tells, same_then, same_until}
+use Rattle.promises.proofs.SeenAlike.{Calm, Same, One, same_nothing, same_tells, same_then, same_until}
 use Rattle.promises.proofs.SameEvents.{same_sets, same_status, same_enqueues, unanswered_same, one_report, same_answered}
-use Rattle.promises.proofs.Acts.{same_entry, same_number, broken_there, same_self}
+use Rattle.promises.proofs.UniqueActs.{same_entry, same_number, broken_there, same_self}
 
 same_leaves : (fate : Fate) (key : ℕ) (e : Entry) → One (Leaves fate key e)
 same_leaves fate key e = record { one = λ l hs rest a ks more b same c d p q. (ap keyed (p.0 ∙ sym q.0), p.2 ∙ sym q.2) }

@@ -41,9 +41,9 @@ use Rattle.server.specs.Turn as Between
 use Rattle.promises.specs.Keyed.{keyed}
 use Rattle.promises.specs.OneLedger.{StepsOnce}
 use Rattle.promises.proofs.Lowest.{lowest_one}
-use Rattle.promises.proofs.Same.{Calm, Same, One, keyed_append, calm_last, same_just, same_nothing, same_chooses, same_then_by, same_then, Refuses, refuses_just, refuses_then, same_or, same_if, same_each_of}
-use Rattle.promises.proofs.Events.{SameOutcome, IsKept, kept_or, handled_one, same_undispatched, light_kept}
-use Rattle.promises.proofs.Answers.{same_bytes, same_text}
+use Rattle.promises.proofs.SeenAlike.{Calm, Same, One, keyed_append, calm_last, same_just, same_nothing, same_chooses, same_then_by, same_then, Refuses, refuses_just, refuses_then, same_or, same_if, same_each_of}
+use Rattle.promises.proofs.UniqueEvents.{SameOutcome, IsKept, kept_or, handled_one, same_undispatched, light_kept}
+use Rattle.promises.proofs.UniqueAnswers.{same_bytes, same_text}
 
 -- ---- bytes become due
 

@@ -25,12 +25,12 @@ use Rattle.server.specs.Acting.{Asks, ActsOn, ActsNext}
 use Rattle.server.specs.Polling.{Acts, IsHeardAt, Serves}
 use Rattle.promises.specs.Keyed.{keyed}
 use Rattle.promises.specs.OneLedger.{StepsOnce, SameQueries}
-use Rattle.promises.proofs.Alike.{times_cons}
-use Rattle.promises.proofs.Acts.{same_entry}
-use Rattle.promises.proofs.Same.{Calm, Same, keyed_append, keyed_parts, calm_first, calm_last, same_then_by}
+use Rattle.promises.proofs.Determined.{times_cons}
+use Rattle.promises.proofs.UniqueActs.{same_entry}
+use Rattle.promises.proofs.SeenAlike.{Calm, Same, keyed_append, keyed_parts, calm_first, calm_last, same_then_by}
 use Rattle.promises.proofs.SameEvents.{refuses_tells, refuses_dropped, refuses_declines}
 use Rattle.promises.proofs.SameActs.{none_closes, same_settles, same_does}
-use Rattle.promises.proofs.Sending.{same_key, is_key}
+use Rattle.promises.proofs.SentToDevices.{same_key, is_key}
 use Rattle.server.specs.Acting.{place_of, place_of_part}
 
 -- ---- a part of a body

@@ -30,15 +30,15 @@ use Rattle.server.specs.Turn.{Ticks, Notes, is_tick_due, TicksIfDue, Covers, Rou
 use Rattle.server.specs.Law.{happenings_of, happenings_in}
 use Rattle.promises.specs.Keyed.{key_chosen, keyed, keyed_of, keyed_in, SeenLeadsToOne}
 use Rattle.promises.specs.OneLedger.{StepsOnce, SameQueries, AsksOnce}
-use Rattle.promises.proofs.Acts.{same_self}
-use Rattle.promises.proofs.Same.{Calm, Same, One, keyed_append, calm_front, calm_back, calm_last, same_just, same_nothing, same_polls, same_chooses, same_then_by, same_then, refuses_then, same_or, same_if, first_seen}
+use Rattle.promises.proofs.UniqueActs.{same_self}
+use Rattle.promises.proofs.SeenAlike.{Calm, Same, One, keyed_append, calm_front, calm_back, calm_last, same_just, same_nothing, same_polls, same_chooses, same_then_by, same_then, refuses_then, same_or, same_if, first_seen}
 use Rattle.promises.proofs.SameEvents.{same_sets, refuses_drops, refuses_tells, same_breaks, one_tick, same_body}
 use Rattle.promises.proofs.SameActs.{same_closes_as, same_settles, same_reports}
 use Rattle.promises.proofs.SameParts.{serves_same}
-use Rattle.promises.proofs.Sending.{same_key, other_key}
+use Rattle.promises.proofs.SentToDevices.{same_key, other_key}
 use Rattle.std.proofs.lemmas.Bool.Decides.{nat_tests}
 use Rattle.promises.specs.Others.{Bears}
-use Rattle.promises.proofs.Sparing.{spares_reads, spares_writes, spares_ends, Settled, settled_nothing, settled_then, settled_sets, settled_reads, settled_writes, settled_ends}
+use Rattle.promises.proofs.OtherConnections.{spares_reads, spares_writes, spares_ends, Settled, settled_nothing, settled_then, settled_sets, settled_reads, settled_writes, settled_ends}
 
 -- ---- accepts
 

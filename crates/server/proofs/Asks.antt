@@ -25,7 +25,7 @@ use Rattle.server.specs.Refinement as Refinement
 use Rattle.server.proofs.Steps.{refines_then, refines_moved, aloud, seen_as, seen_then}
 use Rattle.server.proofs.Slots.{set_there, quiet_at, work_there}
 use Rattle.server.proofs.Places.{found, absent, fits_set}
-use Rattle.server.proofs.Reading.{fits_still}
+use Rattle.server.proofs.ReadsAndAsks.{fits_still}
 
 -- ---- the ask of the connection under a key
 

@@ -25,7 +25,7 @@ use Rattle.server.specs.Turn.{has_refusal, Outcome as Given, Replied, OutOfMemor
 use Rattle.server.specs.Law.{core_notes, Collects, moment_of, happenings_of, happenings_in, AreAt, IsWhole, IsOneRun, IsOneEvent, IsServed, IsAtMostOne, AllTaken}
 use Rattle.dispatcher.specs.declared.listener.AllocationSite.TheVariants as At
 use Rattle.server.proofs.Steps.{seen_refusal}
-use Rattle.server.proofs.Speaking.{notes_append, no_refusal_told, none_before, none_after, Happened, happened_whole, happened, happened_then, whole_light, whole_told}
+use Rattle.server.proofs.LaterNotes.{notes_append, no_refusal_told, none_before, none_after, Happened, happened_whole, happened, happened_then, whole_light, whole_told}
 use Rattle.server.proofs.Parts.{calm_answers, ticked, Holds, action_in}
 use Rattle.connections.specs.Entry.{Entry}
 

@@ -58,7 +58,7 @@ use Rattle.server.specs.Polling.{Opens, AcceptsAs, AcceptsOne, AcceptsAt, Acts, 
 use Rattle.server.specs.Turn as Between
 use Rattle.server.specs.Turn.{Ticks, is_tick_due, TicksIfDue, Covers, Round, Turn, has_refusal, Action, Turned, Served_body, Reported, Ticked, DoesAction}
 use Rattle.server.specs.Law.{core_notes, IsWhole, moment_of, happenings_of}
-use Rattle.server.proofs.Speaking.{only_notes, Calmly, calm_nothing, calm_choice, calm_then, calm_if, calm_or, calm_refusal, calm_sets, calm_drops, calm_breaks, calm_enqueues, IsOther, Happened, happened_notes, happened, happened_then, whole_light, whole_told}
+use Rattle.server.proofs.LaterNotes.{only_notes, Calmly, calm_nothing, calm_choice, calm_then, calm_if, calm_or, calm_refusal, calm_sets, calm_drops, calm_breaks, calm_enqueues, IsOther, Happened, happened_notes, happened, happened_then, whole_light, whole_told}
 
 -- the core and the closed connections are unchanged, and there is no note of the core
 pub record IsCalm (l : Ledger) (hs : List Happening) (l' : Ledger) : Type 0 where

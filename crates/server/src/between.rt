@@ -19,7 +19,7 @@ use std::alloc::AllocError;
 impl<P: Planner + Drop> Engine<P> {
     /// Serves one IPP body between turns, without HTTP. The only error is out of memory, and the listener is
     /// notified of it. The event may have happened then.
-    #[tactic(auto, using(crate::proofs::Serving::one_body))]
+    #[tactic(auto, using(crate::proofs::ServedBody::one_body))]
     pub fn serve_body<N: Listener>(
         &mut self,
         body: &[u8],

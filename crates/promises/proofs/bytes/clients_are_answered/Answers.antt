@@ -1,6 +1,6 @@
-use Rattle.promises.proofs.Hearing.{all_heard}
-use Rattle.promises.proofs.Linking.{are_answered}
-use Rattle.promises.proofs.Saying.{all_first, gone_first}
+use Rattle.promises.proofs.ReadIsActedOn.{all_heard}
+use Rattle.promises.proofs.DueByTurns.{are_answered}
+use Rattle.promises.proofs.ClientItems.{all_first, gone_first}
 use Rattle.promises.proofs.bytes.clients_are_answered.Goals as goal
 
 pub returns : goal.returns

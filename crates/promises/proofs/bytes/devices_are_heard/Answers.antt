@@ -1,6 +1,6 @@
-use Rattle.promises.proofs.Ending.{all_ended}
-use Rattle.promises.proofs.Hearing.{all_heard}
-use Rattle.promises.proofs.Reporting.{are_heard}
+use Rattle.promises.proofs.ReadBeforeClosed.{all_ended}
+use Rattle.promises.proofs.ReadIsActedOn.{all_heard}
+use Rattle.promises.proofs.OneRunOfTheCore.{are_heard}
 use Rattle.promises.proofs.bytes.devices_are_heard.Goals as goal
 
 pub returns : goal.returns

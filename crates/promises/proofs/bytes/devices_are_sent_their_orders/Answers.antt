@@ -1,4 +1,4 @@
-use Rattle.promises.proofs.Linking.{are_sent}
+use Rattle.promises.proofs.DueByTurns.{are_sent}
 use Rattle.promises.proofs.bytes.devices_are_sent_their_orders.Goals as goal
 
 pub returns : goal.returns

@@ -1,4 +1,4 @@
-use Rattle.promises.proofs.Carrying.{is_carried}
+use Rattle.promises.proofs.CarriedBytes.{is_carried}
 use Rattle.promises.proofs.bytes.due_was_carried.Goals as goal
 
 pub returns : goal.returns

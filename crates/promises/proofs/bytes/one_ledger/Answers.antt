@@ -1,4 +1,4 @@
-use Rattle.promises.proofs.Turns.{leads_to_one}
+use Rattle.promises.proofs.UniqueTurns.{leads_to_one}
 use Rattle.promises.proofs.bytes.one_ledger.Goals as goal
 
 pub returns : goal.returns

@@ -1,7 +1,7 @@
-use Rattle.promises.proofs.Exchanging.{acts_are_exchanges, by_exchanges}
-use Rattle.promises.proofs.Hearing.{all_heard}
-use Rattle.promises.proofs.Linking.{are_answered}
-use Rattle.promises.proofs.Saying.{all_first, gone_first}
+use Rattle.promises.proofs.ClientExchanges.{acts_are_exchanges, by_exchanges}
+use Rattle.promises.proofs.ReadIsActedOn.{all_heard}
+use Rattle.promises.proofs.DueByTurns.{are_answered}
+use Rattle.promises.proofs.ClientItems.{all_first, gone_first}
 use Rattle.promises.proofs.exchanges.exchanges_are_answered.Goals as goal
 
 pub returns-clause-acts : goal.returns-clause-acts

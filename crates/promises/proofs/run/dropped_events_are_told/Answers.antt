@@ -1,4 +1,4 @@
-use Rattle.promises.proofs.Dropping.{tells_dropped}
+use Rattle.promises.proofs.NotedEvents.{tells_dropped}
 use Rattle.promises.proofs.run.dropped_events_are_told.Goals as goal
 
 pub returns : goal.returns

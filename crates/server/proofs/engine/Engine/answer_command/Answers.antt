@@ -3,7 +3,7 @@ use Rattle.server.specs.Answering.{Responds}
 use Rattle.server.proofs.Steps.{quietly_from}
 use Rattle.server.proofs.Happening.{breaks}
 use Rattle.server.proofs.Joins.{tells_then}
-use Rattle.server.proofs.Replying.{as_none}
+use Rattle.server.proofs.ResponseBytes.{as_none}
 use Rattle.server.proofs.engine.Engine.answer_command.Goals as goal
 
 pub returns-in-None : goal.returns-in-None

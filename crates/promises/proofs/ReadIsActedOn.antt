@@ -28,8 +28,8 @@ use Rattle.server.specs.Polling.{Opens, AcceptsAs, AcceptsOne, AcceptsAt, IsHear
 use Rattle.server.specs.Turn as Between
 use Rattle.server.specs.Turn.{Ticks, Notes, is_tick_due, TicksIfDue, Covers, Round, Turn, BodyAsks, BodyComes, Action, Turned, Served_body, Reported, Ticked, Trace, DoesAction, Runs}
 use Rattle.promises.specs.Others.{IsOrder, IsCause}
-use Rattle.promises.proofs.Sending.{same_key, other_key}
-use Rattle.promises.proofs.Sparing.{IsOut, Left, Spared, brings, Spares_in, spares_unanswered, spares_settles, spares_reads, spares_writes}
+use Rattle.promises.proofs.SentToDevices.{same_key, other_key}
+use Rattle.promises.proofs.OtherConnections.{IsOut, Left, Spared, brings, Spares_in, spares_unanswered, spares_settles, spares_reads, spares_writes}
 
 -- on each open connection
 abbrev pub AllHeard : Ledger → Type 0

@@ -52,18 +52,18 @@ use Rattle.server.specs.Polling.{Acts, Serves, FedWhole, FeedsAt, FeedsOne, Fail
 use Rattle.server.specs.Law.{core_notes}
 use Rattle.promises.specs.Heard.{Came, AreRun, ComeAt}
 use Rattle.promises.specs.Others.{IsOrderBy, IsOrder, Bears, ComesAgain, IsCause, SparedAs, IsSpared, Spares, SparesAll}
-use Rattle.promises.proofs.Sending.{same_key, one_entry}
-use Rattle.promises.proofs.Speaking.{here, Kept, KeptAll, kept_then, kept_open, named_stays, no_both}
-use Rattle.promises.proofs.Stepping.{silent_growth, silent_part, client_hears}
-use Rattle.promises.proofs.Coming.{not_broken}
+use Rattle.promises.proofs.SentToDevices.{same_key, one_entry}
+use Rattle.promises.proofs.DeviceReports.{here, Kept, KeptAll, kept_then, kept_open, named_stays, no_both}
+use Rattle.promises.proofs.StreamSteps.{silent_growth, silent_part, client_hears}
+use Rattle.promises.proofs.ConnectionAsks.{not_broken}
 use Rattle.promises.proofs.Devices.{IsFine, step_fine, DeviceStep, device_step}
 use Rattle.promises.specs.Answers.{ClientTalk}
 use Rattle.connections.specs.Asking.{AsksNext, ItemComes}
 use Rattle.connections.specs.Entry.{PeerRecord, Http, Queue, Link}
 use Rattle.settings_file.specs.Settings.{ServerSettings}
 use Rattle.server.specs.Acting.{place_of, place_of_part}
-use Rattle.promises.proofs.Calms.{kept_next, calms_nothing, calms_tells, calms_dropped, calms_declines, calms_answers, no_notes, enqueues_on, each_sent, calms_orders, happened}
-use Rattle.promises.proofs.Reporting.{run_then, told_then}
+use Rattle.promises.proofs.CalmParts.{kept_next, calms_nothing, calms_tells, calms_dropped, calms_declines, calms_answers, no_notes, enqueues_on, each_sent, calms_orders, happened}
+use Rattle.promises.proofs.OneRunOfTheCore.{run_then, told_then}
 
 -- ---- one connection
 

@@ -10,7 +10,7 @@ use Rattle.server.specs.Ledger.{Ledger}
 use Rattle.server.specs.Rel.{Rel, Nothing, Polls, Tells, Chooses, Then, If, Or, Times, Many, Each, EachOf}
 use Rattle.server.specs.Turn.{is_refusal, has_refusal}
 use Rattle.promises.specs.Keyed.{keyed_one, keyed}
-use Rattle.promises.proofs.Alike.{times_cons}
+use Rattle.promises.proofs.Determined.{times_cons}
 
 -- no memory was refused
 abbrev pub Calm : List Happening → Type 0

@@ -13,7 +13,7 @@ use Rattle.server.specs.Enqueuing.{IsDevice}
 use Rattle.server.specs.Greeting.{IsAlone}
 use Rattle.promises.specs.Orders.{names}
 use Rattle.promises.specs.Heard.{said_on, life_of, is_of, progress_of, HasBroken, IsGivenUp, IsNow, IsReported, IsGreeted, IsRead}
-use Rattle.promises.proofs.Sending.{same_key, other_key, is_key, not_key, one_entry, no_true}
+use Rattle.promises.proofs.SentToDevices.{same_key, other_key, is_key, not_key, one_entry, no_true}
 
 -- ---- a connection
 

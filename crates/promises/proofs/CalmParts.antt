@@ -35,8 +35,8 @@ use Rattle.server.specs.Answering as Ans
 use Rattle.server.specs.Turn as Between
 use Rattle.server.specs.Turn.{Turn}
 use Rattle.server.specs.Law.{core_note, core_notes}
-use Rattle.promises.proofs.Noting.{told_all}
-use Rattle.promises.proofs.Speaking.{Grows, grows_as, Kept, kept_same, kept_then, here, aside, by_key, KeptAll}
+use Rattle.promises.proofs.EventNotes.{told_all}
+use Rattle.promises.proofs.DeviceReports.{Grows, grows_as, Kept, kept_same, kept_then, here, aside, by_key, KeptAll}
 
 -- ---- the notes of the core
 

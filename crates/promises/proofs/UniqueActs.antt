@@ -25,10 +25,10 @@ use Rattle.server.specs.Greeting.{Tells, IsAlone, HasOther, GivesWayAt, GivesWay
 use Rattle.server.specs.Acting.{place_of, place_of_part, Asks, ActsOn, ActsNext}
 use Rattle.promises.specs.OneLedger.{StepsOnce, SameQueries}
 use Rattle.promises.proofs.Lowest.{as_device, other_one, one_ending}
-use Rattle.promises.proofs.Alike.{Alike, Fixed, fixed_nothing, fixed_tells, alike_then, first_one, same_choice, then_one, begins_just, Begins, is_choice, fixed_until}
-use Rattle.promises.proofs.Due.{fixed_sets}
-use Rattle.promises.proofs.Events.{unanswered_alike, fixed_report}
-use Rattle.promises.proofs.Answers.{fixed_dropped, fixed_declines, same_answered}
+use Rattle.promises.proofs.Determined.{Alike, Fixed, fixed_nothing, fixed_tells, alike_then, first_one, same_choice, then_one, begins_just, Begins, is_choice, fixed_until}
+use Rattle.promises.proofs.UniqueDue.{fixed_sets}
+use Rattle.promises.proofs.UniqueEvents.{unanswered_alike, fixed_report}
+use Rattle.promises.proofs.UniqueAnswers.{fixed_dropped, fixed_declines, same_answered}
 
 -- ---- closings
 

@@ -24,11 +24,11 @@ use Rattle.server.specs.Polling.{Opens, AcceptsAs, AcceptsOne, AcceptsAt, Acts, 
 use Rattle.server.specs.Turn as Between
 use Rattle.server.specs.Turn.{Notes, Ticks, is_tick_due, TicksIfDue, Covers, Rounds, Round, Turn, BodyAsks, BodyComes, Action, Turned, Served_body, Reported, Ticked, DoesAction, Runs}
 use Rattle.promises.specs.OneLedger.{StepsOnce, SameQueries, AsksOnce, LeadsToOne}
-use Rattle.promises.proofs.Alike.{Alike, Fixed, fixed_just, fixed_nothing, fixed_polls, fixed_tells, fixed_chooses, alike_then, first_one, same_choice, apart, BeginsAs, begins_append, begins_just, Begins, begins_then, begins_chooses, begins_tells, is_choice, fixed_or, alike_if, fixed_each, times_cons, fixed_many_then}
-use Rattle.promises.proofs.Due.{fixed_sets, fixed_drops, drops_tells, fixed_breaks}
-use Rattle.promises.proofs.Events.{fixed_tick}
-use Rattle.promises.proofs.Answers.{body_answered}
-use Rattle.promises.proofs.Acts.{fixed_closes_as, fixed_settles, fixed_reports, same_self, fixed_acts_next, is_asked, asked_first, chosen_first}
+use Rattle.promises.proofs.Determined.{Alike, Fixed, fixed_just, fixed_nothing, fixed_polls, fixed_tells, fixed_chooses, alike_then, first_one, same_choice, apart, BeginsAs, begins_append, begins_just, Begins, begins_then, begins_chooses, begins_tells, is_choice, fixed_or, alike_if, fixed_each, times_cons, fixed_many_then}
+use Rattle.promises.proofs.UniqueDue.{fixed_sets, fixed_drops, drops_tells, fixed_breaks}
+use Rattle.promises.proofs.UniqueEvents.{fixed_tick}
+use Rattle.promises.proofs.UniqueAnswers.{body_answered}
+use Rattle.promises.proofs.UniqueActs.{fixed_closes_as, fixed_settles, fixed_reports, same_self, fixed_acts_next, is_asked, asked_first, chosen_first}
 
 -- ---- accepts
 

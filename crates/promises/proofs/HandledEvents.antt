@@ -32,8 +32,8 @@ use Rattle.server.specs.Enqueuing.{IsDevice}
 use Rattle.server.specs.Happening.{Happens, found_by}
 use Rattle.promises.specs.Answers.{Act, ClientTalk, drains, drained, AreActs, IsFrontOf, IsStateOf, is_asked, asked_by, IsAnswered, IsLast, BrokeAfter, IsCutOff}
 use Rattle.promises.specs.Orders.{EventComes, MemoryRefused, Handled, AreHandled, named_by, IsAt, AreAt, run_note, run_notes, cancel_for, start_for, orders_of, names, due_by}
-use Rattle.promises.proofs.Noting.{told_all}
-use Rattle.promises.proofs.Sending.{Counts, due_at, IsFresh, counts_device, same_key, not_key, Ordered, Calm, Good, good_sent, notes_append, sent_by, orders, Stays, IsLost, BreaksAs, lost_device, ReadsOn, reads_same, reads_then}
+use Rattle.promises.proofs.EventNotes.{told_all}
+use Rattle.promises.proofs.SentToDevices.{Counts, due_at, IsFresh, counts_device, same_key, not_key, Ordered, Calm, Good, good_sent, notes_append, sent_by, orders, Stays, IsLost, BreaksAs, lost_device, ReadsOn, reads_same, reads_then}
 
 -- ---- the notes of an event
 

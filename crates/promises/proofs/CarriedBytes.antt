@@ -56,7 +56,7 @@ use Rattle.server.specs.Turn as Between
 use Rattle.server.specs.Turn.{Ticks, Notes, is_tick_due, TicksIfDue, Covers, Round, Turn, BodyAsks, BodyComes, Action, Turned, Served_body, Reported, Ticked, Trace, DoesAction, Runs}
 use Rattle.server.specs.Law.{happenings_of, happenings_in}
 use Rattle.promises.specs.Carried.{Carried, nothing_carried, at_number, carry, carried, IsNew, AreNew, carried_in, NumbersDiffer, IsCarried}
-use Rattle.promises.proofs.Sending.{same_key, other_key, is_key, not_key}
+use Rattle.promises.proofs.SentToDevices.{same_key, other_key, is_key, not_key}
 
 -- ---- one connection
 

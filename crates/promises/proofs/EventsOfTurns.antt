@@ -12,9 +12,9 @@ use Rattle.server.specs.Rel.{Rel, Nothing, Then, If, Or, Times, Many, Each}
 use Rattle.server.specs.Happening.{Happens, Unanswered}
 use Rattle.server.specs.Closing.{Leaves, IsGone, ClosesAs, ClosesFirst, Settles}
 use Rattle.promises.specs.Orders.{named_by, run_notes}
-use Rattle.promises.proofs.Sending.{Counts, due_at, Good, IsLost, reads_same}
-use Rattle.promises.proofs.Handling.{goes_plain, happened, Goes, goes_then, goes_calm, goes_event, progressed_still, ClosedAs, stops_still}
-use Rattle.promises.proofs.Giving.{Calms, calms_nothing}
+use Rattle.promises.proofs.SentToDevices.{Counts, due_at, Good, IsLost, reads_same}
+use Rattle.promises.proofs.HandledEvents.{goes_plain, happened, Goes, goes_then, goes_calm, goes_event, progressed_still, ClosedAs, stops_still}
+use Rattle.promises.proofs.DueToClients.{Calms, calms_nothing}
 
 -- ---- parts at which events come
 

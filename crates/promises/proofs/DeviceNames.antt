@@ -14,9 +14,9 @@ use Rattle.server.specs.Greeting.{IsAlone, GivesWayAt, Greets}
 use Rattle.promises.specs.Orders.{IsAt, run_notes}
 use Rattle.promises.specs.Answers.{ClientTalk}
 use Rattle.promises.proofs.Lowest.{as_device}
-use Rattle.promises.proofs.Sending.{Counts, due_at, FreshTalk, IsFresh, same_key, other_key, Ordered, ordered_still, ordered_broken, ordered_given_up, notes_append, Good, one_entry, client_none, IsLost}
-use Rattle.promises.proofs.Handling.{happened, CameAs, Goes, goes_calm, Awaits, awaits_event, awaits_named, gone_sends_none, TalkedAs, progressed_still, LostAs, lost_by, StopsAs, stops_still}
-use Rattle.promises.proofs.Giving.{at_here}
+use Rattle.promises.proofs.SentToDevices.{Counts, due_at, FreshTalk, IsFresh, same_key, other_key, Ordered, ordered_still, ordered_broken, ordered_given_up, notes_append, Good, one_entry, client_none, IsLost}
+use Rattle.promises.proofs.HandledEvents.{happened, CameAs, Goes, goes_calm, Awaits, awaits_event, awaits_named, gone_sends_none, TalkedAs, progressed_still, LostAs, lost_by, StopsAs, stops_still}
+use Rattle.promises.proofs.DueToClients.{at_here}
 
 -- ---- a device says its name
 

@@ -35,9 +35,9 @@ use Rattle.server.specs.Acting.{place_of, place_of_part, ActsOn, ActsNext}
 use Rattle.server.specs.Polling.{Opens, AcceptsAs, AcceptsOne, AcceptsAt, Acts, Serves, FedWhole, FeedsAt, FeedsOne, Fails, ReadsAs, ReadsOpen, ReadsAt, is_read, ReadsOne, WritesAs, WritesOpen, WritesAt, WritesOne, is_done, EndsAt, EndsOne}
 use Rattle.server.specs.Turn as Between
 use Rattle.server.specs.Turn.{Ticks, is_tick_due, TicksIfDue, Round, Turn, BodyAsks, BodyComes, Action, Turned, Served_body, Reported, Ticked, Trace, DoesAction, Runs}
-use Rattle.promises.proofs.Stepping.{silent_growth, silent_part}
-use Rattle.promises.proofs.Calms.{Calms, calms_nothing, calms_tells, calms_choice, calms_polls, calms_breaks, calms_dropped, calms_declines, calms_answers, body_answers, happened}
-use Rattle.promises.proofs.Hearing.{AllHeard, broken_heard, there, hears_same, hears_settles, hears_each, hears_reads, hears_writes, hears_ends, hears_tick, hears_accepts, hears_action}
+use Rattle.promises.proofs.StreamSteps.{silent_growth, silent_part}
+use Rattle.promises.proofs.CalmParts.{Calms, calms_nothing, calms_tells, calms_choice, calms_polls, calms_breaks, calms_dropped, calms_declines, calms_answers, body_answers, happened}
+use Rattle.promises.proofs.ReadIsActedOn.{AllHeard, broken_heard, there, hears_same, hears_settles, hears_each, hears_reads, hears_writes, hears_ends, hears_tick, hears_accepts, hears_action}
 
 -- of each closed connection
 abbrev pub EndHeard : Ledger → Type 0

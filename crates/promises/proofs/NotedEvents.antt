@@ -67,9 +67,9 @@ use Rattle.server.specs.Turn.{Ticks, is_tick_due, TicksIfDue, Covers, Round, Tur
 use Rattle.server.specs.Law.{core_note, core_notes, Collects, moment_of, happenings_of, happenings_in, AreAt, AreEventsOf, IsWhole}
 use Rattle.server.proofs.Steps.{refusals_append}
 use Rattle.server.proofs.Happening.{refused_of}
-use Rattle.server.proofs.Speaking.{notes_append, never, none_before, none_after}
+use Rattle.server.proofs.LaterNotes.{notes_append, never, none_before, none_after}
 use Rattle.promises.specs.Dropped.{brings_event, event_note, event_notes, begins_event, events_told, IsToldOf, AreToldOf, TellsDropped}
-use Rattle.promises.proofs.Combining.{or_within, if_within, many_within, each_within}
+use Rattle.promises.proofs.CombinedParts.{or_within, if_within, many_within, each_within}
 
 -- ---- the notes of events
 

@@ -24,10 +24,10 @@ use Rattle.server.specs.Ledger.{Ledger, at_key, with_entry}
 use Rattle.server.specs.Rel.{Rel, Nothing, Tells, Chooses, Then, If}
 use Rattle.server.specs.Enqueuing.{BreaksAt, Breaks, EnqueuesOpen, EnqueuesAt, Enqueues, EnqueuesReplyAt, EnqueuesResponse, EnqueuesStatus}
 use Rattle.server.specs.Answering as Ans
-use Rattle.promises.proofs.Typing.{IsTyped, IsTypedReply}
+use Rattle.promises.proofs.AnswerKinds.{IsTyped, IsTypedReply}
 use Rattle.promises.specs.Orders.{Handled, MemoryRefused, run_notes}
 use Rattle.promises.specs.Answers.{ClientTalk, IsRefusal, GivenIpp, GivenJob, GivenCommand, Given}
-use Rattle.promises.proofs.Sending.{IsClient, is_key, Ordered, ordered_still, Calm, notes_append, sent_then, calm_still, calm_sets, breaking, one_entry, not_key, no_true, ReadsOn, reads_still, reads_same}
+use Rattle.promises.proofs.SentToDevices.{IsClient, is_key, Ordered, ordered_still, Calm, notes_append, sent_then, calm_still, calm_sets, breaking, one_entry, not_key, no_true, ReadsOn, reads_still, reads_same}
 
 -- ---- calm parts
 

@@ -31,14 +31,14 @@ use Rattle.server.specs.Answering as Ans
 use Rattle.server.specs.Acting.{place_of, place_of_part, Asks, ActsOn, ActsNext}
 use Rattle.server.specs.Polling.{Acts, Serves}
 use Rattle.promises.specs.Orders.{MemoryRefused, Handled, AreHandled, named_by, IsAt, AreAt, run_notes, due_by}
-use Rattle.promises.proofs.Typing.{EventOf, typed}
+use Rattle.promises.proofs.AnswerKinds.{EventOf, typed}
 use Rattle.promises.specs.Answers.{Act, ClientTalk, drains, IsFrontOf, IsNext, IsOwed, IsStateOf, asked_by, IsLast, BrokeAfter, IsOneAtMost}
-use Rattle.promises.proofs.Sending.{Counts, due_at, FreshTalk, IsFresh, IsClient, same_key, other_key, is_key, Ordered, notes_append, calm_sets, Good, one_entry, not_key, client_none, client_fresh, no_true, counts_device, ordered_then, sent_by, IsLost, lost_device, breaks_same, ReadsOn, reads_still, reads_then}
-use Rattle.promises.proofs.Handling.{happened, CameAs, Goes, goes_then, goes_calm, TalkedAs, Went, progressed_still, one_handled, none_closed, LostAs, lost_by, StopsAs, stops_still, acts_on}
-use Rattle.promises.proofs.Giving.{calms_chooses, Gave, gave_still, gives_nothing, at_aside, at_here, Just_these, Loose, told_of, refusal_at, one_refusal, given, No_memory, gives_dropped, gives_declines, gives_answers}
-use Rattle.promises.proofs.Moving.{Moves, moves_calm, moves_then, moves_many, moves_settles}
-use Rattle.promises.proofs.Stepping.{IsClientAsk, silent_run, tells_part, device_does, IsClientStep, client_hears, DeviceAsks, device_hears}
-use Rattle.promises.proofs.Naming.{Just, greets}
+use Rattle.promises.proofs.SentToDevices.{Counts, due_at, FreshTalk, IsFresh, IsClient, same_key, other_key, is_key, Ordered, notes_append, calm_sets, Good, one_entry, not_key, client_none, client_fresh, no_true, counts_device, ordered_then, sent_by, IsLost, lost_device, breaks_same, ReadsOn, reads_still, reads_then}
+use Rattle.promises.proofs.HandledEvents.{happened, CameAs, Goes, goes_then, goes_calm, TalkedAs, Went, progressed_still, one_handled, none_closed, LostAs, lost_by, StopsAs, stops_still, acts_on}
+use Rattle.promises.proofs.DueToClients.{calms_chooses, Gave, gave_still, gives_nothing, at_aside, at_here, Just_these, Loose, told_of, refusal_at, one_refusal, given, No_memory, gives_dropped, gives_declines, gives_answers}
+use Rattle.promises.proofs.EventsOfTurns.{Moves, moves_calm, moves_then, moves_many, moves_settles}
+use Rattle.promises.proofs.StreamSteps.{IsClientAsk, silent_run, tells_part, device_does, IsClientStep, client_hears, DeviceAsks, device_hears}
+use Rattle.promises.proofs.DeviceNames.{Just, greets}
 
 -- ---- the asks come about
 

@@ -37,13 +37,13 @@ use Rattle.server.specs.Ledger.{Ledger}
 use Rattle.server.specs.Rel.{Tells}
 use Rattle.server.specs.Acting.{place_of, place_of_part, ActsOn}
 use Rattle.server.specs.Law.{core_notes}
-use Rattle.promises.proofs.Typing.{EventOf, asks_ipp, submits_job, commands}
+use Rattle.promises.proofs.AnswerKinds.{EventOf, asks_ipp, submits_job, commands}
 use Rattle.promises.specs.Orders.{named_by, run_notes}
 use Rattle.promises.specs.Answers.{ClientTalk}
-use Rattle.promises.proofs.Sending.{HasReport, FreshTalk, Ordered, ordered_broken, calm_still, Good, one_entry}
-use Rattle.promises.proofs.Handling.{Goes, goes_calm}
-use Rattle.promises.proofs.Giving.{Calms, calms_refusal}
-use Rattle.promises.proofs.Moving.{moves_unanswered}
+use Rattle.promises.proofs.SentToDevices.{HasReport, FreshTalk, Ordered, ordered_broken, calm_still, Good, one_entry}
+use Rattle.promises.proofs.HandledEvents.{Goes, goes_calm}
+use Rattle.promises.proofs.DueToClients.{Calms, calms_refusal}
+use Rattle.promises.proofs.EventsOfTurns.{moves_unanswered}
 
 -- ---- the asks of a connection
 

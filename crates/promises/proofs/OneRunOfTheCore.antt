@@ -47,14 +47,14 @@ use Rattle.server.specs.Law.{core_notes, moment_of, happenings_of, happenings_in
 use Rattle.promises.specs.Answers.{ClientTalk}
 use Rattle.promises.specs.Orders.{is_turn}
 use Rattle.promises.specs.Heard.{Came, AreRun, ComeAt, ComeOf, report_in, report_by, reports_by, said_on, IsReported, IsStateIn, IsNameIn, IsGreeted, IsRead, AreHeard}
-use Rattle.promises.proofs.Typing.{EventOf}
-use Rattle.promises.proofs.Sending.{no_true, one_entry}
-use Rattle.promises.proofs.Stepping.{silent_growth, silent_part, client_hears}
-use Rattle.promises.proofs.Coming.{not_broken}
-use Rattle.promises.proofs.Speaking.{FreshOf, Grows, no_both, read_as, grows_as, grows_reading, broken_stays, named_stays, IsNew, Kept, kept_same, kept_open, here, aside, by_key, KeptAll, reported_kept, reported_as, gone_told, reported_left, told_if, More, reported_more, reported_named, reported_over, unnamed_nameless, SoundAt, kept_sound, Sound, sound_by, sound_kept, sound_left, none_read, AllGreeted, greeted_but, greeted_on, greeted_kept, greeted_left, greeted_first, greeted_more, greeted_nameless}
-use Rattle.promises.proofs.Calms.{notes_append, Calm, Calms, kept_still, kept_next, no_notes, calm_still, calm_sets, calms_nothing, calms_tells, calms_polls, calms_choice, grows_broken, calms_breaks, calms_dropped, calms_declines, calms_answers, body_answers, OneEvent, happened, handles_behind}
+use Rattle.promises.proofs.AnswerKinds.{EventOf}
+use Rattle.promises.proofs.SentToDevices.{no_true, one_entry}
+use Rattle.promises.proofs.StreamSteps.{silent_growth, silent_part, client_hears}
+use Rattle.promises.proofs.ConnectionAsks.{not_broken}
+use Rattle.promises.proofs.DeviceReports.{FreshOf, Grows, no_both, read_as, grows_as, grows_reading, broken_stays, named_stays, IsNew, Kept, kept_same, kept_open, here, aside, by_key, KeptAll, reported_kept, reported_as, gone_told, reported_left, told_if, More, reported_more, reported_named, reported_over, unnamed_nameless, SoundAt, kept_sound, Sound, sound_by, sound_kept, sound_left, none_read, AllGreeted, greeted_but, greeted_on, greeted_kept, greeted_left, greeted_first, greeted_more, greeted_nameless}
+use Rattle.promises.proofs.CalmParts.{notes_append, Calm, Calms, kept_still, kept_next, no_notes, calm_still, calm_sets, calms_nothing, calms_tells, calms_polls, calms_choice, grows_broken, calms_breaks, calms_dropped, calms_declines, calms_answers, body_answers, OneEvent, happened, handles_behind}
 use Rattle.promises.proofs.Devices.{IsFine, step_fine, step_progress, client_grows, ReportsIt, DeviceStep, device_step}
-use Rattle.promises.proofs.Combining.{or_within, if_within, many_within, each_within}
+use Rattle.promises.proofs.CombinedParts.{or_within, if_within, many_within, each_within}
 
 -- ---- from one ledger to the next
 

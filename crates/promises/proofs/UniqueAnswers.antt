@@ -33,9 +33,9 @@ use Rattle.server.specs.Enqueuing.{Breaks, Enqueues, EnqueuesResponse, EnqueuesS
 use Rattle.server.specs.Answering.{Drops, LosesReply, RepliesWith, Declines, Shows, IsTold, IsShown, Answers, IsAnswered}
 use Rattle.server.specs.Turn as Between
 use Rattle.promises.specs.OneLedger.{StepsOnce}
-use Rattle.promises.proofs.Alike.{Alike, Fixed, fixed_nothing, fixed_tells, fixed_chooses, alike_then, apart, Begins, begins_then, begins_chooses, begins_tells, is_choice, fixed_or, alike_if}
-use Rattle.promises.proofs.Due.{fixed_breaks, fixed_enqueues, fixed_reply, fixed_status}
-use Rattle.promises.proofs.Events.{answered_alike}
+use Rattle.promises.proofs.Determined.{Alike, Fixed, fixed_nothing, fixed_tells, fixed_chooses, alike_then, apart, Begins, begins_then, begins_chooses, begins_tells, is_choice, fixed_or, alike_if}
+use Rattle.promises.proofs.UniqueDue.{fixed_breaks, fixed_enqueues, fixed_reply, fixed_status}
+use Rattle.promises.proofs.UniqueEvents.{answered_alike}
 
 -- ---- the bytes of answers with the same content
 

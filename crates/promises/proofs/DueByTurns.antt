@@ -36,11 +36,11 @@ use Rattle.server.specs.Turn.{Ticks, Notes, is_tick_due, TicksIfDue, Covers, Rou
 use Rattle.server.specs.Law.{moment_of, happenings_of, happenings_in}
 use Rattle.promises.specs.Orders.{Handled, AreHandled, hello_in, named_by, is_turn, AreOf, run_notes, due_by, AreSent, WasSent, IsFrontSent, WasHalted}
 use Rattle.promises.specs.Answers.{Act, ClientTalk, IsFrontOf, IsStateOf, IsAnswered, WasAnswered, IsFirst, AreAnswered, IsCutOff, WasCutOff}
-use Rattle.promises.proofs.Sending.{Counts, due_at, Ordered, ordered_still, ordered_keeps, Calm, notes_append, calm_still, calm_sets, breaking, Good, one_entry, IsLost, no_true, ReadsOn, reads_still, reads_same}
-use Rattle.promises.proofs.Handling.{Plain, goes_plain, CameAs, Goes, handled_append, came_then, goes_then, goes_calm, TalkedAs, progressed_then, progressed_still, ClosedAs, AllClosed, none_closed, all_closed_then, goes_refused, LostAs, lost_then, CameWith, StopsAs, stops_still, stops_then}
-use Rattle.promises.proofs.Giving.{Calms, calms_nothing, calms_chooses, calms_breaks}
-use Rattle.promises.proofs.Moving.{Moves, moves_calm, moves_then, moves_if, moves_each, moves_happens, moves_unanswered, closes_at, moves_settles}
-use Rattle.promises.proofs.Coming.{moves_serves}
+use Rattle.promises.proofs.SentToDevices.{Counts, due_at, Ordered, ordered_still, ordered_keeps, Calm, notes_append, calm_still, calm_sets, breaking, Good, one_entry, IsLost, no_true, ReadsOn, reads_still, reads_same}
+use Rattle.promises.proofs.HandledEvents.{Plain, goes_plain, CameAs, Goes, handled_append, came_then, goes_then, goes_calm, TalkedAs, progressed_then, progressed_still, ClosedAs, AllClosed, none_closed, all_closed_then, goes_refused, LostAs, lost_then, CameWith, StopsAs, stops_still, stops_then}
+use Rattle.promises.proofs.DueToClients.{Calms, calms_nothing, calms_chooses, calms_breaks}
+use Rattle.promises.proofs.EventsOfTurns.{Moves, moves_calm, moves_then, moves_if, moves_each, moves_happens, moves_unanswered, closes_at, moves_settles}
+use Rattle.promises.proofs.ConnectionAsks.{moves_serves}
 
 -- ---- reads
 

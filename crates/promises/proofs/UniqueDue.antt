@@ -16,7 +16,7 @@ use Rattle.server.specs.Rel.{Chooses}
 use Rattle.server.specs.Enqueuing.{Sets, BreaksAt, Breaks, Drops, EnqueuesOpen, EnqueuesAt, EnqueuesWhere, Enqueues, EnqueuesReplyAt, EnqueuesResponse, EnqueuesStatus, EnqueuesOn}
 use Rattle.server.specs.Happening.{Sends, Starts, StartsAll}
 use Rattle.promises.proofs.Lowest.{lowest_one}
-use Rattle.promises.proofs.Alike.{Fixed, fixed_just, fixed_nothing, fixed_chooses, alike_then, Begins, begins_just, begins_then, begins_chooses, is_choice, fixed_or, alike_if, fixed_each_of}
+use Rattle.promises.proofs.Determined.{Fixed, fixed_just, fixed_nothing, fixed_chooses, alike_then, Begins, begins_just, begins_then, begins_chooses, is_choice, fixed_or, alike_if, fixed_each_of}
 
 pub fixed_sets : (key : ℕ) (e : Entry) → Fixed (Sets key e)
 fixed_sets key e = fixed_just (λ l. []) (λ l. with_entry key e l)

@@ -23,8 +23,8 @@ use Rattle.server.specs.Ledger.{Ledger}
 use Rattle.server.specs.Rel.{Rel, Then, EachOf}
 use Rattle.server.specs.Happening.{found_by, undispatched_after, Decides, Sends, SendsAll, Orders, Happens, Unanswered}
 use Rattle.promises.specs.OneLedger.{StepsOnce}
-use Rattle.promises.proofs.Alike.{Alike, Fixed, fixed_nothing, alike_then, then_one, apart, BeginsAs, begins_append, begins_just, Begins, is_choice, fixed_each_of}
-use Rattle.promises.proofs.Due.{fixed_sends, fixed_starts_all}
+use Rattle.promises.proofs.Determined.{Alike, Fixed, fixed_nothing, alike_then, then_one, apart, BeginsAs, begins_append, begins_just, Begins, is_choice, fixed_each_of}
+use Rattle.promises.proofs.UniqueDue.{fixed_sends, fixed_starts_all}
 
 -- ---- the result of an event
 
