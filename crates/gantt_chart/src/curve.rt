@@ -3,8 +3,8 @@
 use crate::chart::Chart;
 use crate::frame::{Frame, MARGIN};
 use crate::page::Page;
-use crate::svg::Drawing;
-use crate::waiting::{Step, most_waiting, waiting_in};
+use crate::svg::SvgDrawing;
+use crate::waiting::{WaitingStep, most_waiting, waiting_in};
 use std::alloc::Global;
 use std::num::nearest_u64_to_f64;
 
@@ -29,7 +29,7 @@ fn put_words(page: Page, frame: Frame, base: f64, most: u64) -> Page {
 }
 
 /// Appends the steps of a curve.
-fn put_steps(page: Page, frame: Frame, base: f64, steps: &[Step], most: u64) -> Page {
+fn put_steps(page: Page, frame: Frame, base: f64, steps: &[WaitingStep], most: u64) -> Page {
     let unit = HEIGHT / nearest_u64_to_f64(most.max(1));
     let mut page = page;
     for step in steps {
@@ -41,7 +41,7 @@ fn put_steps(page: Page, frame: Frame, base: f64, steps: &[Step], most: u64) -> 
 }
 
 /// Appends a curve, whose lower end is `base`.
-fn put_curve(page: Page, frame: Frame, base: f64, steps: &[Step]) -> Page {
+fn put_curve(page: Page, frame: Frame, base: f64, steps: &[WaitingStep]) -> Page {
     let most = most_waiting(steps);
     let page = put_words(page, frame, base, most).begin_path(frame.left, base);
     put_steps(page, frame, base, steps, most)
@@ -53,15 +53,20 @@ fn put_curve(page: Page, frame: Frame, base: f64, steps: &[Step]) -> Page {
 }
 
 /// Draws the number of jobs that wait, if the chart has too many jobs to label each.
-pub(crate) fn put_waiting(alloc: Global, drawing: Drawing, frame: Frame, chart: &Chart) -> Drawing {
+pub(crate) fn put_waiting(
+    alloc: Global,
+    drawing: SvgDrawing,
+    frame: Frame,
+    chart: &Chart,
+) -> SvgDrawing {
     if !chart.is_crowded() {
         return drawing;
     }
-    let Drawing { page, bottom: top } = drawing;
+    let SvgDrawing { page, bottom: top } = drawing;
     let bottom = top + ABOVE + HEIGHT;
     let page = match waiting_in(alloc, chart) {
         Ok(steps) => put_curve(page, frame, bottom, &steps),
         Err(_) => page.refused(),
     };
-    Drawing { page, bottom }
+    SvgDrawing { page, bottom }
 }

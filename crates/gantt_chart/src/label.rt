@@ -14,7 +14,7 @@ const ROOM: f64 = 5.0;
 
 /// The number of a job, and the length of its print where the job was printed.
 #[derive(Clone, Copy)]
-pub(crate) struct Label {
+pub(crate) struct BarLabel {
     pub(crate) number: u32,
     pub(crate) length: Option<ShortTime>,
 }
@@ -22,17 +22,17 @@ pub(crate) struct Label {
 /// A label below its lane.
 #[derive(Clone, Copy)]
 pub(crate) struct Tag {
-    pub(crate) label: Label,
+    pub(crate) label: BarLabel,
     /// The middle of the bar.
     pub(crate) middle: f64,
     /// The place of the label.
     pub(crate) x: f64,
 }
 
-impl Label {
+impl BarLabel {
     /// The label of the job with this number, whose print takes this time in ms.
-    pub(crate) fn of(number: u32, length: u64) -> Label {
-        Label {
+    pub(crate) fn of(number: u32, length: u64) -> BarLabel {
+        BarLabel {
             number,
             length: Some(ShortTime(length)),
         }
@@ -61,11 +61,11 @@ impl Label {
 }
 
 /// The label of a bar; `None` for a bar without a label.
-fn label_of(bar: &Bar) -> Option<Label> {
+fn label_of(bar: &Bar) -> Option<BarLabel> {
     match bar.mark {
         Mark::Wait => None,
-        Mark::Job(job) => Some(Label::of(job.number, bar.length())),
-        Mark::Came(number) => Some(Label {
+        Mark::Job(job) => Some(BarLabel::of(job.number, bar.length())),
+        Mark::Came(number) => Some(BarLabel {
             number,
             length: None,
         }),

@@ -4,12 +4,12 @@ use crate::chart::{Bar, Chart, ChartJob, Ending, Lane, Mark};
 use crate::colour::{Fill, class_colour};
 use crate::ending::{strip_of, words_of};
 use crate::frame::{Frame, MARGIN};
-use crate::label::{Label, Tag, tags_height, tags_of};
+use crate::label::{BarLabel, Tag, tags_height, tags_of};
 use crate::legend::WAIT;
 use crate::length::ShortTime;
 use crate::page::Page;
 use crate::scale::MOST_MARKS;
-use crate::svg::Drawing;
+use crate::svg::SvgDrawing;
 use std::alloc::Global;
 
 /// The height of a bar.
@@ -162,7 +162,7 @@ fn put_job(page: Page, extent: Extent, bar: &Bar, job: ChartJob, classes: &[u8])
     let begun = begin_bar(page, extent, Fill::Plain(colour));
     let page = end_bar(put_telling(begun, job, classes), bar);
     let page = put_strip(page, extent, job.ending);
-    if Label::of(job.number, bar.length()).fits(extent.width) {
+    if BarLabel::of(job.number, bar.length()).fits(extent.width) {
         return put_label(page, extent, colour.ink(), job.number, bar.length());
     }
     page
@@ -247,18 +247,18 @@ fn put_tagged(
 /// Draws a lane below the drawing.
 pub(crate) fn put_lane(
     alloc: Global,
-    drawing: Drawing,
+    drawing: SvgDrawing,
     frame: Frame,
     chart: &Chart,
     lane: &Lane,
-) -> Drawing {
-    let Drawing { page, bottom: top } = drawing;
+) -> SvgDrawing {
+    let SvgDrawing { page, bottom: top } = drawing;
     match tags_of(alloc, frame, chart, lane) {
-        Ok(tags) => Drawing {
+        Ok(tags) => SvgDrawing {
             page: put_tagged(page, frame, chart, lane, &tags, top),
             bottom: bottom_of(&tags, top + ABOVE + f64::from(BAR_HEIGHT)),
         },
-        Err(_) => Drawing {
+        Err(_) => SvgDrawing {
             page: page.refused(),
             bottom: top,
         },

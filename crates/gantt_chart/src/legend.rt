@@ -5,7 +5,7 @@ use crate::colour::{Colour, Fill, class_colour};
 use crate::ending::{SHOWN, strip_of, words_of};
 use crate::frame::{Frame, MARGIN};
 use crate::page::Page;
-use crate::svg::Drawing;
+use crate::svg::SvgDrawing;
 
 /// The hatching of waits.
 pub(crate) const WAIT: Fill = Fill::Named("url(#wait)");
@@ -131,8 +131,8 @@ fn put_title(page: Page, chart: &Chart, top: f64) -> Page {
 }
 
 /// Draws the heading of a chart, above its lanes.
-pub(crate) fn put_heading(drawing: Drawing, frame: Frame, chart: &Chart) -> Drawing {
-    let Drawing { page, bottom: top } = drawing;
+pub(crate) fn put_heading(drawing: SvgDrawing, frame: Frame, chart: &Chart) -> SvgDrawing {
+    let SvgDrawing { page, bottom: top } = drawing;
     let begun = Legend {
         page: put_title(page, chart, top),
         pen: Pen {
@@ -147,7 +147,7 @@ pub(crate) fn put_heading(drawing: Drawing, frame: Frame, chart: &Chart) -> Draw
     } else {
         page
     };
-    Drawing {
+    SvgDrawing {
         page,
         bottom: pen.y + MARGIN,
     }

@@ -10,16 +10,16 @@ use std::fmt;
 
 /// A line under way: its page, its end, and the indentation of its continuation.
 #[derive(Drop)]
-struct Line {
+struct ListingLine {
     page: Page,
     end: usize,
     indent: usize,
 }
 
-impl Line {
+impl ListingLine {
     /// Starts a line with a name filled up to this number of columns.
-    fn new(page: Page, name: &[u8], columns: usize) -> Line {
-        Line {
+    fn new(page: Page, name: &[u8], columns: usize) -> ListingLine {
+        ListingLine {
             page: put_name(page, name, columns),
             end: columns,
             indent: columns,
@@ -27,19 +27,19 @@ impl Line {
     }
 
     /// Makes room for this number of columns: starts a new line where the line has no room.
-    fn with_room(self, columns: usize) -> Line {
+    fn with_room(self, columns: usize) -> ListingLine {
         if self.end.saturating_add(columns) <= WIDTH {
             return self;
         }
-        Line::new(self.page.put_letter('\n'), b"", self.indent)
+        ListingLine::new(self.page.put_letter('\n'), b"", self.indent)
     }
 
     /// Appends the two spaces before an entry of this number of letters, in a new line where the line
     /// has no room for the entry. The caller appends the letters next.
-    fn begin_entry(self, letters: usize) -> Line {
+    fn begin_entry(self, letters: usize) -> ListingLine {
         let columns = letters.saturating_add(2);
         let line = self.with_room(columns);
-        Line {
+        ListingLine {
             page: line.page.put("  "),
             end: line.end.saturating_add(columns),
             indent: line.indent,
@@ -47,8 +47,8 @@ impl Line {
     }
 
     /// Appends a text of the entry under way.
-    fn put(self, text: &str) -> Line {
-        Line {
+    fn put(self, text: &str) -> ListingLine {
+        ListingLine {
             page: self.page.put(text),
             end: self.end,
             indent: self.indent,
@@ -56,8 +56,8 @@ impl Line {
     }
 
     /// Appends a value of the entry under way.
-    fn put_shown<T: fmt::Display + Drop>(self, value: T) -> Line {
-        Line {
+    fn put_shown<T: fmt::Display + Drop>(self, value: T) -> ListingLine {
+        ListingLine {
             page: self.page.put_shown(value),
             end: self.end,
             indent: self.indent,
@@ -65,7 +65,7 @@ impl Line {
     }
 
     /// Appends an entry where `is_wanted` is set.
-    fn put_entry_if(self, is_wanted: bool, entry: &str) -> Line {
+    fn put_entry_if(self, is_wanted: bool, entry: &str) -> ListingLine {
         if is_wanted {
             return self.begin_entry(entry.len()).put(entry);
         }
@@ -90,7 +90,7 @@ fn letters_of(number: u32, time: ShortTime, words: &str) -> usize {
 }
 
 /// Appends the number of a job, a time in ms and, after a space, the words, if there are any.
-fn put_entry(line: Line, number: u32, millis: u64, words: &str) -> Line {
+fn put_entry(line: ListingLine, number: u32, millis: u64, words: &str) -> ListingLine {
     let time = ShortTime(millis);
     let line = line
         .begin_entry(letters_of(number, time, words))
@@ -104,7 +104,7 @@ fn put_entry(line: Line, number: u32, millis: u64, words: &str) -> Line {
 }
 
 /// Appends the entry of a bar: a job with its length and ending, or an arrival with its moment.
-fn put_job(line: Line, bar: &Bar) -> Line {
+fn put_job(line: ListingLine, bar: &Bar) -> ListingLine {
     match bar.mark {
         Mark::Wait => line,
         Mark::Job(job) => put_entry(line, job.number, bar.length(), words_of(job.ending)),
@@ -114,7 +114,7 @@ fn put_job(line: Line, bar: &Bar) -> Line {
 
 /// Appends the jobs of a lane, from the first to the last.
 pub(crate) fn put_jobs(page: Page, lane: &Lane, indent: usize) -> Page {
-    let mut line = Line::new(page, lane.name.as_bytes(), indent);
+    let mut line = ListingLine::new(page, lane.name.as_bytes(), indent);
     for bar in &lane.bars {
         line = put_job(line, bar);
     }
@@ -124,14 +124,14 @@ pub(crate) fn put_jobs(page: Page, lane: &Lane, indent: usize) -> Page {
 /// Appends the number of jobs of a lane.
 pub(crate) fn put_count(page: Page, lane: &Lane, indent: usize) -> Page {
     let jobs = lane.jobs();
-    let line = Line::new(page, lane.name.as_bytes(), indent)
+    let line = ListingLine::new(page, lane.name.as_bytes(), indent)
         .put("  ")
         .put_shown(jobs);
     line.put(if jobs == 1 { " job" } else { " jobs" }).ended()
 }
 
 /// Appends the filling of the class at a place, and its meaning.
-fn put_class(line: Line, place: usize, priority: u8) -> Line {
+fn put_class(line: ListingLine, place: usize, priority: u8) -> ListingLine {
     let letters = digits_of(u64::from(priority)).saturating_add("# priority ".len());
     line.begin_entry(letters)
         .put_shown(char::from(filling_of(place)))
@@ -140,7 +140,7 @@ fn put_class(line: Line, place: usize, priority: u8) -> Line {
 }
 
 /// Appends the fillings of the classes and their meanings.
-fn put_classes(line: Line, classes: &[u8]) -> Line {
+fn put_classes(line: ListingLine, classes: &[u8]) -> ListingLine {
     let mut line = line;
     for (place, priority) in classes.iter().enumerate() {
         line = put_class(line, place, *priority);
@@ -149,7 +149,7 @@ fn put_classes(line: Line, classes: &[u8]) -> Line {
 }
 
 /// Appends the end of a bar that shows an ending, and its meaning.
-fn put_ending(line: Line, ending: Ending) -> Line {
+fn put_ending(line: ListingLine, ending: Ending) -> ListingLine {
     let words = words_of(ending);
     line.begin_entry(words.len().saturating_add(2))
         .put_shown(char::from(edge_of(ending)))
@@ -158,7 +158,7 @@ fn put_ending(line: Line, ending: Ending) -> Line {
 }
 
 /// Appends the ends of bars that the chart has, and their meanings.
-fn put_endings(line: Line, chart: &Chart) -> Line {
+fn put_endings(line: ListingLine, chart: &Chart) -> ListingLine {
     let mut line = line;
     for &ending in &SHOWN {
         if chart.has_ending(ending) {
@@ -169,7 +169,7 @@ fn put_endings(line: Line, chart: &Chart) -> Line {
 }
 
 /// Appends the meaning of the digits of waiting jobs, if there are any.
-fn put_most_waiting(line: Line, most: u64) -> Line {
+fn put_most_waiting(line: ListingLine, most: u64) -> ListingLine {
     if most == 0 {
         return line;
     }
@@ -181,7 +181,7 @@ fn put_most_waiting(line: Line, most: u64) -> Line {
 
 /// Appends the characters of a chart and their meanings, where at most this many jobs wait.
 pub(crate) fn put_fillings(page: Page, chart: &Chart, most: u64, indent: usize) -> Page {
-    let line = put_classes(Line::new(page, b"", indent), &chart.classes);
+    let line = put_classes(ListingLine::new(page, b"", indent), &chart.classes);
     put_most_waiting(put_endings(line, chart), most)
         .put_entry_if(chart.has_arrivals(), "1-9 jobs came, + more")
         .put_entry_if(chart.waits(), "/ not free")

@@ -9,7 +9,7 @@ use crate::legend::put_heading;
 use crate::page::Page;
 use crate::scale::MOST_MARKS;
 use crate::stranded::put_sentence;
-use crate::svg::Drawing;
+use crate::svg::SvgDrawing;
 use base_types::Stranded;
 use std::alloc::{AllocError, Global};
 
@@ -17,7 +17,7 @@ use std::alloc::{AllocError, Global};
 const LINE: f64 = 18.0;
 
 /// Draws the lanes of a chart.
-fn put_lanes(alloc: Global, drawing: Drawing, frame: Frame, chart: &Chart) -> Drawing {
+fn put_lanes(alloc: Global, drawing: SvgDrawing, frame: Frame, chart: &Chart) -> SvgDrawing {
     let mut drawing = drawing;
     for lane in &chart.lanes {
         drawing = put_lane(alloc, drawing, frame, chart, lane);
@@ -45,7 +45,7 @@ fn put_numbers(page: Page, frame: Frame, y: f64) -> Page {
 }
 
 /// Draws the scale.
-fn put_scale(drawing: Drawing, frame: Frame) -> Drawing {
+fn put_scale(drawing: SvgDrawing, frame: Frame) -> SvgDrawing {
     let (right, line) = (frame.right(), drawing.bottom + 6.0);
     let bottom = line + 2.0 * LINE;
     let page = drawing
@@ -60,21 +60,21 @@ fn put_scale(drawing: Drawing, frame: Frame) -> Drawing {
         " text-anchor=\"end\"",
         unit.as_bytes(),
     );
-    Drawing { page, bottom }
+    SvgDrawing { page, bottom }
 }
 
 /// Draws a sentence about a job that no device can print.
-fn put_stranded_job(drawing: Drawing, stranded: &Stranded) -> Drawing {
+fn put_stranded_job(drawing: SvgDrawing, stranded: &Stranded) -> SvgDrawing {
     let bottom = drawing.bottom + LINE;
     let page = drawing.page.begin_text(MARGIN, bottom, "");
-    Drawing {
+    SvgDrawing {
         page: put_sentence(page, stranded).end_text(),
         bottom,
     }
 }
 
 /// Draws the jobs that no device can print, a line each.
-fn put_stranded(drawing: Drawing, stranded: &[Stranded]) -> Drawing {
+fn put_stranded(drawing: SvgDrawing, stranded: &[Stranded]) -> SvgDrawing {
     let mut drawing = drawing;
     for one in stranded {
         drawing = put_stranded_job(drawing, one);
@@ -83,16 +83,16 @@ fn put_stranded(drawing: Drawing, stranded: &[Stranded]) -> Drawing {
 }
 
 /// Draws a further sentence about a job.
-fn put_note(drawing: Drawing, note: &str) -> Drawing {
+fn put_note(drawing: SvgDrawing, note: &str) -> SvgDrawing {
     let bottom = drawing.bottom + LINE;
-    Drawing {
+    SvgDrawing {
         page: drawing.page.put_text(MARGIN, bottom, "", note.as_bytes()),
         bottom,
     }
 }
 
 /// Draws the further sentences about jobs, a line each.
-fn put_notes(drawing: Drawing, notes: &[String]) -> Drawing {
+fn put_notes(drawing: SvgDrawing, notes: &[String]) -> SvgDrawing {
     let mut drawing = drawing;
     for note in notes {
         drawing = put_note(drawing, note);
@@ -101,21 +101,21 @@ fn put_notes(drawing: Drawing, notes: &[String]) -> Drawing {
 }
 
 /// Draws a chart.
-fn put_chart(alloc: Global, drawing: Drawing, frame: Frame, chart: &Chart) -> Drawing {
+fn put_chart(alloc: Global, drawing: SvgDrawing, frame: Frame, chart: &Chart) -> SvgDrawing {
     let drawing = put_heading(drawing, frame, chart);
     let drawing = put_waiting(alloc, drawing, frame, chart);
     let drawing = put_lanes(alloc, drawing, frame, chart);
     let drawing = put_scale(drawing, frame);
     let drawing = put_stranded(drawing, &chart.stranded);
-    let Drawing { page, bottom } = put_notes(drawing, &chart.notes);
-    Drawing {
+    let SvgDrawing { page, bottom } = put_notes(drawing, &chart.notes);
+    SvgDrawing {
         page,
         bottom: bottom + MARGIN,
     }
 }
 
 /// Draws charts below one another.
-fn put_charts(alloc: Global, drawing: Drawing, frame: Frame, charts: &[Chart]) -> Drawing {
+fn put_charts(alloc: Global, drawing: SvgDrawing, frame: Frame, charts: &[Chart]) -> SvgDrawing {
     let mut drawing = drawing;
     for chart in charts {
         drawing = put_chart(alloc, drawing, frame, chart);
@@ -178,11 +178,11 @@ fn put_strips(page: Page, charts: &[Chart]) -> Page {
 /// A pointer on a bar shows the exact start and end of the bar. The only error is out of memory.
 pub(crate) fn write_svg(alloc: Global, charts: &[Chart]) -> Result<String, AllocError> {
     let frame = Frame::of(charts);
-    let begun = Drawing {
+    let begun = SvgDrawing {
         page: Page::new(alloc),
         bottom: MARGIN,
     };
-    let Drawing { page, bottom } = put_charts(alloc, begun, frame, charts);
+    let SvgDrawing { page, bottom } = put_charts(alloc, begun, frame, charts);
     let body = page.finish()?;
     let page = put_head(Page::new(alloc), frame.right() + 2.0 * MARGIN, bottom);
     put_strips(page, charts).put(&body).put("</svg>\n").finish()

@@ -5,7 +5,7 @@ use crate::ending::{SHOWN, edge_of};
 use crate::length::digits_of;
 use crate::scale::{MOST_MARKS, Scale};
 use crate::terminal::WIDTH;
-use crate::waiting::{Step, most_waiting};
+use crate::waiting::{WaitingStep, most_waiting};
 
 /// The fillings of the classes, from the highest class on; they repeat after the last filling.
 const FILLINGS: [u8; 6] = [b'#', b'=', b'+', b'-', b':', b'.'];
@@ -140,7 +140,7 @@ fn raise(cells: &mut [u8], from: usize, to: usize, digit: u8) {
 }
 
 /// The row of the number of jobs that wait, of `columns` columns and one more: the most in each column.
-pub(crate) fn waiting_row(scale: Scale, columns: u16, steps: &[Step]) -> Row {
+pub(crate) fn waiting_row(scale: Scale, columns: u16, steps: &[WaitingStep]) -> Row {
     let most = most_waiting(steps);
     let mut cells = EMPTY;
     for (place, step) in steps.iter().enumerate() {

@@ -4,7 +4,7 @@ use crate::page::Page;
 
 /// A drawing under way: its elements, and the lower end of the lowest element.
 #[derive(Drop)]
-pub(crate) struct Drawing {
+pub(crate) struct SvgDrawing {
     pub(crate) page: Page,
     pub(crate) bottom: f64,
 }

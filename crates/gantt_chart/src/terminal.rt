@@ -7,7 +7,7 @@ use crate::page::Page;
 use crate::row::{lane_row, scale_row, waiting_row};
 use crate::scale::Scale;
 use crate::stranded::put_sentence;
-use crate::waiting::{Step, most_waiting, waiting_in};
+use crate::waiting::{WaitingStep, most_waiting, waiting_in};
 use base_types::Stranded;
 use std::alloc::{AllocError, Global};
 
@@ -62,7 +62,7 @@ fn columns_of(names: usize) -> u16 {
 }
 
 /// Appends the row of the jobs that wait, if there is one.
-fn put_waiting(page: Page, steps: &[Step], scale: Scale, names: usize) -> Page {
+fn put_waiting(page: Page, steps: &[WaitingStep], scale: Scale, names: usize) -> Page {
     if steps.is_empty() {
         return page;
     }
@@ -115,7 +115,7 @@ fn put_notes(page: Page, notes: &[String]) -> Page {
 }
 
 /// Appends a chart with the number of jobs that wait above its lanes, and below it its jobs.
-fn put_chart(page: Page, chart: &Chart, steps: &[Step], scale: Scale, names: usize) -> Page {
+fn put_chart(page: Page, chart: &Chart, steps: &[WaitingStep], scale: Scale, names: usize) -> Page {
     let page = page.put(&chart.title).put_letter('\n');
     let page = put_times(page, chart).put("\n\n");
     let page = put_waiting(page, steps, scale, names);
@@ -128,7 +128,7 @@ fn put_chart(page: Page, chart: &Chart, steps: &[Step], scale: Scale, names: usi
 
 /// The number of jobs that wait, if the chart has too many jobs to name each; no steps otherwise. The only
 /// error is out of memory.
-fn steps_of(alloc: Global, chart: &Chart) -> Result<Vec<Step>, AllocError> {
+fn steps_of(alloc: Global, chart: &Chart) -> Result<Vec<WaitingStep>, AllocError> {
     if chart.is_crowded() {
         waiting_in(alloc, chart)
     } else {

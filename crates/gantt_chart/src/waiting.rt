@@ -5,7 +5,7 @@ use std::alloc::{AllocError, Global};
 
 /// The number of jobs that wait from a moment on, in ms since the begin of the chart.
 #[derive(Clone, Copy)]
-pub(crate) struct Step {
+pub(crate) struct WaitingStep {
     pub(crate) moment: u64,
     pub(crate) waiting: u64,
 }
@@ -19,16 +19,16 @@ struct Change {
 
 /// The number of a job, and the moment at which a device begins it.
 #[derive(Clone, Copy, PartialEq, Eq, PartialOrd, Ord)]
-struct Begun {
+struct JobBegin {
     number: u32,
     start: u64,
 }
 
 /// Adds the jobs of a lane. The only error is out of memory.
-fn add_begun(begun: &mut Vec<Begun>, lane: &Lane) -> Result<(), AllocError> {
+fn add_begun(begun: &mut Vec<JobBegin>, lane: &Lane) -> Result<(), AllocError> {
     for bar in &lane.bars {
         if let Some(job) = bar.job() {
-            begun.push(Begun {
+            begun.push(JobBegin {
                 number: job.number,
                 start: bar.start,
             })?;
@@ -38,7 +38,7 @@ fn add_begun(begun: &mut Vec<Begun>, lane: &Lane) -> Result<(), AllocError> {
 }
 
 /// The jobs of a chart, by rising number, each with its first start. The only error is out of memory.
-fn begun_in(alloc: Global, chart: &Chart) -> Result<Vec<Begun>, AllocError> {
+fn begun_in(alloc: Global, chart: &Chart) -> Result<Vec<JobBegin>, AllocError> {
     let mut begun = Vec::new(alloc);
     for lane in &chart.lanes {
         add_begun(&mut begun, lane)?;
@@ -49,14 +49,14 @@ fn begun_in(alloc: Global, chart: &Chart) -> Result<Vec<Begun>, AllocError> {
 }
 
 /// Returns whether a device begins the job of a number.
-fn is_begun(begun: &[Begun], number: u32) -> bool {
+fn is_begun(begun: &[JobBegin], number: u32) -> bool {
     begun
         .binary_search_by_key(&number, |job| job.number)
         .is_ok()
 }
 
 /// The moment at which the job of a bar comes, if a device begins it.
-fn moment_in(begun: &[Begun], bar: &Bar) -> Option<u64> {
+fn moment_in(begun: &[JobBegin], bar: &Bar) -> Option<u64> {
     match bar.mark {
         Mark::Came(number) if is_begun(begun, number) => Some(bar.start),
         _ => None,
@@ -64,7 +64,11 @@ fn moment_in(begun: &[Begun], bar: &Bar) -> Option<u64> {
 }
 
 /// Adds the jobs of a lane that come. The only error is out of memory.
-fn add_coming(changes: &mut Vec<Change>, begun: &[Begun], lane: &Lane) -> Result<(), AllocError> {
+fn add_coming(
+    changes: &mut Vec<Change>,
+    begun: &[JobBegin],
+    lane: &Lane,
+) -> Result<(), AllocError> {
     for bar in &lane.bars {
         if let Some(moment) = moment_in(begun, bar) {
             changes.push(Change {
@@ -77,7 +81,7 @@ fn add_coming(changes: &mut Vec<Change>, begun: &[Begun], lane: &Lane) -> Result
 }
 
 /// Adds jobs that all wait from the begin of the chart on. The only error is out of memory.
-fn add_at_start(changes: &mut Vec<Change>, begun: &[Begun]) -> Result<(), AllocError> {
+fn add_at_start(changes: &mut Vec<Change>, begun: &[JobBegin]) -> Result<(), AllocError> {
     for _ in begun {
         changes.push(Change {
             moment: 0,
@@ -88,7 +92,7 @@ fn add_at_start(changes: &mut Vec<Change>, begun: &[Begun]) -> Result<(), AllocE
 }
 
 /// The changes of a chart, in order. The only error is out of memory.
-fn changes_of(alloc: Global, chart: &Chart, begun: &[Begun]) -> Result<Vec<Change>, AllocError> {
+fn changes_of(alloc: Global, chart: &Chart, begun: &[JobBegin]) -> Result<Vec<Change>, AllocError> {
     let mut changes = Vec::new(alloc);
     if !chart.has_arrivals() {
         add_at_start(&mut changes, begun)?;
@@ -107,7 +111,7 @@ fn changes_of(alloc: Global, chart: &Chart, begun: &[Begun]) -> Result<Vec<Chang
 }
 
 /// Adds a step, or changes the last one where it has the same moment. The only error is out of memory.
-fn add_step(steps: &mut Vec<Step>, step: Step) -> Result<(), AllocError> {
+fn add_step(steps: &mut Vec<WaitingStep>, step: WaitingStep) -> Result<(), AllocError> {
     if let Some(last) = steps.last_mut()
         && last.moment == step.moment
     {
@@ -121,7 +125,7 @@ fn add_step(steps: &mut Vec<Step>, step: Step) -> Result<(), AllocError> {
 /// The number of jobs that wait in a chart, at each moment at which it changes: of the jobs that a device
 /// begins, those that have come. Without arrivals all have come from the begin on. The only error is out of
 /// memory.
-pub(crate) fn waiting_in(alloc: Global, chart: &Chart) -> Result<Vec<Step>, AllocError> {
+pub(crate) fn waiting_in(alloc: Global, chart: &Chart) -> Result<Vec<WaitingStep>, AllocError> {
     let begun = begun_in(alloc, chart)?;
     let mut steps = Vec::new(alloc);
     let mut waiting = 0u64;
@@ -132,13 +136,13 @@ pub(crate) fn waiting_in(alloc: Global, chart: &Chart) -> Result<Vec<Step>, Allo
             waiting.saturating_add(1)
         };
         let moment = change.moment;
-        add_step(&mut steps, Step { moment, waiting })?;
+        add_step(&mut steps, WaitingStep { moment, waiting })?;
     }
     Ok(steps)
 }
 
 /// The most jobs that wait at one moment.
-pub(crate) fn most_waiting(steps: &[Step]) -> u64 {
+pub(crate) fn most_waiting(steps: &[WaitingStep]) -> u64 {
     let mut most = 0;
     for step in steps {
         most = step.waiting.max(most);

@@ -18,7 +18,7 @@ use std::mem;
 
 /// A server that plays the turns of a recording.
 #[derive(Drop)]
-struct Playing {
+struct FollowedServer {
     alloc: Global,
     engine: JournaledEngine,
     script: ReplayWire,
@@ -31,17 +31,17 @@ struct Playing {
 
 /// What was read of a recording.
 #[derive(Drop)]
-enum Stage {
+enum FollowingStage {
     /// Lines of the settings.
     Settings(Vec<u8>),
     /// The settings, up to the line `.`.
     Start(Vec<u8>),
     /// The start, and perhaps turns.
-    Turns(Playing),
+    Turns(FollowedServer),
 }
 
 /// The step of a line.
-enum Step {
+enum FollowedLine {
     /// No turn ended.
     Within,
     /// A turn at this moment ended.
@@ -61,7 +61,7 @@ pub struct Follower {
     /// The name of the file of the bytes.
     file: String,
     arriving: Arriving,
-    stage: Stage,
+    stage: FollowingStage,
     /// The moment of the last turn that is to be played, if not all are.
     last: Option<Moment>,
     /// Whether a turn has arrived that is later.
@@ -77,7 +77,7 @@ impl Follower {
             alloc,
             file: String::new(alloc),
             arriving: Arriving::new(alloc),
-            stage: Stage::Settings(Vec::new(alloc)),
+            stage: FollowingStage::Settings(Vec::new(alloc)),
             last: None,
             is_past: false,
             keeps_accounts: false,
@@ -94,7 +94,7 @@ impl Follower {
     pub fn begin_file(&mut self, file: &str) -> Result<(), AllocError> {
         self.file = String::from_str(self.alloc, file)?;
         self.arriving = Arriving::new(self.alloc);
-        if let Stage::Turns(playing) = &mut self.stage {
+        if let FollowingStage::Turns(playing) = &mut self.stage {
             playing.drop_turn();
         }
         Ok(())
@@ -129,9 +129,9 @@ impl Follower {
                 return Ok(None);
             }
             match self.take(number, &line)? {
-                Step::Within => {}
-                Step::Turned(moment) => return Ok(Some(moment)),
-                Step::Later => self.is_past = true,
+                FollowedLine::Within => {}
+                FollowedLine::Turned(moment) => return Ok(Some(moment)),
+                FollowedLine::Later => self.is_past = true,
             }
         }
         Ok(None)
@@ -140,16 +140,16 @@ impl Follower {
     /// The server, once the line after the settings was played.
     pub fn engine(&self) -> Option<&JournaledEngine> {
         match &self.stage {
-            Stage::Turns(playing) => Some(&playing.engine),
-            Stage::Settings(_) | Stage::Start(_) => None,
+            FollowingStage::Turns(playing) => Some(&playing.engine),
+            FollowingStage::Settings(_) | FollowingStage::Start(_) => None,
         }
     }
 
     /// The ledger of the server's turns, once the line after the settings was played.
     pub fn ledger(&self) -> Option<&Ledger> {
         match &self.stage {
-            Stage::Turns(playing) => Some(&playing.ledger),
-            Stage::Settings(_) | Stage::Start(_) => None,
+            FollowingStage::Turns(playing) => Some(&playing.ledger),
+            FollowingStage::Settings(_) | FollowingStage::Start(_) => None,
         }
     }
 
@@ -168,8 +168,10 @@ impl Follower {
     /// be late. The only error is out of memory.
     pub fn view_at(&self, moment: Moment) -> Result<Option<QueueView>, AllocError> {
         match &self.stage {
-            Stage::Turns(playing) => Ok(Some(playing.ledger.view(&playing.engine, moment)?)),
-            Stage::Settings(_) | Stage::Start(_) => Ok(None),
+            FollowingStage::Turns(playing) => Ok(Some(
+                playing.ledger.view(&playing.engine, moment)?,
+            )),
+            FollowingStage::Settings(_) | FollowingStage::Start(_) => Ok(None),
         }
     }
 
@@ -177,44 +179,49 @@ impl Follower {
     /// played. The only error is out of memory.
     pub fn into_accounts(self) -> Result<Option<DayAccounts>, AllocError> {
         let Follower { stage, .. } = self;
-        let Stage::Turns(playing) = stage else {
+        let FollowingStage::Turns(playing) = stage else {
             return Ok(None);
         };
-        let Playing { engine, ledger, .. } = playing;
+        let FollowedServer { engine, ledger, .. } = playing;
         Ok(Some(ledger.into_accounts(&engine)?))
     }
 
     /// The fault of a day that has all arrived, if the line after the settings isn't among its lines.
     pub fn missing(&self) -> Option<DayFault> {
         match &self.stage {
-            Stage::Turns(_) => None,
-            Stage::Start(_) => Some(DayFault::no_start(self.alloc, &self.file)),
-            Stage::Settings(_) => Some(DayFault::no_stop(self.alloc, &self.file)),
+            FollowingStage::Turns(_) => None,
+            FollowingStage::Start(_) => Some(DayFault::no_start(self.alloc, &self.file)),
+            FollowingStage::Settings(_) => Some(DayFault::no_stop(self.alloc, &self.file)),
         }
     }
 
     /// Takes the line of this number.
-    fn take(&mut self, number: u64, line: &[u8]) -> Result<Step, DayFault> {
+    fn take(&mut self, number: u64, line: &[u8]) -> Result<FollowedLine, DayFault> {
         match &mut self.stage {
-            Stage::Turns(playing) => playing.take(&self.file, self.last, number, line),
-            Stage::Settings(text) => {
+            FollowingStage::Turns(playing) => playing.take(&self.file, self.last, number, line),
+            FollowingStage::Settings(text) => {
                 let text = mem::replace(text, Vec::new(self.alloc));
                 self.stage = self.after_settings(text, number, line)?;
-                Ok(Step::Within)
+                Ok(FollowedLine::Within)
             }
-            Stage::Start(text) => {
+            FollowingStage::Start(text) => {
                 let text = mem::replace(text, Vec::new(self.alloc));
-                self.stage = Stage::Turns(self.started(&text, line)?);
-                Ok(Step::Within)
+                self.stage = FollowingStage::Turns(self.started(&text, line)?);
+                Ok(FollowedLine::Within)
             }
         }
     }
 
     /// What was read after a line of the settings, or the line `.`.
-    fn after_settings(&self, text: Vec<u8>, number: u64, line: &[u8]) -> Result<Stage, DayFault> {
+    fn after_settings(
+        &self,
+        text: Vec<u8>,
+        number: u64,
+        line: &[u8],
+    ) -> Result<FollowingStage, DayFault> {
         let mut text = text;
         if line == b".".as_slice() {
-            return Ok(Stage::Start(text));
+            return Ok(FollowingStage::Start(text));
         }
         if number == 1 && line.starts_with(GOES_ON) {
             return Err(DayFault::goes_on(self.alloc, &self.file));
@@ -224,16 +231,16 @@ impl Follower {
         }
         text.extend_from_slice(line)?;
         text.extend_from_slice(b"\n")?;
-        Ok(Stage::Settings(text))
+        Ok(FollowingStage::Settings(text))
     }
 
     /// The server with the settings of a text, after the line after them.
-    fn started(&self, text: &[u8], line: &[u8]) -> Result<Playing, DayFault> {
+    fn started(&self, text: &[u8], line: &[u8]) -> Result<FollowedServer, DayFault> {
         let Some(first) = first_in(line) else {
             return Err(DayFault::no_start(self.alloc, &self.file));
         };
         let settings = settings_of(self.alloc, &self.file, text)?;
-        let mut playing = Playing::new(self.alloc, settings, first)?;
+        let mut playing = FollowedServer::new(self.alloc, settings, first)?;
         if self.keeps_accounts {
             playing.ledger.keep_accounts();
         }
@@ -249,15 +256,15 @@ fn is_later(moment: Moment, last: Option<Moment>) -> bool {
     }
 }
 
-impl Playing {
+impl FollowedServer {
     /// Creates a server that has only started, and whose first job gets the id `first`. The only error is out of memory.
-    fn new(alloc: Global, settings: Settings, first: JobId) -> Result<Playing, AllocError>
+    fn new(alloc: Global, settings: Settings, first: JobId) -> Result<FollowedServer, AllocError>
         requires { MeetsLimits settings }
     {
         let planner = Pausable::new(AugmentingPaths::new(alloc));
         let engine = Engine::starting_at(alloc, settings, planner, first)?;
         let ledger = Ledger::new(alloc, &engine)?;
-        Ok(Playing {
+        Ok(FollowedServer {
             alloc,
             engine,
             script: ReplayWire::new(alloc),
@@ -281,10 +288,10 @@ impl Playing {
         last: Option<Moment>,
         number: u64,
         line: &[u8],
-    ) -> Result<Step, DayFault> {
+    ) -> Result<FollowedLine, DayFault> {
         if let Some(comment) = line.strip_prefix(b"#") {
             self.zero = read_clock(comment).or(self.zero);
-            return Ok(Step::Within);
+            return Ok(FollowedLine::Within);
         }
         match read_entry(self.alloc, line)? {
             None => Err(DayFault::bad_line(self.alloc, file, number)),
@@ -299,23 +306,23 @@ impl Playing {
         last: Option<Moment>,
         number: u64,
         entry: Entry,
-    ) -> Result<Step, DayFault> {
+    ) -> Result<FollowedLine, DayFault> {
         match turn_of(&entry) {
-            Some(moment) if is_later(moment, last) => Ok(Step::Later),
+            Some(moment) if is_later(moment, last) => Ok(FollowedLine::Later),
             Some(moment) => self.turn(file, number, moment),
             None if matches!(&entry, Entry::Restarted) => {
                 self.restarted = true;
-                Ok(Step::Within)
+                Ok(FollowedLine::Within)
             }
             None => {
                 self.script.add(number, entry)?;
-                Ok(Step::Within)
+                Ok(FollowedLine::Within)
             }
         }
     }
 
     /// Takes the turn that the line of this number ends.
-    fn turn(&mut self, file: &str, number: u64, moment: Moment) -> Result<Step, DayFault> {
+    fn turn(&mut self, file: &str, number: u64, moment: Moment) -> Result<FollowedLine, DayFault> {
         if let Some(refused) = self.script.refusal() {
             return Err(DayFault::refused(self.alloc, file, refused));
         }
@@ -334,7 +341,7 @@ impl Playing {
             return Err(DayFault::differs(self.alloc, file, number));
         }
         self.ledger.end_turn(&self.engine)?;
-        Ok(Step::Turned(moment))
+        Ok(FollowedLine::Turned(moment))
     }
 
     /// Begins a turn at a moment.

@@ -14,7 +14,7 @@ use traces::{put_gone, put_out};
 
 /// The result of a line.
 #[derive(Drop)]
-pub(crate) enum Step {
+pub(crate) enum LineResult {
     /// The line was played, or is part of a turn that hasn't ended.
     Played,
     /// The line isn't a line of a recording.
@@ -168,13 +168,13 @@ impl<'a> Player<'a> {
         number: u64,
         line: &[u8],
         output: &mut Vec<u8>,
-    ) -> Result<Step, AllocError> {
+    ) -> Result<LineResult, AllocError> {
         if let Some(comment) = line.strip_prefix(b"#") {
             self.keep_comment(comment)?;
-            return Ok(Step::Played);
+            return Ok(LineResult::Played);
         }
         match read_entry(self.alloc, line)? {
-            None => Ok(Step::Bad),
+            None => Ok(LineResult::Bad),
             Some(entry) => self.take(number, entry, output),
         }
     }
@@ -185,18 +185,18 @@ impl<'a> Player<'a> {
         number: u64,
         entry: Entry,
         output: &mut Vec<u8>,
-    ) -> Result<Step, AllocError> {
+    ) -> Result<LineResult, AllocError> {
         let turn = turn_of(&entry);
         self.within = turn.is_none();
         match turn {
             Some(moment) => self.take_turn(number, moment, output),
             None if matches!(&entry, Entry::Restarted) => {
                 self.restarted = true;
-                Ok(Step::Played)
+                Ok(LineResult::Played)
             }
             None => {
                 self.script.add(number, entry)?;
-                Ok(Step::Played)
+                Ok(LineResult::Played)
             }
         }
     }
@@ -225,19 +225,19 @@ impl<'a> Player<'a> {
         number: u64,
         moment: Moment,
         output: &mut Vec<u8>,
-    ) -> Result<Step, AllocError> {
+    ) -> Result<LineResult, AllocError> {
         if let Some(refused) = self.script.refusal() {
-            return Ok(Step::Refused(refused));
+            return Ok(LineResult::Refused(refused));
         }
         self.ended = number;
         self.turn_engine(moment);
         self.put_turn(moment, output)?;
         match self.script.end_turn() {
-            None => Ok(Step::Played),
+            None => Ok(LineResult::Played),
             Some(stray) => {
                 let mut lines = Vec::new(self.alloc);
                 put_difference(self.alloc, &mut lines, &stray, number, moment)?;
-                Ok(Step::Differs(lines))
+                Ok(LineResult::Differs(lines))
             }
         }
     }

@@ -2,7 +2,7 @@
 ghost use Rattle.settings_file.specs.Settings.{MeetsLimits};
 
 use crate::fault::{DayFault, settings_of};
-use crate::player::{DayEnd, LogSinks, Player, Step};
+use crate::player::{DayEnd, LineResult, LogSinks, Player};
 use base_types::{JobId, Limits};
 use journal::{JournaledEngine, Pausable};
 use plan_solver::AugmentingPaths;
@@ -40,7 +40,7 @@ pub struct Played {
 
 /// Why a play ends early.
 #[derive(Drop)]
-enum Fault {
+enum PlayFault {
     /// The exit status, and the reason as a sentence.
     Said(ExitStatus, String),
     /// The lines differ; the difference was printed.
@@ -49,27 +49,27 @@ enum Fault {
     Failed,
 }
 
-impl From<AllocError> for Fault {
-    fn from(_error: AllocError) -> Fault {
-        Fault::OutOfMemory
+impl From<AllocError> for PlayFault {
+    fn from(_error: AllocError) -> PlayFault {
+        PlayFault::OutOfMemory
     }
 }
 
-impl From<io::Error> for Fault {
-    fn from(error: io::Error) -> Fault {
+impl From<io::Error> for PlayFault {
+    fn from(error: io::Error) -> PlayFault {
         if error.kind() == ErrorKind::OutOfMemory {
-            Fault::OutOfMemory
+            PlayFault::OutOfMemory
         } else {
-            Fault::Failed
+            PlayFault::Failed
         }
     }
 }
 
-impl From<DayFault> for Fault {
-    fn from(fault: DayFault) -> Fault {
+impl From<DayFault> for PlayFault {
+    fn from(fault: DayFault) -> PlayFault {
         match fault {
-            DayFault::Said(status, sentence) => Fault::Said(status, sentence),
-            DayFault::OutOfMemory => Fault::OutOfMemory,
+            DayFault::Said(status, sentence) => PlayFault::Said(status, sentence),
+            DayFault::OutOfMemory => PlayFault::OutOfMemory,
         }
     }
 }
@@ -127,7 +127,7 @@ fn read_beginning<R: Read>(
     alloc: Global,
     file: &str,
     lines: &mut LineReader<'_, R>,
-) -> Result<(Vec<u8>, JobId), Fault> {
+) -> Result<(Vec<u8>, JobId), PlayFault> {
     let front = read_front(alloc, lines)?;
     let first = match &front {
         Front::Settings(_) => read_first(alloc, lines)?,
@@ -139,12 +139,12 @@ fn read_beginning<R: Read>(
         (Front::GoesOn, _) => DayFault::goes_on(alloc, file),
         (Front::Neither, _) => DayFault::no_stop(alloc, file),
     };
-    Err(Fault::from(fault))
+    Err(PlayFault::from(fault))
 }
 
 /// A recorded day that is played, and its printed text.
 #[derive(Drop)]
-struct Day<'file, 'output, W: Write> {
+struct DayPlay<'file, 'output, W: Write> {
     alloc: Global,
     /// The name of the day's file.
     file: &'file str,
@@ -154,15 +154,15 @@ struct Day<'file, 'output, W: Write> {
     shows: Shows,
 }
 
-impl<'file, 'output, W: Write> Day<'file, 'output, W> {
+impl<'file, 'output, W: Write> DayPlay<'file, 'output, W> {
     /// Creates a day of which nothing was read.
     fn new(
         alloc: Global,
         file: &'file str,
         writer: &'output mut W,
         shows: Shows,
-    ) -> Day<'file, 'output, W> {
-        Day {
+    ) -> DayPlay<'file, 'output, W> {
+        DayPlay {
             alloc,
             file,
             writer,
@@ -172,22 +172,22 @@ impl<'file, 'output, W: Write> Day<'file, 'output, W> {
     }
 
     /// Appends the printed text of a step, and returns the fault of a line that wasn't just played.
-    fn put_step(&mut self, number: u64, step: Step) -> Result<(), Fault> {
+    fn put_step(&mut self, number: u64, step: LineResult) -> Result<(), PlayFault> {
         let (alloc, file) = (self.alloc, self.file);
         match step {
-            Step::Played => Ok(()),
-            Step::Bad => Err(Fault::from(DayFault::bad_line(alloc, file, number))),
-            Step::Refused(line) => Err(Fault::from(DayFault::refused(alloc, file, line))),
-            Step::Differs(lines) if self.shows == Shows::Verdict => {
+            LineResult::Played => Ok(()),
+            LineResult::Bad => Err(PlayFault::from(DayFault::bad_line(alloc, file, number))),
+            LineResult::Refused(line) => Err(PlayFault::from(DayFault::refused(alloc, file, line))),
+            LineResult::Differs(lines) if self.shows == Shows::Verdict => {
                 self.output.extend_from_slice(&lines)?;
-                Err(Fault::Differs)
+                Err(PlayFault::Differs)
             }
-            Step::Differs(_) => Err(Fault::from(DayFault::differs(alloc, file, number))),
+            LineResult::Differs(_) => Err(PlayFault::from(DayFault::differs(alloc, file, number))),
         }
     }
 
     /// Writes the printed text, if it is longer than `most` bytes.
-    fn put_out(&mut self, most: usize) -> Result<(), Fault> {
+    fn put_out(&mut self, most: usize) -> Result<(), PlayFault> {
         if self.output.len() > most {
             self.writer.write_all(&self.output)?;
             self.output.clear();
@@ -201,7 +201,7 @@ impl<'file, 'output, W: Write> Day<'file, 'output, W> {
         player: &mut Player<'_>,
         number: u64,
         line: &[u8],
-    ) -> Result<(), Fault> {
+    ) -> Result<(), PlayFault> {
         let step = player.play(number, line, &mut self.output)?;
         self.put_step(number, step)?;
         self.put_out(PRINTED)
@@ -212,7 +212,7 @@ impl<'file, 'output, W: Write> Day<'file, 'output, W> {
         &mut self,
         lines: &mut LineReader<'_, R>,
         player: &mut Player<'_>,
-    ) -> Result<DayEnd, Fault> {
+    ) -> Result<DayEnd, PlayFault> {
         let mut line = Vec::new(self.alloc);
         for _ in 0..u64::MAX {
             let number = lines.passed().saturating_add(1);
@@ -230,7 +230,7 @@ impl<'file, 'output, W: Write> Day<'file, 'output, W> {
         lines: &mut LineReader<'_, R>,
         engine: &mut JournaledEngine,
         sinks: LogSinks,
-    ) -> Result<DayEnd, Fault> {
+    ) -> Result<DayEnd, PlayFault> {
         let mut player = Player::new(self.alloc, engine, self.shows, sinks);
         self.play_turns(lines, &mut player)
     }
@@ -242,26 +242,26 @@ impl<'file, 'output, W: Write> Day<'file, 'output, W> {
         lines: &mut LineReader<'_, R>,
         settings: Settings,
         first: JobId,
-    ) -> Result<DayEnd, Fault>
+    ) -> Result<DayEnd, PlayFault>
         requires { MeetsLimits settings }
     {
         let planner = Pausable::new(AugmentingPaths::new(self.alloc));
         let Ok(mut engine) = Engine::starting_at(self.alloc, settings, planner, first) else {
-            return Err(Fault::OutOfMemory);
+            return Err(PlayFault::OutOfMemory);
         };
         let sinks = LogSinks::new(self.alloc, &engine, self.shows)?;
         self.play_on(lines, &mut engine, sinks)
     }
 
     /// Plays the whole day.
-    fn play_all<R: Read>(&mut self, lines: &mut LineReader<'_, R>) -> Result<DayEnd, Fault> {
+    fn play_all<R: Read>(&mut self, lines: &mut LineReader<'_, R>) -> Result<DayEnd, PlayFault> {
         let (text, first) = read_beginning(self.alloc, self.file, lines)?;
         let settings = settings_of(self.alloc, self.file, &text)?;
         self.play_with(lines, settings, first)
     }
 
     /// Plays the whole day, and writes the printed text up to its end.
-    fn play<R: Read>(&mut self, lines: &mut LineReader<'_, R>) -> Result<(), Fault> {
+    fn play<R: Read>(&mut self, lines: &mut LineReader<'_, R>) -> Result<(), PlayFault> {
         let played = self.play_all(lines);
         if let (Ok(end), Shows::Verdict) = (&played, self.shows) {
             self.put_same(*end)?;
@@ -290,9 +290,9 @@ fn play_day<R: Read, W: Write>(
     reader: &mut R,
     writer: &mut W,
     shows: Shows,
-) -> Result<(), Fault> {
+) -> Result<(), PlayFault> {
     let mut lines = LineReader::new(alloc, reader)?;
-    let mut day = Day::new(alloc, file, writer, shows);
+    let mut day = DayPlay::new(alloc, file, writer, shows);
     day.play(&mut lines)
 }
 
@@ -306,13 +306,13 @@ pub fn play<R: Read, W: Write>(
 ) -> Played {
     let (status, objection) = match play_day(alloc, file, reader, writer, shows) {
         Ok(()) => (ExitStatus::Done, None),
-        Err(Fault::Said(status, sentence)) => (status, Some(sentence)),
-        Err(Fault::Differs) => (ExitStatus::No, None),
-        Err(Fault::OutOfMemory) => (
+        Err(PlayFault::Said(status, sentence)) => (status, Some(sentence)),
+        Err(PlayFault::Differs) => (ExitStatus::No, None),
+        Err(PlayFault::OutOfMemory) => (
             ExitStatus::Failed,
             format!(in alloc; "cannot play {file}: out of memory").ok(),
         ),
-        Err(Fault::Failed) => (ExitStatus::Failed, None),
+        Err(PlayFault::Failed) => (ExitStatus::Failed, None),
     };
     Played { status, objection }
 }

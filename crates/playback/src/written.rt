@@ -20,7 +20,7 @@ pub enum Written {
 
 /// An open connection, with its number in the recorded day and its number in the written trace.
 #[derive(Clone, Copy)]
-struct Peer {
+struct WrittenConnection {
     id: WireId,
     number: u64,
     ended: bool,
@@ -28,17 +28,17 @@ struct Peer {
 
 /// The text that was written so far.
 #[derive(Drop)]
-struct Writer {
+struct TraceWriter {
     alloc: Global,
     text: Vec<u8>,
     /// The lines of the turn that hasn't ended.
     turn: Vec<u8>,
-    peers: Vec<Peer>,
+    peers: Vec<WrittenConnection>,
     /// The number of connections that came.
     came: u64,
 }
 
-impl Writer {
+impl TraceWriter {
     /// Takes the content of a line.
     fn take(&mut self, entry: &Entry) -> Result<(), AllocError> {
         match entry {
@@ -63,7 +63,7 @@ impl Writer {
         let (number, word) = (self.came, door.word());
         let ended = false;
         self.close(id);
-        self.peers.push(Peer { id, number, ended })?;
+        self.peers.push(WrittenConnection { id, number, ended })?;
         self.put(format!(in self.alloc; "open {number} {word}\n")?)
     }
 
@@ -193,7 +193,7 @@ fn write_lines(
     lines: &[u8],
     before: u64,
 ) -> Result<Written, AllocError> {
-    let mut writer = Writer {
+    let mut writer = TraceWriter {
         alloc,
         text: Vec::new(alloc),
         turn: Vec::new(alloc),

@@ -1,9 +1,9 @@
 //! `printd draw`.
 
+use crate::error_keeping::{ErrorKeepingInput, ErrorKeepingOutput};
 use crate::failure::{cannot, out_of_memory, say, write_text};
 use crate::input::{INPUT, open};
 use crate::judging::{failed, told};
-use crate::noted::{NotedInput, NotedOutput};
 use crate::settings::read_file;
 use command_line::Drawn;
 use gantt_chart::Form;
@@ -21,8 +21,8 @@ pub(crate) fn form_of(text: bool) -> Form {
 
 /// Draws the plan of a text from an input with this name, and returns the exit status.
 fn draw_input<R: Read + Drop>(rt: &HostRuntime, name: &str, reader: R, form: Form) -> ExitStatus {
-    let mut input = NotedInput::new(reader);
-    let mut output = NotedOutput::new(io::writer(rt));
+    let mut input = ErrorKeepingInput::new(reader);
+    let mut output = ErrorKeepingOutput::new(io::writer(rt));
     let audit = run_draw(rt.alloc(), &mut input, &mut output, form);
     if audit.status == ExitStatus::Failed {
         return failed(rt, "draw the plan", name, input, output);

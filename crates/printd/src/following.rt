@@ -48,7 +48,7 @@ struct Outputs<'a> {
 
 /// The page that was written last.
 #[derive(Clone, Copy)]
-struct Written {
+struct WrittenPage {
     /// When, in ms since the program's start.
     at: u64,
     /// Whether it is marked as old.
@@ -57,7 +57,7 @@ struct Written {
 
 /// A recording that is followed.
 #[derive(Drop)]
-struct Following<'a> {
+struct FollowedRecording<'a> {
     rt: &'a HostRuntime,
     chain: FileChain<'a>,
     outputs: Outputs<'a>,
@@ -71,7 +71,7 @@ struct Following<'a> {
     has_caught_up: bool,
     /// Whether turns were played since the last page.
     is_changed: bool,
-    written: Option<Written>,
+    written: Option<WrittenPage>,
 }
 
 /// The ms since the beginning of 1970; 0 where the clock is before 1970.
@@ -94,14 +94,18 @@ fn time_written(file: &File) -> io::Result<u64> {
     )
 }
 
-impl<'a> Following<'a> {
+impl<'a> FollowedRecording<'a> {
     /// Begins to follow a recording or a spool, of which nothing was read.
-    fn new(rt: &'a HostRuntime, path: &'a str, outputs: Outputs<'a>) -> io::Result<Following<'a>> {
+    fn new(
+        rt: &'a HostRuntime,
+        path: &'a str,
+        outputs: Outputs<'a>,
+    ) -> io::Result<FollowedRecording<'a>> {
         let chain = FileChain::new(rt, path)?;
         let number = chain.first()?;
         let mut follower = Follower::new(rt.alloc());
         follower.begin_file(&chain.name(number)?)?;
-        Ok(Following {
+        Ok(FollowedRecording {
             rt,
             chain,
             outputs,
@@ -235,7 +239,7 @@ impl<'a> Following<'a> {
         }
         self.write(quiet_since)?;
         self.is_changed = false;
-        self.written = Some(Written { at: now, is_old });
+        self.written = Some(WrittenPage { at: now, is_old });
         Ok(())
     }
 
@@ -274,7 +278,7 @@ pub(crate) fn follow(
         names: paging.names,
         zone,
     };
-    let mut following = Following::new(rt, path, outputs).map_err(|error| cannot_with(
+    let mut following = FollowedRecording::new(rt, path, outputs).map_err(|error| cannot_with(
         rt, "follow", path, error,
     ))?;
     for _ in 0..u64::MAX {

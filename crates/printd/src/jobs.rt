@@ -1,9 +1,9 @@
 //! `printd jobs`: the jobs of recorded days.
 use crate::failure::{cannot, cannot_with, out_of_memory, say};
 use crate::input::open;
-use queue_reports::AccountTable;
 use playback::{DayFault, Follower, peek};
 use program::ExitStatus;
+use queue_reports::AccountTable;
 use recordings::{GOES_ON, fill};
 use std::alloc::AllocError;
 use std::fs::File;
@@ -15,7 +15,7 @@ const CHUNK: usize = 65_536;
 
 /// Why the jobs of a file aren't written.
 #[derive(Drop)]
-enum Trouble {
+enum JobsFault {
     Day(DayFault),
     /// The file can't be read.
     Read(io::Error),
@@ -23,7 +23,7 @@ enum Trouble {
 
 /// The days of some files, of which the last is played, and the rows of the days before.
 #[derive(Drop)]
-struct Days<'a> {
+struct JobDays<'a> {
     rt: &'a HostRuntime,
     follower: Follower,
     table: AccountTable,
@@ -31,21 +31,21 @@ struct Days<'a> {
     has_begun: bool,
 }
 
-impl From<DayFault> for Trouble {
-    fn from(fault: DayFault) -> Trouble {
-        Trouble::Day(fault)
+impl From<DayFault> for JobsFault {
+    fn from(fault: DayFault) -> JobsFault {
+        JobsFault::Day(fault)
     }
 }
 
-impl From<io::Error> for Trouble {
-    fn from(error: io::Error) -> Trouble {
-        Trouble::Read(error)
+impl From<io::Error> for JobsFault {
+    fn from(error: io::Error) -> JobsFault {
+        JobsFault::Read(error)
     }
 }
 
-impl From<AllocError> for Trouble {
-    fn from(_error: AllocError) -> Trouble {
-        Trouble::Day(DayFault::OutOfMemory)
+impl From<AllocError> for JobsFault {
+    fn from(_error: AllocError) -> JobsFault {
+        JobsFault::Day(DayFault::OutOfMemory)
     }
 }
 
@@ -56,10 +56,10 @@ fn new_follower(rt: &HostRuntime) -> Follower {
     follower
 }
 
-impl Days<'_> {
+impl JobDays<'_> {
     /// Creates the days of no files.
-    fn new(rt: &HostRuntime) -> Result<Days<'_>, AllocError> {
-        Ok(Days {
+    fn new(rt: &HostRuntime) -> Result<JobDays<'_>, AllocError> {
+        Ok(JobDays {
             rt,
             follower: new_follower(rt),
             table: AccountTable::new(rt.alloc())?,
@@ -79,7 +79,7 @@ impl Days<'_> {
     }
 
     /// Plays a file of this name: it goes on with the day of the file before, or begins another day.
-    fn play_file(&mut self, name: &str, file: &mut File) -> Result<(), Trouble> {
+    fn play_file(&mut self, name: &str, file: &mut File) -> Result<(), JobsFault> {
         let peeked = peek(self.rt.alloc(), file)?;
         if self.has_begun && !peeked.bytes.starts_with(GOES_ON) {
             self.end_day()?;
@@ -91,7 +91,7 @@ impl Days<'_> {
     }
 
     /// Plays the bytes of a file that weren't read.
-    fn play_rest(&mut self, file: &mut File) -> Result<(), Trouble> {
+    fn play_rest(&mut self, file: &mut File) -> Result<(), JobsFault> {
         let mut chunk = vec![in self.rt.alloc(); 0; CHUNK]?;
         for _ in 0..u64::MAX {
             let count = fill(file, &mut chunk)?;
@@ -101,7 +101,7 @@ impl Days<'_> {
             self.play(&chunk[..count])?;
         }
         match self.follower.missing() {
-            Some(fault) => Err(Trouble::Day(fault)),
+            Some(fault) => Err(JobsFault::Day(fault)),
             None => Ok(()),
         }
     }
@@ -124,11 +124,11 @@ impl Days<'_> {
 }
 
 /// Reports why the jobs of a file aren't written, and returns the exit status.
-fn tell(rt: &HostRuntime, name: &str, trouble: Trouble) -> ExitStatus {
+fn tell(rt: &HostRuntime, name: &str, trouble: JobsFault) -> ExitStatus {
     match trouble {
-        Trouble::Read(error) => cannot_with(rt, "read", name, error),
-        Trouble::Day(DayFault::OutOfMemory) => cannot_with(rt, "play", name, out_of_memory()),
-        Trouble::Day(DayFault::Said(status, sentence)) => {
+        JobsFault::Read(error) => cannot_with(rt, "read", name, error),
+        JobsFault::Day(DayFault::OutOfMemory) => cannot_with(rt, "play", name, out_of_memory()),
+        JobsFault::Day(DayFault::Said(status, sentence)) => {
             say(rt, &sentence);
             status
         }
@@ -138,7 +138,7 @@ fn tell(rt: &HostRuntime, name: &str, trouble: Trouble) -> ExitStatus {
 /// Plays the files, up to the first that can't be played. That is reported, and its exit status returned.
 fn play_all(
     rt: &HostRuntime,
-    days: &mut Days<'_>,
+    days: &mut JobDays<'_>,
     files: &[&str],
 ) -> Result<ExitStatus, ExitStatus> {
     for name in files {
@@ -158,7 +158,7 @@ fn no_memory(rt: &HostRuntime, _error: AllocError) -> ExitStatus {
 /// Writes the jobs of the days of some files, up to the first line that can't be played. An error is reported, and its
 /// exit status returned.
 pub(crate) fn run_jobs(rt: &HostRuntime, files: &[&str]) -> Result<ExitStatus, ExitStatus> {
-    let mut days = Days::new(rt).map_err(|error| no_memory(rt, error))?;
+    let mut days = JobDays::new(rt).map_err(|error| no_memory(rt, error))?;
     let status = play_all(rt, &mut days, files)?;
     let table = days.finish().map_err(|error| no_memory(rt, error))?;
     match io::writer(rt).write_all(&table) {

@@ -1,7 +1,7 @@
 //! `printd check`: the verdict on the text of a plan.
+use crate::error_keeping::{ErrorKeepingInput, ErrorKeepingOutput};
 use crate::failure::{cannot, cannot_with, out_of_memory};
 use crate::input::{INPUT, open, say_of, spoken};
-use crate::noted::{NotedInput, NotedOutput};
 use plan_audit::{Audit, run_check};
 use program::ExitStatus;
 use std::io;
@@ -26,8 +26,8 @@ fn check_input<R: Read + Drop>(
     reader: R,
     starts: bool,
 ) -> ExitStatus {
-    let mut input = NotedInput::new(reader);
-    let mut output = NotedOutput::new(io::writer(rt));
+    let mut input = ErrorKeepingInput::new(reader);
+    let mut output = ErrorKeepingOutput::new(io::writer(rt));
     let audit = run_check(rt.alloc(), &mut input, &mut output, starts);
     if audit.status == ExitStatus::Failed {
         return failed(rt, "judge the plan", name, input, output);
@@ -48,8 +48,8 @@ pub(crate) fn failed<R: Read + Drop, W: Write + Drop>(
     rt: &HostRuntime,
     what: &str,
     name: &str,
-    input: NotedInput<R>,
-    output: NotedOutput<W>,
+    input: ErrorKeepingInput<R>,
+    output: ErrorKeepingOutput<W>,
 ) -> ExitStatus {
     if let Some(error) = output.into_error() {
         return cannot(rt, "write to standard output", error);

@@ -12,13 +12,13 @@
 mod attaching;
 mod chain;
 mod drawing;
+mod error_keeping;
 mod failure;
 mod following;
 mod input;
 mod jobs;
 mod judging;
 mod log_output;
-mod noted;
 mod page;
 mod replaying;
 mod serving;

@@ -1,8 +1,8 @@
 //! `printd replay` and `printd log`: a trace, played.
+use crate::error_keeping::{ErrorKeepingInput, ErrorKeepingOutput};
 use crate::failure::say;
 use crate::input::{INPUT, open, say_of};
 use crate::judging::failed;
-use crate::noted::{NotedInput, NotedOutput};
 use command_line::Replaying;
 use playback::{Shows, Whole, peek, play};
 use program::ExitStatus;
@@ -34,8 +34,8 @@ fn replay_input<R: Read + Drop>(
     reader: R,
     replaying: Replaying<'_>,
 ) -> ExitStatus {
-    let mut input = NotedInput::new(reader);
-    let mut output = NotedOutput::new(io::writer(rt));
+    let mut input = ErrorKeepingInput::new(reader);
+    let mut output = ErrorKeepingOutput::new(io::writer(rt));
     match play_any(rt, name, &mut input, &mut output, replaying) {
         Some(status) => status,
         None => failed(rt, "play the trace", name, input, output),
@@ -62,8 +62,8 @@ fn play_any<R: Read, W: Write>(
 
 /// Writes the log lines of a recorded day from an input with this name, and returns the exit status.
 fn log_input<R: Read + Drop>(rt: &HostRuntime, name: &str, reader: R) -> ExitStatus {
-    let mut input = NotedInput::new(reader);
-    let mut output = NotedOutput::new(io::writer(rt));
+    let mut input = ErrorKeepingInput::new(reader);
+    let mut output = ErrorKeepingOutput::new(io::writer(rt));
     match play_recorded(rt, name, &mut input, &mut output, Shows::Log) {
         Some(status) => status,
         None => failed(rt, "play the trace", name, input, output),

@@ -22,7 +22,7 @@ const PLAY: &str = "play the jobs";
 
 /// The progress of a day, shown on a terminal.
 #[derive(Drop)]
-struct Progress<'a> {
+struct DayProgress<'a> {
     rt: &'a HostRuntime,
     is_told: bool,
     /// The hundredths of the jobs that had come when progress was last shown.
@@ -37,7 +37,7 @@ fn is_terminal(rt: &HostRuntime) -> bool {
     }
 }
 
-impl Watch for Progress<'_> {
+impl Watch for DayProgress<'_> {
     fn come(&mut self, name: &str, come: usize, jobs: usize) {
         let hundredths = come.saturating_mul(100).checked_div(jobs).unwrap_or(0);
         if self.is_told && hundredths != self.told {
@@ -47,9 +47,9 @@ impl Watch for Progress<'_> {
     }
 }
 
-impl Progress<'_> {
-    fn new(rt: &HostRuntime) -> Progress<'_> {
-        Progress {
+impl DayProgress<'_> {
+    fn new(rt: &HostRuntime) -> DayProgress<'_> {
+        DayProgress {
             rt,
             is_told: is_terminal(rt),
             told: 0,
@@ -267,7 +267,7 @@ fn play_one(
     let settings = settings_of(rt, set.file)?;
     let jobs = loaded_jobs(rt, file, &settings, simulating.load, Reports::Unused)?;
     let question = question_of(simulating, policies, set);
-    let mut progress = Progress::new(rt);
+    let mut progress = DayProgress::new(rt);
     let played = run_simulation(rt.alloc(), settings, &jobs, question, &mut progress);
     progress.end();
     played.map_err(|fault| refuse_day(rt, PLAY, &fault))
@@ -290,7 +290,7 @@ fn compare_one(
         Reports::Faults
     };
     let jobs = loaded_jobs(rt, files.jobs, &settings, simulating.load, reports)?;
-    let mut progress = Progress::new(rt);
+    let mut progress = DayProgress::new(rt);
     let played = comparison.play(round, settings, &jobs, question, &mut progress);
     progress.end();
     played.map_err(|fault| refuse_day(rt, PLAY, &fault))

@@ -14,7 +14,7 @@ use program::ExitStatus;
 use server::Engine;
 use settings_file::Settings;
 use sockets::Sockets;
-use spool_directory::{SpoolDirectory, SpoolFault, SpoolFiles, SpoolOptions, Start};
+use spool_directory::{SpoolDirectory, SpoolFault, SpoolFiles, SpoolOptions, StartingServer};
 use std::alloc::{AllocError, Global};
 use std::io;
 
@@ -30,7 +30,7 @@ pub(crate) struct SettingsText<'a> {
 
 /// A server whose journal has begun, or goes on.
 #[derive(Drop)]
-struct Day {
+struct SpooledDay {
     sockets: Sockets,
     engine: JournaledEngine,
     /// The moment of the last turn.
@@ -56,7 +56,7 @@ fn start_in<'a>(
     spooling: Spooling<'a>,
     settings: Settings,
     text: &[u8],
-) -> Result<Start<'a>, ExitStatus>
+) -> Result<StartingServer<'a>, ExitStatus>
     requires { MeetsLimits settings }
 {
     let options = SpoolOptions {
@@ -100,7 +100,7 @@ fn begin_anew(
     files: &mut SpoolFiles<'_>,
     server: Server,
     turns: u64,
-) -> Result<Day, ExitStatus> {
+) -> Result<SpooledDay, ExitStatus> {
     let first = server
         .engine()
         .next_job_id()
@@ -109,7 +109,7 @@ fn begin_anew(
     files
         .begin_anew(settings.text, first, server.engine(), &mut engine)
         .map_err(|fault| refused(rt, &fault))?;
-    Ok(Day {
+    Ok(SpooledDay {
         sockets: server.into_sockets(),
         engine,
         last: Moment::start(),
@@ -121,14 +121,14 @@ fn begin_anew(
 /// and its exit status returned.
 fn serve_day(
     rt: &HostRuntime,
-    day: Day,
+    day: SpooledDay,
     settings: SettingsText<'_>,
     names: Vec<Text>,
     log: Option<&mut LogOutput<'_>>,
     files: &mut SpoolFiles<'_>,
-) -> Result<Option<Day>, ExitStatus> {
+) -> Result<Option<SpooledDay>, ExitStatus> {
     let alloc = rt.alloc();
-    let Day {
+    let SpooledDay {
         sockets,
         engine,
         last,
@@ -167,14 +167,14 @@ pub(crate) fn serve_spooled(
 ) -> Result<ExitStatus, ExitStatus>
     requires { MeetsLimits settings }
 {
-    let Start {
+    let StartingServer {
         engine,
         last,
         mut files,
         ..
     } = start_in(rt, spooling, settings, text.text)?;
     announce_doors(rt, &sockets)?;
-    let mut day = Day {
+    let mut day = SpooledDay {
         sockets,
         engine,
         last,

@@ -1,9 +1,9 @@
 //! The devices of a printer.
 use crate::html::Html;
-use crate::length::Pages;
+use crate::length::PageCount;
 use crate::media::MediumName;
-use crate::sheet::Sheet;
-use crate::times::Shows;
+use crate::sheet::PageContext;
+use crate::times::TimeDetail;
 use queue_views::{DeviceState, DeviceView, PrinterView, TakenJob};
 
 /// The word for a state.
@@ -18,7 +18,7 @@ fn word_of(state: DeviceState) -> &'static str {
 }
 
 /// Appends the devices of a printer.
-pub(crate) fn put_devices(html: Html, sheet: &Sheet<'_>, printer: &PrinterView) -> Html {
+pub(crate) fn put_devices(html: Html, sheet: &PageContext<'_>, printer: &PrinterView) -> Html {
     let mut html = sheet
         .heading(html, "Devices")
         .markup("<div class=\"devices\">\n");
@@ -31,7 +31,7 @@ pub(crate) fn put_devices(html: Html, sheet: &Sheet<'_>, printer: &PrinterView) 
 }
 
 /// Appends a device.
-fn put_device(html: Html, sheet: &Sheet<'_>, device: &DeviceView) -> Html {
+fn put_device(html: Html, sheet: &PageContext<'_>, device: &DeviceView) -> Html {
     let class = match device.state {
         DeviceState::Ready | DeviceState::Printing => "state",
         DeviceState::Away | DeviceState::Stopped | DeviceState::Late { .. } => "state bad",
@@ -53,11 +53,11 @@ fn put_device(html: Html, sheet: &Sheet<'_>, device: &DeviceView) -> Html {
 }
 
 /// Appends since when a device without a job is in its state.
-fn put_since(html: Html, sheet: &Sheet<'_>, device: &DeviceView) -> Html {
+fn put_since(html: Html, sheet: &PageContext<'_>, device: &DeviceView) -> Html {
     match (device.since, device.state) {
         (Some(since), _) => html
             .markup("<p>since ")
-            .text(sheet.times.at(since.millis(), Shows::Minutes))
+            .text(sheet.times.at(since.millis(), TimeDetail::Minutes))
             .markup("</p>"),
         (None, DeviceState::Away) => html.markup("<p>not connected yet</p>"),
         (None, _) => html,
@@ -65,7 +65,7 @@ fn put_since(html: Html, sheet: &Sheet<'_>, device: &DeviceView) -> Html {
 }
 
 /// Appends the job that a device has.
-fn put_taken(html: Html, sheet: &Sheet<'_>, device: &DeviceView, taken: &TakenJob) -> Html {
+fn put_taken(html: Html, sheet: &PageContext<'_>, device: &DeviceView, taken: &TakenJob) -> Html {
     let html = html.markup("<p>job ").text(taken.job.number());
     let html = if taken.canceled {
         html.markup(", canceled")
@@ -96,33 +96,33 @@ fn put_pages(html: Html, taken: &TakenJob) -> Html {
             .markup(", about ")
             .text(done)
             .markup(" of ")
-            .text(Pages(taken.impressions)),
-        None => html.markup(", ").text(Pages(taken.impressions)),
+            .text(PageCount(taken.impressions)),
+        None => html.markup(", ").text(PageCount(taken.impressions)),
     }
 }
 
 /// Appends when a device is to end its job, or since when it is stopped.
-fn put_end(html: Html, sheet: &Sheet<'_>, device: &DeviceView, taken: &TakenJob) -> Html {
+fn put_end(html: Html, sheet: &PageContext<'_>, device: &DeviceView, taken: &TakenJob) -> Html {
     match (taken.end, device.since) {
         (Some(end), _) if end > sheet.times.now() => html
             .markup(", done about ")
-            .text(sheet.times.at(end, Shows::Minutes)),
+            .text(sheet.times.at(end, TimeDetail::Minutes)),
         (Some(end), _) => html
             .markup(", was to be done about ")
-            .text(sheet.times.at(end, Shows::Minutes)),
+            .text(sheet.times.at(end, TimeDetail::Minutes)),
         (None, Some(since)) => html
             .markup(", stopped since ")
-            .text(sheet.times.at(since.millis(), Shows::Minutes)),
+            .text(sheet.times.at(since.millis(), TimeDetail::Minutes)),
         (None, None) => html,
     }
 }
 
 /// Appends until when a device begins no job.
-fn put_busy(html: Html, sheet: &Sheet<'_>, device: &DeviceView) -> Html {
+fn put_busy(html: Html, sheet: &PageContext<'_>, device: &DeviceView) -> Html {
     match device.busy_until {
         Some(until) => html
             .markup("<p>begins no job before ")
-            .text(sheet.times.at(until, Shows::Minutes))
+            .text(sheet.times.at(until, TimeDetail::Minutes))
             .markup("</p>"),
         None => html,
     }

@@ -23,14 +23,14 @@ pub(crate) struct Metric {
 
 /// A label of a sample: its name, and its value, which may be any text.
 #[derive(Clone, Copy)]
-pub(crate) struct Label<'a> {
+pub(crate) struct MetricLabel<'a> {
     pub(crate) name: &'static str,
     pub(crate) value: &'a str,
 }
 
 /// The value of a sample.
 #[derive(Clone, Copy)]
-pub(crate) enum Value {
+pub(crate) enum MetricValue {
     Count(u64),
     /// A number of ms, which is written in seconds.
     Millis(u64),
@@ -57,11 +57,11 @@ impl fmt::Display for MetricType {
     }
 }
 
-impl fmt::Display for Value {
+impl fmt::Display for MetricValue {
     fn fmt<W: fmt::Write>(&self, f: &mut fmt::Formatter<W>) -> fmt::Result {
         match *self {
-            Value::Count(count) => write!(f, "{count}"),
-            Value::Millis(millis) => {
+            MetricValue::Count(count) => write!(f, "{count}"),
+            MetricValue::Millis(millis) => {
                 let (whole, part) = (millis / SECOND, millis % SECOND);
                 write!(f, "{whole}.{part:03}")
             }
@@ -107,8 +107,8 @@ impl Exposition {
     pub(crate) fn sample(
         &mut self,
         name: &str,
-        labels: &[Label<'_>],
-        value: Value,
+        labels: &[MetricLabel<'_>],
+        value: MetricValue,
     ) -> Result<(), AllocError> {
         self.text.push_str(name)?;
         for (place, label) in labels.iter().enumerate() {

@@ -1,14 +1,14 @@
 //! The jobs that finished.
 use crate::html::Html;
 use crate::length::Length;
-use crate::sheet::Sheet;
-use crate::times::Shows;
+use crate::sheet::PageContext;
+use crate::times::TimeDetail;
 use base_types::PrinterId;
 use job_objects::JobState;
 use queue_views::FinishedJob;
 
 /// Appends the jobs of a printer that finished last, if there are any.
-pub(crate) fn put_finished(html: Html, sheet: &Sheet<'_>, printer: PrinterId) -> Html {
+pub(crate) fn put_finished(html: Html, sheet: &PageContext<'_>, printer: PrinterId) -> Html {
     let jobs = &sheet.view.finished;
     if !jobs.iter().any(|job| job.printer == printer) {
         return html;
@@ -17,7 +17,7 @@ pub(crate) fn put_finished(html: Html, sheet: &Sheet<'_>, printer: PrinterId) ->
         .heading(html, "Finished")
         .markup("<table>\n<thead><tr><th>Job</th>");
     let mut html = sheet.name_heads(html).markup(
-        "<th class=\"n\">Pages</th><th>Device</th><th class=\"n\">Ended</th></tr></thead>\n<tbody>\n",
+        "<th class=\"n\">PageCount</th><th>Device</th><th class=\"n\">Ended</th></tr></thead>\n<tbody>\n",
     );
     for job in jobs {
         if job.printer == printer {
@@ -28,7 +28,7 @@ pub(crate) fn put_finished(html: Html, sheet: &Sheet<'_>, printer: PrinterId) ->
 }
 
 /// Appends the row of a job.
-fn put_job(html: Html, sheet: &Sheet<'_>, job: &FinishedJob) -> Html {
+fn put_job(html: Html, sheet: &PageContext<'_>, job: &FinishedJob) -> Html {
     let html = html
         .markup("<tr><td>")
         .text(job.id.number())
@@ -44,13 +44,13 @@ fn put_job(html: Html, sheet: &Sheet<'_>, job: &FinishedJob) -> Html {
     };
     let html = html
         .markup("</td><td class=\"n\">")
-        .text(sheet.times.at(job.ended.millis(), Shows::Minutes))
+        .text(sheet.times.at(job.ended.millis(), TimeDetail::Minutes))
         .markup(" <small>");
     put_ending(html, sheet, job).markup("</small></td></tr>\n")
 }
 
 /// Appends how a job ended: how long it took, or that it wasn't printed.
-fn put_ending(html: Html, sheet: &Sheet<'_>, job: &FinishedJob) -> Html {
+fn put_ending(html: Html, sheet: &PageContext<'_>, job: &FinishedJob) -> Html {
     match job.state {
         JobState::Canceled => html.markup("canceled"),
         JobState::Aborted => html.markup("aborted"),

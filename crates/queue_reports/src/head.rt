@@ -1,14 +1,14 @@
 //! The head of a page.
 use crate::html::Html;
 use crate::length::Length;
-use crate::sheet::Sheet;
+use crate::sheet::PageContext;
 use crate::style::STYLE;
-use crate::times::Shows;
+use crate::times::TimeDetail;
 use base_types::PrinterId;
 use queue_views::Figures;
 
 /// Appends the head of the document. `refresh` are the s after which a browser reads the page again.
-pub(crate) fn put_document_head(html: Html, sheet: &Sheet<'_>, refresh: Option<u32>) -> Html {
+pub(crate) fn put_document_head(html: Html, sheet: &PageContext<'_>, refresh: Option<u32>) -> Html {
     let html = html.markup(
         "<!DOCTYPE html>\n<html lang=\"en\">\n<head>\n<meta charset=\"utf-8\">\n<meta name=\"viewport\" content=\"width=device-width, initial-scale=1\">\n",
     );
@@ -26,7 +26,7 @@ pub(crate) fn put_document_head(html: Html, sheet: &Sheet<'_>, refresh: Option<u
 }
 
 /// Appends the printers and the number of jobs that wait.
-fn put_title(html: Html, sheet: &Sheet<'_>) -> Html {
+fn put_title(html: Html, sheet: &PageContext<'_>) -> Html {
     let mut html = html;
     let mut waiting = 0_u64;
     for (place, printer) in sheet.view.printers.iter().enumerate() {
@@ -48,7 +48,7 @@ fn put_count(html: Html, waiting: u64) -> Html {
 }
 
 /// Appends the figures of a printer.
-fn put_figures(html: Html, sheet: &Sheet<'_>, figures: Figures) -> Html {
+fn put_figures(html: Html, sheet: &PageContext<'_>, figures: Figures) -> Html {
     let day = if sheet.times.has_clock() {
         " to paper today"
     } else {
@@ -64,7 +64,7 @@ fn put_figures(html: Html, sheet: &Sheet<'_>, figures: Figures) -> Html {
 
 /// Appends the head that people see: the printers, their figures, and the page's moment. `quiet_since` is the time in ms
 /// since the beginning of 1970 since which nothing new has come, if that is long ago.
-pub(crate) fn put_head(html: Html, sheet: &Sheet<'_>, quiet_since: Option<u64>) -> Html {
+pub(crate) fn put_head(html: Html, sheet: &PageContext<'_>, quiet_since: Option<u64>) -> Html {
     let html = html.markup("<header><h1>");
     let html = match sheet.view.printers.first() {
         Some(printer) if !sheet.has_several() => {
@@ -85,34 +85,34 @@ pub(crate) fn put_head(html: Html, sheet: &Sheet<'_>, quiet_since: Option<u64>) 
 }
 
 /// Appends the page's moment.
-fn put_moment(html: Html, sheet: &Sheet<'_>) -> Html {
+fn put_moment(html: Html, sheet: &PageContext<'_>) -> Html {
     let now = sheet.times.now();
     if !sheet.times.has_clock() {
         return html
             .markup("<p>")
-            .text(sheet.times.at(now, Shows::Seconds))
+            .text(sheet.times.at(now, TimeDetail::Seconds))
             .markup(" after the start</p>");
     }
     html.markup("<time")
-        .attribute("datetime", sheet.times.at(now, Shows::Machine))
+        .attribute("datetime", sheet.times.at(now, TimeDetail::Machine))
         .markup(">as of ")
-        .text(sheet.times.at(now, Shows::Whole))
+        .text(sheet.times.at(now, TimeDetail::Whole))
         .markup("</time>")
 }
 
 /// Appends that the page is old.
-fn put_quiet(html: Html, sheet: &Sheet<'_>, since: Option<u64>) -> Html {
+fn put_quiet(html: Html, sheet: &PageContext<'_>, since: Option<u64>) -> Html {
     match since {
         Some(since) => html
             .markup("<p class=\"problem old\">not updated since ")
-            .text(sheet.times.of(since, Shows::Seconds))
+            .text(sheet.times.of(since, TimeDetail::Seconds))
             .markup("</p>\n"),
         None => html,
     }
 }
 
 /// Appends a line for each printer.
-fn put_printers(html: Html, sheet: &Sheet<'_>) -> Html {
+fn put_printers(html: Html, sheet: &PageContext<'_>) -> Html {
     let mut html = html.markup("<ul class=\"printers\">\n");
     for (place, printer) in sheet.view.printers.iter().enumerate() {
         html = html

@@ -53,9 +53,9 @@ impl fmt::Display for Length {
 
 /// A number of pages.
 #[derive(Clone, Copy)]
-pub(crate) struct Pages(pub(crate) u64);
+pub(crate) struct PageCount(pub(crate) u64);
 
-impl fmt::Display for Pages {
+impl fmt::Display for PageCount {
     fn fmt<W: fmt::Write>(&self, f: &mut fmt::Formatter<W>) -> fmt::Result {
         let pages = self.0;
         let word = if pages == 1 { "page" } else { "pages" };

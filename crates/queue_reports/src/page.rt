@@ -5,8 +5,8 @@ use crate::head::{Anchor, put_document_head, put_head};
 use crate::html::Html;
 use crate::plan::put_plan;
 use crate::problems::put_problems;
-use crate::sheet::Sheet;
-use crate::times::Times;
+use crate::sheet::PageContext;
+use crate::times::ZonedTimes;
 use crate::waiting::put_waiting;
 use base_types::PrinterId;
 use jiff::tz::TimeZone;
@@ -32,10 +32,10 @@ pub fn write_page(
     view: &QueueView,
     options: &PageOptions<'_>,
 ) -> Result<String, AllocError> {
-    let sheet = Sheet {
+    let sheet = PageContext {
         alloc,
         view,
-        times: Times::new(&view.clock, options.zone, view.moment.millis()),
+        times: ZonedTimes::new(&view.clock, options.zone, view.moment.millis()),
         names: options.names,
     };
     let html = put_document_head(Html::new(alloc), &sheet, options.refresh).markup("<body>\n");
@@ -48,7 +48,7 @@ pub fn write_page(
 }
 
 /// Appends the parts of a printer, in a section of its own if there are several.
-fn put_printer(html: Html, sheet: &Sheet<'_>, place: usize, printer: &PrinterView) -> Html {
+fn put_printer(html: Html, sheet: &PageContext<'_>, place: usize, printer: &PrinterView) -> Html {
     if !sheet.has_several() {
         return put_parts(html, sheet, place, printer);
     }
@@ -62,7 +62,7 @@ fn put_printer(html: Html, sheet: &Sheet<'_>, place: usize, printer: &PrinterVie
 }
 
 /// Appends the devices, the plan and the jobs of a printer.
-fn put_parts(html: Html, sheet: &Sheet<'_>, place: usize, printer: &PrinterView) -> Html {
+fn put_parts(html: Html, sheet: &PageContext<'_>, place: usize, printer: &PrinterView) -> Html {
     let id = PrinterId::new(place);
     let html = put_devices(html, sheet, printer);
     let html = put_plan(html, sheet, printer);

@@ -1,9 +1,9 @@
 //! The plan of a printer's devices, as lanes.
 use crate::html::Html;
-use crate::length::Pages;
-use crate::sheet::Sheet;
+use crate::length::PageCount;
+use crate::sheet::PageContext;
 use crate::ticks::{Span, WHOLE};
-use crate::times::Shows;
+use crate::times::TimeDetail;
 use base_types::{DeviceId, JobId};
 use queue_views::{DeviceView, JobView, PrinterView, Prospect};
 use std::alloc::AllocError;
@@ -33,7 +33,7 @@ const NEAR_END: u64 = 9_200;
 
 /// A job in a lane, with its start and its end in ms.
 #[derive(Clone, Copy)]
-struct Bar {
+struct PlanBar {
     job: JobId,
     impressions: u64,
     runs: bool,
@@ -43,9 +43,9 @@ struct Bar {
 
 /// The jobs of a device.
 #[derive(Drop)]
-struct Lane {
+struct PlanLane {
     device: DeviceId,
-    bars: Vec<Bar>,
+    bars: Vec<PlanBar>,
 }
 
 /// Ten thousandths as a percentage.
@@ -60,13 +60,13 @@ impl fmt::Display for Percent {
 }
 
 /// The bar of the job that a device prints, if it is estimated to end later than the page's moment.
-fn running(device: &DeviceView, now: u64) -> Option<Bar> {
+fn running(device: &DeviceView, now: u64) -> Option<PlanBar> {
     let taken = device.taken?;
     let end = taken.end?;
     if end <= now {
         return None;
     }
-    Some(Bar {
+    Some(PlanBar {
         job: taken.job,
         impressions: taken.impressions,
         runs: true,
@@ -76,9 +76,9 @@ fn running(device: &DeviceView, now: u64) -> Option<Bar> {
 }
 
 /// The bar of a job that the plan has on a device.
-fn planned(job: &JobView, wanted: DeviceId) -> Option<Bar> {
+fn planned(job: &JobView, wanted: DeviceId) -> Option<PlanBar> {
     match &job.prospect {
-        Prospect::Planned { device, start, end } if *device == wanted => Some(Bar {
+        Prospect::Planned { device, start, end } if *device == wanted => Some(PlanBar {
             job: job.id,
             impressions: job.impressions,
             runs: false,
@@ -90,7 +90,7 @@ fn planned(job: &JobView, wanted: DeviceId) -> Option<Bar> {
 }
 
 /// The lane of a device.
-fn lane_of(sheet: &Sheet<'_>, device: DeviceId) -> Result<Lane, AllocError> {
+fn lane_of(sheet: &PageContext<'_>, device: DeviceId) -> Result<PlanLane, AllocError> {
     let mut bars = Vec::new(sheet.alloc);
     if let Some(view) = sheet.device(device) {
         if let Some(bar) = running(view, sheet.times.now()) {
@@ -102,11 +102,11 @@ fn lane_of(sheet: &Sheet<'_>, device: DeviceId) -> Result<Lane, AllocError> {
             bars.push(bar)?;
         }
     }
-    Ok(Lane { device, bars })
+    Ok(PlanLane { device, bars })
 }
 
 /// The lanes of the devices of a printer that have jobs and aren't late: when a late device is free nobody knows.
-fn lanes_of(sheet: &Sheet<'_>, printer: &PrinterView) -> Result<Vec<Lane>, AllocError> {
+fn lanes_of(sheet: &PageContext<'_>, printer: &PrinterView) -> Result<Vec<PlanLane>, AllocError> {
     let mut lanes = Vec::new(sheet.alloc);
     for device in &printer.devices {
         let lane = lane_of(sheet, *device)?;
@@ -118,7 +118,7 @@ fn lanes_of(sheet: &Sheet<'_>, printer: &PrinterView) -> Result<Vec<Lane>, Alloc
 }
 
 /// The end of the last bar of a lane, in ms.
-fn end_of_lane(lane: &Lane) -> u64 {
+fn end_of_lane(lane: &PlanLane) -> u64 {
     let mut end = 0;
     for bar in &lane.bars {
         end = bar.end.max(end);
@@ -127,7 +127,7 @@ fn end_of_lane(lane: &Lane) -> u64 {
 }
 
 /// The end of the last bar, in ms.
-fn end_of(lanes: &[Lane]) -> u64 {
+fn end_of(lanes: &[PlanLane]) -> u64 {
     let mut end = 0;
     for lane in lanes {
         end = end_of_lane(lane).max(end);
@@ -136,7 +136,7 @@ fn end_of(lanes: &[Lane]) -> u64 {
 }
 
 /// Appends the plan of a printer's devices, if they have jobs.
-pub(crate) fn put_plan(html: Html, sheet: &Sheet<'_>, printer: &PrinterView) -> Html {
+pub(crate) fn put_plan(html: Html, sheet: &PageContext<'_>, printer: &PrinterView) -> Html {
     match lanes_of(sheet, printer) {
         Ok(lanes) if lanes.is_empty() => html,
         Ok(lanes) => put_lanes(html, sheet, &lanes),
@@ -145,7 +145,7 @@ pub(crate) fn put_plan(html: Html, sheet: &Sheet<'_>, printer: &PrinterView) -> 
 }
 
 /// Appends lanes over one scale.
-fn put_lanes(html: Html, sheet: &Sheet<'_>, lanes: &[Lane]) -> Html {
+fn put_lanes(html: Html, sheet: &PageContext<'_>, lanes: &[PlanLane]) -> Html {
     let span = Span::new(&sheet.times, end_of(lanes));
     let bottom = LANE.saturating_mul(lanes.len() as u64);
     let mut html = sheet
@@ -161,7 +161,7 @@ fn put_lanes(html: Html, sheet: &Sheet<'_>, lanes: &[Lane]) -> Html {
 }
 
 /// Appends the ticks of the scale.
-fn put_ticks(html: Html, sheet: &Sheet<'_>, span: &Span, bottom: u64) -> Html {
+fn put_ticks(html: Html, sheet: &PageContext<'_>, span: &Span, bottom: u64) -> Html {
     let mut html = html;
     for number in 0..span.numbers() {
         if let Some(millis) = span.tick(number) {
@@ -197,7 +197,7 @@ fn put_tick(html: Html, place: u64, bottom: u64, wide: bool) -> Html {
 }
 
 /// Appends a lane whose top is there, in px.
-fn put_lane(html: Html, sheet: &Sheet<'_>, span: &Span, lane: &Lane, top: u64) -> Html {
+fn put_lane(html: Html, sheet: &PageContext<'_>, span: &Span, lane: &PlanLane, top: u64) -> Html {
     let mut html = html
         .markup("<text x=\"0\"")
         .attribute("y", top.saturating_add(NAME))
@@ -211,7 +211,7 @@ fn put_lane(html: Html, sheet: &Sheet<'_>, span: &Span, lane: &Lane, top: u64) -
 }
 
 /// Appends a bar whose top is there, in px.
-fn put_bar(html: Html, sheet: &Sheet<'_>, span: &Span, bar: &Bar, top: u64) -> Html {
+fn put_bar(html: Html, sheet: &PageContext<'_>, span: &Span, bar: &PlanBar, top: u64) -> Html {
     let place = span.place(bar.start);
     let width = span.place(bar.end).saturating_sub(place);
     let html = html
@@ -227,24 +227,24 @@ fn put_bar(html: Html, sheet: &Sheet<'_>, span: &Span, bar: &Bar, top: u64) -> H
 }
 
 /// Appends what a pointer shows of a bar.
-fn put_title(html: Html, sheet: &Sheet<'_>, bar: &Bar) -> Html {
+fn put_title(html: Html, sheet: &PageContext<'_>, bar: &PlanBar) -> Html {
     let html = html
         .markup("job ")
         .text(bar.job.number())
         .markup(", ")
-        .text(Pages(bar.impressions));
-    let ends = sheet.times.at(bar.end, Shows::Seconds);
+        .text(PageCount(bar.impressions));
+    let ends = sheet.times.at(bar.end, TimeDetail::Seconds);
     if bar.runs {
         return html.markup(", done about ").text(ends);
     }
     html.markup(", about ")
-        .text(sheet.times.at(bar.start, Shows::Seconds))
+        .text(sheet.times.at(bar.start, TimeDetail::Seconds))
         .markup(" to ")
         .text(ends)
 }
 
 /// Appends the number of the job in its bar, where there is space for it.
-fn put_label(html: Html, bar: &Bar, place: u64, width: u64, top: u64) -> Html {
+fn put_label(html: Html, bar: &PlanBar, place: u64, width: u64, top: u64) -> Html {
     let digits = u64::from(bar.job.number().checked_ilog10().unwrap_or(0)).saturating_add(1);
     let needed = digits.saturating_mul(8).saturating_add(10);
     if in_px(width, BROAD) < needed {

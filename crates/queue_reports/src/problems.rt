@@ -1,9 +1,9 @@
 //! What is wrong, and what to do about it.
 use crate::html::Html;
 use crate::length::Length;
-use crate::sheet::Sheet;
+use crate::sheet::PageContext;
 use crate::stranded::{groups_of, put_group};
-use crate::times::Shows;
+use crate::times::TimeDetail;
 use base_types::{DeviceId, Moment};
 use queue_views::{DeviceState, DeviceView, PrinterView};
 
@@ -11,7 +11,7 @@ use queue_views::{DeviceState, DeviceView, PrinterView};
 const SECOND: u64 = 1_000;
 
 /// Appends the problems of the devices, of the printers and of the jobs.
-pub(crate) fn put_problems(html: Html, sheet: &Sheet<'_>) -> Html {
+pub(crate) fn put_problems(html: Html, sheet: &PageContext<'_>) -> Html {
     let mut html = html;
     for (place, device) in sheet.view.devices.iter().enumerate() {
         if sheet.is_used(DeviceId::new(place)) {
@@ -25,7 +25,7 @@ pub(crate) fn put_problems(html: Html, sheet: &Sheet<'_>) -> Html {
 }
 
 /// Appends the problems of the jobs that no device can print.
-fn put_stranded(html: Html, sheet: &Sheet<'_>) -> Html {
+fn put_stranded(html: Html, sheet: &PageContext<'_>) -> Html {
     let Ok(groups) = groups_of(sheet) else {
         return html.refused();
     };
@@ -49,7 +49,7 @@ fn put_pause(html: Html, printer: &PrinterView) -> Html {
 }
 
 /// Appends the problem of a device, if it has one.
-fn put_device(html: Html, sheet: &Sheet<'_>, device: &DeviceView) -> Html {
+fn put_device(html: Html, sheet: &PageContext<'_>, device: &DeviceView) -> Html {
     if matches!(device.state, DeviceState::Ready | DeviceState::Printing) {
         return html;
     }
@@ -67,18 +67,18 @@ fn put_device(html: Html, sheet: &Sheet<'_>, device: &DeviceView) -> Html {
 }
 
 /// Appends that a device is away.
-fn put_away(html: Html, sheet: &Sheet<'_>, since: Option<Moment>) -> Html {
+fn put_away(html: Html, sheet: &PageContext<'_>, since: Option<Moment>) -> Html {
     let html = match since {
         Some(since) => html
             .markup("has not been connected since ")
-            .text(sheet.times.at(since.millis(), Shows::Minutes)),
+            .text(sheet.times.at(since.millis(), TimeDetail::Minutes)),
         None => html.markup("has not connected yet"),
     };
     html.markup(". Switch it on, or start its adapter.")
 }
 
 /// Appends that a device is stopped.
-fn put_stopped(html: Html, sheet: &Sheet<'_>, device: &DeviceView) -> Html {
+fn put_stopped(html: Html, sheet: &PageContext<'_>, device: &DeviceView) -> Html {
     let html = match device.since {
         Some(since) => html
             .markup("has been stopped for ")

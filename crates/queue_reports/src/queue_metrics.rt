@@ -1,5 +1,5 @@
 //! The metrics of a queue.
-use crate::exposition::{Exposition, Label, Metric, MetricType, Value};
+use crate::exposition::{Exposition, Metric, MetricLabel, MetricType, MetricValue};
 use base_types::{PrinterId, Text};
 use queue_views::{DeviceState, DeviceView, PrinterView, Prospect, QueueView};
 use std::alloc::{AllocError, Global};
@@ -84,16 +84,16 @@ fn name_of(name: &Text) -> &str {
 }
 
 /// The label `printer` with a printer's name.
-fn printer_label(printer: &PrinterView) -> Label<'_> {
-    Label {
+fn printer_label(printer: &PrinterView) -> MetricLabel<'_> {
+    MetricLabel {
         name: "printer",
         value: name_of(&printer.name),
     }
 }
 
 /// The label `state` with this value.
-fn state_label(state: &'static str) -> Label<'static> {
-    Label {
+fn state_label(state: &'static str) -> MetricLabel<'static> {
+    MetricLabel {
         name: "state",
         value: state,
     }
@@ -119,7 +119,11 @@ fn put_jobs_of(
 ) -> Result<(), AllocError> {
     for state in JOB_STATES {
         let labels = [printer_label(printer), state_label(state)];
-        text.sample(JOBS.name, &labels, Value::Count(jobs_in(view, id, state)))?;
+        text.sample(
+            JOBS.name,
+            &labels,
+            MetricValue::Count(jobs_in(view, id, state)),
+        )?;
     }
     Ok(())
 }
@@ -143,7 +147,7 @@ fn put_finished_of(text: &mut Exposition, printer: &PrinterView) -> Result<(), A
     ];
     for (state, count) in counts {
         let labels = [printer_label(printer), state_label(state)];
-        text.sample(FINISHED.name, &labels, Value::Count(count))?;
+        text.sample(FINISHED.name, &labels, MetricValue::Count(count))?;
     }
     Ok(())
 }
@@ -166,12 +170,12 @@ fn put_waited(text: &mut Exposition, view: &QueueView) -> Result<(), AllocError>
         text.sample(
             "printd_job_wait_seconds_sum",
             &labels,
-            Value::Millis(totals.waited),
+            MetricValue::Millis(totals.waited),
         )?;
         text.sample(
             "printd_job_wait_seconds_count",
             &labels,
-            Value::Count(totals.begun),
+            MetricValue::Count(totals.begun),
         )?;
     }
     Ok(())
@@ -181,7 +185,7 @@ fn put_waited(text: &mut Exposition, view: &QueueView) -> Result<(), AllocError>
 fn put_paused(text: &mut Exposition, view: &QueueView) -> Result<(), AllocError> {
     text.begin(PAUSED)?;
     for printer in &view.printers {
-        let paused = Value::Count(u64::from(printer.paused));
+        let paused = MetricValue::Count(u64::from(printer.paused));
         text.sample(PAUSED.name, &[printer_label(printer)], paused)?;
     }
     Ok(())
@@ -189,12 +193,12 @@ fn put_paused(text: &mut Exposition, view: &QueueView) -> Result<(), AllocError>
 
 /// Writes the samples of a device.
 fn put_device(text: &mut Exposition, device: &DeviceView) -> Result<(), AllocError> {
-    let label = Label {
+    let label = MetricLabel {
         name: "device",
         value: name_of(&device.name),
     };
     for state in DEVICE_STATES {
-        let is_in = Value::Count(u64::from(device_state(device) == state));
+        let is_in = MetricValue::Count(u64::from(device_state(device) == state));
         text.sample(DEVICE.name, &[label, state_label(state)], is_in)?;
     }
     Ok(())
@@ -215,7 +219,7 @@ fn put_last_turn(text: &mut Exposition, view: &QueueView) -> Result<(), AllocErr
         return Ok(());
     };
     text.begin(LAST_TURN)?;
-    text.sample(LAST_TURN.name, &[], Value::Millis(time))
+    text.sample(LAST_TURN.name, &[], MetricValue::Millis(time))
 }
 
 /// The metrics of a queue. The only error is out of memory.

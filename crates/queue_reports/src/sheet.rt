@@ -1,21 +1,21 @@
 //! What a page is made of.
 use crate::html::Html;
-use crate::times::Times;
+use crate::times::ZonedTimes;
 use base_types::{DeviceId, PrinterId};
 use queue_views::{DeviceState, DeviceView, Figures, PrinterView, QueueView};
 use std::alloc::Global;
 
 /// The view of a page, and how it is shown.
 #[derive(Clone, Copy)]
-pub(crate) struct Sheet<'a> {
+pub(crate) struct PageContext<'a> {
     pub(crate) alloc: Global,
     pub(crate) view: &'a QueueView,
-    pub(crate) times: Times<'a>,
+    pub(crate) times: ZonedTimes<'a>,
     /// Whether the owners and titles of jobs are shown.
     pub(crate) names: bool,
 }
 
-impl<'a> Sheet<'a> {
+impl<'a> PageContext<'a> {
     /// The device at a place.
     pub(crate) fn device(&self, id: DeviceId) -> Option<&'a DeviceView> {
         let view = self.view;

@@ -1,7 +1,7 @@
 //! The jobs that no device can print, by what they lack.
 use crate::html::Html;
 use crate::media::MediumName;
-use crate::sheet::Sheet;
+use crate::sheet::PageContext;
 use base_types::{Cause, DeviceId, Finishings, JobId, PrinterId, Sides, Text};
 use queue_views::{JobView, NeedsView, Prospect};
 use std::alloc::AllocError;
@@ -11,7 +11,7 @@ const NAMED: usize = 8;
 
 /// Jobs of a printer that no device can print and that lack the same.
 #[derive(Drop)]
-pub(crate) struct Group<'a> {
+pub(crate) struct StrandedGroup<'a> {
     printer: PrinterId,
     cause: Cause,
     needs: &'a NeedsView,
@@ -38,7 +38,7 @@ fn lack_same(cause: Cause, one: &NeedsView, other: &NeedsView) -> bool {
     }
 }
 
-impl<'a> Group<'a> {
+impl<'a> StrandedGroup<'a> {
     /// Returns whether a job that no device can print is one of the group.
     fn takes(&self, job: &JobView, cause: Cause, helpers: &[DeviceId]) -> bool {
         self.printer == job.printer
@@ -50,8 +50,8 @@ impl<'a> Group<'a> {
 
 /// Adds a job that no device can print to its group.
 fn add<'a>(
-    sheet: &Sheet<'a>,
-    groups: &mut Vec<Group<'a>>,
+    sheet: &PageContext<'a>,
+    groups: &mut Vec<StrandedGroup<'a>>,
     job: &'a JobView,
     cause: Cause,
     helpers: &'a [DeviceId],
@@ -63,7 +63,7 @@ fn add<'a>(
     }
     let mut jobs = Vec::new(sheet.alloc);
     jobs.push(job.id)?;
-    groups.push(Group {
+    groups.push(StrandedGroup {
         printer: job.printer,
         cause,
         needs: &job.needs,
@@ -74,7 +74,7 @@ fn add<'a>(
 }
 
 /// The groups of the jobs that no device can print. The only error is out of memory.
-pub(crate) fn groups_of<'a>(sheet: &Sheet<'a>) -> Result<Vec<Group<'a>>, AllocError> {
+pub(crate) fn groups_of<'a>(sheet: &PageContext<'a>) -> Result<Vec<StrandedGroup<'a>>, AllocError> {
     let mut groups = Vec::new(sheet.alloc);
     let view = sheet.view;
     for job in &view.jobs {
@@ -86,7 +86,7 @@ pub(crate) fn groups_of<'a>(sheet: &Sheet<'a>) -> Result<Vec<Group<'a>>, AllocEr
 }
 
 /// Appends the problem of a group of jobs.
-pub(crate) fn put_group(html: Html, sheet: &Sheet<'_>, group: &Group<'_>) -> Html {
+pub(crate) fn put_group(html: Html, sheet: &PageContext<'_>, group: &StrandedGroup<'_>) -> Html {
     let html = html.markup("<p class=\"problem\"><b>");
     let html = put_jobs(html, &group.jobs).markup("</b>");
     let html = put_printer(html, sheet, group.printer).markup(" can't be printed now: ");
@@ -109,7 +109,7 @@ fn put_jobs(html: Html, jobs: &[JobId]) -> Html {
 }
 
 /// Appends the name of a job's printer, if there are several.
-fn put_printer(html: Html, sheet: &Sheet<'_>, id: PrinterId) -> Html {
+fn put_printer(html: Html, sheet: &PageContext<'_>, id: PrinterId) -> Html {
     match sheet.printer(id) {
         Some(printer) if sheet.has_several() => {
             html.markup(" of ").bytes(printer.name.as_bytes())
@@ -119,7 +119,7 @@ fn put_printer(html: Html, sheet: &Sheet<'_>, id: PrinterId) -> Html {
 }
 
 /// Appends why no device can print the jobs, and what would help.
-fn put_reason(html: Html, sheet: &Sheet<'_>, group: &Group<'_>) -> Html {
+fn put_reason(html: Html, sheet: &PageContext<'_>, group: &StrandedGroup<'_>) -> Html {
     let needs = group.needs;
     match group.cause {
         Cause::NoDevice => {
@@ -180,7 +180,7 @@ fn put_finishings(html: Html, needs: &NeedsView) -> Html {
 }
 
 /// Appends that no device has the media of a job loaded.
-fn put_medium(html: Html, sheet: &Sheet<'_>, group: &Group<'_>) -> Html {
+fn put_medium(html: Html, sheet: &PageContext<'_>, group: &StrandedGroup<'_>) -> Html {
     let name = group.needs.media.as_bytes();
     let html = html
         .markup("it needs <b")
@@ -197,13 +197,13 @@ fn put_medium(html: Html, sheet: &Sheet<'_>, group: &Group<'_>) -> Html {
 }
 
 /// Appends that the devices that could print a job don't run.
-fn put_stopped(html: Html, sheet: &Sheet<'_>, group: &Group<'_>) -> Html {
+fn put_stopped(html: Html, sheet: &PageContext<'_>, group: &StrandedGroup<'_>) -> Html {
     let html = html.markup("no device that could print it runs. Start ");
     put_helpers(html, sheet, group.helpers).markup(".")
 }
 
 /// Appends the names of devices one of which helps.
-fn put_helpers(html: Html, sheet: &Sheet<'_>, helpers: &[DeviceId]) -> Html {
+fn put_helpers(html: Html, sheet: &PageContext<'_>, helpers: &[DeviceId]) -> Html {
     let mut html = html;
     for (place, device) in helpers.iter().enumerate() {
         html = html

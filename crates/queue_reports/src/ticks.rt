@@ -1,5 +1,5 @@
 //! The scale below a plan.
-use crate::times::{Shows, Times};
+use crate::times::{TimeDetail, ZonedTimes};
 
 /// The ms of a minute.
 const MINUTE: u64 = 60_000;
@@ -39,7 +39,7 @@ fn step_of(length: u64) -> u64 {
 
 impl Span {
     /// Creates the span from the page's moment to an end in ms.
-    pub(crate) fn new(times: &Times<'_>, end: u64) -> Span {
+    pub(crate) fn new(times: &ZonedTimes<'_>, end: u64) -> Span {
         let start = times.now();
         let length = end.saturating_sub(start).max(1);
         let step = step_of(length).max(1);
@@ -72,11 +72,11 @@ impl Span {
     }
 
     /// What a tick shows of its time.
-    pub(crate) fn shows(&self) -> Shows {
+    pub(crate) fn shows(&self) -> TimeDetail {
         if self.step < MINUTE {
-            Shows::TimeAlone
+            TimeDetail::TimeAlone
         } else {
-            Shows::Minutes
+            TimeDetail::Minutes
         }
     }
 

@@ -27,7 +27,7 @@ struct Civil {
 
 /// How much of a time is shown.
 #[derive(Clone, Copy, PartialEq, Eq)]
-pub(crate) enum Shows {
+pub(crate) enum TimeDetail {
     /// `14:05`, with the date if it isn't the page's.
     Minutes,
     /// `14:05:10`, with the date if it isn't the page's.
@@ -43,7 +43,7 @@ pub(crate) enum Shows {
 /// A time as text. Where the recording has no clock, it is the time since its start: `0:14:05`.
 #[derive(Clone, Copy)]
 pub(crate) struct TimeText {
-    shows: Shows,
+    shows: TimeDetail,
     /// The ms since the start.
     millis: u64,
     civil: Option<Civil>,
@@ -59,7 +59,7 @@ struct OffsetText(i32);
 
 /// The times of a view's moments in a zone.
 #[derive(Clone, Copy)]
-pub(crate) struct Times<'a> {
+pub(crate) struct ZonedTimes<'a> {
     clock: &'a Clock,
     zone: TimeZone<'a>,
     /// The ms of the page's moment.
@@ -93,10 +93,10 @@ fn is_same_day(one: Option<Civil>, other: Option<Civil>) -> bool {
     }
 }
 
-impl<'a> Times<'a> {
+impl<'a> ZonedTimes<'a> {
     /// Creates the times of a page at a moment in ms.
-    pub(crate) fn new(clock: &'a Clock, zone: TimeZone<'a>, now: u64) -> Times<'a> {
-        Times { clock, zone, now }
+    pub(crate) fn new(clock: &'a Clock, zone: TimeZone<'a>, now: u64) -> ZonedTimes<'a> {
+        ZonedTimes { clock, zone, now }
     }
 
     /// Returns whether times are clock times.
@@ -110,17 +110,17 @@ impl<'a> Times<'a> {
     }
 
     /// The time of a moment in ms.
-    pub(crate) fn at(&self, millis: u64, shows: Shows) -> TimeText {
+    pub(crate) fn at(&self, millis: u64, shows: TimeDetail) -> TimeText {
         self.text(self.clock.time_at(millis), millis, shows)
     }
 
     /// A time in ms since the beginning of 1970.
-    pub(crate) fn of(&self, time: u64, shows: Shows) -> TimeText {
+    pub(crate) fn of(&self, time: u64, shows: TimeDetail) -> TimeText {
         self.text(Some(time), time, shows)
     }
 
     /// A time in ms since the beginning of 1970, if there is one, or else a moment in ms.
-    fn text(&self, time: Option<u64>, millis: u64, shows: Shows) -> TimeText {
+    fn text(&self, time: Option<u64>, millis: u64, shows: TimeDetail) -> TimeText {
         let civil = self.civil(time);
         TimeText {
             shows,
@@ -257,15 +257,15 @@ impl fmt::Display for TimeText {
             return write_since(f, self.millis);
         };
         match self.shows {
-            Shows::Machine => write_machine(f, civil, self.offset),
-            Shows::Whole => write_whole(f, civil, self.offset),
-            Shows::TimeAlone => write_time(f, civil, true),
-            Shows::Minutes | Shows::Seconds => {
+            TimeDetail::Machine => write_machine(f, civil, self.offset),
+            TimeDetail::Whole => write_whole(f, civil, self.offset),
+            TimeDetail::TimeAlone => write_time(f, civil, true),
+            TimeDetail::Minutes | TimeDetail::Seconds => {
                 if !self.is_today {
                     write_date(f, civil)?;
                     write!(f, " ")?;
                 }
-                write_time(f, civil, self.shows == Shows::Seconds)
+                write_time(f, civil, self.shows == TimeDetail::Seconds)
             }
         }
     }

@@ -2,8 +2,8 @@
 use crate::html::Html;
 use crate::length::Length;
 use crate::media::MediumName;
-use crate::sheet::Sheet;
-use crate::times::Shows;
+use crate::sheet::PageContext;
+use crate::times::TimeDetail;
 use base_types::{Cause, DeviceId, PrinterId};
 use queue_views::{JobView, NeedsView, Prospect};
 use std::alloc::AllocError;
@@ -14,7 +14,7 @@ const LATE: u64 = u64::MAX - 1;
 const UNPLANNED: u64 = u64::MAX;
 
 /// The ms at which a job is ready, or its place after all such times.
-fn ready_at(sheet: &Sheet<'_>, job: &JobView) -> u64 {
+fn ready_at(sheet: &PageContext<'_>, job: &JobView) -> u64 {
     match &job.prospect {
         Prospect::Planned { device, .. } if sheet.is_late(*device) => LATE,
         Prospect::Planned { end, .. } => *end,
@@ -29,7 +29,10 @@ fn is_waiting(job: &JobView, printer: PrinterId) -> bool {
 }
 
 /// The jobs of a printer that wait, by the times at which they are ready.
-fn waiting<'a>(sheet: &Sheet<'a>, printer: PrinterId) -> Result<Vec<&'a JobView>, AllocError> {
+fn waiting<'a>(
+    sheet: &PageContext<'a>,
+    printer: PrinterId,
+) -> Result<Vec<&'a JobView>, AllocError> {
     let mut jobs = Vec::new(sheet.alloc);
     let view = sheet.view;
     for job in &view.jobs {
@@ -42,7 +45,7 @@ fn waiting<'a>(sheet: &Sheet<'a>, printer: PrinterId) -> Result<Vec<&'a JobView>
 }
 
 /// Appends the jobs of a printer that wait, if there are any.
-pub(crate) fn put_waiting(html: Html, sheet: &Sheet<'_>, printer: PrinterId) -> Html {
+pub(crate) fn put_waiting(html: Html, sheet: &PageContext<'_>, printer: PrinterId) -> Html {
     match waiting(sheet, printer) {
         Ok(jobs) if jobs.is_empty() => html,
         Ok(jobs) => put_table(html, sheet, &jobs),
@@ -51,12 +54,12 @@ pub(crate) fn put_waiting(html: Html, sheet: &Sheet<'_>, printer: PrinterId) -> 
 }
 
 /// Appends the table of jobs.
-fn put_table(html: Html, sheet: &Sheet<'_>, jobs: &[&JobView]) -> Html {
+fn put_table(html: Html, sheet: &PageContext<'_>, jobs: &[&JobView]) -> Html {
     let html = sheet
         .heading(html, "Waiting")
         .markup("<table>\n<thead><tr><th>Job</th>");
     let mut html = sheet.name_heads(html).markup(
-        "<th class=\"n\">Pages</th><th>Device</th><th class=\"n\">Ready about</th></tr></thead>\n<tbody>\n",
+        "<th class=\"n\">PageCount</th><th>Device</th><th class=\"n\">Ready about</th></tr></thead>\n<tbody>\n",
     );
     for job in jobs {
         html = put_job(html, sheet, job);
@@ -65,7 +68,7 @@ fn put_table(html: Html, sheet: &Sheet<'_>, jobs: &[&JobView]) -> Html {
 }
 
 /// Appends the row of a job.
-fn put_job(html: Html, sheet: &Sheet<'_>, job: &JobView) -> Html {
+fn put_job(html: Html, sheet: &PageContext<'_>, job: &JobView) -> Html {
     let stranded = matches!(&job.prospect, Prospect::Stranded { .. });
     let html = html
         .markup(if stranded {
@@ -84,7 +87,7 @@ fn put_job(html: Html, sheet: &Sheet<'_>, job: &JobView) -> Html {
 }
 
 /// Appends what is to become of a job.
-fn put_prospect(html: Html, sheet: &Sheet<'_>, job: &JobView) -> Html {
+fn put_prospect(html: Html, sheet: &PageContext<'_>, job: &JobView) -> Html {
     match &job.prospect {
         Prospect::Planned { device, end, .. } => put_planned(html, sheet, *device, *end),
         Prospect::Stranded { cause, .. } => put_lack(html.markup("none"), *cause, &job.needs),
@@ -97,7 +100,7 @@ fn put_prospect(html: Html, sheet: &Sheet<'_>, job: &JobView) -> Html {
 
 /// Appends the device of a job and the time at which it is ready. A plan counts a late device as free, so that nobody
 /// knows when the job is ready there.
-fn put_planned(html: Html, sheet: &Sheet<'_>, device: DeviceId, end: u64) -> Html {
+fn put_planned(html: Html, sheet: &PageContext<'_>, device: DeviceId, end: u64) -> Html {
     let left = end.saturating_sub(sheet.times.now());
     let name = sheet.device_name(device);
     let html = html.bytes(name).markup("</td><td class=\"n\">");
@@ -107,7 +110,7 @@ fn put_planned(html: Html, sheet: &Sheet<'_>, device: DeviceId, end: u64) -> Htm
             .bytes(name)
             .markup(" is late</small>");
     }
-    html.text(sheet.times.at(end, Shows::Minutes))
+    html.text(sheet.times.at(end, TimeDetail::Minutes))
         .markup(" <small>in ")
         .text(Length(left))
         .markup("</small>")

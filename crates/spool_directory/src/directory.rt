@@ -2,7 +2,7 @@
 use crate::fault::{FileFault, SpoolFault};
 use crate::named::{old_name, trace_name, unfinished_name};
 use crate::system_error::SystemError;
-use crate::trouble::Trouble;
+use crate::trouble::ReadTrouble;
 use std::alloc::{AllocError, Global};
 use std::fs::{File, OpenOptions};
 use std::io::{ErrorKind, Write};
@@ -170,11 +170,11 @@ impl<'a> Directory<'a> {
     }
 
     /// The fault of the file of the journal with a number.
-    pub(crate) fn fault(&self, number: u32, trouble: Trouble) -> SpoolFault {
+    pub(crate) fn fault(&self, number: u32, trouble: ReadTrouble) -> SpoolFault {
         match trouble {
-            Trouble::System(error) => self.refused_trace("read", number, error),
-            Trouble::Settings(sentence) => SpoolFault::Settings(sentence),
-            Trouble::File(line, why) => match self.trace_path(number) {
+            ReadTrouble::System(error) => self.refused_trace("read", number, error),
+            ReadTrouble::Settings(sentence) => SpoolFault::Settings(sentence),
+            ReadTrouble::File(line, why) => match self.trace_path(number) {
                 Ok(file) => SpoolFault::File(FileFault { file, line, why }),
                 Err(_) => SpoolFault::OutOfMemory,
             },

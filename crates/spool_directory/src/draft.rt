@@ -15,7 +15,7 @@ use std::time::Duration;
 
 /// A file of the journal before it has its name: a start that is killed leaves the journal as it was.
 #[derive(Drop)]
-pub(crate) struct Draft<'a> {
+pub(crate) struct DraftFile<'a> {
     directory: Directory<'a>,
     number: u32,
     file: File,
@@ -28,18 +28,18 @@ pub(crate) struct Draft<'a> {
     pub(crate) stored: StoredLines,
 }
 
-impl<'a> Draft<'a> {
+impl<'a> DraftFile<'a> {
     /// Begins the file with a number, with its first lines.
     fn begin(
         directory: Directory<'a>,
         number: u32,
         head: &[u8],
         time: Duration,
-    ) -> io::Result<Draft<'a>>
+    ) -> io::Result<DraftFile<'a>>
         ensures { IfOk result (λ draft. draft.stored.lines ≡ []) }
     {
         let file = directory.create(number, head)?;
-        Ok(Draft {
+        Ok(DraftFile {
             directory,
             number,
             file,
@@ -57,12 +57,12 @@ impl<'a> Draft<'a> {
         settings: &[u8],
         first: JobId,
         version: &str,
-    ) -> io::Result<Draft<'a>>
+    ) -> io::Result<DraftFile<'a>>
         ensures { IfOk result (λ draft. draft.stored.lines ≡ []) }
     {
         let time = now(directory.rt)?;
         let head = base_head(directory.alloc(), settings, millis_of(time), version, first)?;
-        Draft::begin(directory, number_behind(last)?, &head, time)
+        DraftFile::begin(directory, number_behind(last)?, &head, time)
     }
 
     /// Begins a file after that with the number `last`. It goes on after the file with the number `before`, with
@@ -73,18 +73,18 @@ impl<'a> Draft<'a> {
         before: u32,
         lines: &[u8],
         version: &str,
-    ) -> io::Result<Draft<'a>> {
+    ) -> io::Result<DraftFile<'a>> {
         let time = now(directory.rt)?;
         let mut head = next_head(directory.alloc(), before, millis_of(time), version)?;
         head.extend_from_slice(lines)?;
-        Draft::begin(directory, number_behind(last)?, &head, time)
+        DraftFile::begin(directory, number_behind(last)?, &head, time)
     }
 
     /// The same file, whose lines come after others that are stored.
-    pub(crate) fn behind(self, stored: StoredLines) -> Draft<'a>
+    pub(crate) fn behind(self, stored: StoredLines) -> DraftFile<'a>
         ensures { result.stored ≡ stored }
     {
-        Draft { stored, ..self }
+        DraftFile { stored, ..self }
     }
 
     /// The time at which it was begun, in ms since the beginning of 1970.
@@ -103,7 +103,7 @@ impl<'a> Draft<'a> {
     pub(crate) fn publish(self) -> (io::Result<Tail>, StoredLines)
         ensures { result.1 ≡ self.entry.stored }
     {
-        let Draft {
+        let DraftFile {
             directory,
             number,
             file,
@@ -120,7 +120,7 @@ impl<'a> Draft<'a> {
 
     /// Removes the file, since it can't be written for this cause. Returns the fault.
     pub(crate) fn abandon(self, cause: ResubmissionFault) -> SpoolFault {
-        let Draft {
+        let DraftFile {
             directory,
             number,
             error,
@@ -137,7 +137,7 @@ impl<'a> Draft<'a> {
     }
 }
 
-impl Storage for Draft<'_> {
+impl Storage for DraftFile<'_> {
     ghost stored = { λ draft. draft.stored.lines };
 
     fn append(&mut self, lines: &[u8]) -> bool {

@@ -7,23 +7,23 @@ use crate::fault::{SpoolFault, Why};
 use crate::head::{is_base, read_next};
 use crate::listing::Listing;
 use crate::named::{Named, read_name, trace_name};
-use crate::playing::{Ending, Played, length_of_file, play_turns};
-use crate::trouble::Trouble;
+use crate::playing::{FileEnd, PlayedFiles, length_of_file, play_turns};
+use crate::trouble::ReadTrouble;
 use journal::Resumption;
 use recordings::LineReader;
 use std::alloc::Global;
 use std::fs::File;
 
 /// The fault of a file that goes on after a file of this name, which isn't the one before it.
-fn not_behind(alloc: Global, listing: &Listing, behind: &[u8]) -> Trouble {
+fn not_behind(alloc: Global, listing: &Listing, behind: &[u8]) -> ReadTrouble {
     let there = match read_name(behind) {
         Named::Trace(number) => listing.traces.contains(&number),
         _ => false,
     };
     match String::from_utf8_lossy(alloc, behind) {
-        Ok(name) if there => Trouble::File(None, Why::BehindOther(name)),
-        Ok(name) => Trouble::File(None, Why::BehindMissing(name)),
-        Err(error) => Trouble::from(error),
+        Ok(name) if there => ReadTrouble::File(None, Why::BehindOther(name)),
+        Ok(name) => ReadTrouble::File(None, Why::BehindMissing(name)),
+        Err(error) => ReadTrouble::from(error),
     }
 }
 
@@ -34,7 +34,7 @@ fn play_next(
     before: u32,
     file: &mut File,
     resumption: &mut Resumption,
-) -> Result<Ending, Trouble>
+) -> Result<FileEnd, ReadTrouble>
     ensures { OnOk result (GoesOn resumption.old resumption.new) }
 {
     let length = length_of_file(file)?;
@@ -45,11 +45,11 @@ fn play_next(
         return Err(not_behind(alloc, listing, &head.behind));
     }
     let whole = play_turns(alloc, &mut lines, &head.version, head.length, resumption)?;
-    Ok(Ending { whole, length })
+    Ok(FileEnd { whole, length })
 }
 
 /// The fault of a file that goes on after a file, although there is no base.
-fn orphan(alloc: Global, listing: &Listing, file: &mut File) -> Result<(), Trouble> {
+fn orphan(alloc: Global, listing: &Listing, file: &mut File) -> Result<(), ReadTrouble> {
     let mut lines = LineReader::new(alloc, file)?;
     let head = read_next(alloc, &mut lines)?;
     Err(not_behind(alloc, listing, &head.behind))
@@ -94,12 +94,17 @@ impl Directory<'_> {
     }
 
     /// Plays the file with a number after those that were played.
-    fn follow(&self, listing: &Listing, number: u32, played: &mut Played) -> Result<(), SpoolFault>
+    fn follow(
+        &self,
+        listing: &Listing,
+        number: u32,
+        played: &mut PlayedFiles,
+    ) -> Result<(), SpoolFault>
         ensures { OnOk result (GoesOn played.old.resumption played.new.resumption) }
     {
         let directory = *self;
         if played.ending.is_torn() {
-            return Err(directory.fault(played.last, Trouble::File(None, Why::Torn)));
+            return Err(directory.fault(played.last, ReadTrouble::File(None, Why::Torn)));
         }
         let mut file = directory.open_trace(number)?;
         let played_next = play_next(
@@ -120,7 +125,7 @@ impl Directory<'_> {
     }
 
     /// Plays the files after the base.
-    fn follow_all(&self, listing: &Listing, played: &mut Played) -> Result<(), SpoolFault>
+    fn follow_all(&self, listing: &Listing, played: &mut PlayedFiles) -> Result<(), SpoolFault>
         ensures { OnOk result (GoesOn played.old.resumption played.new.resumption) }
     {
         for number in &listing.traces {
@@ -133,7 +138,7 @@ impl Directory<'_> {
     }
 
     /// Plays the journal that begins with the base with a number.
-    pub(crate) fn play(&self, listing: &Listing, base: u32) -> Result<Played, SpoolFault>
+    pub(crate) fn play(&self, listing: &Listing, base: u32) -> Result<PlayedFiles, SpoolFault>
         ensures { IfOk result (λ played. IsPlaying played.resumption) }
     {
         let mut played = self.play_base(base)?;

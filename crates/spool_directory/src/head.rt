@@ -1,6 +1,6 @@
 //! The first lines of a file.
 use crate::fault::Why;
-use crate::trouble::{Trouble, bad_line};
+use crate::trouble::{ReadTrouble, bad_line};
 use base_types::{JobId, Limits};
 use recordings::{GOES_ON, LineReader, STARTED, read_start};
 use std::alloc::Global;
@@ -37,7 +37,7 @@ pub(crate) fn length_of(line: &[u8]) -> u64 {
 }
 
 /// Reads the settings of a base, up to the line `.`.
-fn read_settings(alloc: Global, lines: &mut LineReader<'_, File>) -> Result<Vec<u8>, Trouble> {
+fn read_settings(alloc: Global, lines: &mut LineReader<'_, File>) -> Result<Vec<u8>, ReadTrouble> {
     let mut settings = Vec::new(alloc);
     let mut line = Vec::new(alloc);
     for _ in 0..u64::MAX {
@@ -50,14 +50,14 @@ fn read_settings(alloc: Global, lines: &mut LineReader<'_, File>) -> Result<Vec<
         settings.extend_from_slice(&line)?;
         settings.extend_from_slice(b"\n")?;
     }
-    Err(Trouble::File(None, Why::NoSettings))
+    Err(ReadTrouble::File(None, Why::NoSettings))
 }
 
 /// Reads the first lines of a base.
 pub(crate) fn read_base(
     alloc: Global,
     lines: &mut LineReader<'_, File>,
-) -> Result<BaseHead, Trouble> {
+) -> Result<BaseHead, ReadTrouble> {
     let settings = read_settings(alloc, lines)?;
     let mut line = Vec::new(alloc);
     let there = lines.read(&mut line)?;
@@ -86,7 +86,7 @@ fn version_of(line: &[u8]) -> Option<&[u8]> {
 pub(crate) fn read_next(
     alloc: Global,
     lines: &mut LineReader<'_, File>,
-) -> Result<NextHead, Trouble> {
+) -> Result<NextHead, ReadTrouble> {
     let mut first = Vec::new(alloc);
     let mut second = Vec::new(alloc);
     let there = lines.read(&mut first)? && lines.read(&mut second)?;
@@ -104,7 +104,7 @@ pub(crate) fn read_next(
 }
 
 /// Returns whether a file is a base: its first line isn't that of a file that goes on.
-pub(crate) fn is_base(alloc: Global, file: &mut File) -> Result<bool, Trouble> {
+pub(crate) fn is_base(alloc: Global, file: &mut File) -> Result<bool, ReadTrouble> {
     let mut lines = LineReader::new(alloc, file)?;
     let mut line = Vec::new(alloc);
     let _there = lines.read(&mut line)?;

@@ -39,6 +39,6 @@ mod writer;
 pub use fault::{FileFault, SpoolFault, Why};
 pub use opening::SpoolDirectory;
 pub use spool_files::{SpoolFiles, SpoolOptions};
-pub use starting::Start;
+pub use starting::StartingServer;
 pub use system_error::SystemError;
 pub use watching::leads_to;

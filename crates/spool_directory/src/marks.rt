@@ -2,7 +2,7 @@
 use crate::directory::Directory;
 use crate::head::{read_base, read_next};
 use crate::listing::Listing;
-use crate::trouble::Trouble;
+use crate::trouble::ReadTrouble;
 use base_types::JobId;
 use journal::Mark;
 use recordings::LineReader;
@@ -10,7 +10,7 @@ use std::alloc::Global;
 use std::fs::File;
 
 /// The last mark in the turns of a file, if they have one.
-fn last_mark(alloc: Global, lines: &mut LineReader<'_, File>) -> Result<Option<Mark>, Trouble> {
+fn last_mark(alloc: Global, lines: &mut LineReader<'_, File>) -> Result<Option<Mark>, ReadTrouble> {
     let mut line = Vec::new(alloc);
     let (mut last, mut next) = (None, None);
     for _ in 0..u64::MAX {
@@ -26,7 +26,7 @@ fn last_mark(alloc: Global, lines: &mut LineReader<'_, File>) -> Result<Option<M
 }
 
 /// The last mark of a file, if it has one.
-fn mark_of(alloc: Global, is_base: bool, file: &mut File) -> Result<Option<Mark>, Trouble> {
+fn mark_of(alloc: Global, is_base: bool, file: &mut File) -> Result<Option<Mark>, ReadTrouble> {
     let mut lines = LineReader::new(alloc, file)?;
     if is_base {
         read_base(alloc, &mut lines)?;
@@ -38,7 +38,7 @@ fn mark_of(alloc: Global, is_base: bool, file: &mut File) -> Result<Option<Mark>
 
 impl Directory<'_> {
     /// The last mark of the journal that begins with the base with a number, if it has one.
-    fn end_mark(&self, listing: &Listing, base: u32) -> Result<Option<Mark>, Trouble> {
+    fn end_mark(&self, listing: &Listing, base: u32) -> Result<Option<Mark>, ReadTrouble> {
         let mut last = None;
         for number in &listing.traces {
             if *number >= base {

@@ -6,7 +6,7 @@ ghost use Rattle.spool_directory.specs.Starting.{IsPlaying, GoesOn};
 use crate::directory::Directory;
 use crate::fault::SpoolFault;
 use crate::head::{BaseHead, length_of, read_base};
-use crate::trouble::{Trouble, bad_line, play_trouble};
+use crate::trouble::{ReadTrouble, bad_line, play_trouble};
 use journal::Resumption;
 use recordings::LineReader;
 use settings_file::{SettingsFault, explain, read_settings_bytes};
@@ -16,7 +16,7 @@ use std::io;
 
 /// The end of a file that was played.
 #[derive(Clone, Copy)]
-pub(crate) struct Ending {
+pub(crate) struct FileEnd {
     /// The number of bytes up to the end of the last turn.
     pub(crate) whole: u64,
     /// The number of bytes of the file.
@@ -25,17 +25,17 @@ pub(crate) struct Ending {
 
 /// Files of a journal that were played.
 #[derive(Drop)]
-pub(crate) struct Played {
+pub(crate) struct PlayedFiles {
     pub(crate) resumption: Resumption,
     pub(crate) head: BaseHead,
     /// The numbers of the base and of the last file.
     pub(crate) base: u32,
     pub(crate) last: u32,
     /// The end of the last file.
-    pub(crate) ending: Ending,
+    pub(crate) ending: FileEnd,
 }
 
-impl Ending {
+impl FileEnd {
     /// Returns whether bytes follow the last turn.
     pub(crate) fn is_torn(self) -> bool {
         self.whole < self.length
@@ -43,18 +43,18 @@ impl Ending {
 }
 
 /// The fault of the settings of a file.
-fn settings_trouble(alloc: Global, path: &str, text: &[u8], fault: &SettingsFault) -> Trouble {
+fn settings_trouble(alloc: Global, path: &str, text: &[u8], fault: &SettingsFault) -> ReadTrouble {
     if matches!(fault, SettingsFault::OutOfMemory) {
-        return Trouble::from(AllocError);
+        return ReadTrouble::from(AllocError);
     }
     match explain(alloc, path, text) {
-        Ok(Some(sentence)) => Trouble::Settings(sentence),
-        _ => Trouble::from(AllocError),
+        Ok(Some(sentence)) => ReadTrouble::Settings(sentence),
+        _ => ReadTrouble::from(AllocError),
     }
 }
 
 /// An engine that has taken no turn of a base.
-fn resume(alloc: Global, path: &str, head: &BaseHead) -> Result<Resumption, Trouble>
+fn resume(alloc: Global, path: &str, head: &BaseHead) -> Result<Resumption, ReadTrouble>
     ensures { IfOk result IsPlaying }
 {
     match read_settings_bytes(alloc, &head.settings) {
@@ -78,7 +78,7 @@ pub(crate) fn play_turns(
     version: &[u8],
     start: u64,
     resumption: &mut Resumption,
-) -> Result<u64, Trouble>
+) -> Result<u64, ReadTrouble>
     ensures { OnOk result (GoesOn resumption.old resumption.new) }
 {
     let mut line = Vec::new(alloc);
@@ -109,7 +109,12 @@ pub(crate) fn length_of_file(file: &File) -> io::Result<u64> {
 }
 
 /// Plays the base with a number.
-fn play_base(alloc: Global, path: &str, number: u32, file: &mut File) -> Result<Played, Trouble>
+fn play_base(
+    alloc: Global,
+    path: &str,
+    number: u32,
+    file: &mut File,
+) -> Result<PlayedFiles, ReadTrouble>
     ensures { IfOk result (λ played. IsPlaying played.resumption) }
 {
     let length = length_of_file(file)?;
@@ -123,18 +128,18 @@ fn play_base(alloc: Global, path: &str, number: u32, file: &mut File) -> Result<
         head.length,
         &mut resumption,
     )?;
-    Ok(Played {
+    Ok(PlayedFiles {
         resumption,
         head,
         base: number,
         last: number,
-        ending: Ending { whole, length },
+        ending: FileEnd { whole, length },
     })
 }
 
 impl Directory<'_> {
     /// Plays the base with a number.
-    pub(crate) fn play_base(&self, number: u32) -> Result<Played, SpoolFault>
+    pub(crate) fn play_base(&self, number: u32) -> Result<PlayedFiles, SpoolFault>
         ensures { IfOk result (λ played. IsPlaying played.resumption) }
     {
         let directory = *self;

@@ -7,7 +7,7 @@ ghost use Rattle.journal.specs.File.{KeepsPlayed};
 ghost use Rattle.spool_directory.specs.Starting.{HasStarted};
 
 use crate::directory::Directory;
-use crate::draft::Draft;
+use crate::draft::DraftFile;
 use crate::fault::SpoolFault;
 use base_types::{JobId, Moment, Text};
 use journal::{JournaledEngine, Pausable};
@@ -87,7 +87,7 @@ impl Directory<'_> {
         &self,
         names: &[Text],
         engine: &mut JournaledEngine,
-        draft: &mut Draft<'_>,
+        draft: &mut DraftFile<'_>,
     ) -> Result<(), ResubmissionFault>
         ensures { OnOk result (KeepsPlayed draft.old.stored.lines engine.old draft.new.stored.lines engine.new) }
     {
@@ -102,7 +102,7 @@ impl Directory<'_> {
         jobs: Vec<SavedJob>,
         engine: &mut JournaledEngine,
         moment: Moment,
-        draft: &mut Draft<'_>,
+        draft: &mut DraftFile<'_>,
     ) -> Result<(), ResubmissionFault>
         ensures { OnOk result (KeepsPlayed draft.old.stored.lines engine.old draft.new.stored.lines engine.new) }
     {
@@ -122,7 +122,7 @@ impl Directory<'_> {
         settings: Settings,
         first: JobId,
         carried: Carried,
-        base: &mut Draft<'_>,
+        base: &mut DraftFile<'_>,
     ) -> Result<JournaledEngine, ResubmissionFault>
         requires limits { MeetsLimits settings }
         requires empty { base.old.stored.lines ≡ [] }
@@ -150,12 +150,12 @@ impl Directory<'_> {
         first: JobId,
         carried: Carried,
         version: &str,
-    ) -> Result<(JournaledEngine, Draft<'_>), SpoolFault>
+    ) -> Result<(JournaledEngine, DraftFile<'_>), SpoolFault>
         requires { MeetsLimits settings }
         ensures { IfOk result (λ made. HasStarted made.1.stored.lines made.0) }
     {
         let directory = *self;
-        let mut base = match Draft::base(directory, last, settings_text, first, version) {
+        let mut base = match DraftFile::base(directory, last, settings_text, first, version) {
             Ok(base) => base,
             Err(error) => return Err(directory.refused("write to", directory.path, error)),
         };

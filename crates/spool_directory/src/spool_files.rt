@@ -4,13 +4,13 @@ ghost use Rattle.journal.specs.File.{KeepsPlayed};
 
 use crate::clock::{millis_of, now};
 use crate::directory::Directory;
-use crate::draft::Draft;
+use crate::draft::DraftFile;
 use crate::fault::SpoolFault;
 use crate::listing::Listing;
 use crate::opening::SpoolDirectory;
-use crate::playing::Ending;
-use crate::watching::Watch;
-use crate::writer::{Tail, Writer};
+use crate::playing::FileEnd;
+use crate::watching::WatchedFile;
+use crate::writer::{JournalWriter, Tail};
 use base_types::JobId;
 use journal::{JournaledEngine, Storage, StoredLines};
 use resubmission::paused_printers;
@@ -32,24 +32,24 @@ pub struct SpoolOptions<'a> {
 /// The files of the journal of a server that has started.
 #[derive(Drop)]
 pub struct SpoolFiles<'a> {
-    writer: Writer<'a>,
+    writer: JournalWriter<'a>,
     /// The lines of the journal, without the first lines of its files.
     pub stored: StoredLines,
 }
 
 /// The place in a journal after which another file goes on.
 #[derive(Clone, Copy)]
-pub(crate) struct Place {
+pub(crate) struct JournalPlace {
     /// The number of the base, and its beginning in ms since the beginning of 1970.
     pub(crate) base: u32,
     pub(crate) begun: u64,
     /// The number of the last file, and its end.
     pub(crate) last: u32,
-    pub(crate) ending: Ending,
+    pub(crate) ending: FileEnd,
 }
 
 /// Cuts off what follows the last turn of the last file.
-pub(crate) fn cut(directory: Directory<'_>, place: Place) -> io::Result<()> {
+pub(crate) fn cut(directory: Directory<'_>, place: JournalPlace) -> io::Result<()> {
     if place.ending.is_torn() {
         directory.cut(place.last, place.ending.whole)?;
     }
@@ -69,7 +69,7 @@ impl<'a> SpoolFiles<'a> {
     ) -> SpoolFiles<'a>
         ensures { result.stored ≡ stored }
     {
-        let writer = Writer {
+        let writer = JournalWriter {
             opened,
             options,
             started,
@@ -78,7 +78,7 @@ impl<'a> SpoolFiles<'a> {
             tail,
             torn: false,
             failing: false,
-            watch: Watch::new(),
+            watch: WatchedFile::new(),
         };
         SpoolFiles { writer, stored }
     }
@@ -87,7 +87,7 @@ impl<'a> SpoolFiles<'a> {
     pub(crate) fn begin(
         opened: SpoolDirectory<'a>,
         listing: &Listing,
-        base: Draft<'_>,
+        base: DraftFile<'_>,
         options: SpoolOptions<'a>,
     ) -> Result<SpoolFiles<'a>, SpoolFault>
         ensures { IfOk result (λ files. files.stored.lines ≡ base.entry.stored.lines) }
@@ -109,8 +109,8 @@ impl<'a> SpoolFiles<'a> {
     pub(crate) fn go_on(
         opened: SpoolDirectory<'a>,
         listing: &Listing,
-        place: Place,
-        next: Draft<'_>,
+        place: JournalPlace,
+        next: DraftFile<'_>,
         options: SpoolOptions<'a>,
     ) -> Result<SpoolFiles<'a>, SpoolFault>
         ensures { IfOk result (λ files. files.stored.lines ≡ next.entry.stored.lines) }
@@ -163,7 +163,7 @@ impl<'a> SpoolFiles<'a> {
         let Ok(paused) = paused_printers(directory.alloc(), before) else {
             return Err(SpoolFault::OutOfMemory);
         };
-        let begun = Draft::base(
+        let begun = DraftFile::base(
             directory,
             self.writer.tail.number,
             settings_text,

@@ -5,13 +5,13 @@ ghost use Rattle.settings_file.specs.Settings.{MeetsLimits};
 ghost use Rattle.spool_directory.specs.Starting.{IsPlaying, HasStarted};
 
 use crate::directory::Directory;
-use crate::draft::Draft;
+use crate::draft::DraftFile;
 use crate::fault::SpoolFault;
 use crate::listing::Listing;
 use crate::opening::SpoolDirectory;
-use crate::playing::Played;
+use crate::playing::PlayedFiles;
 use crate::renewing::Carried;
-use crate::spool_files::{Place, SpoolFiles, SpoolOptions, cut};
+use crate::spool_files::{JournalPlace, SpoolFiles, SpoolOptions, cut};
 use base_types::{JobId, Moment};
 use job_objects::JobState;
 use journal::{JournaledEngine, Restarted, Resumption};
@@ -20,7 +20,7 @@ use settings_file::Settings;
 
 /// A server that starts.
 #[derive(Drop)]
-pub struct Start<'a> {
+pub struct StartingServer<'a> {
     pub engine: JournaledEngine,
     /// The moment of the last turn.
     pub last: Moment,
@@ -59,8 +59,8 @@ fn is_aborted(engine: &JournaledEngine, id: JobId) -> bool {
 }
 
 /// The place after files that were played.
-fn place_of(played: &Played) -> Place {
-    Place {
+fn place_of(played: &PlayedFiles) -> JournalPlace {
+    JournalPlace {
         base: played.base,
         begun: played.head.began,
         last: played.last,
@@ -79,7 +79,11 @@ impl Directory<'_> {
 
     /// What a server takes over from files that were played, and the id of its first job. The engine that played them
     /// is dropped, so that documents are in memory once.
-    fn carry_over(&self, played: Played, reprint: bool) -> Result<(JobId, Carried), SpoolFault> {
+    fn carry_over(
+        &self,
+        played: PlayedFiles,
+        reprint: bool,
+    ) -> Result<(JobId, Carried), SpoolFault> {
         let engine = played.resumption.engine();
         let Some(first) = engine.next_job_id() else {
             return Err(self.all_ids_used());
@@ -97,7 +101,7 @@ impl Directory<'_> {
         reprint: bool,
         engine: &mut JournaledEngine,
         moment: Moment,
-        draft: &mut Draft<'_>,
+        draft: &mut DraftFile<'_>,
     ) -> Result<(), ResubmissionFault>
         ensures { OnOk result (KeepsPlayed draft.old.stored.lines engine.old draft.new.stored.lines engine.new) }
     {
@@ -112,17 +116,17 @@ impl Directory<'_> {
     fn next_draft(
         &self,
         listing: &Listing,
-        place: Place,
+        place: JournalPlace,
         text: &[u8],
         version: &str,
-    ) -> Result<Draft<'_>, SpoolFault> {
+    ) -> Result<DraftFile<'_>, SpoolFault> {
         let directory = *self;
         cut(directory, place).map_err(|error| directory.refused_trace(
             "cut off the end of",
             place.last,
             error,
         ))?;
-        Draft::next(directory, listing.last, place.last, text, version).map_err(|error| {
+        DraftFile::next(directory, listing.last, place.last, text, version).map_err(|error| {
             directory.refused("write to", directory.path, error)
         })
     }
@@ -148,7 +152,7 @@ impl<'a> SpoolDirectory<'a> {
         settings_text: &[u8],
         settings: Settings,
         options: SpoolOptions<'a>,
-    ) -> Result<Start<'a>, SpoolFault>
+    ) -> Result<StartingServer<'a>, SpoolFault>
         requires { MeetsLimits settings }
         ensures { IfOk result (λ start. HasStarted start.files.stored.lines start.engine) }
     {
@@ -177,7 +181,7 @@ impl<'a> SpoolDirectory<'a> {
         base: u32,
         settings: Settings,
         given: Given<'a, '_>,
-    ) -> Result<Start<'a>, SpoolFault>
+    ) -> Result<StartingServer<'a>, SpoolFault>
         requires { MeetsLimits settings }
         ensures { IfOk result (λ start. HasStarted start.files.stored.lines start.engine) }
     {
@@ -201,7 +205,7 @@ impl<'a> SpoolDirectory<'a> {
         settings: Settings,
         given: Given<'a, '_>,
         fault: SpoolFault,
-    ) -> Result<Start<'a>, SpoolFault>
+    ) -> Result<StartingServer<'a>, SpoolFault>
         requires { MeetsLimits settings }
         ensures { IfOk result (λ start. HasStarted start.files.stored.lines start.engine) }
     {
@@ -222,10 +226,10 @@ impl<'a> SpoolDirectory<'a> {
     fn renew(
         self,
         listing: &Listing,
-        played: Played,
+        played: PlayedFiles,
         settings: Settings,
         given: Given<'a, '_>,
-    ) -> Result<Start<'a>, SpoolFault>
+    ) -> Result<StartingServer<'a>, SpoolFault>
         requires { MeetsLimits settings }
         ensures { IfOk result (λ start. HasStarted start.files.stored.lines start.engine) }
     {
@@ -241,7 +245,7 @@ impl<'a> SpoolDirectory<'a> {
         settings: Settings,
         given: Given<'a, '_>,
         carried: Carried,
-    ) -> Result<Start<'a>, SpoolFault>
+    ) -> Result<StartingServer<'a>, SpoolFault>
         requires { MeetsLimits settings }
         ensures { IfOk result (λ start. HasStarted start.files.stored.lines start.engine) }
     {
@@ -257,7 +261,7 @@ impl<'a> SpoolDirectory<'a> {
         )?;
         directory.tell_waiting(&engine);
         match SpoolFiles::begin(self, listing, base, options) {
-            Ok(files) => Ok(Start {
+            Ok(files) => Ok(StartingServer {
                 engine,
                 last: Moment::start(),
                 files,
@@ -270,9 +274,9 @@ impl<'a> SpoolDirectory<'a> {
     fn go_on(
         self,
         listing: &Listing,
-        played: Played,
+        played: PlayedFiles,
         options: SpoolOptions<'a>,
-    ) -> Result<Start<'a>, SpoolFault>
+    ) -> Result<StartingServer<'a>, SpoolFault>
         requires { IsPlaying played.resumption }
         ensures { IfOk result (λ start. HasStarted start.files.stored.lines start.engine) }
     {
@@ -292,12 +296,12 @@ impl<'a> SpoolDirectory<'a> {
     fn go_on_behind(
         self,
         listing: &Listing,
-        place: Place,
+        place: JournalPlace,
         restarted: Restarted,
         in_hand: Vec<SavedJob>,
-        next: Draft<'_>,
+        next: DraftFile<'_>,
         options: SpoolOptions<'a>,
-    ) -> Result<Start<'a>, SpoolFault>
+    ) -> Result<StartingServer<'a>, SpoolFault>
         requires { HasStarted restarted.stored.lines restarted.engine }
         ensures { IfOk result (λ start. HasStarted start.files.stored.lines start.engine) }
     {
@@ -320,7 +324,7 @@ impl<'a> SpoolDirectory<'a> {
         }
         directory.tell_waiting(&engine);
         match SpoolFiles::go_on(self, listing, place, next, options) {
-            Ok(files) => Ok(Start {
+            Ok(files) => Ok(StartingServer {
                 engine,
                 last,
                 files,

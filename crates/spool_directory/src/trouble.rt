@@ -7,7 +7,7 @@ use std::io;
 
 /// What went wrong while a file was read.
 #[derive(Drop)]
-pub(crate) enum Trouble {
+pub(crate) enum ReadTrouble {
     /// The system's error, or out of memory.
     System(io::Error),
     /// The file isn't as a server left it. The number is that of the line, if the fault is in a line.
@@ -16,27 +16,27 @@ pub(crate) enum Trouble {
     Settings(String),
 }
 
-impl From<io::Error> for Trouble {
-    fn from(error: io::Error) -> Trouble {
-        Trouble::System(error)
+impl From<io::Error> for ReadTrouble {
+    fn from(error: io::Error) -> ReadTrouble {
+        ReadTrouble::System(error)
     }
 }
 
-impl From<AllocError> for Trouble {
-    fn from(error: AllocError) -> Trouble {
-        Trouble::System(io::Error::from(error))
+impl From<AllocError> for ReadTrouble {
+    fn from(error: AllocError) -> ReadTrouble {
+        ReadTrouble::System(io::Error::from(error))
     }
 }
 
-impl<T: Drop> From<AllocFailed<T>> for Trouble {
-    fn from(error: AllocFailed<T>) -> Trouble {
-        Trouble::System(io::Error::from(AllocError::from(error)))
+impl<T: Drop> From<AllocFailed<T>> for ReadTrouble {
+    fn from(error: AllocFailed<T>) -> ReadTrouble {
+        ReadTrouble::System(io::Error::from(AllocError::from(error)))
     }
 }
 
 /// The fault of a line that isn't one of a journal.
-pub(crate) fn bad_line(number: u64) -> Trouble {
-    Trouble::File(Some(number), Why::BadLine)
+pub(crate) fn bad_line(number: u64) -> ReadTrouble {
+    ReadTrouble::File(Some(number), Why::BadLine)
 }
 
 /// The number of the line at which the engine strayed; `number` where it isn't known.
@@ -48,10 +48,10 @@ fn line_of(number: u64, stray: &Divergence) -> u64 {
 }
 
 /// The fault of a turn in which the engine does something else than a server of a version did.
-fn differs(alloc: Global, number: u64, version: &[u8]) -> Trouble {
+fn differs(alloc: Global, number: u64, version: &[u8]) -> ReadTrouble {
     match String::from_utf8_lossy(alloc, version) {
-        Ok(version) => Trouble::File(Some(number), Why::Differs(version)),
-        Err(error) => Trouble::from(error),
+        Ok(version) => ReadTrouble::File(Some(number), Why::Differs(version)),
+        Err(error) => ReadTrouble::from(error),
     }
 }
 
@@ -61,11 +61,11 @@ pub(crate) fn play_trouble(
     number: u64,
     version: &[u8],
     fault: &PlayFault,
-) -> Trouble {
+) -> ReadTrouble {
     match fault {
         PlayFault::BadLine => bad_line(number),
         PlayFault::Differs(stray) => differs(alloc, line_of(number, stray), version),
         PlayFault::NotedOtherwise => differs(alloc, number, version),
-        PlayFault::OutOfMemory => Trouble::from(AllocError),
+        PlayFault::OutOfMemory => ReadTrouble::from(AllocError),
     }
 }

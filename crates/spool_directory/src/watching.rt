@@ -1,24 +1,24 @@
 //! Whether the file of a journal is still where it was made.
 use crate::clock::now;
 use crate::named::TraceName;
-use crate::writer::Writer;
+use crate::writer::JournalWriter;
 use std::fs::File;
 use std::os::unix::fs::MetadataExt;
 use std::{fs, io};
 
 /// What was last seen of the file to which lines are appended.
 #[derive(Clone, Copy)]
-pub(crate) struct Watch {
+pub(crate) struct WatchedFile {
     /// When it was looked at, in seconds since the beginning of 1970.
     looked: u64,
     /// Whether it was moved or removed.
     missing: bool,
 }
 
-impl Watch {
+impl WatchedFile {
     /// The watch before the first look.
-    pub(crate) fn new() -> Watch {
-        Watch {
+    pub(crate) fn new() -> WatchedFile {
+        WatchedFile {
             looked: 0,
             missing: false,
         }
@@ -33,7 +33,7 @@ pub fn leads_to(rt: &HostRuntime, path: &str, file: &File) -> io::Result<bool> {
     Ok(found.dev() == own.dev() && found.ino() == own.ino())
 }
 
-impl Writer<'_> {
+impl JournalWriter<'_> {
     /// Looks once a second whether the file is where it was made, and reports once that it isn't.
     pub(crate) fn watch(&mut self) {
         let Ok(time) = now(self.opened.directory.rt) else {
@@ -46,7 +46,7 @@ impl Writer<'_> {
         if missing && !self.watch.missing {
             self.say_missing();
         }
-        self.watch = Watch {
+        self.watch = WatchedFile {
             looked: time.as_secs(),
             missing,
         };

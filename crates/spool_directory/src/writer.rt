@@ -5,7 +5,7 @@ use crate::named::{TraceName, trace_name};
 use crate::opening::SpoolDirectory;
 use crate::spool_files::SpoolOptions;
 use crate::system_error::SystemError;
-use crate::watching::Watch;
+use crate::watching::WatchedFile;
 use base_types::JobId;
 use recordings::{put_base, put_goes_on, put_started};
 use std::alloc::{AllocError, Global};
@@ -30,7 +30,7 @@ pub(crate) struct Tail {
 
 /// The files of a journal to which lines are appended.
 #[derive(Drop)]
-pub(crate) struct Writer<'a> {
+pub(crate) struct JournalWriter<'a> {
     pub(crate) opened: SpoolDirectory<'a>,
     pub(crate) options: SpoolOptions<'a>,
     /// The start of the server, in ms since the beginning of 1970.
@@ -44,7 +44,7 @@ pub(crate) struct Writer<'a> {
     pub(crate) torn: bool,
     /// Whether the last lines weren't stored.
     pub(crate) failing: bool,
-    pub(crate) watch: Watch,
+    pub(crate) watch: WatchedFile,
 }
 
 /// The number after a file's number.
@@ -121,7 +121,7 @@ impl Tail {
     }
 }
 
-impl Writer<'_> {
+impl JournalWriter<'_> {
     /// Cuts off what follows the lines that are stored.
     fn mend(&mut self) -> io::Result<()> {
         if self.torn {

@@ -5,7 +5,7 @@ use std::io::{ErrorKind, Read, Write};
 
 /// An input, with the error at which it failed.
 #[derive(Drop)]
-pub(crate) struct NotedInput<R> {
+pub(crate) struct ErrorKeepingInput<R> {
     reader: R,
     /// The number of reads that the input may still take.
     left: u32,
@@ -15,14 +15,14 @@ pub(crate) struct NotedInput<R> {
 
 /// An output, with the error at which it failed.
 #[derive(Drop)]
-pub(crate) struct NotedOutput<W> {
+pub(crate) struct ErrorKeepingOutput<W> {
     writer: W,
     error: Option<io::Error>,
 }
 
-impl<R: Read + Drop> NotedInput<R> {
-    pub(crate) fn new(reader: R) -> NotedInput<R> {
-        NotedInput {
+impl<R: Read + Drop> ErrorKeepingInput<R> {
+    pub(crate) fn new(reader: R) -> ErrorKeepingInput<R> {
+        ErrorKeepingInput {
             reader,
             left: Limits::INPUT_READS,
             ended: false,
@@ -41,9 +41,9 @@ impl<R: Read + Drop> NotedInput<R> {
     }
 }
 
-impl<W: Write + Drop> NotedOutput<W> {
-    pub(crate) fn new(writer: W) -> NotedOutput<W> {
-        NotedOutput {
+impl<W: Write + Drop> ErrorKeepingOutput<W> {
+    pub(crate) fn new(writer: W) -> ErrorKeepingOutput<W> {
+        ErrorKeepingOutput {
             writer,
             error: None,
         }
@@ -62,7 +62,7 @@ fn keep(kept: &mut Option<io::Error>, error: io::Error) -> io::Error {
     io::Error::from(kind)
 }
 
-impl<R: Read> Read for NotedInput<R> {
+impl<R: Read> Read for ErrorKeepingInput<R> {
     fn read(&mut self, buffer: &mut [u8]) -> io::Result<usize> {
         self.left = self.left.saturating_sub(1);
         match self.reader.read(buffer) {
@@ -75,7 +75,7 @@ impl<R: Read> Read for NotedInput<R> {
     }
 }
 
-impl<W: Write> Write for NotedOutput<W> {
+impl<W: Write> Write for ErrorKeepingOutput<W> {
     fn write(&mut self, bytes: &[u8]) -> io::Result<usize> {
         match self.writer.write(bytes) {
             Ok(0) => Err(keep(&mut self.error, io::Error::from(ErrorKind::WriteZero))),
