@@ -1,3 +1,2 @@
-pub mod RunningJobs
 pub mod Serving
 pub mod Journaling

@@ -3,12 +3,12 @@ ghost use Rattle.std.specs.Prelude.{◌≡◌, [], Some, OnOk};
 ghost use Rattle.daemon.specs.Journaling.{KeepsFiled, FilesTurn};
 
 use crate::clock::moment_after;
-use crate::log_writer::LogWriter;
 use crate::pace::Pace;
 use crate::run::{PAUSE, put_lines, writer_of};
 use crate::serving::Server;
 use base_types::Moment;
 use journal::Storage;
+use server_log::LogWriter;
 use std::alloc::Global;
 use std::io;
 use std::io::{ErrorKind, Write};

@@ -7,12 +7,12 @@ ghost use Rattle.journal.specs.declared.gate.Pass.TheVariants.{Inward, Outward};
 ghost use Rattle.daemon.specs.Serving.{calls_of, Idles, ServesTurn};
 ghost use Rattle.daemon.specs.Journaling.{IsFiled, KeepsFiled, FilesTurn, SendsStored};
 
-use crate::log_formatter::LogFormatter;
 use crate::serving::{NoListener, Server};
 use base_types::{Moment, Text};
 use journal::{Gate, JournaledEngine, Pass, Storage, sent_bytes_were_due};
 use recordings::RecordingWire;
 use server::NoteLog;
+use server_log::LogFormatter;
 use sockets::Sockets;
 use std::alloc::{AllocError, Global};
 

@@ -5,10 +5,10 @@ ghost use Rattle.journal.specs.declared.gate.Pass.TheVariants.{All};
 ghost use Rattle.daemon.specs.Serving.{Idles, ServesTurn, ServesTurns};
 
 use crate::clock::moment_since;
-use crate::log_writer::LogWriter;
 use crate::recorder::{Recorder, Tape};
 use crate::serving::Server;
 use base_types::Moment;
+use server_log::LogWriter;
 use settings_file::Settings;
 use sockets::Sockets;
 use std::alloc::{AllocError, Global};

@@ -9,7 +9,6 @@ ghost use Rattle.daemon.specs.Journaling.{FilesTurn, NotesEnd, AddsComments};
 
 use crate::busy_poll::BusyPoll;
 use crate::clock::time_of_zero;
-use crate::log_formatter::LogFormatter;
 use crate::observation_flags::ObservationFlags;
 use crate::recorder::{Recorder, Tape};
 use base_types::Moment;
@@ -21,6 +20,7 @@ use journal::{
 use plan_solver::AugmentingPaths;
 use recordings::RecordingWire;
 use server::{Engine, NoteLog};
+use server_log::LogFormatter;
 use settings_file::Settings;
 use sockets::{ConnectionEvent, ConnectionLog, Listening, Sockets};
 use std::alloc::{AllocError, Global};

@@ -5,10 +5,10 @@ use crate::observation::Observation;
 use crate::playing::Shows;
 use crate::turning::take_turn;
 use base_types::Moment;
-use daemon::LogFormatter;
 use journal::JournaledEngine;
 use quotes::Escaped;
 use recordings::{Entry, ReplayWire, ReplayedOutput, read_entry};
+use server_log::LogFormatter;
 use std::alloc::{AllocError, Global};
 use traces::{put_gone, put_out};
 

@@ -1,7 +1,7 @@
 use Rattle.std.proofs.Common.{rules, ◌∙◌, ap, filter}
 use Rattle.std.proofs.lemmas.Fn.{filter_same}
-use Rattle.daemon.specs.RunningJobs.{is_on}
-use Rattle.daemon.proofs.running_jobs.RunningJobs.take_ended.Goals as goal
+use Rattle.server_log.specs.RunningJobs.{is_on}
+use Rattle.server_log.proofs.running_jobs.RunningJobs.take_ended.Goals as goal
 
 pub returns-clause-left : goal.returns-clause-left
 returns-clause-left g c =

@@ -9,7 +9,7 @@ use Rattle.print_room.specs.declared.started.Started.{Started}
 use Rattle.server.specs.State.{EngineState}
 use Rattle.server.specs.declared.note_log.LoggedNote.{LoggedNote}
 use Rattle.server.specs.declared.note_log.LoggedNote.TheVariants as hear
-use Rattle.daemon.specs.declared.ends.Ended.{Ended}
+use Rattle.server_log.specs.declared.running_jobs.Ended.{Ended}
 
 -- the job that was begun according to a note
 abbrev pub begun_by : LoggedNote → List Started

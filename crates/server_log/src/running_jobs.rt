@@ -1,7 +1,7 @@
 //! The jobs that devices began, and how they end.
 ghost use Rattle.std.specs.Prelude.{◌≡◌, ◌++◌, [], IfOk, OnOk, OnErr, filter, flat_map, map, not, option_map};
 ghost use Rattle.std.specs.Option.{option_copied};
-ghost use Rattle.daemon.specs.RunningJobs.{begun_by, ended_in, has_job, is_at, is_on};
+ghost use Rattle.server_log.specs.RunningJobs.{begun_by, ended_in, has_job, is_at, is_on};
 
 use base_types::{Activity, DeviceNow, JobId};
 use dispatcher::Started;

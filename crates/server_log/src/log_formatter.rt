@@ -42,13 +42,13 @@ impl LogFormatter {
     }
 
     /// Has the lines dated. `zero` is the time of moment 0, in ms since the beginning of 1970.
-    pub(crate) fn set_zero(&mut self, zero: u64) {
+    pub fn set_zero(&mut self, zero: u64) {
         self.calendar = Some(Calendar::new(zero));
     }
 
     /// Begins the lines of a turn. They have the date if something happened in the turn, for the first time or
     /// for the first time of a day.
-    pub(crate) fn begin(&mut self, moment: Moment, happened: bool) {
+    pub fn begin(&mut self, moment: Moment, happened: bool) {
         self.dated = match &mut self.calendar {
             Some(calendar) if happened => calendar.takes_day(moment),
             _ => false,
@@ -83,7 +83,7 @@ impl LogFormatter {
 
     /// Returns the date and the connections that came and went in a turn, as comments of a recording. The only
     /// error is out of memory.
-    pub(crate) fn comments(&self, visits: &[ConnectionEvent]) -> Result<Vec<u8>, AllocError> {
+    pub fn comments(&self, visits: &[ConnectionEvent]) -> Result<Vec<u8>, AllocError> {
         let date = self.date()?;
         let mut lines = LogLines::comments(self.alloc, &self.names);
         lines.add_date(date.as_deref());

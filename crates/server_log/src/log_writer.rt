@@ -12,7 +12,7 @@ const PIECE: usize = 4_096;
 /// room, a line with the number of dropped lines is written. The output has to return an error for a write
 /// that would wait.
 #[derive(Drop)]
-pub(crate) struct LogWriter<'a, W: Write> {
+pub struct LogWriter<'a, W: Write> {
     alloc: Global,
     output: &'a mut W,
     /// The number of dropped lines that wasn't written yet.
@@ -43,7 +43,7 @@ fn lines_in(text: &[u8]) -> u64 {
 
 impl<'a, W: Write> LogWriter<'a, W> {
     /// Creates the writer of an output.
-    pub(crate) fn new(alloc: Global, output: &'a mut W) -> LogWriter<'a, W> {
+    pub fn new(alloc: Global, output: &'a mut W) -> LogWriter<'a, W> {
         LogWriter {
             alloc,
             output,
@@ -53,7 +53,7 @@ impl<'a, W: Write> LogWriter<'a, W> {
     }
 
     /// Writes lines, each with its line feed.
-    pub(crate) fn put(&mut self, text: &[u8]) {
+    pub fn put(&mut self, text: &[u8]) {
         let mut rest = text;
         for _ in 0..text.len() {
             if rest.is_empty() {
