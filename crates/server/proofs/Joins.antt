@@ -38,7 +38,7 @@ use Rattle.server.specs.State.{EngineState, slot_at}
 use Rattle.server.specs.Refinement.{Refines, RefinesQuietly, RefinesReporting, RefinesAnswering}
 use Rattle.server.proofs.Steps.{refines_then, refines_moved, quietly_then, quietly_as, quietly_nothing, aloud, reporting_as, reporting_flag, reporting_then}
 use Rattle.server.proofs.Happening.{tells}
-use Rattle.server.proofs.Turns.{ticks_due, covers, one_round}
+use Rattle.server.proofs.TurnsAndTicks.{ticks_due, covers, one_round}
 use Rattle.server.proofs.Accepts.{accepts_open}
 use Rattle.server.proofs.ServedBody.{answered_found, answered_refused}
 use Rattle.server.proofs.ResponseBytes.{as_none}

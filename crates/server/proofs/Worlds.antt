@@ -8,7 +8,7 @@ use Rattle.server.specs.World.{moved, SameLoans, wire_polled, listener_told}
 use Rattle.server.specs.Turn.{Turn}
 use Rattle.server.specs.State.{EngineState}
 use Rattle.server.specs.Refinement.{Refines, RefinesTurn}
-use Rattle.server.proofs.Turns.{one_turn}
+use Rattle.server.proofs.TurnsAndTicks.{one_turn}
 
 loans_then : {W N : Type 0} (u v w : World W N) → SameLoans u v → SameLoans v w → SameLoans u w
 loans_then u v w p q = (q.0 ∙ p.0, q.1 ∙ p.1)

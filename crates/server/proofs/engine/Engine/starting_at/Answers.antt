@@ -1,5 +1,5 @@
 use Rattle.std.proofs.Common.{rules}
-use Rattle.server.proofs.Turns.{starts}
+use Rattle.server.proofs.TurnsAndTicks.{starts}
 use Rattle.server.proofs.engine.Engine.starting_at.Goals as goal
 
 pub returns : goal.returns
