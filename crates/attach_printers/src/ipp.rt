@@ -95,9 +95,9 @@ impl Ipp {
         Ok(moved)
     }
 
-    /// Records that the printer took bytes. For a job that is sent they are progress.
+    /// Records that the printer took bytes. While it is to answer for the job, only the job's are progress.
     fn note_sent(&mut self, now: u64) {
-        if !self.printer.has_job() {
+        if !self.owes || self.printer.is_sending() {
             self.answered = now;
         }
     }
@@ -164,10 +164,14 @@ impl Protocol for Ipp {
         self.printer.begin(order);
     }
 
-    /// Returns whether there is a task.
+    /// Returns whether there is a task. The time of an answer for a job begins once it is owed.
     fn wants_connection(&mut self, attachment: &Attachment, now: u64) -> bool {
         self.ended = false;
-        self.owes = self.printer.owes_answer(attachment);
+        let owes = self.printer.owes_answer(attachment);
+        if owes && !self.owes {
+            self.answered = now;
+        }
+        self.owes = owes;
         self.printer.wants_connection(attachment, now)
     }
 
@@ -228,6 +232,7 @@ impl Protocol for Ipp {
     }
 
     fn drop_job(&mut self) {
+        self.owes = false;
         self.printer.drop_job();
     }
 

@@ -544,6 +544,11 @@ impl IppPrinter {
         matches!(self.stage, Stage::Printing(_))
     }
 
+    /// Returns whether the job is being sent, or is sent and not answered yet.
+    pub fn is_sending(&self) -> bool {
+        matches!(self.stage, Stage::Sending | Stage::Sent)
+    }
+
     /// Returns whether there is a task.
     pub fn is_busy(&self) -> bool {
         self.task != Task::Nothing
@@ -554,7 +559,7 @@ impl IppPrinter {
         let ask = self.ask_at.saturating_sub(now);
         match self.stage {
             Stage::Printing(_) => ask.min(self.looks.left(now)),
-            Stage::Waits => ask.min(self.retries.left(now)),
+            Stage::Waits if !self.retries.is_due(now) => ask.min(self.retries.left(now)),
             _ => ask,
         }
     }
