@@ -24,7 +24,7 @@ const BEGUN: &[Step] = &[
     Connects(Printer),
 ];
 
-const ROWS: [Row; 14] = [
+const ROWS: [Row; 13] = [
     Row {
         name: "the printer closes, copies",
         start: LINKED,
@@ -191,22 +191,6 @@ const ROWS: [Row; 14] = [
 602000 printer back\n602000 job 10 5 1\n602000 done 10\n\
 602000 job 11 5 1\n602000 fail 11 broken\n603000 printer away\n605000 printer back\n",
     },
-    Row {
-        name: "the printer never ends to talk",
-        start: BEGUN,
-        steps: &[
-            Writes(Printer, b"hello"),
-            Finishes(Printer),
-            Passes(125),
-            Passes(29_000),
-            Sends(Printer, b"?"),
-            Passes(29_000),
-            Sends(Printer, b"?"),
-            Passes(30_000),
-            Writes(Server, b"DONE 7\n"),
-        ],
-        log: "0 linked\n0 job 7 5 1\n88125 done 7\n",
-    },
     // one page took 3 s and two pages 5 s, so one page is expected in 3 s
     Row {
         name: "a job is overdue by the jobs before it",
@@ -254,6 +238,58 @@ const ROWS: [Row; 14] = [
     },
 ];
 
+/// Printers that talk after all of the job was sent.
+const TALKS: [Row; 2] = [
+    Row {
+        name: "the printer never ends to talk",
+        start: BEGUN,
+        steps: &[
+            Writes(Printer, b"hello"),
+            Finishes(Printer),
+            Passes(125),
+            Passes(29_000),
+            Sends(Printer, b"?"),
+            Passes(29_000),
+            Sends(Printer, b"?"),
+            Passes(30_000),
+            Writes(Server, b"DONE 7\n"),
+        ],
+        log: "0 linked\n0 job 7 5 1\n88125 done 7\n",
+    },
+    Row {
+        name: "the printer talks and doesn't close for the timeout",
+        start: BEGUN,
+        steps: &[
+            Writes(Printer, b"hello"),
+            Finishes(Printer),
+            Passes(125),
+            Passes(29_000),
+            Sends(Printer, b"?"),
+            Passes(29_000),
+            Sends(Printer, b"?"),
+            Passes(29_000),
+            Sends(Printer, b"?"),
+            Passes(29_000),
+            Sends(Printer, b"?"),
+            Passes(29_000),
+            Sends(Printer, b"?"),
+            Passes(29_000),
+            Sends(Printer, b"?"),
+            Passes(29_000),
+            Sends(Printer, b"?"),
+            Passes(29_000),
+            Sends(Printer, b"?"),
+            Passes(29_000),
+            Sends(Printer, b"?"),
+            Passes(29_000),
+            Sends(Printer, b"?"),
+            Passes(10_000),
+            Writes(Server, b"DONE 7\n"),
+        ],
+        log: "0 linked\n0 job 7 5 1\n300125 done 7\n",
+    },
+];
+
 /// What is wrong with a row.
 fn played(rt: &HostRuntime, row: Row) -> Result<String, AllocError> {
     let alloc = rt.alloc();
@@ -263,6 +299,15 @@ fn played(rt: &HostRuntime, row: Row) -> Result<String, AllocError> {
 #[test]
 fn printers_with_app_socket(rt: HostRuntime) -> Result<(), Fail> {
     for &row in &ROWS {
+        let wrong = played(&rt, row)?;
+        assert!(rt; wrong.is_empty(), "{wrong}");
+    }
+    Ok(())
+}
+
+#[test]
+fn printers_that_talk(rt: HostRuntime) -> Result<(), Fail> {
+    for &row in &TALKS {
         let wrong = played(&rt, row)?;
         assert!(rt; wrong.is_empty(), "{wrong}");
     }

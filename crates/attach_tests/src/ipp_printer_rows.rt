@@ -46,7 +46,7 @@ const FIRST: &[Step] = &[
     Asks(GET_PRINTER, b"ipp://printer:631/ipp/print"),
 ];
 
-const ROWS: [Row; 7] = [
+const ROWS: [Row; 8] = [
     Row {
         name: "all that the job asks is supported",
         start: FIRST,
@@ -146,6 +146,27 @@ const ROWS: [Row; 7] = [
             Writes(Server, b"READY\n"),
         ],
         log: "0 linked\n0 printer unread ipp 0x0500\n1000 printer back\n",
+    },
+    Row {
+        name: "no HTTP, and then no IPP",
+        start: FIRST,
+        steps: &[
+            Sends(Printer, b"220 a printer of another kind\r\n"),
+            Writes(Server, b"STOP\n"),
+            Passes(1_000),
+            Connects(Printer),
+            Asks(GET_PRINTER, b""),
+            Sends(
+                Printer,
+                b"HTTP/1.1 200 OK\r\nContent-Length: 5\r\n\r\nhello",
+            ),
+            Passes(2_000),
+            Connects(Printer),
+            Asks(GET_PRINTER, b""),
+            Answers(0, 1, IDLE),
+            Writes(Server, b"READY\n"),
+        ],
+        log: "0 linked\n0 printer unread no reply of HTTP\n3000 printer back\n",
     },
 ];
 

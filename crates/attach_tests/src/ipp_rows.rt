@@ -13,24 +13,25 @@ const TIMEOUT: u64 = 3_000;
 /// The operations (RFC 8011, section 5.4.15).
 pub(crate) const PRINT_JOB: u16 = 0x0002;
 
-const CANCEL_JOB: u16 = 0x0008;
+pub(crate) const CANCEL_JOB: u16 = 0x0008;
 
-const GET_JOB: u16 = 0x0009;
+pub(crate) const GET_JOB: u16 = 0x0009;
 
 pub(crate) const GET_PRINTER: u16 = 0x000B;
 
-const JOB: &[u8] = b"JOB 7 5 1 1 iso_a4_210x297mm\nhello";
+pub(crate) const JOB: &[u8] = b"JOB 7 5 1 1 iso_a4_210x297mm\nhello";
 
 /// The document of the job, in chunks (RFC 9112, section 7.1).
-const DOCUMENT: &[u8] = b"\r\n5\r\nhello\r\n0\r\n\r\n";
+pub(crate) const DOCUMENT: &[u8] = b"\r\n5\r\nhello\r\n0\r\n\r\n";
 
 /// The groups of printers that print, and that are stopped.
 pub(crate) const IDLE: &[u8] = b"\x04\x23\0\x0dprinter-state\0\x04\0\0\0\x03";
 
-const STOPPED: &[u8] = b"\x04\x23\0\x0dprinter-state\0\x04\0\0\0\x05";
+pub(crate) const STOPPED: &[u8] = b"\x04\x23\0\x0dprinter-state\0\x04\0\0\0\x05";
 
 /// The groups of job 12: it is printed now, it is completed, it is aborted.
-const PRINTS: &[u8] = b"\x02\x21\0\x06job-id\0\x04\0\0\0\x0c\x23\0\x09job-state\0\x04\0\0\0\x05";
+pub(crate) const PRINTS: &[u8] =
+    b"\x02\x21\0\x06job-id\0\x04\0\0\0\x0c\x23\0\x09job-state\0\x04\0\0\0\x05";
 
 pub(crate) const COMPLETED: &[u8] =
     b"\x02\x21\0\x06job-id\0\x04\0\0\0\x0c\x23\0\x09job-state\0\x04\0\0\0\x09\
@@ -45,10 +46,10 @@ const OTHER: &[u8] = b"\x02\x21\0\x06job-id\0\x04\0\0\0\x0d\x23\0\x09job-state\0
 const NO_JOB: &[u8] = b"\x02\x21\0\x06job-id\0\x04\0\0\0\0\x23\0\x09job-state\0\x04\0\0\0\x05";
 
 /// The id of job 12, in a request.
-const OF_THE_JOB: &[u8] = b"\x21\0\x06job-id\0\x04\0\0\0\x0c";
+pub(crate) const OF_THE_JOB: &[u8] = b"\x21\0\x06job-id\0\x04\0\0\0\x0c";
 
 /// The steps up to the job's document.
-const SENT: &[Step] = &[
+pub(crate) const SENT: &[Step] = &[
     Connects(Server),
     Connects(Printer),
     Writes(Server, b"HELLO hall\n"),
@@ -61,7 +62,7 @@ const SENT: &[Step] = &[
 ];
 
 /// The steps up to the first request about the job, which the printer took.
-const ASKED: &[Step] = &[
+pub(crate) const ASKED: &[Step] = &[
     Connects(Server),
     Connects(Printer),
     Writes(Server, b"HELLO hall\n"),

@@ -34,7 +34,7 @@ const BEGUN: &[Step] = &[
     Connects(Printer),
 ];
 
-const ROWS: [Row; 8] = [
+const ROWS: [Row; 9] = [
     Row {
         name: "pages, and the end of the job",
         start: BEGUN,
@@ -71,6 +71,22 @@ const ROWS: [Row; 8] = [
             Writes(Server, b"DONE 7\n"),
         ],
         log: "0 linked\n0 job 7 5 2\n0 printer stopped\n3600000 printer runs\n3600000 done 7\n",
+    },
+    Row {
+        name: "the greatest code that doesn't stop, and the least that does",
+        start: BEGUN,
+        steps: &[
+            Writes(Printer, WRAPPED),
+            Sends(Printer, b"@PJL USTATUS DEVICE\r\nCODE=39999\r\n\x0c"),
+            Passes(1_000),
+            Sends(Printer, b"@PJL USTATUS DEVICE\r\nCODE=40000\r\n\x0c"),
+            Writes(Server, b"STOP\n"),
+            Sends(Printer, b"@PJL USTATUS DEVICE\r\nCODE=39999\r\n\x0c"),
+            Writes(Server, b"READY\n"),
+            Sends(Printer, END),
+            Writes(Server, b"DONE 7\n"),
+        ],
+        log: "0 linked\n0 job 7 5 2\n1000 printer stopped\n1000 printer runs\n1000 done 7\n",
     },
     Row {
         name: "the end of another host's job",

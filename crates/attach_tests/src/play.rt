@@ -110,13 +110,11 @@ fn run<F: Files, P: Printer<ScriptedStream>>(
 /// What is wrong with a row; empty if nothing is.
 fn verdict(alloc: Global, row: Row, network: &Scripted, log: &[u8]) -> Result<String, AllocError> {
     let name = row.name;
-    if !network.is_played() {
-        let place = network.place();
-        return format!(in alloc; "{name}: step {place}; ");
-    }
-    if log != row.log.as_bytes() {
+    let place = network.place();
+    let is_played = network.is_played();
+    if !is_played || log != row.log.as_bytes() {
         let text = String::from_utf8_lossy(alloc, log)?;
-        return format!(in alloc; "{name}: {text}; ");
+        return format!(in alloc; "{name}: step {place}, {text}; ");
     }
     Ok(String::new(alloc))
 }

@@ -22,6 +22,8 @@ pub(crate) enum Step {
     Writes(Peer, &'static [u8]),
     /// The adapter writes a request of IPP with this operation, which contains these bytes.
     Asks(u16, &'static [u8]),
+    /// The adapter writes the beginning of a request of IPP, which ends with these bytes.
+    Begins(&'static [u8]),
     /// A peer sends these bytes.
     Sends(Peer, &'static [u8]),
     /// The printer answers a request of IPP: the status, the id of the request, and the groups of attributes.
@@ -175,6 +177,10 @@ impl Script {
                 self.message.extend_from_slice(bytes)?;
                 Ok(bytes.len())
             }
+            Some(Step::Begins(part)) if peer == Peer::Printer => {
+                self.message.extend_from_slice(bytes)?;
+                Ok(self.take_up_to(part, bytes.len()))
+            }
             Some(Step::Breaks(one)) if one == peer => {
                 self.advance();
                 Err(io::Error::from(ErrorKind::BrokenPipe))
@@ -201,6 +207,20 @@ impl Script {
             self.advance();
         }
         count
+    }
+
+    /// Goes on if the request contains this part. Returns how many of its last `count` bytes are taken: those up to
+    /// the part's end.
+    fn take_up_to(&mut self, part: &[u8], count: usize) -> usize
+        ensures { result ≤ count }
+    {
+        let Some(place) = find(&self.message, part) else {
+            return count;
+        };
+        let end = place.saturating_add(part.len());
+        let rest = self.message.len().saturating_sub(end);
+        self.advance();
+        count.saturating_sub(rest)
     }
 
     /// Goes on if the next step is a request of IPP that is whole. The adapter reads once it has written.
