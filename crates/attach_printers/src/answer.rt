@@ -2,8 +2,8 @@
 ghost use Rattle.std.specs.Prelude.{◌≡◌};
 ghost use Rattle.attach_printers.specs.Told.{is_completed, is_printed, more_than, pages_due, pages_told};
 
+use crate::exchange::Exchange;
 use crate::told::{ReplyBreach, Told};
-use attach_http::ReplyReader;
 use ipp_codec::{GroupTag, MessageView};
 use ipp_requests::{is_successful, number_in, reply_in};
 
@@ -62,14 +62,14 @@ fn more_than(before: u32, impressions: Option<u32>) -> Option<u32>
 }
 
 /// The message of a reply to a request, whose status is a success.
-pub(crate) fn message_of(reader: &ReplyReader) -> Result<MessageView<'_>, ReplyBreach> {
-    if let Some(fault) = reader.fault() {
+pub(crate) fn message_of(exchange: &Exchange) -> Result<MessageView<'_>, ReplyBreach> {
+    if let Some(fault) = exchange.fault() {
         return Err(ReplyBreach::Fault(fault));
     }
-    if reader.status() != OK {
-        return Err(ReplyBreach::Http(reader.status()));
+    if exchange.status() != OK {
+        return Err(ReplyBreach::Http(exchange.status()));
     }
-    match reply_in(reader.body()) {
+    match reply_in(exchange.body()) {
         Some(reply) if reply.request_id() != REQUEST => Err(ReplyBreach::NotIpp),
         Some(reply) if is_successful(reply.code()) => Ok(reply),
         Some(reply) => Err(ReplyBreach::Ipp(reply.code())),
@@ -78,8 +78,8 @@ pub(crate) fn message_of(reader: &ReplyReader) -> Result<MessageView<'_>, ReplyB
 }
 
 /// The answer about a job in a reply.
-pub(crate) fn job_answer(reader: &ReplyReader) -> Result<JobAnswer, ReplyBreach> {
-    let reply = message_of(reader)?;
+pub(crate) fn job_answer(exchange: &Exchange) -> Result<JobAnswer, ReplyBreach> {
+    let reply = message_of(exchange)?;
     let Some(state) = number_in(&reply, GroupTag::JOB, b"job-state") else {
         return Err(ReplyBreach::NotIpp);
     };

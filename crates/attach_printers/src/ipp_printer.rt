@@ -1,12 +1,11 @@
 //! A printer with IPP, without sockets.
 use crate::address::IppAddress;
 use crate::answer::{JobAnswer, JobState, job_answer, message_of};
+use crate::exchange::Exchange;
 use crate::heard::{Breach, Heard};
 use crate::job::JobWish;
-use crate::retry_after::RetryAfter;
 use crate::task::{Stage, Task};
 use crate::told::{LeftOut, ReplyBreach, Told};
-use attach_http::{ReplyFault, ReplyReader};
 use attach_orders::JobOrder;
 use attachment::{Attachment, Pauses};
 use base_types::Text;
@@ -63,12 +62,12 @@ pub struct IppPrinter {
     wish: JobWish,
     /// A job that was given up, and is to be canceled at the printer.
     cancels: Option<i32>,
-    reader: ReplyReader,
-    retry_after: RetryAfter,
+    exchange: Exchange,
     /// The bytes that are to be written before all others.
     output: Vec<u8>,
-    /// The number of octets of the chunk that are still to be written.
+    /// The number of octets of the chunk that are still to be written, and the bytes after them.
     chunk: usize,
+    chunk_end: &'static [u8],
     /// The body of the printer's last reply about its state.
     state: Option<Vec<u8>>,
     ask_at: u64,
@@ -104,10 +103,10 @@ impl IppPrinter {
             stage: Stage::None,
             wish: JobWish::none(),
             cancels: None,
-            reader: ReplyReader::new(alloc),
-            retry_after: RetryAfter::new(alloc),
+            exchange: Exchange::new(alloc),
             output: Vec::new(alloc),
             chunk: 0,
+            chunk_end: &[],
             state: None,
             ask_at: 0,
             looks: Pauses::new(FIRST_LOOK, BETWEEN_LOOKS),
@@ -210,32 +209,33 @@ impl IppPrinter {
     /// Begins the task's request on a new connection. `format` is that of the document, if the task sends it.
     /// The only error is out of memory.
     pub fn open(&mut self, format: &str) -> Result<(), AllocError> {
-        self.reader = ReplyReader::new(self.alloc);
-        self.retry_after = RetryAfter::new(self.alloc);
+        self.exchange = Exchange::new(self.alloc);
         self.chunk = 0;
         self.output.clear();
-        self.output = self.request(format)?;
+        self.write_request(format)?;
         if self.task == Task::Print {
             self.stage = Stage::Sending;
         }
         Ok(())
     }
 
-    /// The request of the task. The only error is out of memory.
-    fn request(&mut self, format: &str) -> Result<Vec<u8>, AllocError> {
+    /// Writes the request of the task. The only error is out of memory.
+    fn write_request(&mut self, format: &str) -> Result<(), AllocError> {
         let uri = self.address.uri.as_bytes();
         let body = match self.task {
-            Task::Nothing => return Ok(Vec::new(self.alloc)),
+            Task::Nothing => return Ok(()),
             Task::Ask => ask_of_printer(self.alloc, uri, &PRINTER_NAMES),
             Task::Follow(job) => ask_of_job(self.alloc, uri, job, &JOB_NAMES),
             Task::Cancel(job) => cancel_job(self.alloc, uri, job),
-            Task::Print => return self.document_front(format),
+            Task::Print => return self.write_front(format),
         };
-        self.address.request(self.alloc, &encoded(body)?)
+        let body = encoded(body)?;
+        self.exchange
+            .write_request(self.alloc, &self.address, &body, &mut self.output)
     }
 
-    /// The beginning of the request that sends the job. The only error is out of memory.
-    fn document_front(&mut self, format: &str) -> Result<Vec<u8>, AllocError> {
+    /// Writes the beginning of the request that sends the job. The only error is out of memory.
+    fn write_front(&mut self, format: &str) -> Result<(), AllocError> {
         let job = self.wish.job();
         let name = format!(in self.alloc; "printd-{job}")?;
         let state: &[u8] = match &self.state {
@@ -248,11 +248,11 @@ impl IppPrinter {
         let ticket = self.wish.ticket(name.as_bytes(), format, &printer);
         let left_out = self.wish.left_out(&ticket);
         let body = encoded(print_job(self.alloc, self.address.uri.as_bytes(), &ticket))?;
-        let front = self.address.front(self.alloc, &body)?;
         if left_out.is_something() && self.busy.is_none() {
             self.left_out = Some(left_out);
         }
-        Ok(front)
+        self.exchange
+            .write_front(&self.address, &body, &mut self.output)
     }
 
     /// The bytes that are to be written before all others.
@@ -274,7 +274,7 @@ impl IppPrinter {
         }
         self.chunk = self.chunk.saturating_sub(count);
         if self.chunk == 0 {
-            self.output.extend_from_slice(b"\r\n")?;
+            self.output.extend_from_slice(self.chunk_end)?;
         }
         Ok(())
     }
@@ -288,14 +288,13 @@ impl IppPrinter {
         if attachment.is_copy_sent() {
             attachment.end_copy();
             self.stage = Stage::Sent;
-            return self.output.extend_from_slice(b"0\r\n\r\n");
+            return self.exchange.write_end(&mut self.output);
         }
         let count = attachment.due().len().min(CHUNK);
         if count == 0 {
             return Ok(());
         }
-        let line = format!(in self.alloc; "{count:x}\r\n")?;
-        self.output.extend_from_slice(line.as_bytes())?;
+        self.chunk_end = self.exchange.begin_chunk(count, &mut self.output)?;
         self.chunk = count;
         Ok(())
     }
@@ -307,21 +306,17 @@ impl IppPrinter {
 
     /// Takes bytes of the printer. The only error is out of memory.
     pub fn hear(&mut self, bytes: &[u8]) -> Result<(), AllocError> {
-        for byte in bytes {
-            self.reader.take(*byte)?;
-            self.retry_after.take(*byte)?;
-        }
-        Ok(())
+        self.exchange.hear(bytes)
     }
 
     /// Records that the printer has closed the connection.
     pub fn hear_end(&mut self) {
-        self.reader.end();
+        self.exchange.hear_end();
     }
 
     /// Returns whether the task's reply is whole or faulty.
     pub fn has_reply(&self) -> bool {
-        self.reader.is_whole() || self.reader.fault().is_some()
+        self.exchange.is_done()
     }
 
     /// Removes and returns the parts of the job that aren't passed to the printer, if they weren't reported
@@ -378,7 +373,7 @@ impl IppPrinter {
 
     /// Ends the task that asks for the printer's state.
     fn end_asking(&mut self, now: u64) -> Result<Told, AllocError> {
-        match message_of(&self.reader) {
+        match message_of(&self.exchange) {
             Ok(reply) => {
                 let stopped = is_stopped(&reply);
                 let media = loaded_media(self.alloc, &reply)?;
@@ -399,7 +394,7 @@ impl IppPrinter {
 
     /// Stores the printer's state. The only error is out of memory.
     fn keep_state(&mut self, stopped: bool, media: Option<Vec<Text>>) -> Result<Told, AllocError> {
-        self.state = Some(Vec::from_slice(self.alloc, self.reader.body())?);
+        self.state = Some(Vec::from_slice(self.alloc, self.exchange.body())?);
         self.media = media;
         self.unread = false;
         self.tries = Pauses::new(FIRST_PAUSE, LONGEST_PAUSE);
@@ -426,7 +421,7 @@ impl IppPrinter {
     fn end_printing(&mut self, now: u64) -> Told {
         let all_sent = self.stage == Stage::Sent;
         self.stage = Stage::None;
-        match job_answer(&self.reader) {
+        match job_answer(&self.exchange) {
             Ok(_) if !all_sent => self.fail(ReplyBreach::TooEarly, now),
             Ok(answer) => match answer.job {
                 Some(job) if job > 0 => self.heed(job, answer, now),
@@ -448,7 +443,7 @@ impl IppPrinter {
     /// is asked again. A job that the printer took and doesn't know any more is printed: some printers forget
     /// a job at its end.
     fn end_following(&mut self, job: i32, now: u64) -> Told {
-        match job_answer(&self.reader) {
+        match job_answer(&self.exchange) {
             Ok(answer) if answer.job.unwrap_or(job) == job => self.heed(job, answer, now),
             Ok(_) => self.follow_later(None, now),
             Err(breach) if breach.is_no_reply() => self.follow_later(None, now),
@@ -466,7 +461,7 @@ impl IppPrinter {
 
     /// The moment before which the printer doesn't want to be asked again.
     fn next_try(&self, now: u64) -> u64 {
-        now.saturating_add(self.retry_after.ms())
+        now.saturating_add(self.exchange.retry_after())
     }
 
     /// Has the printer asked about the job again.

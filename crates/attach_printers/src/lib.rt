@@ -10,7 +10,7 @@
 //! It asks for the printer's state every ten seconds, sends a job, asks about the job until the job has
 //! ended, soon at first and finally every second, and cancels a job that was given up. It keeps the printer's
 //! last reply, and passes only those options of a job that the reply reports as supported. The octets of a
-//! job stay with its attachment.
+//! job stay with its attachment. The requests are framed, and the replies read, by the client of `http1`.
 //!
 //! The functions are proved safe and to end. For each answer of IPP about a job, the impressions that are new
 //! are reported, also those of the last answer. The contracts of the octets that a printer is sent and of the
@@ -24,6 +24,7 @@ mod answer;
 mod app_socket;
 mod backlog;
 mod caller;
+mod exchange;
 mod folder;
 mod format;
 mod heard;
@@ -37,7 +38,6 @@ mod pjl;
 mod place;
 mod printer;
 mod protocol;
-mod retry_after;
 mod send_buffer;
 mod session;
 mod socket_table;
@@ -62,4 +62,4 @@ pub use printer::Printer;
 pub use protocol::Protocol;
 pub use session::Session;
 pub use stream::{Network, Peer, Readiness, Stream};
-pub use told::{LeftOut, ReplyBreach, Told};
+pub use told::{LeftOut, ReplyBreach, ReplyFault, Told};

@@ -1,7 +1,23 @@
 //! The results of a printer's task.
-use attach_http::ReplyFault;
 use std::fmt;
 use thiserror::Error;
+
+/// Why a printer's reply can't be read.
+#[derive(Clone, Copy, Debug, Error)]
+pub enum ReplyFault {
+    /// The bytes violate the grammar of HTTP/1.
+    #[error("no reply of HTTP")]
+    NotHttp,
+    /// The fields of the head don't give the body's length.
+    #[error("a body of no known length")]
+    BadLength,
+    /// The head or the body is too long.
+    #[error("too long a reply")]
+    TooLong,
+    /// The connection ended before the reply did.
+    #[error("closed early")]
+    Ended,
+}
 
 /// Why a printer's reply isn't usable.
 #[derive(Clone, Copy, Debug, Error)]

@@ -39,7 +39,7 @@ const WARNED: &[u8] = b"\x04\x23\0\x0dprinter-state\0\x04\0\0\0\x03\
 const LONG_HEAD: &[u8] = &[b'a'; 16_365];
 
 /// The steps up to the first request for the printer's state.
-const FIRST: &[Step] = &[
+pub(crate) const FIRST: &[Step] = &[
     Connects(Server),
     Connects(Printer),
     Writes(Server, b"HELLO hall\n"),

@@ -9,6 +9,8 @@ mod app_socket_rows;
 #[cfg(test)]
 mod folder_rows;
 #[cfg(test)]
+mod http_rows;
+#[cfg(test)]
 mod ipp_failure_rows;
 #[cfg(test)]
 mod ipp_printer_rows;

@@ -1,5 +1,0 @@
-use Rattle.std.proofs.Common.{length}
-use Rattle.attach_http.proofs.size.+hex_from.Given as goal
-
-abbrev pub decreases-hex_from : goal.decreases-hex_from
-decreases-hex_from l = length l.word.now

@@ -1,4 +1,0 @@
-pub mod Field
-pub mod Line
-pub mod Reply
-pub mod Size
