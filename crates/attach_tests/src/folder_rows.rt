@@ -15,6 +15,11 @@ const FORMATS_FOLDER: &str = "attach_tests_formats";
 
 const FILE: &str = "attach_tests_file";
 
+/// A folder, and one in the place of a file in it.
+const TAKEN: &str = "attach_tests_taken";
+
+const TAKEN_FILE: &str = "attach_tests_taken/.7-hall.txt.part";
+
 /// Two jobs of the same id, as before and after a restart of the server.
 const TWICE: Row = Row {
     name: "two jobs of one id",
@@ -95,6 +100,21 @@ const AWAY: Row = Row {
     log: "0 printer away\n0 linked\n",
 };
 
+/// A folder in which the file of a job can't be created.
+const UNWRITTEN: Row = Row {
+    name: "a file that can't be written",
+    start: NOTHING,
+    steps: &[
+        Connects(Server),
+        Writes(Server, b"HELLO hall\nREADY\n"),
+        Sends(Server, b"JOB 7 5 1 1 iso_a4_210x297mm\nhello"),
+        Writes(Server, b"STOP\nFAIL 7\n"),
+        Passes(1_000),
+        Writes(Server, b"READY\n"),
+    ],
+    log: "0 linked\n0 job 7 5 1\n0 fail 7 unwritten\n1000 printer back\n",
+};
+
 /// The device's folder.
 fn folder(rt: &HostRuntime, path: &str) -> Result<Folder, AllocError> {
     let alloc = rt.alloc();
@@ -152,6 +172,14 @@ fn away(rt: &HostRuntime) -> io::Result<String> {
     Ok(wrong)
 }
 
+/// Plays a row whose file can't be created. Returns what is wrong.
+fn unwritten(rt: &HostRuntime) -> io::Result<String> {
+    fs::create_dir_all(rt, TAKEN_FILE)?;
+    let wrong = play(rt.alloc(), rt, UNWRITTEN, folder(rt, TAKEN)?)?;
+    fs::remove_dir_all(rt, TAKEN)?;
+    Ok(wrong)
+}
+
 #[test]
 fn kept_documents(rt: HostRuntime) -> Result<(), Fail> {
     let wrong = printed(&rt)?;
@@ -169,6 +197,13 @@ fn formats_of_documents(rt: HostRuntime) -> Result<(), Fail> {
 #[test]
 fn folders_that_cant_be_written_to(rt: HostRuntime) -> Result<(), Fail> {
     let wrong = away(&rt)?;
+    assert!(rt; wrong.is_empty(), "{wrong}");
+    Ok(())
+}
+
+#[test]
+fn files_that_cant_be_written(rt: HostRuntime) -> Result<(), Fail> {
+    let wrong = unwritten(&rt)?;
     assert!(rt; wrong.is_empty(), "{wrong}");
     Ok(())
 }

@@ -95,6 +95,11 @@ fn run<F: Files, P: Printer<ScriptedStream>>(
     let mut last = 0usize;
     for _ in 0..TURNS {
         adapter.turn(files, network, now);
+        if network.close() {
+            adapter.give_up(files, now);
+            let _is_open = adapter.take_leave();
+            last = LAST_TURNS;
+        }
         log.extend_from_slice(&adapter.take_log())?;
         now = now.saturating_add(network.pass(adapter.pause(now)));
         if network.is_played() {

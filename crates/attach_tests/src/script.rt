@@ -36,6 +36,8 @@ pub(crate) enum Step {
     Breaks(Peer),
     /// From now on so many written bytes count as not acknowledged.
     Holds(u64),
+    /// The adapter's standard input is closed.
+    Closes,
     /// So many ms pass, in which the adapter writes nothing to the server, and connects to nobody.
     Passes(u64),
 }
@@ -110,6 +112,15 @@ impl Script {
             self.advance();
         }
         count
+    }
+
+    /// Goes on if the next step is that standard input is closed. Returns whether it was.
+    fn close(&mut self) -> bool {
+        let closes = matches!(self.step(), Some(Step::Closes));
+        if closes {
+            self.advance();
+        }
+        closes
     }
 
     /// Connects to a peer.
@@ -337,6 +348,14 @@ impl Scripted {
         match self.script.try_borrow_mut() {
             Ok(mut script) => script.pass(most),
             Err(_) => 0,
+        }
+    }
+
+    /// Goes on if the next step is that standard input is closed. Returns whether it was.
+    pub(crate) fn close(&self) -> bool {
+        match self.script.try_borrow_mut() {
+            Ok(mut script) => script.close(),
+            Err(_) => false,
         }
     }
 }

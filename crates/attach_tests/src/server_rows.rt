@@ -1,13 +1,15 @@
 //! Servers that misbehave, and what an adapter reports without a log.
 use crate::play::{Detail, LINKED, NOTHING, READY, Row, network, play_with};
-use crate::script::Step::{Breaks, Connects, Ends, Finishes, Misses, Passes, Sends, Writes};
+use crate::script::Step::{
+    Breaks, Closes, Connects, Ends, Finishes, Misses, Passes, Sends, Writes,
+};
 use attach_printers::AppSocket;
 use attach_printers::Peer::{Printer, Server};
 use std::alloc::AllocError;
 use std::test::Fail;
 
-/// Lines that no server writes, and what the adapter does.
-const ROWS: [Row; 4] = [
+/// Lines that no server writes, and ends of connections and of the adapter.
+const ROWS: [Row; 5] = [
     Row {
         name: "a line that isn't one of the server's",
         start: LINKED,
@@ -48,6 +50,20 @@ const ROWS: [Row; 4] = [
             Writes(Server, READY),
         ],
         log: "0 linked\n0 job 7 500 1\n0 fail 7 unlinked\n0 unlinked\n1000 server away\n3000 linked\n",
+    },
+    Row {
+        name: "standard input is closed during a job",
+        start: LINKED,
+        steps: &[
+            Sends(Server, b"JOB 7 500 1 1 iso_a4_210x297mm\nhello"),
+            Connects(Printer),
+            Writes(Printer, b"hello"),
+            Closes,
+            Writes(Server, b"FAIL 7\n"),
+            Finishes(Server),
+            Ends(Server),
+        ],
+        log: "0 linked\n0 job 7 500 1\n0 fail 7 ended\n0 ended\n",
     },
     Row {
         name: "the server turns the name away, and takes it later",
