@@ -11,7 +11,7 @@ mod folder_rows;
 #[cfg(test)]
 mod http_rows;
 #[cfg(test)]
-mod ipp_failure_rows;
+mod ipp_job_rows;
 #[cfg(test)]
 mod ipp_printer_rows;
 #[cfg(test)]

@@ -9,6 +9,10 @@ use std::test::Fail;
 
 const JOB: &[u8] = b"JOB 7 5 1 1 iso_a4_210x297mm\nhello";
 
+/// The control file of a job in two copies, with the octet that ends it.
+const CONTROL: &[u8] =
+    b"Hprintd\nPprintd\nJhall-7\nldfA007printd\nldfA007printd\nUdfA007printd\nNhall-7\n\0";
+
 /// The steps up to the printer's connection for the job.
 const BEGUN: &[Step] = &[
     Connects(Server),
@@ -18,7 +22,7 @@ const BEGUN: &[Step] = &[
     Connects(Printer),
 ];
 
-const ROWS: [Row; 5] = [
+const ROWS: [Row; 6] = [
     // the commands and the control file of RFC 1179, sections 5.2, 6 and 7
     Row {
         name: "a job in two copies",
@@ -30,10 +34,7 @@ const ROWS: [Row; 5] = [
             Sends(Printer, b"\0"),
             Writes(Printer, b"\x0274 cfA007printd\n"),
             Sends(Printer, b"\0"),
-            Writes(
-                Printer,
-                b"Hprintd\nPprintd\nJhall-7\nldfA007printd\nldfA007printd\nUdfA007printd\nNhall-7\n\0",
-            ),
+            Writes(Printer, CONTROL),
             Sends(Printer, b"\0"),
             Writes(Printer, b"\x035 dfA007printd\n"),
             Sends(Printer, b"\0"),
@@ -52,6 +53,24 @@ const ROWS: [Row; 5] = [
             Writes(Server, b"STOP\nFAIL 7\n"),
         ],
         log: "0 linked\n0 job 7 5 1\n0 fail 7 refused\n",
+    },
+    Row {
+        name: "the data file is refused",
+        start: LINKED,
+        steps: &[
+            Sends(Server, b"JOB 7 5 2 1 iso_a4_210x297mm\nhello"),
+            Connects(Printer),
+            Writes(Printer, b"\x02lp\n"),
+            Sends(Printer, b"\0"),
+            Writes(Printer, b"\x0274 cfA007printd\n"),
+            Sends(Printer, b"\0"),
+            Writes(Printer, CONTROL),
+            Sends(Printer, b"\0"),
+            Writes(Printer, b"\x035 dfA007printd\n"),
+            Sends(Printer, b"\x02"),
+            Writes(Server, b"STOP\nFAIL 7\n"),
+        ],
+        log: "0 linked\n0 job 7 5 2\n0 fail 7 refused\n",
     },
     Row {
         name: "an acknowledgement of nothing",

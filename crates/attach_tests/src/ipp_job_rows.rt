@@ -14,6 +14,10 @@ use std::test::Fail;
 /// The group of job 12, which was canceled at the printer (RFC 8011, section 5.3.7).
 const CANCELED: &[u8] = b"\x02\x21\0\x06job-id\0\x04\0\0\0\x0c\x23\0\x09job-state\0\x04\0\0\0\x07";
 
+/// The group of job 12, which is printed now and has a page.
+const ONE_PAGE: &[u8] = b"\x02\x21\0\x06job-id\0\x04\0\0\0\x0c\x23\0\x09job-state\0\x04\0\0\0\x05\
+\x21\0\x19job-impressions-completed\0\x04\0\0\0\x01";
+
 /// The chunk of the job, up to its third octet.
 const HALF: &[u8] = b"\r\n5\r\nhel";
 
@@ -144,8 +148,8 @@ const NOT_TAKEN: [Row; 9] = [
     },
 ];
 
-/// Jobs that wait for an answer of the printer, or for the printer.
-const WAITING: [Row; 7] = [
+/// Jobs that wait for the printer, or for its answers about them.
+const WAITING: [Row; 8] = [
     Row {
         name: "the printer's state can't be read while a job waits",
         start: OWED,
@@ -237,6 +241,20 @@ const WAITING: [Row; 7] = [
         ],
         log: "0 linked\n0 job 7 5 1\n0 left out sides media\n125 printer away\n3000 fail 7 silent\n\
 3125 printer back\n",
+    },
+    Row {
+        name: "a page of the job is printed",
+        start: ASKED,
+        steps: &[
+            Answers(0, 1, ONE_PAGE),
+            Writes(Server, b"PAGES 7 1\n"),
+            Passes(250),
+            Connects(Printer),
+            Asks(GET_JOB, OF_THE_JOB),
+            Answers(0, 1, COMPLETED),
+            Writes(Server, b"DONE 7\n"),
+        ],
+        log: "0 linked\n0 job 7 5 1\n0 left out sides media\n375 done 7\n",
     },
     Row {
         name: "the job is canceled at the printer",
