@@ -3,6 +3,7 @@ ghost use Rattle.std.specs.Prelude.{◌≤◌, length};
 
 use crate::address::IppAddress;
 use crate::told::ReplyFault;
+use http1::encode::Frame;
 use http1::{BodySize, Client, Event, Header, Limits, ReadError, WriteError};
 use httparse::spans::{EMPTY_HEADER_SPAN, HeaderSpan, ResponseSpans, Span};
 use std::alloc::{AllocError, Global};
@@ -26,6 +27,8 @@ enum Progress {
 #[derive(Drop)]
 pub(crate) struct Exchange {
     client: Client,
+    /// The bytes around the chunk that is sent.
+    frame: Option<Frame>,
     progress: Progress,
     /// The bytes of the reply that aren't read yet.
     input: Vec<u8>,
@@ -41,6 +44,7 @@ impl Exchange {
     pub(crate) fn new(alloc: Global) -> Exchange {
         Exchange {
             client: Client::new(Limits::default()),
+            frame: None,
             progress: Progress::Reads,
             input: Vec::new(alloc),
             status: 0,
@@ -79,16 +83,23 @@ impl Exchange {
         written(self.client.write_data(output, chunk))
     }
 
-    /// Appends the bytes before a chunk of `count` octets. Returns the bytes after it. The only error is out of
-    /// memory.
+    /// Appends the bytes before a chunk of `count` octets. The only error is out of memory.
     pub(crate) fn begin_chunk(
         &mut self,
         count: usize,
         output: &mut Vec<u8>,
-    ) -> Result<&'static [u8], AllocError> {
+    ) -> Result<(), AllocError> {
         let frame = written(self.client.frame_data(count))?;
-        output.extend_from_slice(frame.prefix())?;
-        Ok(frame.suffix())
+        self.frame = Some(frame);
+        output.extend_from_slice(frame.prefix())
+    }
+
+    /// Appends the bytes after the chunk. The only error is out of memory.
+    pub(crate) fn end_chunk(&self, output: &mut Vec<u8>) -> Result<(), AllocError> {
+        match self.frame {
+            Some(frame) => output.extend_from_slice(frame.suffix()),
+            None => Ok(()),
+        }
     }
 
     /// Appends the end of the request. The only error is out of memory.

@@ -65,9 +65,8 @@ pub struct IppPrinter {
     exchange: Exchange,
     /// The bytes that are to be written before all others.
     output: Vec<u8>,
-    /// The number of octets of the chunk that are still to be written, and the bytes after them.
+    /// The number of octets of the chunk that are still to be written.
     chunk: usize,
-    chunk_end: &'static [u8],
     /// The body of the printer's last reply about its state.
     state: Option<Vec<u8>>,
     ask_at: u64,
@@ -106,7 +105,6 @@ impl IppPrinter {
             exchange: Exchange::new(alloc),
             output: Vec::new(alloc),
             chunk: 0,
-            chunk_end: &[],
             state: None,
             ask_at: 0,
             looks: Pauses::new(FIRST_LOOK, BETWEEN_LOOKS),
@@ -274,7 +272,7 @@ impl IppPrinter {
         }
         self.chunk = self.chunk.saturating_sub(count);
         if self.chunk == 0 {
-            self.output.extend_from_slice(self.chunk_end)?;
+            self.exchange.end_chunk(&mut self.output)?;
         }
         Ok(())
     }
@@ -294,7 +292,7 @@ impl IppPrinter {
         if count == 0 {
             return Ok(());
         }
-        self.chunk_end = self.exchange.begin_chunk(count, &mut self.output)?;
+        self.exchange.begin_chunk(count, &mut self.output)?;
         self.chunk = count;
         Ok(())
     }
