@@ -1,11 +1,11 @@
 //! The turns of an adapter.
-use crate::figures::Figures;
-use crate::line::{Came, ServerLine};
-use crate::log::{Log, Note};
-use crate::overdue::Overdue;
+use crate::figures::AdapterFigures;
+use crate::line::{ServerInput, ServerLine};
+use crate::log::{Log, LogEntry};
+use crate::overdue::OverdueJob;
 use attach_orders::{JobOrder, Order, OrderError, OrderItem};
 use attach_printers::{
-    Breach, Caller, Heard, Network, Peer, Place, Printer, Reached, Readiness, Stream,
+    Breach, Connector, HostPort, Network, Peer, Printer, PrinterEvent, Reached, Readiness, Stream,
 };
 use attachment::{Attachment, LoadedMedia, PrinterState};
 use base_types::{JobId, Report, Text};
@@ -36,7 +36,7 @@ const ACCEPTED: u64 = 5_000;
 pub struct Device {
     pub name: String,
     /// The address of the server's port for devices.
-    pub server: Place,
+    pub server: HostPort,
     /// Whether a log is written.
     pub logs: bool,
     /// Whether the printer's rates and its setup are measured and written.
@@ -53,9 +53,9 @@ pub struct Adapter<S: Stream, P: Printer<S>> {
     line: ServerLine<S>,
     printer: P,
     log: Log,
-    figures: Figures,
+    figures: AdapterFigures,
     worked: bool,
-    overdue: Overdue,
+    overdue: OverdueJob,
     /// The number of jobs that the printer failed since it last printed one.
     failures: u32,
     /// Whether the printer was tried.
@@ -95,12 +95,12 @@ impl<S: Stream, P: Printer<S>> Adapter<S, P> {
             name: device.name,
             attachment,
             media: LoadedMedia::new(alloc),
-            line: ServerLine::new(alloc, Caller::new(alloc, device.server, Peer::Server))?,
+            line: ServerLine::new(alloc, Connector::new(alloc, device.server, Peer::Server))?,
             printer,
             log,
-            figures: Figures::new(alloc, device.measures),
+            figures: AdapterFigures::new(alloc, device.measures),
             worked: false,
-            overdue: Overdue::none(),
+            overdue: OverdueJob::none(),
             failures: 0,
             tried: false,
             troubled: false,
@@ -134,7 +134,7 @@ impl<S: Stream, P: Printer<S>> Adapter<S, P> {
         self.worked = false;
         let stop = self.take_turn(files, network, now);
         if let Err(stop) = stop {
-            self.heed_stop(files, stop, now);
+            self.handle_stop(files, stop, now);
         }
     }
 
@@ -154,7 +154,7 @@ impl<S: Stream, P: Printer<S>> Adapter<S, P> {
     }
 
     /// Acts on the reason why a turn was stopped.
-    fn heed_stop<F: Files>(&mut self, files: &F, stop: Stop, now: u64) {
+    fn handle_stop<F: Files>(&mut self, files: &F, stop: Stop, now: u64) {
         match stop {
             Stop::Lost => self.unlink(files, Breach::Unlinked, now),
             Stop::OutOfMemory => self.unlink(files, Breach::OutOfMemory, now),
@@ -177,7 +177,7 @@ impl<S: Stream, P: Printer<S>> Adapter<S, P> {
     fn call_server<N: Network<Stream = S>>(&mut self, network: &N, now: u64) -> Result<(), Stop> {
         match self.line.turn(network, now) {
             Reached::Not | Reached::Still => {}
-            Reached::Away => self.log.note(Note::ServerAway),
+            Reached::Away => self.log.note(LogEntry::ServerAway),
             Reached::Now => {
                 self.linked = now;
                 self.heard = false;
@@ -185,7 +185,7 @@ impl<S: Stream, P: Printer<S>> Adapter<S, P> {
                 self.media.link();
                 let name = Text::copy_of(self.alloc, self.name.as_bytes())?;
                 self.line.say(&Report::Hello(name))?;
-                self.log.note(Note::Linked);
+                self.log.note(LogEntry::Linked);
             }
         }
         Ok(())
@@ -196,9 +196,9 @@ impl<S: Stream, P: Printer<S>> Adapter<S, P> {
         self.turned_away &= !self.is_accepted(now);
         for _ in 0..PIECES {
             match self.line.read()? {
-                Came::Nothing => return Ok(()),
-                Came::End => return Err(Stop::Lost),
-                Came::Bytes => self.hear_piece(files, now)?,
+                ServerInput::Nothing => return Ok(()),
+                ServerInput::End => return Err(Stop::Lost),
+                ServerInput::Bytes => self.hear_piece(files, now)?,
             }
         }
         Ok(())
@@ -211,10 +211,10 @@ impl<S: Stream, P: Printer<S>> Adapter<S, P> {
         for _ in 0..ITEMS {
             match self.line.next_item() {
                 Ok(None) => return Ok(()),
-                Ok(Some(item)) => self.heed(files, item, now)?,
+                Ok(Some(item)) => self.handle_item(files, item, now)?,
                 Err(OrderError::OutOfMemory) => return Err(Stop::OutOfMemory),
                 Err(OrderError::Fault(fault)) => {
-                    self.log.note(Note::Refused(fault));
+                    self.log.note(LogEntry::Refused(fault));
                     return Err(Stop::Lost);
                 }
             }
@@ -223,7 +223,7 @@ impl<S: Stream, P: Printer<S>> Adapter<S, P> {
     }
 
     /// Acts on an item of the server's stream.
-    fn heed<F: Files>(&mut self, files: &F, item: OrderItem, now: u64) -> Result<(), Stop> {
+    fn handle_item<F: Files>(&mut self, files: &F, item: OrderItem, now: u64) -> Result<(), Stop> {
         match item {
             OrderItem::Octets => self.take_octets(files, now),
             OrderItem::Order(order) => self.obey(files, &order, now),
@@ -242,15 +242,15 @@ impl<S: Stream, P: Printer<S>> Adapter<S, P> {
     fn begin(&mut self, order: &JobOrder, now: u64) -> Result<(), Stop> {
         let job = order.job.number();
         if self.attachment.job().is_some() {
-            self.log.note(Note::JobTooEarly(job));
+            self.log.note(LogEntry::JobTooEarly(job));
             return Err(Stop::Lost);
         }
         let times = self.printer.times(order);
         self.attachment.order(order.job, order.octets, times);
         self.printer.begin(order);
         self.figures.begin(order);
-        self.overdue = Overdue::begun(self.figures.expected(), now);
-        self.log.note(Note::Began {
+        self.overdue = OverdueJob::begun(self.figures.expected(), now);
+        self.log.note(LogEntry::Began {
             job,
             octets: order.octets,
             copies: order.copies,
@@ -290,21 +290,21 @@ impl<S: Stream, P: Printer<S>> Adapter<S, P> {
         now: u64,
     ) -> Result<(), Stop> {
         match self.printer.turn(files, network, &mut self.attachment, now) {
-            Heard::Nothing => Ok(()),
-            Heard::Away => self.stop(Note::PrinterAway),
-            Heard::Stops => self.stop(Note::PrinterStopped),
-            Heard::Back => Ok(self.run(Note::PrinterBack)),
-            Heard::Runs => Ok(self.run(Note::PrinterRuns)),
-            Heard::LeftOut(left_out) => Ok(self.log.note(Note::LeftOut(left_out))),
-            Heard::Unread(breach) => self.stop(Note::Unread(breach)),
-            Heard::Pages(printed) => self.tell_pages(printed),
-            Heard::Printed(printed) => self.finish(files, printed, now),
-            Heard::Failed(breach) => self.fail(files, breach, now),
+            PrinterEvent::Nothing => Ok(()),
+            PrinterEvent::Away => self.stop(LogEntry::PrinterAway),
+            PrinterEvent::Stops => self.stop(LogEntry::PrinterStopped),
+            PrinterEvent::Back => Ok(self.run(LogEntry::PrinterBack)),
+            PrinterEvent::Runs => Ok(self.run(LogEntry::PrinterRuns)),
+            PrinterEvent::LeftOut(left_out) => Ok(self.log.note(LogEntry::LeftOut(left_out))),
+            PrinterEvent::Unread(breach) => self.stop(LogEntry::Unread(breach)),
+            PrinterEvent::Pages(printed) => self.tell_pages(printed),
+            PrinterEvent::Printed(printed) => self.finish(files, printed, now),
+            PrinterEvent::Failed(breach) => self.fail(files, breach, now),
         }
     }
 
     /// Records that the printer prints nothing for now.
-    fn stop(&mut self, note: Note) -> Result<(), Stop> {
+    fn stop(&mut self, note: LogEntry) -> Result<(), Stop> {
         self.figures.leave();
         self.attachment.set_printer(PrinterState::Stopped);
         self.tried = true;
@@ -314,7 +314,7 @@ impl<S: Stream, P: Printer<S>> Adapter<S, P> {
     }
 
     /// Records that the printer prints. The log has that only if it has trouble before.
-    fn run(&mut self, note: Note) {
+    fn run(&mut self, note: LogEntry) {
         self.figures.leave();
         self.attachment.set_printer(PrinterState::Running);
         self.tried = true;
@@ -338,7 +338,7 @@ impl<S: Stream, P: Printer<S>> Adapter<S, P> {
             self.printer.doubt(FAILURE_PAUSE, now);
         } else {
             self.printer.doubt(REST, now);
-            self.log.note(Note::Rests(self.failures, breach));
+            self.log.note(LogEntry::Rests(self.failures, breach));
         }
         Ok(())
     }
@@ -370,7 +370,7 @@ impl<S: Stream, P: Printer<S>> Adapter<S, P> {
     fn fail<F: Files>(&mut self, files: &F, breach: Breach, now: u64) -> Result<(), Stop> {
         self.printer.drop_job(files);
         if let Some(job) = self.attachment.job() {
-            self.log.note(Note::Failed(job.number(), breach));
+            self.log.note(LogEntry::Failed(job.number(), breach));
         }
         if breach.is_the_printers() {
             self.distrust(breach, now)?;
@@ -390,7 +390,7 @@ impl<S: Stream, P: Printer<S>> Adapter<S, P> {
             Report::Done { job } => {
                 self.failures = 0;
                 self.figures.finish();
-                self.log.note(Note::Done(*job));
+                self.log.note(LogEntry::Done(*job));
             }
             _ => self.figures.leave(),
         }
@@ -453,13 +453,13 @@ impl<S: Stream, P: Printer<S>> Adapter<S, P> {
         if let Some(report) = report {
             self.tell_given_up(&report);
         }
-        self.log.note(Note::Ended);
+        self.log.note(LogEntry::Ended);
     }
 
     /// Reports that a job is given up. If memory for that is refused, the server aborts the job.
     fn tell_given_up(&mut self, report: &Report) {
         if let Report::Fail { job } = report {
-            self.log.note(Note::GivenUp(*job));
+            self.log.note(LogEntry::GivenUp(*job));
         }
         let _said = self.line.say(report);
     }
@@ -473,14 +473,14 @@ impl<S: Stream, P: Printer<S>> Adapter<S, P> {
     /// Drops the connection to the server, which is of no more use. The server aborts the job.
     fn unlink<F: Files>(&mut self, files: &F, breach: Breach, now: u64) {
         if let Some(job) = self.attachment.job() {
-            self.log.note(Note::Failed(job.number(), breach));
+            self.log.note(LogEntry::Failed(job.number(), breach));
         }
         self.line.lose(now);
         self.figures.leave();
-        self.overdue = Overdue::none();
+        self.overdue = OverdueJob::none();
         self.printer.drop_job(files);
         self.attachment.link();
-        self.log.note(Note::Unlinked);
+        self.log.note(LogEntry::Unlinked);
         self.note_turned_away(now);
     }
 
@@ -495,7 +495,7 @@ impl<S: Stream, P: Printer<S>> Adapter<S, P> {
     fn note_turned_away(&mut self, now: u64) {
         let kept = now.saturating_sub(self.linked) >= ACCEPTED;
         if !self.heard && !kept && !std::mem::replace(&mut self.turned_away, true) {
-            self.log.note(Note::TurnedAway);
+            self.log.note(LogEntry::TurnedAway);
         }
     }
 }

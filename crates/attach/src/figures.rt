@@ -7,7 +7,7 @@ use std::alloc::{AllocError, Global};
 
 /// The printer's rates and its setup, if they are measured.
 #[derive(Drop)]
-pub(crate) struct Figures {
+pub(crate) struct AdapterFigures {
     alloc: Global,
     wanted: bool,
     now: u64,
@@ -15,10 +15,10 @@ pub(crate) struct Figures {
     text: Vec<u8>,
 }
 
-impl Figures {
+impl AdapterFigures {
     /// Creates the record of a printer without measurements.
-    pub(crate) fn new(alloc: Global, wanted: bool) -> Figures {
-        Figures {
+    pub(crate) fn new(alloc: Global, wanted: bool) -> AdapterFigures {
+        AdapterFigures {
             alloc,
             wanted,
             now: 0,

@@ -12,13 +12,13 @@
 
 mod adapter;
 mod clock;
+mod config;
 mod figures;
 mod line;
 mod log;
 mod overdue;
-mod plan;
 mod run;
 
 pub use adapter::{Adapter, Device};
-pub use plan::{Plan, PlanWords, Target, WordFault, read_plan};
+pub use config::{AdapterConfig, ConfigWords, Target, WordFault, read_config};
 pub use run::{attach, try_target};

@@ -1,7 +1,7 @@
 //! The connection to the server.
 
 use attach_orders::{OrderError, OrderItem, OrderReader, write_report};
-use attach_printers::{Caller, Network, Reached, Readiness, Stream, has_to_wait};
+use attach_printers::{Connector, Network, Reached, Readiness, Stream, has_to_wait};
 use base_types::Report;
 use std::alloc::{AllocError, Global};
 use text::drop_front;
@@ -14,7 +14,7 @@ const LAST_PIECES: u32 = 64;
 
 /// The result of a read from the server.
 #[derive(Clone, Copy)]
-pub(crate) enum Came {
+pub(crate) enum ServerInput {
     /// Nothing has come.
     Nothing,
     /// Bytes have come; the reader has them.
@@ -27,7 +27,7 @@ pub(crate) enum Came {
 #[derive(Drop)]
 pub(crate) struct ServerLine<S: Stream> {
     alloc: Global,
-    caller: Caller<S>,
+    caller: Connector<S>,
     reader: OrderReader,
     buffer: Vec<u8>,
     output: Vec<u8>,
@@ -35,7 +35,7 @@ pub(crate) struct ServerLine<S: Stream> {
 
 impl<S: Stream> ServerLine<S> {
     /// Creates the record of a server without a connection. The only error is out of memory.
-    pub(crate) fn new(alloc: Global, caller: Caller<S>) -> Result<ServerLine<S>, AllocError> {
+    pub(crate) fn new(alloc: Global, caller: Connector<S>) -> Result<ServerLine<S>, AllocError> {
         Ok(ServerLine {
             alloc,
             caller,
@@ -71,19 +71,19 @@ impl<S: Stream> ServerLine<S> {
     }
 
     /// Reads bytes.
-    pub(crate) fn read(&mut self) -> Result<Came, AllocError> {
+    pub(crate) fn read(&mut self) -> Result<ServerInput, AllocError> {
         let Some(link) = self.caller.link() else {
-            return Ok(Came::Nothing);
+            return Ok(ServerInput::Nothing);
         };
         match link.read(&mut self.buffer) {
-            Ok(0) => Ok(Came::End),
+            Ok(0) => Ok(ServerInput::End),
             Ok(count) => {
                 self.caller.heard();
                 self.reader.feed(&self.buffer[..count])?;
-                Ok(Came::Bytes)
+                Ok(ServerInput::Bytes)
             }
-            Err(error) if has_to_wait(&error) => Ok(Came::Nothing),
-            Err(_) => Ok(Came::End),
+            Err(error) if has_to_wait(&error) => Ok(ServerInput::Nothing),
+            Err(_) => Ok(ServerInput::End),
         }
     }
 
@@ -107,7 +107,7 @@ impl<S: Stream> ServerLine<S> {
 
     /// Writes the bytes that are due. Returns whether some were written. The error is that the connection is
     /// broken.
-    pub(crate) fn flush(&mut self) -> Result<bool, Came> {
+    pub(crate) fn flush(&mut self) -> Result<bool, ServerInput> {
         let Some(link) = self.caller.link() else {
             return Ok(false);
         };
@@ -120,7 +120,7 @@ impl<S: Stream> ServerLine<S> {
                 Ok(count > 0)
             }
             Err(error) if has_to_wait(&error) => Ok(false),
-            Err(_) => Err(Came::End),
+            Err(_) => Err(ServerInput::End),
         }
     }
 

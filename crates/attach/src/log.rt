@@ -6,7 +6,7 @@ use std::fmt;
 
 /// An event that gets a line in the log.
 #[derive(Clone, Copy)]
-pub(crate) enum Note {
+pub(crate) enum LogEntry {
     /// The connection to the server is made.
     Linked,
     /// The connection to the server is lost.
@@ -38,39 +38,39 @@ pub(crate) enum Note {
     Ended,
 }
 
-impl fmt::Display for Note {
+impl fmt::Display for LogEntry {
     fn fmt<W: fmt::Write>(&self, f: &mut fmt::Formatter<W>) -> fmt::Result {
         f.write_str(match *self {
-            Note::Linked => "linked",
-            Note::Unlinked => "unlinked",
-            Note::TurnedAway => TURNED_AWAY,
-            Note::ServerAway => "server away",
-            Note::PrinterAway => "printer away",
-            Note::PrinterBack => "printer back",
-            Note::PrinterStopped => "printer stopped",
-            Note::PrinterRuns => "printer runs",
-            Note::Ended => "ended",
-            Note::Refused(fault) => return write!(f, "refused {fault}"),
-            Note::JobTooEarly(job) => {
+            LogEntry::Linked => "linked",
+            LogEntry::Unlinked => "unlinked",
+            LogEntry::TurnedAway => TURNED_AWAY,
+            LogEntry::ServerAway => "server away",
+            LogEntry::PrinterAway => "printer away",
+            LogEntry::PrinterBack => "printer back",
+            LogEntry::PrinterStopped => "printer stopped",
+            LogEntry::PrinterRuns => "printer runs",
+            LogEntry::Ended => "ended",
+            LogEntry::Refused(fault) => return write!(f, "refused {fault}"),
+            LogEntry::JobTooEarly(job) => {
                 return write!(f, "refused job {job} before the last was answered");
             }
-            Note::Rests(failures, breach) => {
+            LogEntry::Rests(failures, breach) => {
                 let advice = breach.advice();
                 return write!(
                     f,
                     "printer rests: {failures} jobs failed in a row; {advice}"
                 );
             }
-            Note::Unread(breach) => return write!(f, "printer unread {breach}"),
-            Note::LeftOut(left_out) => return write!(f, "left out{left_out}"),
-            Note::Began {
+            LogEntry::Unread(breach) => return write!(f, "printer unread {breach}"),
+            LogEntry::LeftOut(left_out) => return write!(f, "left out{left_out}"),
+            LogEntry::Began {
                 job,
                 octets,
                 copies,
             } => return write!(f, "job {job} {octets} {copies}"),
-            Note::Done(job) => return write!(f, "done {job}"),
-            Note::Failed(job, breach) => return write!(f, "fail {job} {breach}"),
-            Note::GivenUp(job) => return write!(f, "fail {job} ended"),
+            LogEntry::Done(job) => return write!(f, "done {job}"),
+            LogEntry::Failed(job, breach) => return write!(f, "fail {job} {breach}"),
+            LogEntry::GivenUp(job) => return write!(f, "fail {job} ended"),
         })
     }
 }
@@ -80,37 +80,40 @@ const TURNED_AWAY: &str =
     "turned away: the server has no device of this name, or another connection has the name";
 
 /// Returns whether an event needs a person, or is the end of one that does.
-fn is_for_people(note: Note) -> bool {
+fn is_for_people(note: LogEntry) -> bool {
     matches!(
         note,
-        Note::ServerAway
-            | Note::TurnedAway
-            | Note::Linked
-            | Note::PrinterAway
-            | Note::PrinterStopped
-            | Note::PrinterBack
-            | Note::PrinterRuns
-            | Note::Unread(_)
-            | Note::Rests(..)
-    ) || matches!(note, Note::Failed(_, breach) if !matches!(breach, Breach::Canceled))
+        LogEntry::ServerAway
+            | LogEntry::TurnedAway
+            | LogEntry::Linked
+            | LogEntry::PrinterAway
+            | LogEntry::PrinterStopped
+            | LogEntry::PrinterBack
+            | LogEntry::PrinterRuns
+            | LogEntry::Unread(_)
+            | LogEntry::Rests(..)
+    ) || matches!(note, LogEntry::Failed(_, breach) if !matches!(breach, Breach::Canceled))
 }
 
 /// An event that needs a person, or the end of one, in words.
 #[derive(Clone, Copy)]
-struct InWords(Note);
+struct InWords(LogEntry);
 
 impl fmt::Display for InWords {
     fn fmt<W: fmt::Write>(&self, f: &mut fmt::Formatter<W>) -> fmt::Result {
         f.write_str(match self.0 {
-            Note::ServerAway => "the server can't be reached; it is tried again",
-            Note::TurnedAway => TURNED_AWAY,
-            Note::Linked => "the server is there",
-            Note::PrinterAway => "the printer can't be reached; it is tried again",
-            Note::PrinterStopped => "the printer needs someone",
-            Note::PrinterBack | Note::PrinterRuns => "the printer prints again",
-            Note::Unread(breach) => return write!(f, "the printer's state can't be read: {breach}"),
-            Note::Failed(job, breach) => return write!(f, "job {job} failed: {breach}"),
-            Note::Rests(failures, breach) => {
+            LogEntry::ServerAway => "the server can't be reached; it is tried again",
+            LogEntry::TurnedAway => TURNED_AWAY,
+            LogEntry::Linked => "the server is there",
+            LogEntry::PrinterAway => "the printer can't be reached; it is tried again",
+            LogEntry::PrinterStopped => "the printer needs someone",
+            LogEntry::PrinterBack | LogEntry::PrinterRuns => "the printer prints again",
+            LogEntry::Unread(breach) => return write!(
+                f,
+                "the printer's state can't be read: {breach}"
+            ),
+            LogEntry::Failed(job, breach) => return write!(f, "job {job} failed: {breach}"),
+            LogEntry::Rests(failures, breach) => {
                 let advice = breach.advice();
                 return write!(
                     f,
@@ -155,7 +158,7 @@ impl Log {
     }
 
     /// Appends a line. If memory is refused, the line is left out.
-    pub(crate) fn note(&mut self, note: Note) {
+    pub(crate) fn note(&mut self, note: LogEntry) {
         let _added = if self.kept {
             self.add(note)
         } else {
@@ -165,12 +168,12 @@ impl Log {
 
     /// Appends a line in words, if the event needs a person or is the end of that. The only error is out of
     /// memory.
-    fn add_words(&mut self, note: Note) -> Result<(), AllocError> {
-        let is_end = matches!(note, Note::Linked);
+    fn add_words(&mut self, note: LogEntry) -> Result<(), AllocError> {
+        let is_end = matches!(note, LogEntry::Linked);
         if is_end && !std::mem::replace(&mut self.unserved, false) {
             return Ok(());
         }
-        self.unserved |= matches!(note, Note::ServerAway | Note::TurnedAway);
+        self.unserved |= matches!(note, LogEntry::ServerAway | LogEntry::TurnedAway);
         if !is_for_people(note) {
             return Ok(());
         }
@@ -181,7 +184,7 @@ impl Log {
     }
 
     /// Appends a line. The only error is out of memory.
-    fn add(&mut self, note: Note) -> Result<(), AllocError> {
+    fn add(&mut self, note: LogEntry) -> Result<(), AllocError> {
         let now = self.now;
         let line = format!(in self.alloc; "{now} {note}\n")?;
         self.text.extend_from_slice(line.as_bytes())

@@ -9,7 +9,7 @@ const MOST: u64 = 2_147_483_647;
 /// When the job in hand should have ended, and what of that was reported to the server. An overdue device counts as
 /// busy for as long again as it is late.
 #[derive(Clone, Copy)]
-pub(crate) struct Overdue {
+pub(crate) struct OverdueJob {
     /// The moment at which the job should have ended, if that is known.
     due: Option<u64>,
     /// By how many ms the job is late at the next report.
@@ -17,10 +17,10 @@ pub(crate) struct Overdue {
     told: bool,
 }
 
-impl Overdue {
+impl OverdueJob {
     /// Creates the record of no job.
-    pub(crate) fn none() -> Overdue {
-        Overdue {
+    pub(crate) fn none() -> OverdueJob {
+        OverdueJob {
             due: None,
             late: FIRST,
             told: false,
@@ -28,8 +28,8 @@ impl Overdue {
     }
 
     /// Creates the record of a job that begins, and should take this many ms.
-    pub(crate) fn begun(expected: Option<u64>, now: u64) -> Overdue {
-        Overdue {
+    pub(crate) fn begun(expected: Option<u64>, now: u64) -> OverdueJob {
+        OverdueJob {
             due: expected.map(|ms| now.saturating_add(ms)),
             late: FIRST,
             told: false,
@@ -55,6 +55,6 @@ impl Overdue {
 
     /// Ends the job. Returns whether the server takes the device as busy.
     pub(crate) fn end(&mut self) -> bool {
-        std::mem::replace(self, Overdue::none()).told
+        std::mem::replace(self, OverdueJob::none()).told
     }
 }

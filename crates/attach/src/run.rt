@@ -1,10 +1,10 @@
 //! The run of an adapter.
 use crate::adapter::{Adapter, Device};
 use crate::clock::millis_since;
-use crate::plan::{Plan, Target};
+use crate::config::{AdapterConfig, Target};
 use attach_printers::{
-    AppSocket, Caller, Folder, Ipp, IppPrinter, Link, Lpd, NetworkPrinter, Peer, Pjl, Place,
-    Printer, Protocol, Readiness, Session, Sockets, try_folder,
+    AppSocket, Connector, Folder, HostPort, Ipp, IppPrinter, Link, Lpd, NetworkPrinter, Peer, Pjl,
+    Printer, PrinterLink, Protocol, Readiness, Sockets, try_folder,
 };
 use mio::unix::SourceFd;
 use mio::{Events, Interest, Poll, Token};
@@ -42,12 +42,12 @@ struct Life {
 pub fn attach<R: Net + Files + Clock, L: Write, F: Write>(
     alloc: Global,
     rt: &R,
-    plan: Plan,
+    plan: AdapterConfig,
     log: &mut L,
     figures: &mut F,
 ) -> io::Result<()> {
     let printer_name = plan.name.clone()?;
-    let Plan {
+    let AdapterConfig {
         name,
         server,
         target,
@@ -98,7 +98,7 @@ pub fn attach<R: Net + Files + Clock, L: Write, F: Write>(
 }
 
 /// Tries what can be tried of a configuration before the adapter runs: whether a folder can be written to.
-pub fn try_target<F: Files>(alloc: Global, files: &F, plan: &Plan) -> io::Result<()> {
+pub fn try_target<F: Files>(alloc: Global, files: &F, plan: &AdapterConfig) -> io::Result<()> {
     match &plan.target {
         Target::Folder(path) => try_folder(alloc, files, path.as_str(), plan.name.as_str()),
         _ => Ok(()),
@@ -108,12 +108,12 @@ pub fn try_target<F: Files>(alloc: Global, files: &F, plan: &Plan) -> io::Result
 /// Creates a printer with a protocol at an address, which may be silent for this many ms.
 fn network_printer<P: Protocol>(
     alloc: Global,
-    place: Place,
+    place: HostPort,
     timeout: u64,
     protocol: P,
 ) -> NetworkPrinter<Link, P> {
-    let caller = Caller::new(alloc, place, Peer::Printer);
-    NetworkPrinter::new(Session::new(caller, timeout), protocol)
+    let caller = Connector::new(alloc, place, Peer::Printer);
+    NetworkPrinter::new(PrinterLink::new(caller, timeout), protocol)
 }
 
 /// Creates the adapter of a device and its printer, and takes its turns.

@@ -1,9 +1,9 @@
 //! The content of a whole reply.
 ghost use Rattle.std.specs.Prelude.{◌≡◌};
-ghost use Rattle.attach_printers.specs.Told.{is_completed, is_printed, more_than, pages_due, pages_told};
+ghost use Rattle.attach_printers.specs.TaskOutcome.{is_completed, is_printed, more_than, pages_due, pages_told};
 
 use crate::exchange::Exchange;
-use crate::told::{ReplyBreach, Told};
+use crate::task_outcome::{ReplyBreach, TaskOutcome};
 use ipp_codec::{GroupTag, MessageView};
 use ipp_requests::{is_successful, number_in, reply_in};
 
@@ -15,7 +15,7 @@ const OK: u32 = 200;
 
 /// The state of a job at the printer.
 #[derive(Clone, Copy)]
-pub(crate) enum JobState {
+pub(crate) enum PrinterJobState {
     /// The job isn't printed yet.
     Goes,
     Completed,
@@ -27,7 +27,7 @@ pub(crate) enum JobState {
 #[derive(Clone, Copy)]
 pub(crate) struct JobAnswer {
     pub(crate) job: Option<i32>,
-    pub(crate) state: JobState,
+    pub(crate) state: PrinterJobState,
     /// The number of printed impressions, if the answer has it.
     pub(crate) impressions: Option<u32>,
 }
@@ -35,18 +35,18 @@ pub(crate) struct JobAnswer {
 impl JobAnswer {
     /// The result of the answer, where `before` impressions were reported earlier. The result has the
     /// impressions if they are more than `before`, also for the answer that completes the job.
-    pub(crate) fn told(self, before: u32) -> Told
+    pub(crate) fn told(self, before: u32) -> TaskOutcome
         ensures pages { pages_told result ≡ pages_due self before }
         ensures printed { is_printed result ≡ is_completed self.state }
     {
         let pages = more_than(before, self.impressions);
         match self.state {
-            JobState::Goes => match pages {
-                Some(count) => Told::Pages(count),
-                None => Told::Nothing,
+            PrinterJobState::Goes => match pages {
+                Some(count) => TaskOutcome::Pages(count),
+                None => TaskOutcome::Nothing,
             },
-            JobState::Completed => Told::Printed(pages),
-            JobState::GivenUp => Told::Failed(ReplyBreach::GivenUp),
+            PrinterJobState::Completed => TaskOutcome::Printed(pages),
+            PrinterJobState::GivenUp => TaskOutcome::Failed(ReplyBreach::GivenUp),
         }
     }
 }
@@ -92,10 +92,10 @@ pub(crate) fn job_answer(exchange: &Exchange) -> Result<JobAnswer, ReplyBreach> 
 }
 
 /// The state with this number (RFC 8011, section 5.3.7).
-fn job_state(number: i32) -> JobState {
+fn job_state(number: i32) -> PrinterJobState {
     match number {
-        7 | 8 => JobState::GivenUp,
-        9 => JobState::Completed,
-        _ => JobState::Goes,
+        7 | 8 => PrinterJobState::GivenUp,
+        9 => PrinterJobState::Completed,
+        _ => PrinterJobState::Goes,
     }
 }

@@ -1,8 +1,8 @@
 //! AppSocket: one connection for each job. The job's octets are sent, and the printer's bytes are read until
 //! it closes the connection.
-use crate::heard::{Breach, Heard};
+use crate::printer_event::{Breach, PrinterEvent};
+use crate::printer_link::{CALLS, IoOutcome, PIECE, PrinterLink};
 use crate::protocol::Protocol;
-use crate::session::{CALLS, Moved, PIECE, Session};
 use crate::stream::Stream;
 use attach_orders::JobOrder;
 use attachment::Attachment;
@@ -32,10 +32,10 @@ impl AppSocket {
     /// Sends the octets that are due, copy by copy, and ends the writing side after the last.
     fn send_all<S: Stream>(
         &mut self,
-        session: &mut Session<S>,
+        session: &mut PrinterLink<S>,
         attachment: &mut Attachment,
         now: u64,
-    ) -> Moved {
+    ) -> IoOutcome {
         for _ in 0..CALLS {
             if attachment.is_copy_sent() {
                 attachment.end_copy();
@@ -45,28 +45,28 @@ impl AppSocket {
                 return session.end_writing(now);
             }
             match session.send_due(attachment, now) {
-                Moved::Bytes(_) => {}
+                IoOutcome::Bytes(_) => {}
                 moved => return moved,
             }
         }
-        Moved::Nothing
+        IoOutcome::Nothing
     }
 
     /// Drops all bytes of the printer that are there.
-    fn listen<S: Stream>(&mut self, session: &mut Session<S>, now: u64) -> Moved {
+    fn listen<S: Stream>(&mut self, session: &mut PrinterLink<S>, now: u64) -> IoOutcome {
         let mut buffer = [0u8; PIECE];
         for _ in 0..CALLS {
             match session.read(&mut buffer) {
-                Moved::Bytes(_) => self.heard = now,
+                IoOutcome::Bytes(_) => self.heard = now,
                 moved => return moved,
             }
         }
-        Moved::Nothing
+        IoOutcome::Nothing
     }
 
     /// Returns the ms until a printer whose machine has taken all counts as done: it sends nothing for `linger`
     /// ms, or doesn't end for the time that a printer may be silent.
-    fn left<S: Stream>(&self, session: &Session<S>, now: u64) -> u64 {
+    fn left<S: Stream>(&self, session: &PrinterLink<S>, now: u64) -> u64 {
         let taken = session.silence(now);
         let quiet = taken.min(now.saturating_sub(self.heard));
         let longest = session.timeout().max(self.linger);
@@ -85,25 +85,25 @@ impl Protocol for AppSocket {
 
     fn exchange<S: Stream>(
         &mut self,
-        session: &mut Session<S>,
+        session: &mut PrinterLink<S>,
         attachment: &mut Attachment,
         now: u64,
-    ) -> Result<Heard, AllocError> {
+    ) -> Result<PrinterEvent, AllocError> {
         match self.listen(session, now) {
-            Moved::End if self.ends => return Ok(session.heed_end(now)),
-            Moved::End | Moved::Broken => return Ok(Heard::Failed(Breach::Broken)),
-            Moved::Bytes(_) | Moved::Nothing => {}
+            IoOutcome::End if self.ends => return Ok(session.record_end(now)),
+            IoOutcome::End | IoOutcome::Broken => return Ok(PrinterEvent::Failed(Breach::Broken)),
+            IoOutcome::Bytes(_) | IoOutcome::Nothing => {}
         }
-        if !self.ends && self.send_all(session, attachment, now) == Moved::Broken {
-            return Ok(Heard::Failed(Breach::Broken));
+        if !self.ends && self.send_all(session, attachment, now) == IoOutcome::Broken {
+            return Ok(PrinterEvent::Failed(Breach::Broken));
         }
         if !self.ends || session.has_backlog() {
             return Ok(session.wait(now));
         }
         Ok(if self.left(session, now) == 0 {
-            Heard::Printed(None)
+            PrinterEvent::Printed(None)
         } else {
-            Heard::Nothing
+            PrinterEvent::Nothing
         })
     }
 
@@ -111,7 +111,7 @@ impl Protocol for AppSocket {
         self.ends = false;
     }
 
-    fn pause<S: Stream>(&self, session: &Session<S>, now: u64, has_job: bool) -> Option<u64> {
+    fn pause<S: Stream>(&self, session: &PrinterLink<S>, now: u64, has_job: bool) -> Option<u64> {
         if !self.ends || session.has_backlog() {
             return session.pause(now, has_job, session.timeout());
         }

@@ -2,7 +2,7 @@
 ghost use Rattle.std.specs.Prelude.{◌≤◌, length};
 
 use crate::address::IppAddress;
-use crate::told::ReplyFault;
+use crate::task_outcome::ReplyFault;
 use http1::encode::Frame;
 use http1::{BodySize, Client, Event, Header, Limits, ReadError, WriteError};
 use httparse::spans::{EMPTY_HEADER_SPAN, HeaderSpan, ResponseSpans, Span};

@@ -1,7 +1,7 @@
 //! A printer that is a folder of files.
 use crate::format::{Format, MediaType};
-use crate::heard::{Breach, Heard};
 use crate::printer::Printer;
+use crate::printer_event::{Breach, PrinterEvent};
 use crate::stream::{Network, Readiness, Stream};
 use attach_orders::JobOrder;
 use attachment::{Attachment, Pauses};
@@ -27,7 +27,7 @@ const NAMES: u32 = 10_000;
 /// The files of a job: the file that is written, and the first name of the file that the job has once it is
 /// printed.
 #[derive(Drop)]
-struct Sheet {
+struct FolderJob {
     beside: String,
     name: String,
     ending: &'static str,
@@ -46,7 +46,7 @@ pub struct Folder {
     ms_per_page: u32,
     /// The number of copies of the job.
     copies: u32,
-    sheet: Option<Sheet>,
+    sheet: Option<FolderJob>,
     /// Whether the folder has to be tried before the next job: at the start, and after a failure.
     doubted: bool,
     /// Whether the last try failed.
@@ -79,25 +79,25 @@ impl Folder {
     }
 
     /// Writes the job to a temporary file, once all its octets are there.
-    fn write_job(&mut self, files: &impl Files, attachment: &Attachment, now: u64) -> Heard {
+    fn write_job(&mut self, files: &impl Files, attachment: &Attachment, now: u64) -> PrinterEvent {
         let Some(job) = attachment.job() else {
-            return Heard::Nothing;
+            return PrinterEvent::Nothing;
         };
         if attachment.room() != Some(0) {
-            return Heard::Nothing;
+            return PrinterEvent::Nothing;
         }
         let octets = attachment.due();
         match self.put(files, job.number(), octets, now) {
             Ok(sheet) => {
                 self.sheet = Some(sheet);
-                Heard::Nothing
+                PrinterEvent::Nothing
             }
-            Err(_) => Heard::Failed(Breach::Unwritten),
+            Err(_) => PrinterEvent::Failed(Breach::Unwritten),
         }
     }
 
     /// Writes octets to a temporary file.
-    fn put(&self, files: &impl Files, job: u32, octets: &[u8], now: u64) -> io::Result<Sheet> {
+    fn put(&self, files: &impl Files, job: u32, octets: &[u8], now: u64) -> io::Result<FolderJob> {
         let sheet = self.sheet_of(job, octets, now)?;
         fs::create_dir_all(files, self.path.as_str())?;
         write_file(files, sheet.beside.as_str(), octets)?;
@@ -105,14 +105,14 @@ impl Folder {
     }
 
     /// The files of a job, and the moment at which it is printed.
-    fn sheet_of(&self, job: u32, octets: &[u8], now: u64) -> Result<Sheet, AllocError> {
+    fn sheet_of(&self, job: u32, octets: &[u8], now: u64) -> Result<FolderJob, AllocError> {
         let ending = match &self.format {
             Some(format) => format.ending(),
             None => Format::sniffed(octets).ending(),
         };
         let path = self.path.as_str();
         let name = self.name.as_str();
-        Ok(Sheet {
+        Ok(FolderJob {
             beside: format!(in self.alloc; "{path}/.{job}-{name}.{ending}.part")?,
             name: format!(in self.alloc; "{path}/{job}-{name}")?,
             ending,
@@ -129,20 +129,20 @@ impl Folder {
     }
 
     /// Tries the folder, if a try is due.
-    fn try_again(&mut self, files: &impl Files, now: u64) -> Heard {
+    fn try_again(&mut self, files: &impl Files, now: u64) -> PrinterEvent {
         if !self.tries.is_due(now) {
-            return Heard::Nothing;
+            return PrinterEvent::Nothing;
         }
         if try_folder(self.alloc, files, self.path.as_str(), self.name.as_str()).is_ok() {
             self.doubted = false;
             self.away = false;
-            return Heard::Back;
+            return PrinterEvent::Back;
         }
         self.tries.tried(now);
         if std::mem::replace(&mut self.away, true) {
-            Heard::Nothing
+            PrinterEvent::Nothing
         } else {
-            Heard::Away
+            PrinterEvent::Away
         }
     }
 }
@@ -159,17 +159,17 @@ impl<S: Stream> Printer<S> for Folder {
         _network: &N,
         attachment: &mut Attachment,
         now: u64,
-    ) -> Heard {
+    ) -> PrinterEvent {
         match &self.sheet {
             None if self.doubted => self.try_again(files, now),
             None => self.write_job(files, attachment, now),
-            Some(sheet) if now < sheet.end => Heard::Nothing,
+            Some(sheet) if now < sheet.end => PrinterEvent::Nothing,
             Some(sheet) => {
                 let named = keep(self.alloc, files, sheet);
                 take_all(attachment);
                 match named {
-                    Ok(()) => Heard::Printed(None),
-                    Err(_) => Heard::Failed(Breach::Unwritten),
+                    Ok(()) => PrinterEvent::Printed(None),
+                    Err(_) => PrinterEvent::Failed(Breach::Unwritten),
                 }
             }
         }
@@ -225,7 +225,7 @@ fn write_file(files: &impl Files, path: &str, octets: &[u8]) -> io::Result<()> {
 }
 
 /// Gives the temporary file of a job the first of its names that no file has.
-fn keep(alloc: Global, files: &impl Files, sheet: &Sheet) -> io::Result<()> {
+fn keep(alloc: Global, files: &impl Files, sheet: &FolderJob) -> io::Result<()> {
     for number in 1..=NAMES {
         let name = name_of(alloc, sheet, number)?;
         match claim(files, name.as_str()) {
@@ -238,7 +238,7 @@ fn keep(alloc: Global, files: &impl Files, sheet: &Sheet) -> io::Result<()> {
 }
 
 /// The name of a job's file, of this number: from the second on the name has the number.
-fn name_of(alloc: Global, sheet: &Sheet, number: u32) -> Result<String, AllocError> {
+fn name_of(alloc: Global, sheet: &FolderJob, number: u32) -> Result<String, AllocError> {
     let name = sheet.name.as_str();
     let ending = sheet.ending;
     if number == 1 {

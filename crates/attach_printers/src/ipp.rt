@@ -1,11 +1,11 @@
 //! IPP: the connections for a printer's tasks.
 use crate::format::{Format, MediaType};
-use crate::heard::{Breach, Heard};
 use crate::ipp_printer::IppPrinter;
+use crate::printer_event::{Breach, PrinterEvent};
+use crate::printer_link::{CALLS, IoOutcome, PIECE, PrinterLink};
 use crate::protocol::Protocol;
-use crate::session::{CALLS, Moved, PIECE, Session};
 use crate::stream::Stream;
-use crate::told::Told;
+use crate::task_outcome::TaskOutcome;
 use attach_orders::JobOrder;
 use attachment::Attachment;
 use base_types::Text;
@@ -40,47 +40,47 @@ impl Ipp {
     }
 
     /// Reads all bytes of the printer that are there, up to the end of its reply.
-    fn listen<S: Stream>(&mut self, session: &mut Session<S>) -> Result<Moved, AllocError> {
+    fn listen<S: Stream>(&mut self, session: &mut PrinterLink<S>) -> Result<IoOutcome, AllocError> {
         let mut buffer = [0u8; PIECE];
         for _ in 0..CALLS {
             match session.read(&mut buffer) {
-                Moved::Bytes(count) => self.printer.hear(&buffer[..count])?,
+                IoOutcome::Bytes(count) => self.printer.hear(&buffer[..count])?,
                 moved => return Ok(moved),
             }
             if self.printer.has_reply() {
-                return Ok(Moved::Nothing);
+                return Ok(IoOutcome::Nothing);
             }
         }
-        Ok(Moved::Nothing)
+        Ok(IoOutcome::Nothing)
     }
 
     /// Sends the bytes that are due: the request, and the job in chunks.
     fn send_all<S: Stream>(
         &mut self,
-        session: &mut Session<S>,
+        session: &mut PrinterLink<S>,
         attachment: &mut Attachment,
         now: u64,
-    ) -> Result<Moved, AllocError> {
+    ) -> Result<IoOutcome, AllocError> {
         for _ in 0..CALLS {
             self.printer.go_on(attachment)?;
             match self.send(session, attachment, now)? {
-                Moved::Bytes(_) => {}
+                IoOutcome::Bytes(_) => {}
                 moved => return Ok(moved),
             }
         }
-        Ok(Moved::Nothing)
+        Ok(IoOutcome::Nothing)
     }
 
     /// Sends some of the bytes that are due.
     fn send<S: Stream>(
         &mut self,
-        session: &mut Session<S>,
+        session: &mut PrinterLink<S>,
         attachment: &mut Attachment,
         now: u64,
-    ) -> Result<Moved, AllocError> {
+    ) -> Result<IoOutcome, AllocError> {
         if self.printer.waits_for_octets() {
             self.answered = now;
-            return Ok(Moved::Nothing);
+            return Ok(IoOutcome::Nothing);
         }
         let octets = self.printer.octets();
         let moved = if self.printer.text().is_empty() {
@@ -88,7 +88,7 @@ impl Ipp {
         } else {
             session.write(self.printer.text(), now)
         };
-        if let Moved::Bytes(count) = moved {
+        if let IoOutcome::Bytes(count) = moved {
             self.printer.pass(count)?;
             self.note_sent(now);
         }
@@ -105,10 +105,10 @@ impl Ipp {
     /// Ends the task: the reply is whole, or isn't valid.
     fn conclude<S: Stream>(
         &mut self,
-        session: &mut Session<S>,
+        session: &mut PrinterLink<S>,
         attachment: &mut Attachment,
         now: u64,
-    ) -> Result<Heard, AllocError> {
+    ) -> Result<PrinterEvent, AllocError> {
         session.close();
         self.ended = true;
         let told = self.printer.conclude(now)?;
@@ -124,28 +124,28 @@ impl Ipp {
     /// Has the job sent again from its start, unless the printer has been busy for too long.
     fn restart<S: Stream>(
         &mut self,
-        session: &Session<S>,
+        session: &PrinterLink<S>,
         attachment: &mut Attachment,
         now: u64,
-    ) -> Heard {
+    ) -> PrinterEvent {
         attachment.restart();
         let since = self.busy_since.unwrap_or(now);
         self.busy_since = Some(since);
         if now.saturating_sub(since) < session.timeout() {
-            return Heard::Nothing;
+            return PrinterEvent::Nothing;
         }
-        Heard::Failed(self.printer.give_up())
+        PrinterEvent::Failed(self.printer.give_up())
     }
 
     /// Ends the task: the connection broke.
-    fn break_off<S: Stream>(&mut self, session: &mut Session<S>, now: u64) -> Heard {
+    fn break_off<S: Stream>(&mut self, session: &mut PrinterLink<S>, now: u64) -> PrinterEvent {
         session.close();
         self.ended = true;
         self.printer.break_off(now)
     }
 
     /// Ends the task: the printer didn't answer for too long.
-    fn miss<S: Stream>(&mut self, session: &mut Session<S>, now: u64) -> Heard {
+    fn miss<S: Stream>(&mut self, session: &mut PrinterLink<S>, now: u64) -> PrinterEvent {
         session.close();
         self.ended = true;
         self.answered = now;
@@ -153,7 +153,7 @@ impl Ipp {
     }
 
     /// Returns whether the printer hasn't answered for too long.
-    fn is_overdue<S: Stream>(&self, session: &Session<S>, now: u64) -> bool {
+    fn is_overdue<S: Stream>(&self, session: &PrinterLink<S>, now: u64) -> bool {
         now.saturating_sub(self.answered) >= session.timeout()
     }
 }
@@ -177,20 +177,29 @@ impl Protocol for Ipp {
 
     /// A job fails if the printer doesn't answer for it for too long. A job that isn't sent yet waits for a
     /// printer that can't be reached.
-    fn wait<S: Stream>(&mut self, session: &Session<S>, heard: Heard, now: u64) -> Heard {
+    fn wait<S: Stream>(
+        &mut self,
+        session: &PrinterLink<S>,
+        heard: PrinterEvent,
+        now: u64,
+    ) -> PrinterEvent {
         let is_sent = self.printer.has_job();
         if !self.owes || (session.is_doubted() && !is_sent) {
             self.answered = now;
         }
         if self.is_overdue(session, now) {
             self.answered = now;
-            return Heard::Failed(self.printer.give_up());
+            return PrinterEvent::Failed(self.printer.give_up());
         }
         heard
     }
 
-    fn open(&mut self, attachment: &Attachment, heard: Heard) -> Result<Heard, AllocError> {
-        if matches!(heard, Heard::Back) {
+    fn open(
+        &mut self,
+        attachment: &Attachment,
+        heard: PrinterEvent,
+    ) -> Result<PrinterEvent, AllocError> {
+        if matches!(heard, PrinterEvent::Back) {
             self.printer.doubt();
         }
         let format = match &self.format {
@@ -199,26 +208,26 @@ impl Protocol for Ipp {
         };
         self.printer.open(format)?;
         Ok(match heard {
-            Heard::Back => Heard::Nothing,
+            PrinterEvent::Back => PrinterEvent::Nothing,
             heard => heard,
         })
     }
 
     fn exchange<S: Stream>(
         &mut self,
-        session: &mut Session<S>,
+        session: &mut PrinterLink<S>,
         attachment: &mut Attachment,
         now: u64,
-    ) -> Result<Heard, AllocError> {
+    ) -> Result<PrinterEvent, AllocError> {
         match self.listen(session)? {
-            Moved::End => self.printer.hear_end(),
-            Moved::Broken => return Ok(self.break_off(session, now)),
-            Moved::Bytes(_) | Moved::Nothing => {}
+            IoOutcome::End => self.printer.hear_end(),
+            IoOutcome::Broken => return Ok(self.break_off(session, now)),
+            IoOutcome::Bytes(_) | IoOutcome::Nothing => {}
         }
         if self.printer.has_reply() {
             return self.conclude(session, attachment, now);
         }
-        if self.send_all(session, attachment, now)? == Moved::Broken {
+        if self.send_all(session, attachment, now)? == IoOutcome::Broken {
             return Ok(self.break_off(session, now));
         }
         if self.is_overdue(session, now) {
@@ -237,7 +246,7 @@ impl Protocol for Ipp {
     }
 
     /// The printer's state is asked again after the pause.
-    fn doubt<S: Stream>(&mut self, _session: &mut Session<S>, pause: u64, now: u64) {
+    fn doubt<S: Stream>(&mut self, _session: &mut PrinterLink<S>, pause: u64, now: u64) {
         self.printer.rest(pause, now);
     }
 
@@ -245,7 +254,7 @@ impl Protocol for Ipp {
         self.ended
     }
 
-    fn pause<S: Stream>(&self, session: &Session<S>, now: u64, _has_job: bool) -> Option<u64> {
+    fn pause<S: Stream>(&self, session: &PrinterLink<S>, now: u64, _has_job: bool) -> Option<u64> {
         let is_busy = self.printer.is_busy();
         let next = if is_busy {
             u64::MAX
@@ -262,16 +271,16 @@ impl Protocol for Ipp {
 }
 
 /// The result of an adapter's turn for a result of the printer's task.
-fn heard_of(told: Told) -> Heard {
+fn heard_of(told: TaskOutcome) -> PrinterEvent {
     match told {
-        Told::Nothing => Heard::Nothing,
-        Told::Stops => Heard::Stops,
-        Told::Runs => Heard::Runs,
-        Told::Back => Heard::Back,
-        Told::Pages(count) => Heard::Pages(count),
-        Told::LeftOut(left_out) => Heard::LeftOut(left_out),
-        Told::Printed(count) => Heard::Printed(count),
-        Told::Failed(breach) => Heard::Failed(Breach::Reply(breach)),
-        Told::Unread(breach) => Heard::Unread(breach),
+        TaskOutcome::Nothing => PrinterEvent::Nothing,
+        TaskOutcome::Stops => PrinterEvent::Stops,
+        TaskOutcome::Runs => PrinterEvent::Runs,
+        TaskOutcome::Back => PrinterEvent::Back,
+        TaskOutcome::Pages(count) => PrinterEvent::Pages(count),
+        TaskOutcome::LeftOut(left_out) => PrinterEvent::LeftOut(left_out),
+        TaskOutcome::Printed(count) => PrinterEvent::Printed(count),
+        TaskOutcome::Failed(breach) => PrinterEvent::Failed(Breach::Reply(breach)),
+        TaskOutcome::Unread(breach) => PrinterEvent::Unread(breach),
     }
 }

@@ -1,11 +1,11 @@
 //! A printer with IPP, without sockets.
 use crate::address::IppAddress;
-use crate::answer::{JobAnswer, JobState, job_answer, message_of};
+use crate::answer::{JobAnswer, PrinterJobState, job_answer, message_of};
 use crate::exchange::Exchange;
-use crate::heard::{Breach, Heard};
 use crate::job::JobWish;
-use crate::task::{Stage, Task};
-use crate::told::{LeftOut, ReplyBreach, Told};
+use crate::printer_event::{Breach, PrinterEvent};
+use crate::task::{Task, TaskStage};
+use crate::task_outcome::{LeftOut, ReplyBreach, TaskOutcome};
 use attach_orders::JobOrder;
 use attachment::{Attachment, Pauses};
 use base_types::Text;
@@ -58,7 +58,7 @@ pub struct IppPrinter {
     alloc: Global,
     address: IppAddress,
     task: Task,
-    stage: Stage,
+    stage: TaskStage,
     wish: JobWish,
     /// A job that was given up, and is to be canceled at the printer.
     cancels: Option<i32>,
@@ -99,7 +99,7 @@ impl IppPrinter {
             alloc,
             address,
             task: Task::Nothing,
-            stage: Stage::None,
+            stage: TaskStage::None,
             wish: JobWish::none(),
             cancels: None,
             exchange: Exchange::new(alloc),
@@ -124,7 +124,7 @@ impl IppPrinter {
     /// Begins a job.
     pub fn begin(&mut self, order: &JobOrder) {
         self.wish = JobWish::of(self.alloc, order);
-        self.stage = Stage::Waits;
+        self.stage = TaskStage::Waits;
         self.looks = Pauses::new(FIRST_LOOK, BETWEEN_LOOKS);
         self.impressions = 0;
         self.left_out = None;
@@ -136,11 +136,11 @@ impl IppPrinter {
     /// Drops the job. A job that the printer has is to be canceled there, and then the printer's state is
     /// asked.
     pub fn drop_job(&mut self) {
-        if let Stage::Printing(job) = self.stage {
+        if let TaskStage::Printing(job) = self.stage {
             self.cancels = Some(job);
             self.ask_at = 0;
         }
-        self.stage = Stage::None;
+        self.stage = TaskStage::None;
         self.end_task();
     }
 
@@ -161,8 +161,8 @@ impl IppPrinter {
             return Task::Ask;
         }
         match self.stage {
-            Stage::Printing(job) if self.looks.is_due(now) => Task::Follow(job),
-            Stage::Waits if self.can_send(now) && has_front(attachment) => Task::Print,
+            TaskStage::Printing(job) if self.looks.is_due(now) => Task::Follow(job),
+            TaskStage::Waits if self.can_send(now) && has_front(attachment) => Task::Print,
             _ => Task::Nothing,
         }
     }
@@ -176,9 +176,9 @@ impl IppPrinter {
     /// Returns whether the printer is to answer for the job now.
     pub fn owes_answer(&self, attachment: &Attachment) -> bool {
         match self.stage {
-            Stage::None => false,
-            Stage::Waits => has_front(attachment),
-            Stage::Sending | Stage::Sent | Stage::Printing(_) => true,
+            TaskStage::None => false,
+            TaskStage::Waits => has_front(attachment),
+            TaskStage::Sending | TaskStage::Sent | TaskStage::Printing(_) => true,
         }
     }
 
@@ -196,7 +196,7 @@ impl IppPrinter {
     /// canceled there once it is dropped.
     pub fn give_up(&mut self) -> Breach {
         if !self.has_job() {
-            self.stage = Stage::None;
+            self.stage = TaskStage::None;
         }
         match self.busy.take() {
             Some(breach) => Breach::Reply(breach),
@@ -212,7 +212,7 @@ impl IppPrinter {
         self.output.clear();
         self.write_request(format)?;
         if self.task == Task::Print {
-            self.stage = Stage::Sending;
+            self.stage = TaskStage::Sending;
         }
         Ok(())
     }
@@ -280,12 +280,12 @@ impl IppPrinter {
     /// Begins the next chunk of the job, or ends the job, if nothing else is to be written. The only error is
     /// out of memory.
     pub fn go_on(&mut self, attachment: &mut Attachment) -> Result<(), AllocError> {
-        if self.stage != Stage::Sending || !self.output.is_empty() || self.chunk > 0 {
+        if self.stage != TaskStage::Sending || !self.output.is_empty() || self.chunk > 0 {
             return Ok(());
         }
         if attachment.is_copy_sent() {
             attachment.end_copy();
-            self.stage = Stage::Sent;
+            self.stage = TaskStage::Sent;
             return self.exchange.write_end(&mut self.output);
         }
         let count = attachment.due().len().min(CHUNK);
@@ -299,7 +299,7 @@ impl IppPrinter {
 
     /// Returns whether the next bytes have to come from the server.
     pub fn waits_for_octets(&self) -> bool {
-        self.stage == Stage::Sending && self.output.is_empty() && self.chunk == 0
+        self.stage == TaskStage::Sending && self.output.is_empty() && self.chunk == 0
     }
 
     /// Takes bytes of the printer. The only error is out of memory.
@@ -319,10 +319,10 @@ impl IppPrinter {
 
     /// Removes and returns the parts of the job that aren't passed to the printer, if they weren't reported
     /// yet.
-    pub fn take_left_out(&mut self) -> Told {
+    pub fn take_left_out(&mut self) -> TaskOutcome {
         match self.left_out.take() {
-            Some(left_out) => Told::LeftOut(left_out),
-            None => Told::Nothing,
+            Some(left_out) => TaskOutcome::LeftOut(left_out),
+            None => TaskOutcome::Nothing,
         }
     }
 
@@ -346,16 +346,16 @@ impl IppPrinter {
     }
 
     /// Ends the task, and returns its result. The only error is out of memory.
-    pub fn conclude(&mut self, now: u64) -> Result<Told, AllocError> {
+    pub fn conclude(&mut self, now: u64) -> Result<TaskOutcome, AllocError> {
         let task = self.task;
         let told = match task {
-            Task::Nothing => Told::Nothing,
+            Task::Nothing => TaskOutcome::Nothing,
             Task::Ask => self.end_asking(now)?,
             Task::Print => self.end_printing(now),
             Task::Follow(job) => self.end_following(job, now),
             Task::Cancel(_) => {
                 self.cancels = None;
-                Told::Nothing
+                TaskOutcome::Nothing
             }
         };
         self.end_task();
@@ -370,38 +370,42 @@ impl IppPrinter {
     }
 
     /// Ends the task that asks for the printer's state.
-    fn end_asking(&mut self, now: u64) -> Result<Told, AllocError> {
+    fn end_asking(&mut self, now: u64) -> Result<TaskOutcome, AllocError> {
         match message_of(&self.exchange) {
             Ok(reply) => {
                 let stopped = is_stopped(&reply);
                 let media = loaded_media(self.alloc, &reply)?;
                 self.ask_at = now.saturating_add(BETWEEN_STATES);
-                self.answered = self.stage == Stage::Waits;
+                self.answered = self.stage == TaskStage::Waits;
                 self.keep_state(stopped, media)
             }
             Err(breach) => {
                 let is_told = self.miss_state(now);
                 Ok(if is_told {
-                    Told::Unread(breach)
+                    TaskOutcome::Unread(breach)
                 } else {
-                    Told::Nothing
+                    TaskOutcome::Nothing
                 })
             }
         }
     }
 
     /// Stores the printer's state. The only error is out of memory.
-    fn keep_state(&mut self, stopped: bool, media: Option<Vec<Text>>) -> Result<Told, AllocError> {
+    fn keep_state(
+        &mut self,
+        stopped: bool,
+        media: Option<Vec<Text>>,
+    ) -> Result<TaskOutcome, AllocError> {
         self.state = Some(Vec::from_slice(self.alloc, self.exchange.body())?);
         self.media = media;
         self.unread = false;
         self.tries = Pauses::new(FIRST_PAUSE, LONGEST_PAUSE);
         let before = std::mem::replace(&mut self.prints, Some(!stopped));
         Ok(match (stopped, before) {
-            (true, Some(false)) | (false, Some(true)) => Told::Nothing,
-            (true, _) => Told::Stops,
-            (false, Some(false)) => Told::Runs,
-            (false, None) => Told::Back,
+            (true, Some(false)) | (false, Some(true)) => TaskOutcome::Nothing,
+            (true, _) => TaskOutcome::Stops,
+            (false, Some(false)) => TaskOutcome::Runs,
+            (false, None) => TaskOutcome::Back,
         })
     }
 
@@ -416,22 +420,22 @@ impl IppPrinter {
 
     /// Ends the task that sends the job. If the printer didn't take the job, its state is asked at once. If it
     /// is busy, the job is sent again after a pause.
-    fn end_printing(&mut self, now: u64) -> Told {
-        let all_sent = self.stage == Stage::Sent;
-        self.stage = Stage::None;
+    fn end_printing(&mut self, now: u64) -> TaskOutcome {
+        let all_sent = self.stage == TaskStage::Sent;
+        self.stage = TaskStage::None;
         match job_answer(&self.exchange) {
             Ok(_) if !all_sent => self.fail(ReplyBreach::TooEarly, now),
             Ok(answer) => match answer.job {
-                Some(job) if job > 0 => self.heed(job, answer, now),
+                Some(job) if job > 0 => self.take_job_answer(job, answer, now),
                 _ => self.fail(ReplyBreach::NotIpp, now),
             },
             Err(breach) if breach.is_busy() => {
-                self.stage = Stage::Waits;
+                self.stage = TaskStage::Waits;
                 self.restarts = true;
                 self.retries.tried(now);
                 self.retries.at = self.retries.at.max(self.next_try(now));
                 self.busy = Some(breach);
-                Told::Nothing
+                TaskOutcome::Nothing
             }
             Err(breach) => self.fail(breach, now),
         }
@@ -440,18 +444,20 @@ impl IppPrinter {
     /// Ends the task that asks about the job. If there is no answer about the job, or the printer is busy, it
     /// is asked again. A job that the printer took and doesn't know any more is printed: some printers forget
     /// a job at its end.
-    fn end_following(&mut self, job: i32, now: u64) -> Told {
+    fn end_following(&mut self, job: i32, now: u64) -> TaskOutcome {
         match job_answer(&self.exchange) {
-            Ok(answer) if answer.job.unwrap_or(job) == job => self.heed(job, answer, now),
+            Ok(answer) if answer.job.unwrap_or(job) == job => self.take_job_answer(
+                job, answer, now,
+            ),
             Ok(_) => self.follow_later(None, now),
             Err(breach) if breach.is_no_reply() => self.follow_later(None, now),
             Err(breach) if breach.is_busy() => self.follow_later(Some(breach), now),
             Err(breach) if breach.is_not_found() => {
-                self.stage = Stage::None;
-                Told::Printed(None)
+                self.stage = TaskStage::None;
+                TaskOutcome::Printed(None)
             }
             Err(breach) => {
-                self.stage = Stage::None;
+                self.stage = TaskStage::None;
                 self.fail(breach, now)
             }
         }
@@ -463,25 +469,25 @@ impl IppPrinter {
     }
 
     /// Has the printer asked about the job again.
-    fn follow_later(&mut self, busy: Option<ReplyBreach>, now: u64) -> Told {
+    fn follow_later(&mut self, busy: Option<ReplyBreach>, now: u64) -> TaskOutcome {
         self.looks.tried(now);
         self.looks.at = self.looks.at.max(self.next_try(now));
         self.busy = busy;
-        Told::Nothing
+        TaskOutcome::Nothing
     }
 
     /// Acts on the printer's answer about the job.
-    fn heed(&mut self, job: i32, answer: JobAnswer, now: u64) -> Told {
-        self.stage = Stage::None;
+    fn take_job_answer(&mut self, job: i32, answer: JobAnswer, now: u64) -> TaskOutcome {
+        self.stage = TaskStage::None;
         self.answered = true;
         self.busy = None;
         match answer.state {
-            JobState::Goes => {
-                self.stage = Stage::Printing(job);
+            PrinterJobState::Goes => {
+                self.stage = TaskStage::Printing(job);
                 self.looks.tried(now);
             }
-            JobState::GivenUp => self.ask_at = now,
-            JobState::Completed => {}
+            PrinterJobState::GivenUp => self.ask_at = now,
+            PrinterJobState::Completed => {}
         }
         let told = answer.told(self.impressions);
         self.impressions = self.impressions.max(answer.impressions.unwrap_or(0));
@@ -489,57 +495,61 @@ impl IppPrinter {
     }
 
     /// Records that the job has failed. The printer's state is asked at once.
-    fn fail(&mut self, breach: ReplyBreach, now: u64) -> Told {
+    fn fail(&mut self, breach: ReplyBreach, now: u64) -> TaskOutcome {
         self.ask_at = now;
-        Told::Failed(breach)
+        TaskOutcome::Failed(breach)
     }
 
     /// Ends the task, since the connection broke. A job that the printer has is asked about again.
-    pub fn break_off(&mut self, now: u64) -> Heard {
+    pub fn break_off(&mut self, now: u64) -> PrinterEvent {
         let task = self.task;
         self.end_task();
         match task {
-            Task::Nothing => Heard::Nothing,
-            Task::Ask if self.miss_state(now) => Heard::Away,
-            Task::Ask => Heard::Nothing,
+            Task::Nothing => PrinterEvent::Nothing,
+            Task::Ask if self.miss_state(now) => PrinterEvent::Away,
+            Task::Ask => PrinterEvent::Nothing,
             Task::Print => {
-                self.stage = Stage::None;
+                self.stage = TaskStage::None;
                 self.ask_at = now;
-                Heard::Failed(Breach::Broken)
+                PrinterEvent::Failed(Breach::Broken)
             }
             Task::Follow(_) => {
                 self.looks.tried(now);
-                Heard::Nothing
+                PrinterEvent::Nothing
             }
             Task::Cancel(_) => {
                 self.cancels = None;
-                Heard::Nothing
+                PrinterEvent::Nothing
             }
         }
     }
 
     /// Ends the task, since the printer didn't answer for too long. A job in hand is given up.
-    pub fn miss(&mut self, now: u64) -> Heard {
+    pub fn miss(&mut self, now: u64) -> PrinterEvent {
         let task = self.task;
         self.end_task();
         if matches!(task, Task::Cancel(_)) {
             self.cancels = None;
         }
         let is_told = task == Task::Ask && self.miss_state(now);
-        if self.stage != Stage::None {
-            return Heard::Failed(self.give_up());
+        if self.stage != TaskStage::None {
+            return PrinterEvent::Failed(self.give_up());
         }
-        if is_told { Heard::Away } else { Heard::Nothing }
+        if is_told {
+            PrinterEvent::Away
+        } else {
+            PrinterEvent::Nothing
+        }
     }
 
     /// Returns whether the printer has a job that isn't printed yet.
     pub fn has_job(&self) -> bool {
-        matches!(self.stage, Stage::Printing(_))
+        matches!(self.stage, TaskStage::Printing(_))
     }
 
     /// Returns whether the job is being sent, or is sent and not answered yet.
     pub fn is_sending(&self) -> bool {
-        matches!(self.stage, Stage::Sending | Stage::Sent)
+        matches!(self.stage, TaskStage::Sending | TaskStage::Sent)
     }
 
     /// Returns whether there is a task.
@@ -551,8 +561,8 @@ impl IppPrinter {
     pub fn pause(&self, now: u64) -> u64 {
         let ask = self.ask_at.saturating_sub(now);
         match self.stage {
-            Stage::Printing(_) => ask.min(self.looks.left(now)),
-            Stage::Waits if !self.retries.is_due(now) => ask.min(self.retries.left(now)),
+            TaskStage::Printing(_) => ask.min(self.looks.left(now)),
+            TaskStage::Waits if !self.retries.is_due(now) => ask.min(self.retries.left(now)),
             _ => ask,
         }
     }

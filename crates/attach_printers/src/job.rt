@@ -1,5 +1,5 @@
 //! The options of a job, and those that a printer supports.
-use crate::told::LeftOut;
+use crate::task_outcome::LeftOut;
 use attach_orders::JobOrder;
 use base_types::{Finishings, Sides, Text};
 use ipp_codec::{GroupTag, MessageView};

@@ -2,7 +2,7 @@
 //!
 //! A [`Printer`] takes a job, and goes on with it in each turn: it sends the octets that an `attachment`
 //! allows, and returns the result. There are two kinds: a [`Folder`], and a [`NetworkPrinter`] with a
-//! [`Protocol`]: [`AppSocket`], [`Pjl`], [`Lpd`] or [`Ipp`]. A [`Caller`] makes a connection, and tries again
+//! [`Protocol`]: [`AppSocket`], [`Pjl`], [`Lpd`] or [`Ipp`]. A [`Connector`] makes a connection, and tries again
 //! after a pause if it can't be made. The connections are those of a [`Network`]: [`Sockets`] has `mio`'s.
 //!
 //! [`IppPrinter`] has the bytes that are written to a printer of IPP, and the effect of its replies on a job
@@ -23,11 +23,11 @@ mod address;
 mod answer;
 mod app_socket;
 mod backlog;
-mod caller;
+mod connector;
 mod exchange;
 mod folder;
 mod format;
-mod heard;
+mod host_port;
 mod ipp;
 mod ipp_printer;
 mod job;
@@ -35,31 +35,31 @@ mod link;
 mod lpd;
 mod network_printer;
 mod pjl;
-mod place;
 mod printer;
+mod printer_event;
+mod printer_link;
 mod protocol;
 mod send_buffer;
-mod session;
 mod socket_table;
 mod stream;
 mod task;
-mod told;
+mod task_outcome;
 
 pub use address::IppAddress;
 pub use app_socket::AppSocket;
-pub use caller::{Caller, Reached};
+pub use connector::{Connector, Reached};
 pub use folder::{Folder, try_folder};
 pub use format::{Format, MediaType};
-pub use heard::{Breach, Heard};
+pub use host_port::HostPort;
 pub use ipp::Ipp;
 pub use ipp_printer::IppPrinter;
 pub use link::{Link, Sockets, has_to_wait};
 pub use lpd::Lpd;
 pub use network_printer::NetworkPrinter;
 pub use pjl::Pjl;
-pub use place::Place;
 pub use printer::Printer;
+pub use printer_event::{Breach, PrinterEvent};
+pub use printer_link::PrinterLink;
 pub use protocol::Protocol;
-pub use session::Session;
 pub use stream::{Network, Peer, Readiness, Stream};
-pub use told::{LeftOut, ReplyBreach, ReplyFault, Told};
+pub use task_outcome::{LeftOut, ReplyBreach, ReplyFault, TaskOutcome};

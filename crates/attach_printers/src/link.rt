@@ -1,7 +1,7 @@
 //! A socket to a peer.
 ghost use Rattle.std.specs.Io.{ReadsAtMost, WritesAtMost};
 
-use crate::place::Place;
+use crate::host_port::HostPort;
 use crate::send_buffer::keep_small;
 use crate::socket_table::unacknowledged;
 use crate::stream::{Network, Peer, Readiness, Stream};
@@ -70,7 +70,7 @@ impl Readiness {
 impl<N: Net> Network for Sockets<'_, N> {
     type Stream = Link;
 
-    fn connect(&self, peer: Peer, place: &Place, choice: usize) -> io::Result<Link> {
+    fn connect(&self, peer: Peer, place: &HostPort, choice: usize) -> io::Result<Link> {
         let addresses = place.addresses(self.alloc, self.net)?;
         if addresses.is_empty() {
             return Err(io::Error::from(ErrorKind::NotFound));

@@ -1,7 +1,7 @@
 //! LPD (RFC 1179): a job is a control file and a data file, and the printer acknowledges each part.
-use crate::heard::{Breach, Heard};
+use crate::printer_event::{Breach, PrinterEvent};
+use crate::printer_link::{CALLS, IoOutcome, PrinterLink};
 use crate::protocol::Protocol;
-use crate::session::{CALLS, Moved, Session};
 use crate::stream::Stream;
 use attach_orders::JobOrder;
 use attachment::Attachment;
@@ -12,7 +12,7 @@ const HOST: &str = "printd";
 
 /// The part that is sent now. Each part is sent once the part before it is acknowledged.
 #[derive(Clone, Copy)]
-enum Part {
+enum LpdStage {
     /// The command to receive a job for the queue.
     Queue,
     /// The subcommand for a control file, and the file.
@@ -35,7 +35,7 @@ pub struct Lpd {
     job: u32,
     octets: u32,
     copies: u32,
-    part: Part,
+    part: LpdStage,
     /// The bytes of the part that are still to be written; the data isn't among them.
     output: Vec<u8>,
 }
@@ -50,19 +50,23 @@ impl Lpd {
             job: 0,
             octets: 0,
             copies: 1,
-            part: Part::Queue,
+            part: LpdStage::Queue,
             output: Vec::new(alloc),
         }
     }
 
     /// Takes the next octet of the printer, which acknowledges a written part, or refuses it.
-    fn hear<S: Stream>(&mut self, session: &mut Session<S>, now: u64) -> Result<Heard, AllocError> {
+    fn hear<S: Stream>(
+        &mut self,
+        session: &mut PrinterLink<S>,
+        now: u64,
+    ) -> Result<PrinterEvent, AllocError> {
         let mut buffer = [0u8; 1];
         match session.read(&mut buffer) {
-            Moved::Nothing => Ok(Heard::Nothing),
-            Moved::End | Moved::Broken => Ok(Heard::Failed(Breach::Broken)),
-            Moved::Bytes(_) if buffer[0] != 0 => Ok(Heard::Failed(Breach::Refused)),
-            Moved::Bytes(_) => {
+            IoOutcome::Nothing => Ok(PrinterEvent::Nothing),
+            IoOutcome::End | IoOutcome::Broken => Ok(PrinterEvent::Failed(Breach::Broken)),
+            IoOutcome::Bytes(_) if buffer[0] != 0 => Ok(PrinterEvent::Failed(Breach::Refused)),
+            IoOutcome::Bytes(_) => {
                 session.rest(now);
                 self.acknowledged()
             }
@@ -70,47 +74,47 @@ impl Lpd {
     }
 
     /// Goes on after a part is acknowledged.
-    fn acknowledged(&mut self) -> Result<Heard, AllocError> {
+    fn acknowledged(&mut self) -> Result<PrinterEvent, AllocError> {
         if !self.output.is_empty() {
-            return Ok(Heard::Failed(Breach::Refused));
+            return Ok(PrinterEvent::Failed(Breach::Refused));
         }
         let next = match self.part {
-            Part::Queue => Part::ControlHead,
-            Part::ControlHead => Part::Control,
-            Part::Control => Part::DataHead,
-            Part::DataHead => Part::Data,
-            Part::Data => return Ok(Heard::Failed(Breach::Refused)),
-            Part::End => return Ok(Heard::Printed(None)),
+            LpdStage::Queue => LpdStage::ControlHead,
+            LpdStage::ControlHead => LpdStage::Control,
+            LpdStage::Control => LpdStage::DataHead,
+            LpdStage::DataHead => LpdStage::Data,
+            LpdStage::Data => return Ok(PrinterEvent::Failed(Breach::Refused)),
+            LpdStage::End => return Ok(PrinterEvent::Printed(None)),
         };
         self.go_on(next)?;
-        Ok(Heard::Nothing)
+        Ok(PrinterEvent::Nothing)
     }
 
     /// Begins to write the next part. The only error is out of memory.
-    fn go_on(&mut self, part: Part) -> Result<(), AllocError> {
+    fn go_on(&mut self, part: LpdStage) -> Result<(), AllocError> {
         self.output = self.text_of(part)?;
         self.part = part;
         Ok(())
     }
 
     /// The bytes of a part, if it isn't the data. The only error is out of memory.
-    fn text_of(&self, part: Part) -> Result<Vec<u8>, AllocError> {
+    fn text_of(&self, part: LpdStage) -> Result<Vec<u8>, AllocError> {
         let queue = self.queue.as_str();
         let number = self.job % 1000;
         let octets = self.octets;
         let text = match part {
-            Part::Queue => format!(in self.alloc; "\x02{queue}\n")?,
-            Part::ControlHead => {
+            LpdStage::Queue => format!(in self.alloc; "\x02{queue}\n")?,
+            LpdStage::ControlHead => {
                 let length = self.control()?.len();
                 format!(in self.alloc; "\x02{length} cfA{number:03}{HOST}\n")?
             }
-            Part::Control => {
+            LpdStage::Control => {
                 let control = self.control()?;
                 format!(in self.alloc; "{control}\0")?
             }
-            Part::DataHead => format!(in self.alloc; "\x03{octets} dfA{number:03}{HOST}\n")?,
-            Part::Data => String::new(self.alloc),
-            Part::End => format!(in self.alloc; "\0")?,
+            LpdStage::DataHead => format!(in self.alloc; "\x03{octets} dfA{number:03}{HOST}\n")?,
+            LpdStage::Data => String::new(self.alloc),
+            LpdStage::End => format!(in self.alloc; "\0")?,
         };
         Vec::from_slice(self.alloc, text.as_bytes())
     }
@@ -137,16 +141,16 @@ impl Lpd {
     /// Sends some bytes of the part; after the data their end.
     fn send<S: Stream>(
         &mut self,
-        session: &mut Session<S>,
+        session: &mut PrinterLink<S>,
         attachment: &mut Attachment,
         now: u64,
-    ) -> Result<Moved, AllocError> {
-        if self.part == Part::Data {
+    ) -> Result<IoOutcome, AllocError> {
+        if self.part == LpdStage::Data {
             if !attachment.is_copy_sent() {
                 return Ok(session.send_due(attachment, now));
             }
             attachment.end_copy();
-            self.go_on(Part::End)?;
+            self.go_on(LpdStage::End)?;
         }
         Ok(session.write_front(&mut self.output, now))
     }
@@ -160,30 +164,36 @@ impl Protocol for Lpd {
     }
 
     /// Begins to write the first part.
-    fn open(&mut self, _attachment: &Attachment, heard: Heard) -> Result<Heard, AllocError> {
-        self.go_on(Part::Queue)?;
+    fn open(
+        &mut self,
+        _attachment: &Attachment,
+        heard: PrinterEvent,
+    ) -> Result<PrinterEvent, AllocError> {
+        self.go_on(LpdStage::Queue)?;
         Ok(heard)
     }
 
     /// Takes the printer's acknowledgements, and sends the bytes that are due.
     fn exchange<S: Stream>(
         &mut self,
-        session: &mut Session<S>,
+        session: &mut PrinterLink<S>,
         attachment: &mut Attachment,
         now: u64,
-    ) -> Result<Heard, AllocError> {
+    ) -> Result<PrinterEvent, AllocError> {
         for _ in 0..CALLS {
             match self.hear(session, now)? {
-                Heard::Nothing => {}
+                PrinterEvent::Nothing => {}
                 heard => return Ok(heard),
             }
             match self.send(session, attachment, now)? {
-                Moved::Bytes(_) => {}
-                Moved::Broken | Moved::End => return Ok(Heard::Failed(Breach::Broken)),
-                Moved::Nothing => return Ok(session.wait(now)),
+                IoOutcome::Bytes(_) => {}
+                IoOutcome::Broken | IoOutcome::End => return Ok(PrinterEvent::Failed(
+                    Breach::Broken,
+                )),
+                IoOutcome::Nothing => return Ok(session.wait(now)),
             }
         }
-        Ok(Heard::Nothing)
+        Ok(PrinterEvent::Nothing)
     }
 
     fn drop_job(&mut self) {

@@ -1,8 +1,8 @@
 //! A printer on the network.
-use crate::heard::{Heard, NO_MEMORY};
 use crate::printer::Printer;
+use crate::printer_event::{NO_MEMORY, PrinterEvent};
+use crate::printer_link::{LinkStage, PrinterLink};
 use crate::protocol::Protocol;
-use crate::session::{Session, Stage};
 use crate::stream::{Network, Readiness, Stream};
 use attach_orders::JobOrder;
 use attachment::Attachment;
@@ -12,13 +12,13 @@ use std::rt::Files;
 /// A printer on the network, with the connection to it and its protocol.
 #[derive(Drop)]
 pub struct NetworkPrinter<S: Stream, P: Protocol> {
-    session: Session<S>,
+    session: PrinterLink<S>,
     protocol: P,
 }
 
 impl<S: Stream, P: Protocol> NetworkPrinter<S, P> {
     /// Creates a printer without a connection.
-    pub fn new(session: Session<S>, protocol: P) -> NetworkPrinter<S, P> {
+    pub fn new(session: PrinterLink<S>, protocol: P) -> NetworkPrinter<S, P> {
         NetworkPrinter { session, protocol }
     }
 }
@@ -38,12 +38,12 @@ impl<S: Stream, P: Protocol> Printer<S> for NetworkPrinter<S, P> {
         network: &N,
         attachment: &mut Attachment,
         now: u64,
-    ) -> Heard {
+    ) -> PrinterEvent {
         let wanted = self.protocol.wants_connection(attachment, now);
         let heard = match self.session.reach(files, network, wanted, now) {
-            Stage::Waits(heard) => Ok(self.protocol.wait(&self.session, heard, now)),
-            Stage::Opened(heard) => self.protocol.open(attachment, heard),
-            Stage::Open => self.protocol.exchange(&mut self.session, attachment, now),
+            LinkStage::Waits(heard) => Ok(self.protocol.wait(&self.session, heard, now)),
+            LinkStage::Opened(heard) => self.protocol.open(attachment, heard),
+            LinkStage::Open => self.protocol.exchange(&mut self.session, attachment, now),
         };
         heard.unwrap_or(NO_MEMORY)
     }

@@ -1,9 +1,9 @@
 //! AppSocket and PJL: a job is wrapped in PJL, and the printer reports on it.
 ghost use Rattle.std.specs.Prelude.{◌≤◌, IfOk, length};
 
-use crate::heard::{Breach, Heard};
+use crate::printer_event::{Breach, PrinterEvent};
+use crate::printer_link::{CALLS, IoOutcome, PIECE, PrinterLink};
 use crate::protocol::Protocol;
-use crate::session::{CALLS, Moved, PIECE, Session};
 use crate::stream::Stream;
 use attach_orders::JobOrder;
 use attach_pjl::{Status, StatusReader};
@@ -23,7 +23,7 @@ const LINES: u32 = 64;
 
 /// The part that is sent now, or that all parts are sent.
 #[derive(Clone, Copy)]
-enum Part {
+enum PjlStage {
     Head,
     Data,
     Foot,
@@ -38,7 +38,7 @@ pub struct Pjl {
     job: u32,
     copies: u32,
     sides: Sides,
-    part: Part,
+    part: PjlStage,
     /// The bytes of the part that are still to be written; the data isn't among them.
     output: Vec<u8>,
     /// The bytes of the printer that aren't read yet.
@@ -56,7 +56,7 @@ impl Pjl {
             job: 0,
             copies: 1,
             sides: Sides::One,
-            part: Part::Nothing,
+            part: PjlStage::Nothing,
             output: Vec::new(alloc),
             input: Vec::new(alloc),
             stopped: false,
@@ -65,28 +65,37 @@ impl Pjl {
 
     /// Returns the next report of the printer about a job, a page or itself. `Nothing` if there is none for
     /// now, or if bytes were moved.
-    fn hear<S: Stream>(&mut self, session: &mut Session<S>, now: u64) -> Result<Heard, AllocError> {
+    fn hear<S: Stream>(
+        &mut self,
+        session: &mut PrinterLink<S>,
+        now: u64,
+    ) -> Result<PrinterEvent, AllocError> {
         for _ in 0..CALLS {
             if self.input.is_empty() {
                 match self.read_piece(session)? {
-                    Moved::Bytes(_) => {}
-                    Moved::Nothing => return Ok(Heard::Nothing),
-                    Moved::End | Moved::Broken => return Ok(Heard::Failed(Breach::Broken)),
+                    IoOutcome::Bytes(_) => {}
+                    IoOutcome::Nothing => return Ok(PrinterEvent::Nothing),
+                    IoOutcome::End | IoOutcome::Broken => return Ok(PrinterEvent::Failed(
+                        Breach::Broken,
+                    )),
                 }
             }
             match self.read_input(session, now)? {
-                Heard::Nothing => {}
+                PrinterEvent::Nothing => {}
                 heard => return Ok(heard),
             }
         }
-        Ok(Heard::Nothing)
+        Ok(PrinterEvent::Nothing)
     }
 
     /// Reads a piece of the printer's bytes.
-    fn read_piece<S: Stream>(&mut self, session: &mut Session<S>) -> Result<Moved, AllocError> {
+    fn read_piece<S: Stream>(
+        &mut self,
+        session: &mut PrinterLink<S>,
+    ) -> Result<IoOutcome, AllocError> {
         let mut buffer = [0u8; PIECE];
         let moved = session.read(&mut buffer);
-        if let Moved::Bytes(count) = moved {
+        if let IoOutcome::Bytes(count) = moved {
             self.input.extend_from_slice(&buffer[..count])?;
         }
         Ok(moved)
@@ -96,20 +105,20 @@ impl Pjl {
     /// known restarts the printer's time.
     fn read_input<S: Stream>(
         &mut self,
-        session: &mut Session<S>,
+        session: &mut PrinterLink<S>,
         now: u64,
-    ) -> Result<Heard, AllocError> {
+    ) -> Result<PrinterEvent, AllocError> {
         let name = self.name()?;
         let read = read_front(&mut self.reader, &self.input, name.as_bytes())?;
         drop_front(&mut self.input, read.0);
         if read.1 == Status::Other {
-            return Ok(Heard::Nothing);
+            return Ok(PrinterEvent::Nothing);
         }
         session.rest(now);
         let heard = heard_of(read.1, self.part, self.stopped);
         match heard {
-            Heard::Stops => self.stopped = true,
-            Heard::Runs => self.stopped = false,
+            PrinterEvent::Stops => self.stopped = true,
+            PrinterEvent::Runs => self.stopped = false,
             _ => {}
         }
         Ok(heard)
@@ -124,24 +133,24 @@ impl Pjl {
     /// Sends some bytes of the part.
     fn send<S: Stream>(
         &mut self,
-        session: &mut Session<S>,
+        session: &mut PrinterLink<S>,
         attachment: &mut Attachment,
         now: u64,
-    ) -> Result<Moved, AllocError> {
+    ) -> Result<IoOutcome, AllocError> {
         if self.output.is_empty() {
             match self.part {
-                Part::Head => self.part = Part::Data,
-                Part::Foot => self.part = Part::Nothing,
-                Part::Data | Part::Nothing => {}
+                PjlStage::Head => self.part = PjlStage::Data,
+                PjlStage::Foot => self.part = PjlStage::Nothing,
+                PjlStage::Data | PjlStage::Nothing => {}
             }
         }
-        if self.part == Part::Data {
+        if self.part == PjlStage::Data {
             if !attachment.is_copy_sent() {
                 return Ok(session.send_due(attachment, now));
             }
             attachment.end_copy();
             self.output = self.foot()?;
-            self.part = Part::Foot;
+            self.part = PjlStage::Foot;
         }
         Ok(session.write_front(&mut self.output, now))
     }
@@ -180,38 +189,49 @@ impl Protocol for Pjl {
     }
 
     /// Takes a printer without a connection as running, unless it is in doubt.
-    fn wait<S: Stream>(&mut self, session: &Session<S>, heard: Heard, _now: u64) -> Heard {
+    fn wait<S: Stream>(
+        &mut self,
+        session: &PrinterLink<S>,
+        heard: PrinterEvent,
+        _now: u64,
+    ) -> PrinterEvent {
         let stopped = std::mem::replace(&mut self.stopped, false);
         match heard {
-            Heard::Nothing if stopped && !session.is_doubted() => Heard::Runs,
+            PrinterEvent::Nothing if stopped && !session.is_doubted() => PrinterEvent::Runs,
             heard => heard,
         }
     }
 
     /// Begins to write the head.
-    fn open(&mut self, _attachment: &Attachment, heard: Heard) -> Result<Heard, AllocError> {
+    fn open(
+        &mut self,
+        _attachment: &Attachment,
+        heard: PrinterEvent,
+    ) -> Result<PrinterEvent, AllocError> {
         self.reader = StatusReader::new(self.alloc);
         self.input.clear();
         self.output = self.head()?;
-        self.part = Part::Head;
+        self.part = PjlStage::Head;
         Ok(heard)
     }
 
     fn exchange<S: Stream>(
         &mut self,
-        session: &mut Session<S>,
+        session: &mut PrinterLink<S>,
         attachment: &mut Attachment,
         now: u64,
-    ) -> Result<Heard, AllocError> {
+    ) -> Result<PrinterEvent, AllocError> {
         match self.hear(session, now)? {
-            Heard::Nothing => {}
+            PrinterEvent::Nothing => {}
             heard => return Ok(heard),
         }
         for _ in 0..CALLS {
             match self.send(session, attachment, now)? {
-                Moved::Bytes(_) => {}
-                Moved::Nothing => break,
-                Moved::End | Moved::Broken => return Ok(Heard::Failed(Breach::Broken)),
+                IoOutcome::Bytes(_) => {}
+                IoOutcome::Nothing => break,
+                IoOutcome::End | IoOutcome::Broken => return Ok(PrinterEvent::Failed(
+                    Breach::Broken,
+                )),
             }
         }
         if self.stopped {
@@ -221,7 +241,7 @@ impl Protocol for Pjl {
     }
 
     fn drop_job(&mut self) {
-        self.part = Part::Nothing;
+        self.part = PjlStage::Nothing;
         self.output.clear();
         self.input.clear();
     }
@@ -283,16 +303,16 @@ fn unquoted(value: &[u8]) -> &[u8] {
 }
 
 /// The report of a status, where this part of the job is sent, and the printer was stopped or not.
-fn heard_of(status: Status, part: Part, stopped: bool) -> Heard {
+fn heard_of(status: Status, part: PjlStage, stopped: bool) -> PrinterEvent {
     match status {
-        Status::Page(page) => Heard::Pages(page),
-        Status::JobEnded if part == Part::Nothing => Heard::Printed(None),
-        Status::JobEnded => Heard::Failed(Breach::Broken),
+        Status::Page(page) => PrinterEvent::Pages(page),
+        Status::JobEnded if part == PjlStage::Nothing => PrinterEvent::Printed(None),
+        Status::JobEnded => PrinterEvent::Failed(Breach::Broken),
         Status::Device(code) => match (code >= NEEDS_SOMEONE, stopped) {
-            (true, false) => Heard::Stops,
-            (false, true) => Heard::Runs,
-            _ => Heard::Nothing,
+            (true, false) => PrinterEvent::Stops,
+            (false, true) => PrinterEvent::Runs,
+            _ => PrinterEvent::Nothing,
         },
-        Status::Other => Heard::Nothing,
+        Status::Other => PrinterEvent::Nothing,
     }
 }

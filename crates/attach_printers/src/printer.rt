@@ -1,5 +1,5 @@
 //! The trait of printers.
-use crate::heard::Heard;
+use crate::printer_event::PrinterEvent;
 use crate::stream::{Network, Readiness, Stream};
 use attach_orders::JobOrder;
 use attachment::Attachment;
@@ -8,7 +8,7 @@ use std::rt::Files;
 
 /// A printer. It has at most one job: after [`Printer::begin`] it goes on with the job in each turn, until a
 /// turn returns that the job is printed or has failed, or the job is dropped. A printer is tried before its
-/// first job: the first result is [`Heard::Back`], or that it can't print.
+/// first job: the first result is [`PrinterEvent::Back`], or that it can't print.
 pub trait Printer<S: Stream>: Drop {
     /// Begins a job.
     fn begin(&mut self, order: &JobOrder);
@@ -25,7 +25,7 @@ pub trait Printer<S: Stream>: Drop {
         network: &N,
         attachment: &mut Attachment,
         now: u64,
-    ) -> Heard;
+    ) -> PrinterEvent;
 
     /// Takes the result of a wait.
     fn told(&mut self, readiness: Readiness);
@@ -39,7 +39,7 @@ pub trait Printer<S: Stream>: Drop {
     fn drop_job<F: Files>(&mut self, files: &F);
 
     /// Records that the printer failed a job. It is tried again after `pause` ms, and then after longer pauses,
-    /// until that works: [`Heard::Back`].
+    /// until that works: [`PrinterEvent::Back`].
     fn doubt(&mut self, pause: u64, now: u64);
 
     /// Returns whether the last turn moved bytes; then another turn may move more.

@@ -1,6 +1,6 @@
 //! The trait of protocols.
-use crate::heard::Heard;
-use crate::session::Session;
+use crate::printer_event::PrinterEvent;
+use crate::printer_link::PrinterLink;
 use crate::stream::Stream;
 use attach_orders::JobOrder;
 use attachment::Attachment;
@@ -23,22 +23,31 @@ pub trait Protocol: Drop {
     }
 
     /// The result of a turn without a connection; `heard` is the result of the try to connect.
-    fn wait<S: Stream>(&mut self, _session: &Session<S>, heard: Heard, _now: u64) -> Heard {
+    fn wait<S: Stream>(
+        &mut self,
+        _session: &PrinterLink<S>,
+        heard: PrinterEvent,
+        _now: u64,
+    ) -> PrinterEvent {
         heard
     }
 
     /// The result of a turn in which the connection was made; `heard` is the result of the connection.
-    fn open(&mut self, _attachment: &Attachment, heard: Heard) -> Result<Heard, AllocError> {
+    fn open(
+        &mut self,
+        _attachment: &Attachment,
+        heard: PrinterEvent,
+    ) -> Result<PrinterEvent, AllocError> {
         Ok(heard)
     }
 
     /// Reads from the printer and sends the bytes that are due, without blocking.
     fn exchange<S: Stream>(
         &mut self,
-        session: &mut Session<S>,
+        session: &mut PrinterLink<S>,
         attachment: &mut Attachment,
         now: u64,
-    ) -> Result<Heard, AllocError>;
+    ) -> Result<PrinterEvent, AllocError>;
 
     /// Removes and returns the loaded media, if the printer reported them anew.
     fn take_media(&mut self) -> Option<Vec<Text>> {
@@ -49,7 +58,7 @@ pub trait Protocol: Drop {
     fn drop_job(&mut self);
 
     /// Records that the printer failed a job: the printer is tried again after `pause` ms.
-    fn doubt<S: Stream>(&mut self, session: &mut Session<S>, pause: u64, now: u64) {
+    fn doubt<S: Stream>(&mut self, session: &mut PrinterLink<S>, pause: u64, now: u64) {
         session.doubt(pause, now);
     }
 
@@ -59,7 +68,7 @@ pub trait Protocol: Drop {
     }
 
     /// Returns the ms until there is work to do without an event, if there will be.
-    fn pause<S: Stream>(&self, session: &Session<S>, now: u64, has_job: bool) -> Option<u64> {
+    fn pause<S: Stream>(&self, session: &PrinterLink<S>, now: u64, has_job: bool) -> Option<u64> {
         session.pause(now, has_job, session.timeout())
     }
 }

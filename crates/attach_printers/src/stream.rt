@@ -1,7 +1,7 @@
 //! The traits of connections to peers.
 ghost use Rattle.std.specs.Io.{ReadsAtMost, WritesAtMost};
 
-use crate::place::Place;
+use crate::host_port::HostPort;
 use std::alloc::Global;
 use std::io;
 use std::rt::Files;
@@ -29,7 +29,7 @@ pub trait Network {
 
     /// Begins a connection to a peer at one of the addresses of a place: the address of number `choice`,
     /// counted again from the first after the last.
-    fn connect(&self, peer: Peer, place: &Place, choice: usize) -> io::Result<Self::Stream>;
+    fn connect(&self, peer: Peer, place: &HostPort, choice: usize) -> io::Result<Self::Stream>;
 }
 
 /// A connection to a peer, closed when it is dropped. No call waits.

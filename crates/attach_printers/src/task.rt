@@ -16,7 +16,7 @@ pub(crate) enum Task {
 
 /// The stage of the server's job.
 #[derive(Clone, Copy, PartialEq, Eq)]
-pub(crate) enum Stage {
+pub(crate) enum TaskStage {
     /// There is no job.
     None,
     /// Nothing of the job is sent.

@@ -1,7 +1,7 @@
 //! Rows, played.
 use crate::script::{Script, Scripted, ScriptedStream, Step};
 use attach::{Adapter, Device};
-use attach_printers::{Caller, NetworkPrinter, Peer, Place, Printer, Protocol, Session};
+use attach_printers::{Connector, HostPort, NetworkPrinter, Peer, Printer, PrinterLink, Protocol};
 use std::alloc::{AllocError, Global};
 use std::cell::RefCell;
 use std::rc::Rc;
@@ -77,7 +77,7 @@ pub(crate) fn play_with<F: Files, P: Printer<ScriptedStream>>(
 fn device(alloc: Global, detail: Detail) -> Result<Device, AllocError> {
     Ok(Device {
         name: String::from_str(alloc, "hall")?,
-        server: Place::new(alloc, "server", 8632)?,
+        server: HostPort::new(alloc, "server", 8632)?,
         logs: matches!(detail, Detail::Events),
         measures: false,
     })
@@ -141,6 +141,6 @@ pub(crate) fn patient<P: Protocol>(
     timeout: u64,
     protocol: P,
 ) -> Result<NetworkPrinter<ScriptedStream, P>, AllocError> {
-    let caller = Caller::new(alloc, Place::new(alloc, "printer", 9100)?, Peer::Printer);
-    Ok(NetworkPrinter::new(Session::new(caller, timeout), protocol))
+    let caller = Connector::new(alloc, HostPort::new(alloc, "printer", 9100)?, Peer::Printer);
+    Ok(NetworkPrinter::new(PrinterLink::new(caller, timeout), protocol))
 }

@@ -2,7 +2,7 @@
 ghost use Rattle.std.specs.Prelude.{◌≤◌, length};
 ghost use Rattle.std.specs.Io.{ReadsAtMost, WritesAtMost};
 
-use attach_printers::{Network, Peer, Place, Stream};
+use attach_printers::{HostPort, Network, Peer, Stream};
 use std::alloc::{AllocError, Global};
 use std::cell::RefCell;
 use std::io;
@@ -375,7 +375,7 @@ fn in_use() -> io::Error {
 impl Network for Scripted {
     type Stream = ScriptedStream;
 
-    fn connect(&self, peer: Peer, _place: &Place, _choice: usize) -> io::Result<ScriptedStream> {
+    fn connect(&self, peer: Peer, _place: &HostPort, _choice: usize) -> io::Result<ScriptedStream> {
         let Ok(mut script) = self.script.try_borrow_mut() else {
             return Err(in_use());
         };

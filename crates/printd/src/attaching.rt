@@ -1,6 +1,6 @@
 //! `printd attach`.
 use crate::failure::{cannot, cannot_with, out_of_memory};
-use attach::{PlanWords, WordFault, attach, read_plan, try_target};
+use attach::{ConfigWords, WordFault, attach, read_config, try_target};
 use command_line::Attaching;
 use program::ExitStatus;
 use std::io;
@@ -11,7 +11,7 @@ pub(crate) fn run_attach(
     rt: &HostRuntime,
     attaching: Attaching<'_>,
 ) -> Result<ExitStatus, ExitStatus> {
-    let words = PlanWords {
+    let words = ConfigWords {
         name: attaching.name,
         server: attaching.server,
         to: attaching.to,
@@ -25,7 +25,7 @@ pub(crate) fn run_attach(
         measures: attaching.measure,
         until_closed: attaching.until_closed,
     };
-    let plan = read_plan(rt.alloc(), words).map_err(|fault| refuse(rt, fault, words))?;
+    let plan = read_config(rt.alloc(), words).map_err(|fault| refuse(rt, fault, words))?;
     if let Err(error) = try_target(rt.alloc(), rt, &plan) {
         return Err(cannot_with(rt, "write to", words.to, error));
     }
@@ -38,7 +38,7 @@ pub(crate) fn run_attach(
 }
 
 /// Reports the invalid word, and returns the exit status.
-fn refuse(rt: &HostRuntime, fault: WordFault, words: PlanWords<'_>) -> ExitStatus {
+fn refuse(rt: &HostRuntime, fault: WordFault, words: ConfigWords<'_>) -> ExitStatus {
     let said = match fault {
         WordFault::Name => say(
             rt,

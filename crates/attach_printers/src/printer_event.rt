@@ -1,5 +1,5 @@
 //! The results of a printer's turn.
-use crate::told::{LeftOut, ReplyBreach};
+use crate::task_outcome::{LeftOut, ReplyBreach};
 use std::fmt;
 
 /// Why a job can't be printed.
@@ -65,7 +65,7 @@ impl fmt::Display for Breach {
 
 /// The result of a printer's turn.
 #[derive(Clone, Copy)]
-pub enum Heard {
+pub enum PrinterEvent {
     Nothing,
     /// The printer can't be reached. This is reported once.
     Away,
@@ -88,4 +88,4 @@ pub enum Heard {
 }
 
 /// Memory to go on with a job was refused.
-pub(crate) const NO_MEMORY: Heard = Heard::Failed(Breach::OutOfMemory);
+pub(crate) const NO_MEMORY: PrinterEvent = PrinterEvent::Failed(Breach::OutOfMemory);

@@ -1,5 +1,5 @@
 //! The caller, which connects to a peer, and connects again when the connection is lost.
-use crate::place::Place;
+use crate::host_port::HostPort;
 use crate::stream::{Network, Peer, Readiness, Stream};
 use attachment::Pauses;
 use std::alloc::Global;
@@ -32,9 +32,9 @@ pub enum Reached {
 
 /// A peer, with the connection to it. A failed try is repeated.
 #[derive(Drop)]
-pub struct Caller<S: Stream> {
+pub struct Connector<S: Stream> {
     alloc: Global,
-    place: Place,
+    place: HostPort,
     peer: Peer,
     /// The time of the next try.
     tries: Pauses,
@@ -48,10 +48,10 @@ pub struct Caller<S: Stream> {
     since: u64,
 }
 
-impl<S: Stream> Caller<S> {
+impl<S: Stream> Connector<S> {
     /// Creates the caller of a peer, without a connection.
-    pub fn new(alloc: Global, place: Place, peer: Peer) -> Caller<S> {
-        Caller {
+    pub fn new(alloc: Global, place: HostPort, peer: Peer) -> Connector<S> {
+        Connector {
             alloc,
             place,
             peer,
@@ -82,7 +82,7 @@ impl<S: Stream> Caller<S> {
         match &self.link {
             Some(link) => {
                 let is_open = link.is_open();
-                self.heed(is_open, now)
+                self.check_open(is_open, now)
             }
             None if !self.tries.is_due(now) => Reached::Not,
             None => match network.connect(self.peer, &self.place, self.choice) {
@@ -97,7 +97,7 @@ impl<S: Stream> Caller<S> {
     }
 
     /// Acts on the state of a connection that is being made.
-    fn heed(&mut self, is_open: io::Result<bool>, now: u64) -> Reached {
+    fn check_open(&mut self, is_open: io::Result<bool>, now: u64) -> Reached {
         match is_open {
             Ok(true) => {
                 self.open = true;

@@ -1,5 +1,5 @@
 //! The configuration of an adapter.
-use attach_printers::{IppAddress, MediaType, Place};
+use attach_printers::{HostPort, IppAddress, MediaType};
 use base_types::is_name;
 use std::alloc::{AllocError, Global};
 use url::{ParseError, Url};
@@ -26,20 +26,20 @@ pub enum Target {
     /// A folder, in which each job becomes a file.
     Folder(String),
     /// A printer with AppSocket.
-    AppSocket(Place),
+    AppSocket(HostPort),
     /// A queue of a printer with LPD.
-    Lpd(Place, String),
+    Lpd(HostPort, String),
     /// A printer with IPP.
-    Ipp(Place, IppAddress),
+    Ipp(HostPort, IppAddress),
 }
 
 /// The configuration of an adapter.
 #[derive(Drop)]
-pub struct Plan {
+pub struct AdapterConfig {
     /// The name of the device.
     pub name: String,
     /// The address of the server's port for devices.
-    pub server: Place,
+    pub server: HostPort,
     pub target: Target,
     /// The media type of each document. `None` if the first bytes of a document determine it.
     pub format: Option<MediaType>,
@@ -64,7 +64,7 @@ pub struct Plan {
 
 /// The words of a command line for the configuration.
 #[derive(Clone, Copy)]
-pub struct PlanWords<'a> {
+pub struct ConfigWords<'a> {
     pub name: &'a str,
     pub server: &'a str,
     pub to: &'a str,
@@ -104,11 +104,11 @@ impl From<AllocError> for WordFault {
 }
 
 /// Reads the configuration of the words. The error is the first word that isn't valid. Nothing is opened.
-pub fn read_plan(alloc: Global, words: PlanWords<'_>) -> Result<Plan, WordFault> {
+pub fn read_config(alloc: Global, words: ConfigWords<'_>) -> Result<AdapterConfig, WordFault> {
     if !is_name(words.name.as_bytes()) {
         return Err(WordFault::Name);
     }
-    let Some(server) = Place::read(alloc, words.server)? else {
+    let Some(server) = HostPort::read(alloc, words.server)? else {
         return Err(WordFault::Server);
     };
     let target = read_target(alloc, words.to)?;
@@ -116,7 +116,7 @@ pub fn read_plan(alloc: Global, words: PlanWords<'_>) -> Result<Plan, WordFault>
         return Err(WordFault::Pjl);
     }
     let format = read_format(alloc, words.format)?;
-    Ok(Plan {
+    Ok(AdapterConfig {
         name: String::from_str(alloc, words.name)?,
         server,
         target,
@@ -182,15 +182,15 @@ fn read_url(alloc: Global, url: &Url) -> Result<Target, WordFault> {
     let scheme = url.scheme();
     if scheme == "socket" && path.is_empty() {
         let port = url.port().unwrap_or(APP_SOCKET);
-        Ok(Target::AppSocket(Place::new(alloc, host, port)?))
+        Ok(Target::AppSocket(HostPort::new(alloc, host, port)?))
     } else if scheme == "lpd" && !path.is_empty() && !path.contains('/') {
         let port = url.port().unwrap_or(LPD);
         let queue = String::from_str(alloc, path)?;
-        Ok(Target::Lpd(Place::new(alloc, host, port)?, queue))
+        Ok(Target::Lpd(HostPort::new(alloc, host, port)?, queue))
     } else if scheme == "ipp" {
         let port = url.port().unwrap_or(IPP);
         let address = read_address(alloc, host, port, path)?;
-        Ok(Target::Ipp(Place::new(alloc, host, port)?, address))
+        Ok(Target::Ipp(HostPort::new(alloc, host, port)?, address))
     } else {
         Err(WordFault::To)
     }

@@ -1,13 +1,13 @@
 //! The connection to a printer, while it has a job.
 ghost use Rattle.std.specs.Prelude.{ℕ, ◌≡◌, ◌⊎◌, List};
 ghost use Rattle.std.specs.Io.{WritesAtMost};
-ghost use Rattle.attach_printers.specs.declared.session.Moved.TheVariants.{End, Nothing};
-ghost use Rattle.attach_printers.specs.Moved.{MovesAtMost};
+ghost use Rattle.attach_printers.specs.declared.session.IoOutcome.TheVariants.{End, Nothing};
+ghost use Rattle.attach_printers.specs.IoOutcome.{MovesAtMost};
 
 use crate::backlog::Backlog;
-use crate::caller::{Caller, Reached};
-use crate::heard::{Breach, Heard};
+use crate::connector::{Connector, Reached};
 use crate::link::has_to_wait;
+use crate::printer_event::{Breach, PrinterEvent};
 use crate::stream::{Network, Readiness, Stream};
 use attachment::Attachment;
 use std::io;
@@ -22,17 +22,17 @@ pub(crate) const PIECE: usize = 1024;
 
 /// The state of the connection to a printer.
 #[derive(Clone, Copy)]
-pub(crate) enum Stage {
+pub(crate) enum LinkStage {
     /// There is no connection now.
-    Waits(Heard),
+    Waits(PrinterEvent),
     /// The connection was just made.
-    Opened(Heard),
+    Opened(PrinterEvent),
     Open,
 }
 
 /// The result of a call on a connection.
 #[derive(Clone, Copy, PartialEq, Eq)]
-pub(crate) enum Moved {
+pub(crate) enum IoOutcome {
     Nothing,
     /// This many bytes were moved, at least one.
     Bytes(usize),
@@ -43,8 +43,8 @@ pub(crate) enum Moved {
 
 /// The connection to a printer, while it has a job or is in doubt.
 #[derive(Drop)]
-pub struct Session<S: Stream> {
-    caller: Caller<S>,
+pub struct PrinterLink<S: Stream> {
+    caller: Connector<S>,
     timeout: u64,
     /// Whether the printer has to be reached before the next job: at the start, and after it couldn't be
     /// reached or failed a job.
@@ -56,10 +56,10 @@ pub struct Session<S: Stream> {
     backlog: Backlog,
 }
 
-impl<S: Stream> Session<S> {
+impl<S: Stream> PrinterLink<S> {
     /// Creates a session without a connection. A job may make no progress for `timeout` ms.
-    pub fn new(caller: Caller<S>, timeout: u64) -> Session<S> {
-        Session {
+    pub fn new(caller: Connector<S>, timeout: u64) -> PrinterLink<S> {
+        PrinterLink {
             caller,
             timeout,
             doubted: true,
@@ -82,21 +82,21 @@ impl<S: Stream> Session<S> {
         network: &N,
         has_job: bool,
         now: u64,
-    ) -> Stage {
+    ) -> LinkStage {
         self.worked = false;
         if !has_job && !self.doubted {
-            return Stage::Waits(Heard::Nothing);
+            return LinkStage::Waits(PrinterEvent::Nothing);
         }
         match self.caller.turn(network, now) {
-            Reached::Not => Stage::Waits(Heard::Nothing),
+            Reached::Not => LinkStage::Waits(PrinterEvent::Nothing),
             Reached::Away => {
                 self.doubted = true;
-                Stage::Waits(Heard::Away)
+                LinkStage::Waits(PrinterEvent::Away)
             }
             Reached::Now => self.open(has_job, now),
             Reached::Still => {
                 self.look(files, now);
-                Stage::Open
+                LinkStage::Open
             }
         }
     }
@@ -108,13 +108,13 @@ impl<S: Stream> Session<S> {
             return;
         }
         let bytes = self.caller.unacknowledged(files);
-        if self.backlog.heed(bytes, now) {
+        if self.backlog.update(bytes, now) {
             self.last = now;
         }
     }
 
     /// Records that the connection was made. Without a job it only shows that the printer is there.
-    fn open(&mut self, has_job: bool, now: u64) -> Stage {
+    fn open(&mut self, has_job: bool, now: u64) -> LinkStage {
         self.last = now;
         self.worked = true;
         self.backlog = Backlog::none();
@@ -122,43 +122,43 @@ impl<S: Stream> Session<S> {
             self.caller.close();
         }
         if !self.doubted {
-            return Stage::Opened(Heard::Nothing);
+            return LinkStage::Opened(PrinterEvent::Nothing);
         }
         self.doubted = false;
-        Stage::Opened(Heard::Back)
+        LinkStage::Opened(PrinterEvent::Back)
     }
 
-    /// Reads bytes of the printer. They restart the printer's time only by [`Session::rest`].
-    pub(crate) fn read(&mut self, buffer: &mut [u8]) -> Moved
+    /// Reads bytes of the printer. They restart the printer's time only by [`PrinterLink::rest`].
+    pub(crate) fn read(&mut self, buffer: &mut [u8]) -> IoOutcome
         ensures { MovesAtMost result buffer.new }
     {
         let Some(link) = self.caller.link() else {
-            return Moved::Broken;
+            return IoOutcome::Broken;
         };
         let read = link.read(buffer);
-        self.heed(read, Moved::End)
+        self.record_result(read, IoOutcome::End)
     }
 
     /// Writes bytes, if there are any.
-    pub(crate) fn write(&mut self, bytes: &[u8], now: u64) -> Moved
+    pub(crate) fn write(&mut self, bytes: &[u8], now: u64) -> IoOutcome
         ensures { MovesAtMost result bytes.now }
     {
         let Some(link) = self.caller.link() else {
-            return Moved::Broken;
+            return IoOutcome::Broken;
         };
         if bytes.is_empty() {
-            return Moved::Nothing;
+            return IoOutcome::Nothing;
         }
         let written = link.write(bytes);
-        let moved = self.heed(written, Moved::Nothing);
-        if let Moved::Bytes(_) = moved {
+        let moved = self.record_result(written, IoOutcome::Nothing);
+        if let IoOutcome::Bytes(_) = moved {
             self.last = now;
         }
         moved
     }
 
     /// Records the result of a call. `none` is the result of a call that moved no byte.
-    fn heed(&mut self, call: io::Result<usize>, none: Moved) -> Moved
+    fn record_result(&mut self, call: io::Result<usize>, none: IoOutcome) -> IoOutcome
         requires { none ≡ End ⊎ none ≡ Nothing }
         ensures { (bytes : List ℕ) → WritesAtMost call bytes → MovesAtMost result bytes }
     {
@@ -166,27 +166,27 @@ impl<S: Stream> Session<S> {
             Ok(0) => none,
             Ok(count) => {
                 self.worked = true;
-                Moved::Bytes(count)
+                IoOutcome::Bytes(count)
             }
-            Err(error) if has_to_wait(&error) => Moved::Nothing,
-            Err(_) => Moved::Broken,
+            Err(error) if has_to_wait(&error) => IoOutcome::Nothing,
+            Err(_) => IoOutcome::Broken,
         }
     }
 
     /// Writes a prefix of a text, and removes the bytes that went.
-    pub(crate) fn write_front(&mut self, text: &mut Vec<u8>, now: u64) -> Moved {
+    pub(crate) fn write_front(&mut self, text: &mut Vec<u8>, now: u64) -> IoOutcome {
         let moved = self.write(text, now);
-        if let Moved::Bytes(count) = moved {
+        if let IoOutcome::Bytes(count) = moved {
             drop_front(text, count);
         }
         moved
     }
 
     /// Sends some octets of a job that are due. If none are due, the printer's time isn't counted.
-    pub(crate) fn send_due(&mut self, attachment: &mut Attachment, now: u64) -> Moved {
+    pub(crate) fn send_due(&mut self, attachment: &mut Attachment, now: u64) -> IoOutcome {
         if attachment.due().is_empty() {
             self.rest(now);
-            return Moved::Nothing;
+            return IoOutcome::Nothing;
         }
         self.send_some(attachment, usize::MAX, now)
     }
@@ -197,23 +197,23 @@ impl<S: Stream> Session<S> {
         attachment: &mut Attachment,
         most: usize,
         now: u64,
-    ) -> Moved {
+    ) -> IoOutcome {
         let due = attachment.due();
         let moved = self.write(&due[..due.len().min(most)], now);
-        if let Moved::Bytes(count) = moved {
+        if let IoOutcome::Bytes(count) = moved {
             attachment.send(count);
         }
         moved
     }
 
     /// Ends the writing side. The waiting bytes are looked at from then on.
-    pub(crate) fn end_writing(&mut self, now: u64) -> Moved {
+    pub(crate) fn end_writing(&mut self, now: u64) -> IoOutcome {
         self.last = now;
         self.worked = true;
         self.backlog = Backlog::unknown(now);
         match self.caller.link() {
-            Some(link) if link.end_writing().is_ok() => Moved::Nothing,
-            _ => Moved::Broken,
+            Some(link) if link.end_writing().is_ok() => IoOutcome::Nothing,
+            _ => IoOutcome::Broken,
         }
     }
 
@@ -224,14 +224,14 @@ impl<S: Stream> Session<S> {
 
     /// Records that the printer has closed its side after all was written. The job is printed once no bytes
     /// of it wait.
-    pub(crate) fn heed_end(&mut self, now: u64) -> Heard {
+    pub(crate) fn record_end(&mut self, now: u64) -> PrinterEvent {
         if !self.has_backlog() {
-            return Heard::Printed(None);
+            return PrinterEvent::Printed(None);
         }
         match self.caller.has_ended() {
-            Ok(true) => Heard::Printed(None),
+            Ok(true) => PrinterEvent::Printed(None),
             Ok(false) => self.wait(now),
-            Err(_) => Heard::Failed(Breach::Broken),
+            Err(_) => PrinterEvent::Failed(Breach::Broken),
         }
     }
 
@@ -246,11 +246,11 @@ impl<S: Stream> Session<S> {
     }
 
     /// Returns whether the printer has been silent for too long.
-    pub(crate) fn wait(&self, now: u64) -> Heard {
+    pub(crate) fn wait(&self, now: u64) -> PrinterEvent {
         if self.silence(now) >= self.timeout {
-            Heard::Failed(Breach::Silent)
+            PrinterEvent::Failed(Breach::Silent)
         } else {
-            Heard::Nothing
+            PrinterEvent::Nothing
         }
     }
 

@@ -87,7 +87,7 @@ impl fmt::Display for LeftOut {
 
 /// The result of a printer's task.
 #[derive(Clone, Copy)]
-pub enum Told {
+pub enum TaskOutcome {
     Nothing,
     /// The printer reports that it needs a person.
     Stops,
