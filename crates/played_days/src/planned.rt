@@ -6,7 +6,6 @@ use crate::room::Room;
 use base_types::{DeviceId, JobId, Limits, Moment, Report};
 use dispatcher::Core;
 use events::{Effects, Event, Response, Status};
-use ipp_operations::{ParsedRequest, ipp_event};
 use job_lists::ListedJob;
 use plan_solver::AugmentingPaths;
 use print_room::Started;
@@ -109,16 +108,11 @@ impl<'a> Planned<'a> {
 
     /// Sends a job as a Print-Job request.
     fn send_job(&mut self, job: &ListedJob, now: u64) -> Result<Sent, AllocError> {
-        let body = print_job(self.alloc, self.core.settings(), job)?;
-        self.send_body(&body, now)
-    }
-
-    /// Sends the body of a request.
-    fn send_body(&mut self, body: &[u8], now: u64) -> Result<Sent, AllocError> {
-        match ipp_event(self.alloc, body)? {
-            ParsedRequest::Event(_, event) => apply_to(self.core, event, moment_at(now)),
-            _ => Ok(Sent::Refused),
-        }
+        let Some(printer) = self.core.settings().printers.get(job.needs.printer.place()) else {
+            return Ok(Sent::Refused);
+        };
+        let request = print_job(self.alloc, printer, job)?;
+        apply_to(self.core, Event::PrintJob(request), moment_at(now))
     }
 
     /// Sends the first job of those for which the core had no room, and has the core plan if it is taken.

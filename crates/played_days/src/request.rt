@@ -1,140 +1,100 @@
-//! A job of a list as the body of a Print-Job request (RFC 8010, section 3; RFC 8011, section 4.2.1).
+//! A job of a list as a Print-Job request (RFC 8011, section 4.2.1).
 
-use crate::bytes::Bytes;
-use base_types::{Finishings, Text};
+use crate::job::copy_of;
+use base_types::{JobId, Moment, Priority, Text};
+use events::{DocumentForm, JobCreation, PrintJob, Target};
 use job_lists::ListedJob;
-use settings_file::Settings;
+use job_objects::{Job, JobState};
+use job_template::RequestAttributes;
+use octets::Octets;
+use printer_objects::{JobAttribute, JobShown, groups_are_spelt, job_attributes};
+use settings_file::PrinterSettings;
 use std::alloc::{AllocError, Global};
 
-/// The tags of values (RFC 8010, section 3.5.2).
-const INTEGER: u8 = 0x21;
+/// The attributes of the job group.
+const TEMPLATE: [JobAttribute; 5] = [
+    JobAttribute::Copies,
+    JobAttribute::Media,
+    JobAttribute::Sides,
+    JobAttribute::Priority,
+    JobAttribute::Finishings,
+];
 
-const BOOLEAN: u8 = 0x22;
-
-const ENUM: u8 = 0x23;
-
-const KEYWORD: u8 = 0x44;
-
-const URI: u8 = 0x45;
-
-const CHARSET: u8 = 0x47;
-
-const NATURAL_LANGUAGE: u8 = 0x48;
-
-const MIME_MEDIA_TYPE: u8 = 0x49;
-
-/// The beginning of a body: version 1.1, Print-Job, request-id 1, and the tag of the operation attributes.
-const BEGIN: [u8; 9] = [1, 1, 0, 2, 0, 0, 0, 1, 1];
-
-/// The tags of the job attributes, and of the end of the attributes.
-const JOB_ATTRIBUTES: u8 = 2;
-
-const END_OF_ATTRIBUTES: u8 = 3;
-
-/// Appends bytes after their length.
-fn put_counted(body: Bytes, bytes: &[u8]) -> Bytes {
-    let count = u16::try_from(bytes.len()).unwrap_or(u16::MAX);
-    body.put(&count.to_be_bytes()).put(bytes)
+/// A text without bytes.
+fn no_text(alloc: Global) -> Text {
+    Text::new(Vec::new(alloc))
 }
 
-/// Appends a value with a name; without a name it is a further value of the attribute before.
-fn put_value(body: Bytes, tag: u8, name: &str, value: &[u8]) -> Bytes {
-    let body = put_counted(body.put(&[tag]), name.as_bytes());
-    put_counted(body, value)
+/// A job with the priority and the needs of one of a list.
+fn job_of(alloc: Global, listed: &ListedJob) -> Result<Job, AllocError> {
+    Ok(Job {
+        id: JobId::new(JobId::FIRST).unwrap(),
+        owner: no_text(alloc),
+        name: no_text(alloc),
+        priority: Priority::new(listed.priority).unwrap_or(Priority::normal()),
+        needs: copy_of(alloc, &listed.needs)?,
+        impressions: Some(listed.needs.impressions),
+        state: JobState::Pending,
+        incoming: false,
+        held: false,
+        stranded: false,
+        documents: 0,
+        octets: 0,
+        canceled_by: None,
+        created: Moment::start(),
+        started: None,
+        finished: None,
+    })
 }
 
-fn put_number(body: Bytes, tag: u8, name: &str, value: u32) -> Bytes {
-    put_value(body, tag, name, &value.to_be_bytes())
+/// The job group of a request for a job: its attributes, as the server shows them. None of them has a URI.
+fn template_of(
+    alloc: Global,
+    printer: &PrinterSettings,
+    job: &Job,
+) -> Result<RequestAttributes, AllocError> {
+    let shown = JobShown {
+        job,
+        uri_base: &printer.name,
+        printer_name: &printer.name,
+        printer_paused: false,
+        moment: Moment::start(),
+    };
+    groups_are_spelt();
+    let group = job_attributes(alloc, &shown, &TEMPLATE)?;
+    Ok(RequestAttributes::from_vec(group.attributes))
 }
 
-/// Appends a finishing, if it is wanted.
-fn put_finishing(body: Bytes, is_wanted: bool, name: &str, number: u32) -> Bytes {
-    if is_wanted {
-        put_number(body, ENUM, name, number)
-    } else {
-        body
+/// The format of a job's document, if it has one.
+fn format_of(alloc: Global, listed: &ListedJob) -> Result<Option<Text>, AllocError> {
+    match listed.needs.formats.first() {
+        Some(format) => Ok(Some(format.copied(alloc)?)),
+        None => Ok(None),
     }
 }
 
-/// The name of the attribute; empty if it has a value already.
-fn finishings_name(is_there: bool) -> &'static str {
-    if is_there { "" } else { "finishings" }
-}
-
-/// Appends the finishings, if there are any (RFC 8011, section 5.2.6).
-fn put_finishings(body: Bytes, finishings: Finishings) -> Bytes {
-    let stapled = finishings.staple;
-    let body = put_finishing(body, stapled, finishings_name(false), 4);
-    let body = put_finishing(body, finishings.punch, finishings_name(stapled), 5);
-    let is_there = stapled || finishings.punch;
-    put_finishing(body, finishings.bind, finishings_name(is_there), 7)
-}
-
-/// Appends the format of the document, if it has one.
-fn put_format(body: Bytes, format: Option<&Text>) -> Bytes {
-    match format {
-        Some(format) => put_value(body, MIME_MEDIA_TYPE, "document-format", format.as_bytes()),
-        None => body,
-    }
-}
-
-/// Appends the operation attributes.
-fn put_operation(body: Bytes, uri: &[u8], format: Option<&Text>, impressions: u32) -> Bytes {
-    let body = put_value(body, CHARSET, "attributes-charset", b"utf-8");
-    let body = put_value(body, NATURAL_LANGUAGE, "attributes-natural-language", b"en");
-    let body = put_value(body, URI, "printer-uri", uri);
-    let body = put_value(body, BOOLEAN, "ipp-attribute-fidelity", &[1]);
-    put_number(
-        put_format(body, format),
-        INTEGER,
-        "job-impressions",
-        impressions,
-    )
-}
-
-/// Appends the job attributes.
-fn put_job(body: Bytes, job: &ListedJob) -> Bytes {
-    let needs = &job.needs;
-    let body = put_number(body, INTEGER, "copies", needs.copies);
-    let body = put_value(body, KEYWORD, "media", needs.media.as_bytes());
-    let body = put_value(body, KEYWORD, "sides", needs.sides.keyword().as_bytes());
-    let body = put_number(body, INTEGER, "job-priority", u32::from(job.priority));
-    put_finishings(body, needs.finishings)
-}
-
-/// The URI of the printer at a place of the settings; empty if there is none. The only error is out of
-/// memory.
-fn printer_uri(alloc: Global, settings: &Settings, place: usize) -> Result<Vec<u8>, AllocError> {
-    let uri = Bytes::new(alloc);
-    match settings.printers.get(place) {
-        Some(printer) => uri
-            .put(settings.uri_base.as_bytes())
-            .put(b"/printers/")
-            .put(printer.name.as_bytes())
-            .finish(),
-        None => uri.finish(),
-    }
-}
-
-/// Appends a whole body.
-fn put_request(body: Bytes, uri: &[u8], job: &ListedJob) -> Bytes {
-    let needs = &job.needs;
-    let body = put_operation(
-        body.put(&BEGIN),
-        uri,
-        needs.formats.first(),
-        needs.impressions,
-    );
-    put_job(body.put(&[JOB_ATTRIBUTES]), job).put(&[END_OF_ATTRIBUTES])
-}
-
-/// The body of a Print-Job for a job of a list, without octets of its document. The only error is out of
-/// memory.
+/// The request for a job of a list at its printer, without octets of its document. An attribute that the
+/// printer doesn't support refuses it. The only error is out of memory.
 pub(crate) fn print_job(
     alloc: Global,
-    settings: &Settings,
-    job: &ListedJob,
-) -> Result<Vec<u8>, AllocError> {
-    let uri = printer_uri(alloc, settings, job.needs.printer.place())?;
-    put_request(Bytes::new(alloc), &uri, job).finish()
+    printer: &PrinterSettings,
+    listed: &ListedJob,
+) -> Result<PrintJob, AllocError> {
+    let job = job_of(alloc, listed)?;
+    let template = template_of(alloc, printer, &job)?;
+    Ok(PrintJob {
+        job: JobCreation {
+            target: Target::Named(printer.name.copied(alloc)?),
+            user: job.owner,
+            name: job.name,
+            impressions: job.impressions,
+            fidelity: true,
+            template,
+        },
+        form: DocumentForm {
+            compression: None,
+            format: format_of(alloc, listed)?,
+        },
+        octets: Octets::copy_of(alloc, &[])?,
+    })
 }
