@@ -21,7 +21,7 @@ use crate::days::{
     COMPARED, COMPARED_DAYS, CROWDED, DAYS, DRAWN, Day, Drawn, SETS, compared_texts, is_compared,
     is_drawn_so, is_played_so,
 };
-use crate::example::{EXAMPLES, Example, Program};
+use crate::example::{EXAMPLES, Program};
 use crate::many_jobs::CROWDS;
 use crate::pages::{PAGED, is_paged_so};
 use crate::texts::each_is_proved;
@@ -35,13 +35,13 @@ use replay::run_replay;
 use std::process::ExitCode;
 use std::{fs, io};
 
+/// Draws a plan, and gives its status.
+fn draw(rt: &HostRuntime, reader: &mut &[u8], output: &mut Vec<u8>, form: Form) -> ExitStatus {
+    run_draw(rt.alloc(), reader, output, form).status
+}
+
 /// Plays a recorded day, and gives its status.
-fn play_recorded(
-    rt: &HostRuntime,
-    reader: &mut &[u8],
-    output: &mut Vec<u8>,
-    shows: Shows,
-) -> ExitStatus {
+fn verify(rt: &HostRuntime, reader: &mut &[u8], output: &mut Vec<u8>, shows: Shows) -> ExitStatus {
     playback::play(rt.alloc(), "<standard input>", reader, output, shows).status
 }
 
@@ -52,10 +52,10 @@ fn play(rt: &HostRuntime, program: Program, input: &[u8]) -> (ExitStatus, Vec<u8
     let status = match program {
         Program::Replay => run_replay(rt.alloc(), &mut reader, &mut output, false).status,
         Program::Check => run_check(rt.alloc(), &mut reader, &mut output, true).status,
-        Program::Draw => run_draw(rt.alloc(), &mut reader, &mut output, Form::Svg).status,
-        Program::DrawText => run_draw(rt.alloc(), &mut reader, &mut output, Form::Text).status,
-        Program::Verify => play_recorded(rt, &mut reader, &mut output, Shows::Verdict),
-        Program::Log => play_recorded(rt, &mut reader, &mut output, Shows::Log),
+        Program::Draw | Program::NoDrawing => draw(rt, &mut reader, &mut output, Form::Svg),
+        Program::DrawText | Program::NoText => draw(rt, &mut reader, &mut output, Form::Text),
+        Program::Verify | Program::Same => verify(rt, &mut reader, &mut output, Shows::Verdict),
+        Program::Log => verify(rt, &mut reader, &mut output, Shows::Log),
     };
     (status, output)
 }
@@ -69,21 +69,25 @@ fn has_proved_plans(
 ) -> io::Result<bool> {
     match program {
         Program::Replay => Ok(each_is_proved(rt.alloc(), input, wanted)?),
-        Program::Check | Program::Draw | Program::DrawText | Program::Verify | Program::Log => Ok(
-            true,
-        ),
+        _ => Ok(true),
     }
 }
 
-/// Whether an example ends and writes as it must. The error is the system's, of its files.
-fn is_as_wanted(rt: &HostRuntime, example: &Example) -> io::Result<bool> {
-    let input = fs::read(rt, example.input)?;
-    let wanted = fs::read(rt, example.output)?;
-    let (status, output) = play(rt, example.program, &input);
+/// Whether a program ends and writes as it must. The error is the system's, of its files.
+fn is_as_wanted(
+    rt: &HostRuntime,
+    program: Program,
+    input: &str,
+    output: &str,
+    status: ExitStatus,
+) -> io::Result<bool> {
+    let input = fs::read(rt, input)?;
+    let wanted = fs::read(rt, output)?;
+    let (ended, written) = play(rt, program, &input);
     Ok(
-        status.code() == example.status.code()
-            && output.as_slice() == wanted.as_slice()
-            && has_proved_plans(rt, example.program, &input, &wanted)?,
+        ended.code() == status.code()
+            && written.as_slice() == wanted.as_slice()
+            && has_proved_plans(rt, program, &input, &wanted)?,
     )
 }
 
@@ -99,9 +103,11 @@ fn tell(rt: &HostRuntime, name: &str, as_wanted: bool) -> io::Result<()> {
 /// Plays the files: whether each is as it must be.
 fn play_files(rt: &HostRuntime) -> io::Result<bool> {
     let mut all = true;
-    for example in &EXAMPLES {
-        let as_wanted = is_as_wanted(rt, example)?;
-        tell(rt, example.input, as_wanted)?;
+    for &(name, program, status) in &EXAMPLES {
+        let input = program.input(rt.alloc(), name)?;
+        let output = program.output(rt.alloc(), name)?;
+        let as_wanted = is_as_wanted(rt, program, &input, &output, status)?;
+        tell(rt, &input, as_wanted)?;
         all = all && as_wanted;
     }
     Ok(all)
