@@ -1,23 +1,15 @@
 //! Words about a further device, as `rate_one=1000 setup=2000 media=A4,A3`.
+ghost use Rattle.std.specs.Prelude.{◌≤◌, IfSome};
+ghost use Rattle.std.specs.Option.{ForSome};
+ghost use Rattle.base_types.specs.Ranges.{IsRate};
 
 use crate::fault::{DayFault, refused};
+use crate::job::copies_of;
 use base_types::{Finishings, Limits, Text};
 use gantt_chart::Page;
 use job_lists::medium_of;
 use settings_file::{DeviceSettings, Settings};
 use std::alloc::{AllocError, Global};
-
-/// What words specify of a further device. What they leave out is as with the device that it is like.
-#[derive(Drop)]
-pub(crate) struct DeviceWords {
-    rate_one: Option<u32>,
-    /// The rate for two sides; `Some(None)` if it prints none.
-    rate_two: Option<Option<u32>>,
-    setup: Option<u32>,
-    media: Option<Vec<Text>>,
-    formats: Option<Vec<Text>>,
-    finishings: Option<Finishings>,
-}
 
 /// The keys of the words.
 const KEYS: &str = "like, rate_one, rate_two, setup, media, formats and finishings";
@@ -26,7 +18,9 @@ const KEYS: &str = "like, rate_one, rate_two, setup, media, formats and finishin
 const NONE: &str = "none";
 
 /// The number of a value, from `least` to `most`.
-fn number_in(value: &str, least: u32, most: u32) -> Option<u32> {
+fn number_in(value: &str, least: u32, most: u32) -> Option<u32>
+    ensures { IfSome result (λ number. (least ≤ number) × (number ≤ most)) }
+{
     let number = value.parse::<u32>().ok()?;
     if least <= number && number <= most {
         Some(number)
@@ -36,12 +30,16 @@ fn number_in(value: &str, least: u32, most: u32) -> Option<u32> {
 }
 
 /// The rate of a value.
-fn rate_of(value: &str) -> Option<u32> {
+fn rate_of(value: &str) -> Option<u32>
+    ensures { IfSome result IsRate }
+{
     number_in(value, 1, Limits::RATE)
 }
 
 /// The rate of a value for two sides.
-fn rate_two_of(value: &str) -> Option<Option<u32>> {
+fn rate_two_of(value: &str) -> Option<Option<u32>>
+    ensures { IfSome result (λ rate. ForSome rate IsRate) }
+{
     if value == NONE {
         Some(None)
     } else {
@@ -72,6 +70,14 @@ fn finishings_of(value: &str) -> Option<Finishings> {
     Some(found)
 }
 
+/// Appends a text, if it isn't there yet. The only error is out of memory.
+fn add_once(alloc: Global, texts: &mut Vec<Text>, text: &[u8]) -> Result<(), AllocError> {
+    if !texts.iter().any(|other| other.as_bytes() == text) {
+        texts.push(Text::copy_of(alloc, text)?)?;
+    }
+    Ok(())
+}
+
 /// The media of a value; `None` if a name is none of a medium. The only error is out of memory.
 fn media_of(
     alloc: Global,
@@ -83,7 +89,7 @@ fn media_of(
         let Some(medium) = medium_of(name.as_bytes(), settings) else {
             return Ok(None);
         };
-        media.push(Text::copy_of(alloc, medium)?)?;
+        add_once(alloc, &mut media, medium)?;
     }
     Ok(Some(media))
 }
@@ -92,7 +98,7 @@ fn media_of(
 fn texts_of(alloc: Global, value: &str) -> Result<Vec<Text>, AllocError> {
     let mut texts = Vec::new(alloc);
     for text in value.split(",") {
-        texts.push(Text::copy_of(alloc, text.as_bytes())?)?;
+        add_once(alloc, &mut texts, text.as_bytes())?;
     }
     Ok(texts)
 }
@@ -129,130 +135,88 @@ fn bad_value(alloc: Global, name: &str, key: &str) -> DayFault {
     refused(about(alloc, name).put(key).put(" ").put(wanted(key)))
 }
 
-impl DeviceWords {
-    /// No words.
-    pub(crate) fn none() -> DeviceWords {
-        DeviceWords {
-            rate_one: None,
-            rate_two: None,
-            setup: None,
-            media: None,
-            formats: None,
-            finishings: None,
-        }
+/// Changes a number or the finishings of a device. Returns `None` if the key doesn't allow the value.
+fn take_plain(device: &mut DeviceSettings, key: &str, value: &str) -> Option<()> {
+    match key {
+        "rate_one" => device.rate_one = rate_of(value)?,
+        "rate_two" => device.rate_two = rate_two_of(value)?,
+        "setup" => device.setup = number_in(value, 0, Limits::SETUP)?,
+        _ => device.finishings = finishings_of(value)?,
     }
+    Some(())
+}
 
-    /// Takes a number or finishings. Returns `None` if the key doesn't allow the value.
-    fn take_plain(&mut self, key: &str, value: &str) -> Option<()> {
-        match key {
-            "rate_one" => self.rate_one = Some(rate_of(value)?),
-            "rate_two" => self.rate_two = Some(rate_two_of(value)?),
-            "setup" => self.setup = Some(number_in(value, 0, Limits::SETUP)?),
-            _ => self.finishings = Some(finishings_of(value)?),
-        }
-        Some(())
+/// Changes what a key names of a device. Returns whether the key allows the value. The only error is out of memory.
+fn take(
+    alloc: Global,
+    device: &mut DeviceSettings,
+    key: &str,
+    value: &str,
+    settings: &Settings,
+) -> Result<bool, AllocError> {
+    match key {
+        "like" => {}
+        "media" => match media_of(alloc, value, settings)? {
+            Some(media) => device.media = media,
+            None => return Ok(false),
+        },
+        "formats" => device.formats = texts_of(alloc, value)?,
+        _ => return Ok(take_plain(device, key, value).is_some()),
     }
+    Ok(true)
+}
 
-    /// Takes media. Returns whether they are names of media. The only error is out of memory.
-    fn take_media(
-        &mut self,
-        alloc: Global,
-        value: &str,
-        settings: &Settings,
-    ) -> Result<bool, AllocError> {
-        self.media = media_of(alloc, value, settings)?;
-        Ok(self.media.is_some())
+/// Changes what a word specifies of the device of a name.
+fn take_word(
+    alloc: Global,
+    device: &mut DeviceSettings,
+    name: &str,
+    word: &str,
+    settings: &Settings,
+) -> Result<(), DayFault> {
+    let Some((key, value)) = word.split_once("=") else {
+        return Err(bad_word(alloc, name, word));
+    };
+    if !is_key(key) {
+        return Err(bad_word(alloc, name, word));
     }
+    if take(alloc, device, key, value, settings)? {
+        Ok(())
+    } else {
+        Err(bad_value(alloc, name, key))
+    }
+}
 
-    /// Takes the value of a key. Returns whether the key allows it. The only error is out of memory.
-    fn take(
-        &mut self,
-        alloc: Global,
-        key: &str,
-        value: &str,
-        settings: &Settings,
-    ) -> Result<bool, AllocError> {
-        match key {
-            "like" => Ok(true),
-            "media" => self.take_media(alloc, value, settings),
-            "formats" => {
-                self.formats = Some(texts_of(alloc, value)?);
-                Ok(true)
-            }
-            _ => Ok(self.take_plain(key, value).is_some()),
-        }
-    }
+/// A copy of a device under a name. The only error is out of memory.
+fn renamed(
+    alloc: Global,
+    device: &DeviceSettings,
+    name: &str,
+) -> Result<DeviceSettings, AllocError> {
+    Ok(DeviceSettings {
+        name: Text::copy_of(alloc, name.as_bytes())?,
+        rate_one: device.rate_one,
+        rate_two: device.rate_two,
+        setup: device.setup,
+        media: copies_of(alloc, &device.media)?,
+        formats: copies_of(alloc, &device.formats)?,
+        finishings: device.finishings,
+    })
+}
 
-    /// Takes a word about the device of a name.
-    fn take_word(
-        &mut self,
-        alloc: Global,
-        name: &str,
-        word: &str,
-        settings: &Settings,
-    ) -> Result<(), DayFault> {
-        let Some((key, value)) = word.split_once("=") else {
-            return Err(bad_word(alloc, name, word));
-        };
-        if !is_key(key) {
-            return Err(bad_word(alloc, name, word));
-        }
-        if self.take(alloc, key, value, settings)? {
-            Ok(())
-        } else {
-            Err(bad_value(alloc, name, key))
-        }
+/// A device of a name that is like another, except for what the words specify.
+pub(crate) fn device_of(
+    alloc: Global,
+    name: &str,
+    like: &DeviceSettings,
+    words: &str,
+    settings: &Settings,
+) -> Result<DeviceSettings, DayFault> {
+    let mut device = renamed(alloc, like, name)?;
+    for word in words.split_whitespace() {
+        take_word(alloc, &mut device, name, word, settings)?;
     }
-
-    /// The words about the device of a name.
-    pub(crate) fn read(
-        alloc: Global,
-        name: &str,
-        words: &str,
-        settings: &Settings,
-    ) -> Result<DeviceWords, DayFault> {
-        let mut found = DeviceWords::none();
-        for word in words.split_whitespace() {
-            found.take_word(alloc, name, word, settings)?;
-        }
-        Ok(found)
-    }
-
-    /// The rate for one side, of a device that is like another.
-    pub(crate) fn rate_one(&self, like: &DeviceSettings) -> u32 {
-        self.rate_one.unwrap_or(like.rate_one)
-    }
-
-    /// The rate for two sides, of a device that is like another.
-    pub(crate) fn rate_two(&self, like: &DeviceSettings) -> Option<u32> {
-        self.rate_two.unwrap_or(like.rate_two)
-    }
-
-    /// The setup of a device that is like another.
-    pub(crate) fn setup(&self, like: &DeviceSettings) -> u32 {
-        self.setup.unwrap_or(like.setup)
-    }
-
-    /// The media of a device that is like another.
-    pub(crate) fn media<'a>(&'a self, like: &'a DeviceSettings) -> &'a [Text] {
-        match &self.media {
-            Some(media) => media,
-            None => &like.media,
-        }
-    }
-
-    /// The formats of a device that is like another.
-    pub(crate) fn formats<'a>(&'a self, like: &'a DeviceSettings) -> &'a [Text] {
-        match &self.formats {
-            Some(formats) => formats,
-            None => &like.formats,
-        }
-    }
-
-    /// The finishings of a device that is like another.
-    pub(crate) fn finishings(&self, like: &DeviceSettings) -> Finishings {
-        self.finishings.unwrap_or(like.finishings)
-    }
+    Ok(device)
 }
 
 /// Returns whether a word is a key.

@@ -3,15 +3,15 @@
 ghost use Rattle.std.specs.Prelude.{IfOk};
 ghost use Rattle.settings_file.specs.Settings.{MeetsLimits};
 
-use crate::device_words::{DeviceWords, like_in};
+use crate::device_words::{device_of, like_in};
 use crate::fault::{DayFault, refused};
+use crate::further_device::extended;
 use crate::planned::report_to;
-use crate::settings_text::text_with;
 use base_types::{Moment, Report};
 use dispatcher::Core;
 use gantt_chart::Page;
 use plan_solver::AugmentingPaths;
-use settings_file::{Settings, SettingsFault, read_settings_bytes};
+use settings_file::Settings;
 use std::alloc::{AllocError, Global};
 
 /// A further device.
@@ -43,17 +43,6 @@ fn known(alloc: Global, settings: &Settings, name: &str) -> Result<usize, DayFau
     }
 }
 
-/// Reads the settings of a text that has a further device of a name.
-fn settings_in(alloc: Global, text: &[u8], name: &str) -> Result<Settings, DayFault>
-    ensures { IfOk result MeetsLimits }
-{
-    match read_settings_bytes(alloc, text) {
-        Ok(settings) => Ok(settings),
-        Err(SettingsFault::OutOfMemory) => Err(DayFault::OutOfMemory),
-        Err(_) => Err(device_fault(alloc, "take no device", name, NO_MORE)),
-    }
-}
-
 /// The place of the device that a further one is like, or the fault that there is none.
 fn place_of_like(alloc: Global, settings: &Settings, added: Added<'_>) -> Result<usize, DayFault> {
     match added.like.or(like_in(added.words)) {
@@ -64,16 +53,22 @@ fn place_of_like(alloc: Global, settings: &Settings, added: Added<'_>) -> Result
 
 /// Settings with a further device. It is after all others, and belongs to each printer that has the device
 /// that it is like.
-fn with_device(alloc: Global, settings: &Settings, added: Added<'_>) -> Result<Settings, DayFault>
+fn with_device(alloc: Global, settings: Settings, added: Added<'_>) -> Result<Settings, DayFault>
+    requires { MeetsLimits settings }
     ensures { IfOk result MeetsLimits }
 {
-    let like = place_of_like(alloc, settings, added)?;
+    let place = place_of_like(alloc, &settings, added)?;
     if settings.device_named(added.name.as_bytes()).is_some() {
         return Err(device_fault(alloc, "have a device", added.name, " already"));
     }
-    let words = DeviceWords::read(alloc, added.name, added.words, settings)?;
-    let text = text_with(alloc, settings, like, added.name, &words)?;
-    settings_in(alloc, &text, added.name)
+    let Some(like) = settings.devices.get(place) else {
+        return Err(device_fault(alloc, "take no device", added.name, NO_MORE));
+    };
+    let device = device_of(alloc, added.name, like, added.words, &settings)?;
+    match extended(alloc, settings, place, device)? {
+        Some(settings) => Ok(settings),
+        None => Err(device_fault(alloc, "take no device", added.name, NO_MORE)),
+    }
 }
 
 /// Settings with further devices.
@@ -87,7 +82,7 @@ pub(crate) fn with_devices(
 {
     let mut all = settings;
     for device in added {
-        all = with_device(alloc, &all, *device)?;
+        all = with_device(alloc, all, *device)?;
     }
     Ok(all)
 }

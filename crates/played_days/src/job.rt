@@ -34,7 +34,7 @@ pub struct RecordedPrint {
 }
 
 /// A copy of each text.
-fn copies_of(alloc: Global, texts: &[Text]) -> Result<Vec<Text>, AllocError> {
+pub(crate) fn copies_of(alloc: Global, texts: &[Text]) -> Result<Vec<Text>, AllocError> {
     let mut copies = Vec::with_capacity(alloc, texts.len())?;
     for text in texts {
         copies.push(text.copied(alloc)?)?;

@@ -21,7 +21,6 @@
 //! traces and days of `play_examples`.
 #![tactic(auto)]
 
-mod bytes;
 mod chart;
 mod comparison;
 mod day;
@@ -31,6 +30,7 @@ mod fault;
 mod figures;
 mod fleet;
 mod floor;
+mod further_device;
 mod job;
 mod list;
 mod load;
@@ -45,7 +45,6 @@ mod recorder;
 mod request;
 mod room;
 mod run;
-mod settings_text;
 mod summary;
 mod table;
 
