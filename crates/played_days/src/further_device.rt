@@ -1,5 +1,5 @@
 //! Settings with a further device.
-ghost use Rattle.std.specs.Prelude.{◌≡◌, ◌+◌, ◌<◌, ◌&&◌, nat_le, All, IfOk, IfSome, OnOk};
+ghost use Rattle.std.specs.Prelude.{◌≡◌, ◌+◌, ◌<◌, All, IfOk, IfSome, OnOk};
 ghost use Rattle.std.specs.List.{list_all};
 ghost use Rattle.base_types.specs.Forms.{is_media, is_format};
 ghost use Rattle.settings_file.specs.Settings.{IsPrinterEntry, MeetsLimits};
@@ -68,6 +68,7 @@ fn add_member(
     ensures within { OnOk result (IsPrinterEntry (place + 1) printer.new) }
 {
     let mut devices = members_with(alloc, printer.devices.devices(), like, place)?;
+    // cuts nothing, since a printer has a device once
     devices.truncate(Limits::DEVICES);
     printer.devices = PrinterSet::new(devices);
     Ok(())
