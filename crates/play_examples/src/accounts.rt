@@ -1,7 +1,7 @@
 //! Accounts: the table of the jobs of each recorded day must equal its file.
 
-use queue_reports::AccountTable;
 use playback::Follower;
+use queue_reports::AccountTable;
 use std::alloc::Global;
 
 /// A recorded day, and the file with the table of its jobs.

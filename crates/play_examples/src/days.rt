@@ -1,6 +1,7 @@
 //! Days: what is written of each simulated day, and the picture of each day that a trace records, must equal
 //! its file.
 
+use base_types::JobId;
 use gantt_chart::Form;
 use job_lists::{ListedJob, read_list};
 use played_days::{
@@ -104,9 +105,14 @@ impl Watch for Quiet {
     }
 }
 
+/// The id of the first job of a trace.
+fn first_job() -> JobId {
+    JobId::new(JobId::FIRST).unwrap()
+}
+
 /// The jobs of a text, for some settings: those of a trace, if it is one.
 fn jobs_of(alloc: Global, text: &[u8], settings: &Settings) -> Option<Vec<ListedJob>> {
-    match read_day(alloc, "day", text) {
+    match read_day(alloc, "day", text, first_job()) {
         Ok(day) => listed_jobs(alloc, &day, settings).ok(),
         Err(_) => read_list(alloc, text, settings).ok().map(|list| list.jobs),
     }
@@ -152,7 +158,7 @@ pub fn is_played_so(
 
 /// Whether just this is drawn of a trace.
 pub fn is_drawn_so(alloc: Global, trace: &[u8], form: Form, wanted: &[u8]) -> bool {
-    match draw_day(alloc, "day", trace, form) {
+    match draw_day(alloc, "day", trace, first_job(), form) {
         Ok(picture) => picture.as_bytes() == wanted,
         Err(_) => false,
     }

@@ -1,8 +1,8 @@
 //! The conversion of a recorded day into a trace as a person writes it.
 ghost use Rattle.std.specs.Prelude.{◌<◌, IfSome, length};
 
-use base_types::Moment;
-use recordings::{Entry, GOES_ON, octets_behind, read_entry};
+use base_types::{JobId, Moment};
+use recordings::{Entry, GOES_ON, octets_behind, read_entry, read_start};
 use std::alloc::{AllocError, Global};
 use traces::{CutLine, next_line, split_settings};
 use wires::{Door, WireId};
@@ -12,8 +12,9 @@ use wires::{Door, WireId};
 pub enum Written {
     /// The trace is already one as a person writes it.
     Already,
-    /// The trace is a recorded day. The text has the same content as a trace.
-    Made(Vec<u8>),
+    /// The trace is a recorded day. The text has the same content as a trace, whose first job has the id
+    /// `first`.
+    Made { text: Vec<u8>, first: JobId },
     /// The trace is a recorded day whose line of this number isn't a line of a recorded day.
     Bad(u64),
 }
@@ -129,6 +130,15 @@ fn is_recorded(lines: &[u8]) -> bool {
     lines.starts_with(b"recorded ")
 }
 
+/// The id of the first job of a recorded day with these lines after its settings.
+fn first_job(lines: &[u8]) -> JobId {
+    let line = next_line(lines).map_or(lines, |cut| cut.line);
+    match read_start(line) {
+        Some(start) => start.first,
+        None => JobId::new(JobId::FIRST).unwrap(),
+    }
+}
+
 /// Returns whether a line of a recorded day has no entry: a comment, or the start of the day.
 fn is_remark(line: &[u8]) -> bool {
     line.starts_with(b"#") || line.starts_with(b"recorded ")
@@ -214,5 +224,8 @@ fn write_lines(
         passed = passed.saturating_add(feeds_of(cut.line));
         rest = cut.later;
     }
-    Ok(Written::Made(writer.text))
+    Ok(Written::Made {
+        text: writer.text,
+        first: first_job(lines),
+    })
 }

@@ -192,7 +192,13 @@ fn draw(alloc: Global, day: &RecordedDay, form: Form) -> Result<String, AllocErr
 /// # Errors
 ///
 /// The errors of [`read_day`].
-pub fn draw_day(alloc: Global, file: &str, text: &[u8], form: Form) -> Result<String, DayFault> {
-    let day = read_day(alloc, file, text)?;
+pub fn draw_day(
+    alloc: Global,
+    file: &str,
+    text: &[u8],
+    first: JobId,
+    form: Form,
+) -> Result<String, DayFault> {
+    let day = read_day(alloc, file, text, first)?;
     Ok(draw(alloc, &day, form)?)
 }

@@ -5,7 +5,7 @@ ghost use Rattle.settings_file.specs.Settings.{MeetsLimits};
 use crate::fault::{DayFault, refused};
 use crate::job::{RecordedJob, RecordedPrint};
 use crate::player::Player;
-use base_types::{Stranded, Text};
+use base_types::{JobId, Stranded, Text};
 use gantt_chart::Page;
 use plan_solver::AugmentingPaths;
 use server::Engine;
@@ -141,11 +141,12 @@ fn play_day(
     file: &str,
     trace: CutTrace<'_>,
     settings: Settings,
+    first: JobId,
 ) -> Result<RecordedDay, DayFault>
     requires { MeetsLimits settings }
 {
     let names = names_of(alloc, &settings)?;
-    play_settings(alloc, file, trace, settings, names)
+    play_settings(alloc, file, trace, settings, names, first)
 }
 
 /// The day of a trace, played by a server whose settings have these names.
@@ -155,10 +156,12 @@ fn play_settings(
     trace: CutTrace<'_>,
     settings: Settings,
     names: Names,
+    first: JobId,
 ) -> Result<RecordedDay, DayFault>
     requires { MeetsLimits settings }
 {
-    let mut engine = Engine::new(alloc, settings, AugmentingPaths::new(alloc))?;
+    let planner = AugmentingPaths::new(alloc);
+    let mut engine = Engine::starting_at(alloc, settings, planner, first)?;
     play_trace(alloc, file, &mut engine, trace, names)
 }
 
@@ -168,16 +171,22 @@ fn no_settings(alloc: Global, file: &str) -> DayFault {
     refused(sentence.put("no line is \".\" alone, as the one behind the settings is"))
 }
 
-/// Reads the day of a trace, whose text is that of a file of this name (`docs/TRACES.md`).
+/// Reads the day of a trace, whose text is that of a file of this name (`docs/TRACES.md`). `first` is the id of its
+/// first job.
 ///
 /// # Errors
 ///
 /// The text isn't a trace, or a line of it is bad: a sentence that begins with the name states where. Or memory
 /// was refused.
-pub fn read_day(alloc: Global, file: &str, text: &[u8]) -> Result<RecordedDay, DayFault> {
+pub fn read_day(
+    alloc: Global,
+    file: &str,
+    text: &[u8],
+    first: JobId,
+) -> Result<RecordedDay, DayFault> {
     let Some(trace) = split_settings(text) else {
         return Err(no_settings(alloc, file));
     };
     let settings = settings_of(alloc, file, trace.settings)?;
-    play_day(alloc, file, trace, settings)
+    play_day(alloc, file, trace, settings, first)
 }

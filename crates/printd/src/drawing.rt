@@ -5,6 +5,7 @@ use crate::failure::{cannot, out_of_memory, say, write_text};
 use crate::input::{INPUT, open};
 use crate::judging::{failed, told};
 use crate::settings::read_file;
+use base_types::JobId;
 use command_line::Drawn;
 use gantt_chart::Form;
 use plan_drawing::run_draw;
@@ -49,16 +50,26 @@ pub(crate) fn refuse_day(rt: &HostRuntime, what: &str, fault: &DayFault) -> Exit
     }
 }
 
+/// A trace in the written form, and the id of its first job.
+#[derive(Drop)]
+pub(crate) struct WrittenTrace {
+    pub(crate) text: Vec<u8>,
+    pub(crate) first: JobId,
+}
+
 /// The trace of a file in the written form: a recorded day is converted. An error is reported, and its exit
 /// status returned.
 pub(crate) fn written_trace(
     rt: &HostRuntime,
     file: &str,
     text: Vec<u8>,
-) -> Result<Vec<u8>, ExitStatus> {
+) -> Result<WrittenTrace, ExitStatus> {
     match as_written(rt.alloc(), &text) {
-        Ok(Written::Already) => Ok(text),
-        Ok(Written::Made(made)) => Ok(made),
+        Ok(Written::Already) => Ok(WrittenTrace {
+            text,
+            first: JobId::new(JobId::FIRST).unwrap(),
+        }),
+        Ok(Written::Made { text, first }) => Ok(WrittenTrace { text, first }),
         Ok(Written::Bad(line)) => {
             let _said = eprintln!(rt;
                 "printd: {file}: line {line}: this is no line of a recorded day"
@@ -71,8 +82,8 @@ pub(crate) fn written_trace(
 
 /// Draws the day of a trace. An error is reported, and its exit status returned.
 fn draw_trace(rt: &HostRuntime, file: &str, form: Form) -> Result<ExitStatus, ExitStatus> {
-    let text = written_trace(rt, file, read_file(rt, file)?)?;
-    let drawn = draw_day(rt.alloc(), file, &text, form);
+    let trace = written_trace(rt, file, read_file(rt, file)?)?;
+    let drawn = draw_day(rt.alloc(), file, &trace.text, trace.first, form);
     let picture = drawn.map_err(|fault| refuse_day(rt, "draw the day", &fault))?;
     write_text(rt, &picture)
 }

@@ -1,6 +1,6 @@
 //! `printd simulate`.
 
-use crate::drawing::{form_of, refuse_day, written_trace};
+use crate::drawing::{WrittenTrace, form_of, refuse_day, written_trace};
 use crate::failure::{cannot, out_of_memory, say, write_text};
 use crate::settings::{read_file, settings_of};
 use command_line::Simulating;
@@ -185,10 +185,10 @@ fn jobs_of_list(
 fn jobs_of_trace(
     rt: &HostRuntime,
     file: &str,
-    text: &[u8],
+    trace: &WrittenTrace,
     settings: &Settings,
 ) -> Result<Vec<ListedJob>, DayFault> {
-    let day = read_day(rt.alloc(), file, text)?;
+    let day = read_day(rt.alloc(), file, &trace.text, trace.first)?;
     listed_jobs(rt.alloc(), &day, settings)
 }
 
@@ -202,8 +202,8 @@ fn jobs_of(
 ) -> Result<Vec<ListedJob>, ExitStatus> {
     let text = read_file(rt, file)?;
     if split_settings(&text).is_some() {
-        let text = written_trace(rt, file, text)?;
-        jobs_of_trace(rt, file, &text, settings).map_err(|fault| refuse_day(rt, PLAY, &fault))
+        let trace = written_trace(rt, file, text)?;
+        jobs_of_trace(rt, file, &trace, settings).map_err(|fault| refuse_day(rt, PLAY, &fault))
     } else {
         jobs_of_list(rt, file, &text, settings, reports)
     }
