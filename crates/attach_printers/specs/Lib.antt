@@ -1,2 +1,2 @@
-pub mod Moved
-pub mod Told
+pub mod IoOutcome
+pub mod TaskOutcome
