@@ -1,5 +1,5 @@
 //! Printers with AppSocket.
-use crate::play::{LINKED, NOTHING, READY, Row, network, play};
+use crate::play::{AdapterRow, LINKED, NOTHING, READY, network, play};
 use crate::script::Step;
 use crate::script::Step::{Breaks, Connects, Ends, Finishes, Holds, Misses, Passes, Sends, Writes};
 use attach_printers::AppSocket;
@@ -24,8 +24,8 @@ const BEGUN: &[Step] = &[
     Connects(Printer),
 ];
 
-const ROWS: [Row; 13] = [
-    Row {
+const ROWS: [AdapterRow; 13] = [
+    AdapterRow {
         name: "the printer closes, copies",
         start: LINKED,
         steps: &[
@@ -38,7 +38,7 @@ const ROWS: [Row; 13] = [
         ],
         log: "0 linked\n0 job 7 5 2\n0 done 7\n",
     },
-    Row {
+    AdapterRow {
         name: "the printer says nothing more",
         start: BEGUN,
         steps: &[
@@ -50,7 +50,7 @@ const ROWS: [Row; 13] = [
         ],
         log: "0 linked\n0 job 7 5 1\n30125 done 7\n",
     },
-    Row {
+    AdapterRow {
         name: "the printer talks nonsense",
         start: BEGUN,
         steps: &[
@@ -62,7 +62,7 @@ const ROWS: [Row; 13] = [
         ],
         log: "0 linked\n0 job 7 5 1\n0 done 7\n",
     },
-    Row {
+    AdapterRow {
         name: "the end of the job waits in this machine",
         start: BEGUN,
         steps: &[
@@ -75,31 +75,31 @@ const ROWS: [Row; 13] = [
         ],
         log: "0 linked\n0 job 7 5 1\n300125 fail 7 silent\n",
     },
-    Row {
+    AdapterRow {
         name: "the connection breaks",
         start: BEGUN,
         steps: &[Breaks(Printer), Writes(Server, b"STOP\nFAIL 7\n")],
         log: "0 linked\n0 job 7 5 1\n0 fail 7 broken\n",
     },
-    Row {
+    AdapterRow {
         name: "the printer closes early",
         start: BEGUN,
         steps: &[Ends(Printer), Writes(Server, b"STOP\nFAIL 7\n")],
         log: "0 linked\n0 job 7 5 1\n0 fail 7 broken\n",
     },
-    Row {
+    AdapterRow {
         name: "the printer takes nothing",
         start: BEGUN,
         steps: &[Passes(300_000), Writes(Server, b"STOP\nFAIL 7\n")],
         log: "0 linked\n0 job 7 5 1\n300000 fail 7 silent\n",
     },
-    Row {
+    AdapterRow {
         name: "the job is canceled",
         start: BEGUN,
         steps: &[Sends(Server, b"CANCEL 7\n"), Writes(Server, b"FAIL 7\n")],
         log: "0 linked\n0 job 7 5 1\n0 fail 7 canceled\n",
     },
-    Row {
+    AdapterRow {
         name: "the printer can't be reached for a while",
         start: LINKED,
         steps: &[
@@ -118,7 +118,7 @@ const ROWS: [Row; 13] = [
         ],
         log: "0 linked\n0 job 7 5 1\n0 printer away\n3000 printer back\n3000 done 7\n",
     },
-    Row {
+    AdapterRow {
         name: "the printer can't be reached at the start",
         start: NOTHING,
         steps: &[
@@ -145,7 +145,7 @@ const ROWS: [Row; 13] = [
         ],
         log: "0 printer away\n0 linked\n183000 printer back\n",
     },
-    Row {
+    AdapterRow {
         name: "three jobs in a row fail, each its own way, and a fourth behind one that is printed",
         start: BEGUN,
         steps: &[
@@ -192,7 +192,7 @@ const ROWS: [Row; 13] = [
 602000 job 11 5 1\n602000 fail 11 broken\n603000 printer away\n605000 printer back\n",
     },
     // one page took 3 s and two pages 5 s, so one page is expected in 3 s
-    Row {
+    AdapterRow {
         name: "a job is overdue by the jobs before it",
         start: BEGUN,
         steps: &[
@@ -225,7 +225,7 @@ const ROWS: [Row; 13] = [
         log: "0 linked\n0 job 7 5 1\n3000 done 7\n3000 job 8 5000 1\n8000 done 8\n\
 8000 job 9 5 1\n51000 done 9\n",
     },
-    Row {
+    AdapterRow {
         name: "the server goes away",
         start: BEGUN,
         steps: &[
@@ -239,8 +239,8 @@ const ROWS: [Row; 13] = [
 ];
 
 /// Printers that talk after all of the job was sent.
-const TALKS: [Row; 2] = [
-    Row {
+const TALKS: [AdapterRow; 2] = [
+    AdapterRow {
         name: "the printer never ends to talk",
         start: BEGUN,
         steps: &[
@@ -256,7 +256,7 @@ const TALKS: [Row; 2] = [
         ],
         log: "0 linked\n0 job 7 5 1\n88125 done 7\n",
     },
-    Row {
+    AdapterRow {
         name: "the printer talks and doesn't close for the timeout",
         start: BEGUN,
         steps: &[
@@ -291,7 +291,7 @@ const TALKS: [Row; 2] = [
 ];
 
 /// What is wrong with a row.
-fn played(rt: &HostRuntime, row: Row) -> Result<String, AllocError> {
+fn played(rt: &HostRuntime, row: AdapterRow) -> Result<String, AllocError> {
     let alloc = rt.alloc();
     play(alloc, rt, row, network(alloc, AppSocket::new(LINGER))?)
 }

@@ -1,5 +1,5 @@
 //! Folders, in a folder of the test's own.
-use crate::play::{NOTHING, Row, play};
+use crate::play::{AdapterRow, NOTHING, play};
 use crate::script::Step::{Connects, Passes, Sends, Writes};
 use attach_printers::Folder;
 use attach_printers::Peer::Server;
@@ -21,7 +21,7 @@ const TAKEN: &str = "attach_tests_taken";
 const TAKEN_FILE: &str = "attach_tests_taken/.7-hall.txt.part";
 
 /// Two jobs of the same id, as before and after a restart of the server.
-const TWICE: Row = Row {
+const TWICE: AdapterRow = AdapterRow {
     name: "two jobs of one id",
     start: NOTHING,
     steps: &[
@@ -38,7 +38,7 @@ const TWICE: Row = Row {
 };
 
 /// Documents of the formats that are known by their first octets, and of none.
-const FORMATS: Row = Row {
+const FORMATS: AdapterRow = AdapterRow {
     name: "formats",
     start: NOTHING,
     steps: &[
@@ -87,7 +87,7 @@ const FILES: [(&str, &[u8]); 8] = [
 ];
 
 /// A folder that can't be written to.
-const AWAY: Row = Row {
+const AWAY: AdapterRow = AdapterRow {
     name: "a folder that can't be written to",
     start: NOTHING,
     steps: &[
@@ -101,7 +101,7 @@ const AWAY: Row = Row {
 };
 
 /// A folder in which the file of a job can't be created.
-const UNWRITTEN: Row = Row {
+const UNWRITTEN: AdapterRow = AdapterRow {
     name: "a file that can't be written",
     start: NOTHING,
     steps: &[

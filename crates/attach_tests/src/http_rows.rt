@@ -1,14 +1,14 @@
 //! Replies of HTTP (RFC 9112), each to a question about a printer's state.
 use crate::ipp_printer_rows::FIRST;
 use crate::ipp_rows::played;
-use crate::play::Row;
+use crate::play::AdapterRow;
 use crate::script::Step::{Ends, Sends, Writes};
 use attach_printers::Peer::{Printer, Server};
 use std::test::Fail;
 
 /// Replies whose body is the state of a printer that is idle.
-const READ: [Row; 5] = [
-    Row {
+const READ: [AdapterRow; 5] = [
+    AdapterRow {
         name: "a length, and more bytes after the body",
         start: FIRST,
         steps: &[
@@ -20,7 +20,7 @@ const READ: [Row; 5] = [
         ],
         log: "0 linked\n",
     },
-    Row {
+    AdapterRow {
         name: "HTTP/1.0, a length in other letters and blanks",
         start: FIRST,
         steps: &[
@@ -32,7 +32,7 @@ const READ: [Row; 5] = [
         ],
         log: "0 linked\n",
     },
-    Row {
+    AdapterRow {
         name: "chunks, with extensions and a trailer",
         start: FIRST,
         steps: &[
@@ -44,7 +44,7 @@ const READ: [Row; 5] = [
         ],
         log: "0 linked\n",
     },
-    Row {
+    AdapterRow {
         name: "interim replies before the reply",
         start: FIRST,
         steps: &[
@@ -56,7 +56,7 @@ const READ: [Row; 5] = [
         ],
         log: "0 linked\n",
     },
-    Row {
+    AdapterRow {
         name: "no length, up to the end of the connection",
         start: FIRST,
         steps: &[
@@ -72,8 +72,8 @@ const READ: [Row; 5] = [
 ];
 
 /// Replies that can't be read, or whose status is no success.
-const UNREAD: [Row; 7] = [
-    Row {
+const UNREAD: [AdapterRow; 7] = [
+    AdapterRow {
         name: "another status",
         start: FIRST,
         steps: &[
@@ -82,7 +82,7 @@ const UNREAD: [Row; 7] = [
         ],
         log: "0 linked\n0 printer unread http 401\n",
     },
-    Row {
+    AdapterRow {
         name: "a status without a body, whatever its length",
         start: FIRST,
         steps: &[
@@ -94,7 +94,7 @@ const UNREAD: [Row; 7] = [
         ],
         log: "0 linked\n0 printer unread http 204\n",
     },
-    Row {
+    AdapterRow {
         name: "two lengths",
         start: FIRST,
         steps: &[
@@ -106,7 +106,7 @@ const UNREAD: [Row; 7] = [
         ],
         log: "0 linked\n0 printer unread a body of no known length\n",
     },
-    Row {
+    AdapterRow {
         name: "a coding that isn't chunked",
         start: FIRST,
         steps: &[
@@ -119,7 +119,7 @@ const UNREAD: [Row; 7] = [
         ],
         log: "0 linked\n0 printer unread no reply of IPP\n",
     },
-    Row {
+    AdapterRow {
         name: "a size that is no number",
         start: FIRST,
         steps: &[
@@ -131,7 +131,7 @@ const UNREAD: [Row; 7] = [
         ],
         log: "0 linked\n0 printer unread no reply of HTTP\n",
     },
-    Row {
+    AdapterRow {
         name: "a body that ends early",
         start: FIRST,
         steps: &[
@@ -141,7 +141,7 @@ const UNREAD: [Row; 7] = [
         ],
         log: "0 linked\n0 printer unread closed early\n",
     },
-    Row {
+    AdapterRow {
         name: "lines that end in LF alone",
         start: FIRST,
         steps: &[

@@ -3,7 +3,7 @@ use crate::ipp_rows::{
     ASKED, CANCEL_JOB, COMPLETED, DOCUMENT, GET_JOB, GET_PRINTER, IDLE, JOB, OF_THE_JOB, PRINT_JOB,
     PRINTS, SENT, STOPPED, played,
 };
-use crate::play::Row;
+use crate::play::AdapterRow;
 use crate::script::Step;
 use crate::script::Step::{
     Answers, Asks, Begins, Breaks, Connects, Ends, Misses, Passes, Sends, Writes,
@@ -48,8 +48,8 @@ const OWED: &[Step] = &[
 ];
 
 /// Jobs that the printer doesn't take.
-const NOT_TAKEN: [Row; 9] = [
-    Row {
+const NOT_TAKEN: [AdapterRow; 9] = [
+    AdapterRow {
         name: "the job is refused by a status of IPP",
         start: SENT,
         steps: &[
@@ -63,7 +63,7 @@ const NOT_TAKEN: [Row; 9] = [
         ],
         log: "0 linked\n0 job 7 5 1\n0 left out sides media\n0 fail 7 ipp 0x0400\n1000 printer back\n",
     },
-    Row {
+    AdapterRow {
         name: "the job is answered by bytes that are no HTTP",
         start: SENT,
         steps: &[
@@ -72,13 +72,13 @@ const NOT_TAKEN: [Row; 9] = [
         ],
         log: "0 linked\n0 job 7 5 1\n0 left out sides media\n0 fail 7 no reply of HTTP\n",
     },
-    Row {
+    AdapterRow {
         name: "the printer closes before it replies to the job",
         start: SENT,
         steps: &[Ends(Printer), Writes(Server, b"STOP\nFAIL 7\n")],
         log: "0 linked\n0 job 7 5 1\n0 left out sides media\n0 fail 7 closed early\n",
     },
-    Row {
+    AdapterRow {
         name: "the printer closes in the middle of the job",
         start: BEGUN,
         steps: &[
@@ -88,7 +88,7 @@ const NOT_TAKEN: [Row; 9] = [
         ],
         log: "0 linked\n0 job 7 5 1\n0 left out sides media\n0 fail 7 closed early\n",
     },
-    Row {
+    AdapterRow {
         name: "the connection breaks in the middle of the job",
         start: BEGUN,
         steps: &[
@@ -99,7 +99,7 @@ const NOT_TAKEN: [Row; 9] = [
         ],
         log: "0 linked\n0 job 7 5 1\n0 left out sides media\n1000 fail 7 broken\n",
     },
-    Row {
+    AdapterRow {
         name: "the printer takes a part of the job and no more",
         start: BEGUN,
         steps: &[
@@ -109,13 +109,13 @@ const NOT_TAKEN: [Row; 9] = [
         ],
         log: "0 linked\n0 job 7 5 1\n0 left out sides media\n3000 fail 7 silent\n",
     },
-    Row {
+    AdapterRow {
         name: "no reply to the job",
         start: SENT,
         steps: &[Passes(3_000), Writes(Server, b"STOP\nFAIL 7\n")],
         log: "0 linked\n0 job 7 5 1\n0 left out sides media\n3000 fail 7 silent\n",
     },
-    Row {
+    AdapterRow {
         name: "the printer is busy for too long, by statuses of IPP",
         start: SENT,
         steps: &[
@@ -132,7 +132,7 @@ const NOT_TAKEN: [Row; 9] = [
         ],
         log: "0 linked\n0 job 7 5 1\n0 left out sides media\n3000 fail 7 ipp 0x0507\n",
     },
-    Row {
+    AdapterRow {
         name: "the server cancels a job of which the printer has a part",
         start: BEGUN,
         steps: &[
@@ -149,8 +149,8 @@ const NOT_TAKEN: [Row; 9] = [
 ];
 
 /// Jobs that wait for the printer, or for its answers about them.
-const WAITING: [Row; 8] = [
-    Row {
+const WAITING: [AdapterRow; 8] = [
+    AdapterRow {
         name: "the printer's state can't be read while a job waits",
         start: OWED,
         steps: &[
@@ -172,7 +172,7 @@ const WAITING: [Row; 8] = [
         log: "0 linked\n10000 job 7 5 1\n10500 printer unread ipp 0x0500\n13000 fail 7 silent\n\
 14000 printer back\n",
     },
-    Row {
+    AdapterRow {
         name: "no reply about the printer's state while a job waits",
         start: OWED,
         steps: &[
@@ -186,7 +186,7 @@ const WAITING: [Row; 8] = [
         ],
         log: "0 linked\n10000 job 7 5 1\n13000 fail 7 silent\n14000 printer back\n",
     },
-    Row {
+    AdapterRow {
         name: "a job after an idle time that is longer than the timeout",
         start: &[
             Connects(Server),
@@ -206,7 +206,7 @@ const WAITING: [Row; 8] = [
         ],
         log: "0 linked\n9000 job 7 5 1\n9000 left out sides media\n9000 done 7\n",
     },
-    Row {
+    AdapterRow {
         name: "no reply about the job",
         start: ASKED,
         steps: &[
@@ -218,7 +218,7 @@ const WAITING: [Row; 8] = [
         ],
         log: "0 linked\n0 job 7 5 1\n0 left out sides media\n3000 fail 7 silent\n",
     },
-    Row {
+    AdapterRow {
         name: "each connection to ask about the job is refused",
         start: SENT,
         steps: &[
@@ -242,7 +242,7 @@ const WAITING: [Row; 8] = [
         log: "0 linked\n0 job 7 5 1\n0 left out sides media\n125 printer away\n3000 fail 7 silent\n\
 3125 printer back\n",
     },
-    Row {
+    AdapterRow {
         name: "a page of the job is printed",
         start: ASKED,
         steps: &[
@@ -256,13 +256,13 @@ const WAITING: [Row; 8] = [
         ],
         log: "0 linked\n0 job 7 5 1\n0 left out sides media\n375 done 7\n",
     },
-    Row {
+    AdapterRow {
         name: "the job is canceled at the printer",
         start: ASKED,
         steps: &[Answers(0, 1, CANCELED), Writes(Server, b"STOP\nFAIL 7\n")],
         log: "0 linked\n0 job 7 5 1\n0 left out sides media\n125 fail 7 given up\n",
     },
-    Row {
+    AdapterRow {
         name: "the printer is stopped during the job",
         start: &[
             Connects(Server),

@@ -1,6 +1,6 @@
 //! What printers with IPP support, and states of theirs that stop the device or can't be read (RFC 8011, section 5.4).
 use crate::ipp_rows::{COMPLETED, GET_PRINTER, IDLE, PRINT_JOB, played};
-use crate::play::{NOTHING, Row};
+use crate::play::{AdapterRow, NOTHING};
 use crate::script::Step;
 use crate::script::Step::{Answers, Asks, Connects, Passes, Sends, Writes};
 use attach_printers::Peer::{Printer, Server};
@@ -46,8 +46,8 @@ pub(crate) const FIRST: &[Step] = &[
     Asks(GET_PRINTER, b"ipp://printer:631/ipp/print"),
 ];
 
-const ROWS: [Row; 8] = [
-    Row {
+const ROWS: [AdapterRow; 8] = [
+    AdapterRow {
         name: "all that the job asks is supported",
         start: FIRST,
         steps: &[
@@ -61,7 +61,7 @@ const ROWS: [Row; 8] = [
         ],
         log: "0 linked\n0 job 7 5 2\n0 done 7\n",
     },
-    Row {
+    AdapterRow {
         name: "nothing that the job asks is supported",
         start: FIRST,
         steps: &[
@@ -75,7 +75,7 @@ const ROWS: [Row; 8] = [
         ],
         log: "0 linked\n0 job 7 5 2\n0 left out copies sides media finishings\n0 done 7\n",
     },
-    Row {
+    AdapterRow {
         name: "media are loaded",
         start: FIRST,
         steps: &[
@@ -87,7 +87,7 @@ const ROWS: [Row; 8] = [
         ],
         log: "0 linked\n",
     },
-    Row {
+    AdapterRow {
         name: "paper is out, and a warning and a report later",
         start: FIRST,
         steps: &[
@@ -101,7 +101,7 @@ const ROWS: [Row; 8] = [
         ],
         log: "0 linked\n0 printer stopped\n10000 printer runs\n",
     },
-    Row {
+    AdapterRow {
         name: "a head that is too long",
         start: FIRST,
         steps: &[
@@ -116,7 +116,7 @@ const ROWS: [Row; 8] = [
         ],
         log: "0 linked\n0 printer unread too long a reply\n1000 printer back\n",
     },
-    Row {
+    AdapterRow {
         name: "a body that is too long",
         start: FIRST,
         steps: &[
@@ -133,7 +133,7 @@ const ROWS: [Row; 8] = [
         ],
         log: "0 linked\n0 printer unread too long a reply\n1000 printer back\n",
     },
-    Row {
+    AdapterRow {
         name: "a status that is a failure",
         start: FIRST,
         steps: &[
@@ -147,7 +147,7 @@ const ROWS: [Row; 8] = [
         ],
         log: "0 linked\n0 printer unread ipp 0x0500\n1000 printer back\n",
     },
-    Row {
+    AdapterRow {
         name: "no HTTP, and then no IPP",
         start: FIRST,
         steps: &[

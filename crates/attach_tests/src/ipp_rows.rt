@@ -1,5 +1,5 @@
 //! Printers with IPP (RFC 8010, RFC 8011).
-use crate::play::{NOTHING, READY, Row, patient, play};
+use crate::play::{AdapterRow, NOTHING, READY, patient, play};
 use crate::script::Step;
 use crate::script::Step::{Answers, Asks, Connects, Ends, Passes, Sends, Writes};
 use attach_printers::Peer::{Printer, Server};
@@ -78,8 +78,8 @@ pub(crate) const ASKED: &[Step] = &[
     Asks(GET_JOB, OF_THE_JOB),
 ];
 
-const ROWS: [Row; 13] = [
-    Row {
+const ROWS: [AdapterRow; 13] = [
+    AdapterRow {
         name: "a job that is completed",
         start: ASKED,
         steps: &[
@@ -88,7 +88,7 @@ const ROWS: [Row; 13] = [
         ],
         log: "0 linked\n0 job 7 5 1\n0 left out sides media\n125 done 7\n",
     },
-    Row {
+    AdapterRow {
         name: "a job that is aborted",
         start: ASKED,
         steps: &[
@@ -102,7 +102,7 @@ const ROWS: [Row; 13] = [
         ],
         log: "0 linked\n0 job 7 5 1\n0 left out sides media\n125 fail 7 given up\n1125 printer back\n",
     },
-    Row {
+    AdapterRow {
         name: "each connection on which the job is asked for is closed",
         start: ASKED,
         steps: &[
@@ -131,7 +131,7 @@ const ROWS: [Row; 13] = [
         ],
         log: "0 linked\n0 job 7 5 1\n0 left out sides media\n3000 fail 7 silent\n",
     },
-    Row {
+    AdapterRow {
         name: "a reply that never ends",
         start: ASKED,
         steps: &[
@@ -146,13 +146,13 @@ const ROWS: [Row; 13] = [
         ],
         log: "0 linked\n0 job 7 5 1\n0 left out sides media\n3000 fail 7 silent\n",
     },
-    Row {
+    AdapterRow {
         name: "the job is unknown once it is printed",
         start: ASKED,
         steps: &[Answers(0x0406, 1, b""), Writes(Server, b"DONE 7\n")],
         log: "0 linked\n0 job 7 5 1\n0 left out sides media\n125 done 7\n",
     },
-    Row {
+    AdapterRow {
         name: "the printer is busy while it prints",
         start: ASKED,
         steps: &[
@@ -172,7 +172,7 @@ const ROWS: [Row; 13] = [
         ],
         log: "0 linked\n0 job 7 5 1\n0 left out sides media\n2625 done 7\n",
     },
-    Row {
+    AdapterRow {
         name: "replies for another job and to another request",
         start: ASKED,
         steps: &[
@@ -189,7 +189,7 @@ const ROWS: [Row; 13] = [
         ],
         log: "0 linked\n0 job 7 5 1\n0 left out sides media\n875 done 7\n",
     },
-    Row {
+    AdapterRow {
         name: "the printer is busy before it takes the job",
         start: SENT,
         steps: &[
@@ -202,7 +202,7 @@ const ROWS: [Row; 13] = [
         ],
         log: "0 linked\n0 job 7 5 1\n0 left out sides media\n1000 done 7\n",
     },
-    Row {
+    AdapterRow {
         name: "the printer is busy for too long",
         start: SENT,
         steps: &[
@@ -225,13 +225,13 @@ const ROWS: [Row; 13] = [
         ],
         log: "0 linked\n0 job 7 5 1\n0 left out sides media\n4000 fail 7 http 503\n",
     },
-    Row {
+    AdapterRow {
         name: "the job is taken under an id that no job has",
         start: SENT,
         steps: &[Answers(0, 1, NO_JOB), Writes(Server, b"STOP\nFAIL 7\n")],
         log: "0 linked\n0 job 7 5 1\n0 left out sides media\n0 fail 7 no reply of IPP\n",
     },
-    Row {
+    AdapterRow {
         name: "the job is refused",
         start: SENT,
         steps: &[
@@ -243,7 +243,7 @@ const ROWS: [Row; 13] = [
         ],
         log: "0 linked\n0 job 7 5 1\n0 left out sides media\n0 fail 7 http 401\n",
     },
-    Row {
+    AdapterRow {
         name: "the printer's state can't be read",
         start: NOTHING,
         steps: &[
@@ -272,7 +272,7 @@ const ROWS: [Row; 13] = [
         ],
         log: "0 linked\n0 printer unread http 401\n3000 printer stopped\n13000 printer runs\n",
     },
-    Row {
+    AdapterRow {
         name: "the job is canceled at the printer, too",
         start: SENT,
         steps: &[
@@ -291,7 +291,7 @@ const ROWS: [Row; 13] = [
 ];
 
 /// What is wrong with a row of a printer with IPP.
-pub(crate) fn played(rt: &HostRuntime, row: Row) -> Result<String, AllocError> {
+pub(crate) fn played(rt: &HostRuntime, row: AdapterRow) -> Result<String, AllocError> {
     let alloc = rt.alloc();
     let address = IppAddress {
         uri: String::from_str(alloc, "ipp://printer:631/ipp/print")?,

@@ -1,5 +1,5 @@
 //! Printers with LPD (RFC 1179).
-use crate::play::{LINKED, READY, Row, network, play};
+use crate::play::{AdapterRow, LINKED, READY, network, play};
 use crate::script::Step;
 use crate::script::Step::{Connects, Ends, Passes, Sends, Writes};
 use attach_printers::Lpd;
@@ -22,9 +22,9 @@ const BEGUN: &[Step] = &[
     Connects(Printer),
 ];
 
-const ROWS: [Row; 6] = [
+const ROWS: [AdapterRow; 6] = [
     // the commands and the control file of RFC 1179, sections 5.2, 6 and 7
-    Row {
+    AdapterRow {
         name: "a job in two copies",
         start: LINKED,
         steps: &[
@@ -44,7 +44,7 @@ const ROWS: [Row; 6] = [
         ],
         log: "0 linked\n0 job 7 5 2\n0 done 7\n",
     },
-    Row {
+    AdapterRow {
         name: "the queue is refused",
         start: BEGUN,
         steps: &[
@@ -54,7 +54,7 @@ const ROWS: [Row; 6] = [
         ],
         log: "0 linked\n0 job 7 5 1\n0 fail 7 refused\n",
     },
-    Row {
+    AdapterRow {
         name: "the data file is refused",
         start: LINKED,
         steps: &[
@@ -72,13 +72,13 @@ const ROWS: [Row; 6] = [
         ],
         log: "0 linked\n0 job 7 5 2\n0 fail 7 refused\n",
     },
-    Row {
+    AdapterRow {
         name: "an acknowledgement of nothing",
         start: BEGUN,
         steps: &[Sends(Printer, b"\0"), Writes(Server, b"STOP\nFAIL 7\n")],
         log: "0 linked\n0 job 7 5 1\n0 fail 7 refused\n",
     },
-    Row {
+    AdapterRow {
         name: "the printer closes early",
         start: BEGUN,
         steps: &[
@@ -88,7 +88,7 @@ const ROWS: [Row; 6] = [
         ],
         log: "0 linked\n0 job 7 5 1\n0 fail 7 broken\n",
     },
-    Row {
+    AdapterRow {
         name: "the printer is silent",
         start: BEGUN,
         steps: &[
@@ -101,7 +101,7 @@ const ROWS: [Row; 6] = [
 ];
 
 /// What is wrong with a row.
-fn played(rt: &HostRuntime, row: Row) -> Result<String, AllocError> {
+fn played(rt: &HostRuntime, row: AdapterRow) -> Result<String, AllocError> {
     let alloc = rt.alloc();
     let queue = String::from_str(alloc, "lp")?;
     let name = String::from_str(alloc, "hall")?;

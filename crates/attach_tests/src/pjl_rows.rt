@@ -1,5 +1,5 @@
 //! Printers with AppSocket and PJL.
-use crate::play::{READY, Row, network, play};
+use crate::play::{AdapterRow, READY, network, play};
 use crate::script::Step;
 use crate::script::Step::{Connects, Ends, Passes, Sends, Writes};
 use attach_printers::Peer::{Printer, Server};
@@ -34,8 +34,8 @@ const BEGUN: &[Step] = &[
     Connects(Printer),
 ];
 
-const ROWS: [Row; 9] = [
-    Row {
+const ROWS: [AdapterRow; 9] = [
+    AdapterRow {
         name: "pages, and the end of the job",
         start: BEGUN,
         steps: &[
@@ -51,7 +51,7 @@ const ROWS: [Row; 9] = [
         ],
         log: "0 linked\n0 job 7 5 2\n0 done 7\n",
     },
-    Row {
+    AdapterRow {
         name: "paper is out for an hour",
         start: BEGUN,
         steps: &[
@@ -72,7 +72,7 @@ const ROWS: [Row; 9] = [
         ],
         log: "0 linked\n0 job 7 5 2\n0 printer stopped\n3600000 printer runs\n3600000 done 7\n",
     },
-    Row {
+    AdapterRow {
         name: "the greatest code that doesn't stop, and the least that does",
         start: BEGUN,
         steps: &[
@@ -88,7 +88,7 @@ const ROWS: [Row; 9] = [
         ],
         log: "0 linked\n0 job 7 5 2\n1000 printer stopped\n1000 printer runs\n1000 done 7\n",
     },
-    Row {
+    AdapterRow {
         name: "the end of another host's job",
         start: BEGUN,
         steps: &[
@@ -106,7 +106,7 @@ const ROWS: [Row; 9] = [
         ],
         log: "0 linked\n0 job 7 5 2\n0 done 7\n",
     },
-    Row {
+    AdapterRow {
         name: "the end of a job without a name",
         start: BEGUN,
         steps: &[
@@ -116,7 +116,7 @@ const ROWS: [Row; 9] = [
         ],
         log: "0 linked\n0 job 7 5 2\n0 done 7\n",
     },
-    Row {
+    AdapterRow {
         name: "the printer says much, and nothing of the job",
         start: BEGUN,
         steps: &[
@@ -128,13 +128,13 @@ const ROWS: [Row; 9] = [
         ],
         log: "0 linked\n0 job 7 5 2\n300000 fail 7 silent\n",
     },
-    Row {
+    AdapterRow {
         name: "the printer ends the job early",
         start: BEGUN,
         steps: &[Sends(Printer, END), Writes(Server, b"STOP\nFAIL 7\n")],
         log: "0 linked\n0 job 7 5 2\n0 fail 7 broken\n",
     },
-    Row {
+    AdapterRow {
         name: "the printer closes before the end of the job",
         start: BEGUN,
         steps: &[
@@ -144,7 +144,7 @@ const ROWS: [Row; 9] = [
         ],
         log: "0 linked\n0 job 7 5 2\n0 fail 7 broken\n",
     },
-    Row {
+    AdapterRow {
         name: "the printer speaks no PJL",
         start: BEGUN,
         steps: &[
@@ -157,7 +157,7 @@ const ROWS: [Row; 9] = [
 ];
 
 /// What is wrong with a row.
-fn played(rt: &HostRuntime, row: Row) -> Result<String, AllocError> {
+fn played(rt: &HostRuntime, row: AdapterRow) -> Result<String, AllocError> {
     let alloc = rt.alloc();
     play(alloc, rt, row, network(alloc, Pjl::new(alloc))?)
 }

@@ -28,7 +28,7 @@ const LAST_TURNS: usize = 3;
 
 /// A script, and the log that the adapter writes with it.
 #[derive(Clone, Copy)]
-pub(crate) struct Row {
+pub(crate) struct AdapterRow {
     pub(crate) name: &'static str,
     /// The first steps, and the steps after them.
     pub(crate) start: &'static [Step],
@@ -47,7 +47,7 @@ pub(crate) enum Detail {
 pub(crate) fn play<F: Files, P: Printer<ScriptedStream>>(
     alloc: Global,
     files: &F,
-    row: Row,
+    row: AdapterRow,
     printer: P,
 ) -> Result<String, AllocError> {
     play_with(alloc, files, row, printer, Detail::Events)
@@ -57,7 +57,7 @@ pub(crate) fn play<F: Files, P: Printer<ScriptedStream>>(
 pub(crate) fn play_with<F: Files, P: Printer<ScriptedStream>>(
     alloc: Global,
     files: &F,
-    row: Row,
+    row: AdapterRow,
     printer: P,
     detail: Detail,
 ) -> Result<String, AllocError> {
@@ -113,7 +113,12 @@ fn run<F: Files, P: Printer<ScriptedStream>>(
 }
 
 /// What is wrong with a row; empty if nothing is.
-fn verdict(alloc: Global, row: Row, network: &Scripted, log: &[u8]) -> Result<String, AllocError> {
+fn verdict(
+    alloc: Global,
+    row: AdapterRow,
+    network: &Scripted,
+    log: &[u8],
+) -> Result<String, AllocError> {
     let name = row.name;
     let place = network.place();
     let is_played = network.is_played();

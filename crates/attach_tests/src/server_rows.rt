@@ -1,5 +1,5 @@
 //! Servers that misbehave, and what an adapter reports without a log.
-use crate::play::{Detail, LINKED, NOTHING, READY, Row, network, play_with};
+use crate::play::{AdapterRow, Detail, LINKED, NOTHING, READY, network, play_with};
 use crate::script::Step::{
     Breaks, Closes, Connects, Ends, Finishes, Misses, Passes, Sends, Writes,
 };
@@ -9,8 +9,8 @@ use std::alloc::AllocError;
 use std::test::Fail;
 
 /// Lines that no server writes, and ends of connections and of the adapter.
-const ROWS: [Row; 5] = [
-    Row {
+const ROWS: [AdapterRow; 5] = [
+    AdapterRow {
         name: "a line that isn't one of the server's",
         start: LINKED,
         steps: &[
@@ -21,7 +21,7 @@ const ROWS: [Row; 5] = [
         ],
         log: "0 linked\n0 refused a line that isn't one of the server's\n0 unlinked\n1000 linked\n",
     },
-    Row {
+    AdapterRow {
         name: "a job before the last was answered",
         start: LINKED,
         steps: &[
@@ -35,7 +35,7 @@ const ROWS: [Row; 5] = [
         log: "0 linked\n0 job 7 5 1\n0 refused job 8 before the last was answered\n\
 0 fail 7 unlinked\n0 unlinked\n1000 linked\n",
     },
-    Row {
+    AdapterRow {
         name: "the server closes in the middle of a job, and is away",
         start: LINKED,
         steps: &[
@@ -51,7 +51,7 @@ const ROWS: [Row; 5] = [
         ],
         log: "0 linked\n0 job 7 500 1\n0 fail 7 unlinked\n0 unlinked\n1000 server away\n3000 linked\n",
     },
-    Row {
+    AdapterRow {
         name: "standard input is closed during a job",
         start: LINKED,
         steps: &[
@@ -65,7 +65,7 @@ const ROWS: [Row; 5] = [
         ],
         log: "0 linked\n0 job 7 500 1\n0 fail 7 ended\n0 ended\n",
     },
-    Row {
+    AdapterRow {
         name: "the server turns the name away, and takes it later",
         start: LINKED,
         steps: &[
@@ -86,8 +86,8 @@ const ROWS: [Row; 5] = [
 ];
 
 /// What needs a person, and its end, in words.
-const WORDS: [Row; 4] = [
-    Row {
+const WORDS: [AdapterRow; 4] = [
+    AdapterRow {
         name: "words: a job that is printed",
         start: LINKED,
         steps: &[
@@ -100,7 +100,7 @@ const WORDS: [Row; 4] = [
         ],
         log: "",
     },
-    Row {
+    AdapterRow {
         name: "words: a job fails, and the printer is away",
         start: LINKED,
         steps: &[
@@ -120,7 +120,7 @@ const WORDS: [Row; 4] = [
 printd attach hall: the printer can't be reached; it is tried again\n\
 printd attach hall: the printer prints again\n",
     },
-    Row {
+    AdapterRow {
         name: "words: the server is away",
         start: NOTHING,
         steps: &[
@@ -135,7 +135,7 @@ printd attach hall: the printer prints again\n",
         log: "printd attach hall: the server can't be reached; it is tried again\n\
 printd attach hall: the server is there\n",
     },
-    Row {
+    AdapterRow {
         name: "words: the server turns the name away",
         start: LINKED,
         steps: &[
@@ -151,7 +151,7 @@ or another connection has the name\nprintd attach hall: the server is there\n",
 ];
 
 /// What is wrong with a row.
-fn played(rt: &HostRuntime, row: Row, detail: Detail) -> Result<String, AllocError> {
+fn played(rt: &HostRuntime, row: AdapterRow, detail: Detail) -> Result<String, AllocError> {
     let alloc = rt.alloc();
     play_with(
         alloc,

@@ -5,29 +5,29 @@ use replay::run_replay;
 use std::alloc::{AllocError, Global};
 
 /// An example of one connection, whose peer sends all in one piece.
-pub struct Stream {
+pub struct CutStream {
     pub input: &'static str,
     pub output: &'static str,
 }
 
-pub const STREAMS: [Stream; 5] = [
-    Stream {
+pub const STREAMS: [CutStream; 5] = [
+    CutStream {
         input: "malformed_at_once.trace",
         output: "malformed_at_once.out",
     },
-    Stream {
+    CutStream {
         input: "exchange_at_once.trace",
         output: "exchange_at_once.out",
     },
-    Stream {
+    CutStream {
         input: "chunked_at_once.trace",
         output: "chunked_at_once.out",
     },
-    Stream {
+    CutStream {
         input: "lpd_at_once.trace",
         output: "lpd_at_once.out",
     },
-    Stream {
+    CutStream {
         input: "documents_at_once.trace",
         output: "documents_at_once.out",
     },

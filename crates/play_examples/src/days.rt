@@ -14,44 +14,44 @@ use std::alloc::{AllocError, Global};
 /// A day that is simulated: a file with settings, one with a list of jobs or a trace, and one with the
 /// numbers that were worked out.
 #[derive(Drop)]
-pub struct Day {
+pub struct SimulatedDay {
     pub settings: &'static str,
     pub jobs: &'static str,
     pub output: &'static str,
 }
 
-pub const DAYS: [Day; 7] = [
-    Day {
+pub const DAYS: [SimulatedDay; 7] = [
+    SimulatedDay {
         settings: "unlike_devices.toml",
         jobs: "unlike_devices.csv",
         output: "unlike_devices.table",
     },
-    Day {
+    SimulatedDay {
         settings: "unlike_setups.toml",
         jobs: "unlike_setups.csv",
         output: "unlike_setups.table",
     },
-    Day {
+    SimulatedDay {
         settings: "two_printers.toml",
         jobs: "two_printers.csv",
         output: "two_printers.table",
     },
-    Day {
+    SimulatedDay {
         settings: "classes_of_cups.toml",
         jobs: "classes_of_cups.csv",
         output: "classes_of_cups.table",
     },
-    Day {
+    SimulatedDay {
         settings: "crowded.toml",
         jobs: "crowded.csv",
         output: "crowded.table",
     },
-    Day {
+    SimulatedDay {
         settings: "a_day.toml",
         jobs: "a_day.trace",
         output: "a_day.table",
     },
-    Day {
+    SimulatedDay {
         settings: "recorded_jobs.toml",
         jobs: "recorded_jobs.csv",
         output: "recorded_jobs.table",
@@ -59,19 +59,19 @@ pub const DAYS: [Day; 7] = [
 ];
 
 /// A day that is drawn: a file with its trace, and one with its picture.
-pub struct Drawn {
+pub struct DrawnDay {
     pub trace: &'static str,
     pub picture: &'static str,
     pub form: Form,
 }
 
-pub const DRAWN: [Drawn; 2] = [
-    Drawn {
+pub const DRAWN: [DrawnDay; 2] = [
+    DrawnDay {
         trace: "a_day.trace",
         picture: "a_day.txt",
         form: Form::Text,
     },
-    Drawn {
+    DrawnDay {
         trace: "a_day.trace",
         picture: "a_day.svg",
         form: Form::Svg,
@@ -79,7 +79,7 @@ pub const DRAWN: [Drawn; 2] = [
 ];
 
 /// The day with so many jobs that they aren't labeled each, and its picture by the plan and by first-free.
-pub const CROWDED: Day = Day {
+pub const CROWDED: SimulatedDay = SimulatedDay {
     settings: "crowded.toml",
     jobs: "crowded.csv",
     output: "crowded.txt",

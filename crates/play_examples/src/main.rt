@@ -16,10 +16,10 @@ mod pages;
 mod texts;
 
 use crate::accounts::{ACCOUNTED, is_accounted_so};
-use crate::cuts::{STREAMS, Stream, stays_in_two_pieces};
+use crate::cuts::{CutStream, STREAMS, stays_in_two_pieces};
 use crate::days::{
-    COMPARED, COMPARED_DAYS, CROWDED, DAYS, DRAWN, Day, Drawn, SETS, compared_texts, is_compared,
-    is_drawn_so, is_played_so,
+    COMPARED, COMPARED_DAYS, CROWDED, DAYS, DRAWN, DrawnDay, SETS, SimulatedDay, compared_texts,
+    is_compared, is_drawn_so, is_played_so,
 };
 use crate::example::{EXAMPLES, Program};
 use crate::many_jobs::CROWDS;
@@ -126,7 +126,7 @@ fn play_crowds(rt: &HostRuntime) -> io::Result<bool> {
 
 /// Whether what is written or drawn of a day that is simulated is as it must be. The error is the system's, of
 /// its files.
-fn is_simulated_so(rt: &HostRuntime, day: &Day, drawn: Option<Form>) -> io::Result<bool> {
+fn is_simulated_so(rt: &HostRuntime, day: &SimulatedDay, drawn: Option<Form>) -> io::Result<bool> {
     let settings = fs::read(rt, day.settings)?;
     let jobs = fs::read(rt, day.jobs)?;
     let wanted = fs::read(rt, day.output)?;
@@ -134,7 +134,7 @@ fn is_simulated_so(rt: &HostRuntime, day: &Day, drawn: Option<Form>) -> io::Resu
 }
 
 /// Whether the picture of a day is as it must be. The error is the system's, of its files.
-fn is_drawn_as_wanted(rt: &HostRuntime, drawn: &Drawn) -> io::Result<bool> {
+fn is_drawn_as_wanted(rt: &HostRuntime, drawn: &DrawnDay) -> io::Result<bool> {
     let trace = fs::read(rt, drawn.trace)?;
     let wanted = fs::read(rt, drawn.picture)?;
     Ok(is_drawn_so(rt.alloc(), &trace, drawn.form, &wanted))
@@ -201,7 +201,7 @@ fn compare_sets(rt: &HostRuntime) -> io::Result<bool> {
 
 /// Whether what comes of a stream is as it must be, wherever it is cut in two. The error is the
 /// system's, of its files.
-fn is_the_same_when_cut(rt: &HostRuntime, stream: &Stream) -> io::Result<bool> {
+fn is_the_same_when_cut(rt: &HostRuntime, stream: &CutStream) -> io::Result<bool> {
     let input = fs::read(rt, stream.input)?;
     let wanted = fs::read(rt, stream.output)?;
     Ok(stays_in_two_pieces(rt.alloc(), &input, &wanted)?)

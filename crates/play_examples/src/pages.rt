@@ -8,7 +8,7 @@ use std::alloc::Global;
 
 /// A page of a recorded day: the file of the day, its moment in ms, and the file with the page's body. Without a moment
 /// it is that at the day's end.
-pub struct Paged {
+pub struct PagedMoment {
     pub day: &'static str,
     pub at: Option<u64>,
     pub names: bool,
@@ -17,29 +17,29 @@ pub struct Paged {
     pub body: &'static str,
 }
 
-pub const PAGED: [Paged; 4] = [
-    Paged {
+pub const PAGED: [PagedMoment; 4] = [
+    PagedMoment {
         day: "late_jobs.trace",
         at: Some(150_000),
         names: true,
         ahead: 0,
         body: "late_jobs.page",
     },
-    Paged {
+    PagedMoment {
         day: "recorded_day.trace",
         at: None,
         names: false,
         ahead: 0,
         body: "recorded_day.page",
     },
-    Paged {
+    PagedMoment {
         day: "two_printers_day.trace",
         at: None,
         names: false,
         ahead: 2,
         body: "two_printers_day.page",
     },
-    Paged {
+    PagedMoment {
         day: "markup_in_names.trace",
         at: None,
         names: true,
@@ -64,7 +64,7 @@ fn followed(alloc: Global, day: &[u8], at: Option<Moment>) -> Option<Follower> {
 }
 
 /// The page of a day.
-fn page_of(alloc: Global, day: &[u8], paged: &Paged) -> Option<String> {
+fn page_of(alloc: Global, day: &[u8], paged: &PagedMoment) -> Option<String> {
     let at = paged.at.and_then(Moment::new);
     let follower = followed(alloc, day, at)?;
     let view = follower.view_at(at.unwrap_or(Moment::start())).ok()??;
@@ -78,7 +78,7 @@ fn page_of(alloc: Global, day: &[u8], paged: &Paged) -> Option<String> {
 }
 
 /// Whether the page of a day has just this body.
-pub fn is_paged_so(alloc: Global, day: &[u8], paged: &Paged, wanted: &[u8]) -> bool {
+pub fn is_paged_so(alloc: Global, day: &[u8], paged: &PagedMoment, wanted: &[u8]) -> bool {
     let Some(page) = page_of(alloc, day, paged) else {
         return false;
     };

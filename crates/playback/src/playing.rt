@@ -40,7 +40,7 @@ pub struct Played {
 
 /// Why a play ends early.
 #[derive(Drop)]
-enum PlayFault {
+enum EarlyEnd {
     /// The exit status, and the reason as a sentence.
     Said(ExitStatus, String),
     /// The lines differ; the difference was printed.
@@ -49,27 +49,27 @@ enum PlayFault {
     Failed,
 }
 
-impl From<AllocError> for PlayFault {
-    fn from(_error: AllocError) -> PlayFault {
-        PlayFault::OutOfMemory
+impl From<AllocError> for EarlyEnd {
+    fn from(_error: AllocError) -> EarlyEnd {
+        EarlyEnd::OutOfMemory
     }
 }
 
-impl From<io::Error> for PlayFault {
-    fn from(error: io::Error) -> PlayFault {
+impl From<io::Error> for EarlyEnd {
+    fn from(error: io::Error) -> EarlyEnd {
         if error.kind() == ErrorKind::OutOfMemory {
-            PlayFault::OutOfMemory
+            EarlyEnd::OutOfMemory
         } else {
-            PlayFault::Failed
+            EarlyEnd::Failed
         }
     }
 }
 
-impl From<DayFault> for PlayFault {
-    fn from(fault: DayFault) -> PlayFault {
+impl From<DayFault> for EarlyEnd {
+    fn from(fault: DayFault) -> EarlyEnd {
         match fault {
-            DayFault::Said(status, sentence) => PlayFault::Said(status, sentence),
-            DayFault::OutOfMemory => PlayFault::OutOfMemory,
+            DayFault::Said(status, sentence) => EarlyEnd::Said(status, sentence),
+            DayFault::OutOfMemory => EarlyEnd::OutOfMemory,
         }
     }
 }
@@ -127,7 +127,7 @@ fn read_beginning<R: Read>(
     alloc: Global,
     file: &str,
     lines: &mut LineReader<'_, R>,
-) -> Result<(Vec<u8>, JobId), PlayFault> {
+) -> Result<(Vec<u8>, JobId), EarlyEnd> {
     let front = read_front(alloc, lines)?;
     let first = match &front {
         Front::Settings(_) => read_first(alloc, lines)?,
@@ -139,7 +139,7 @@ fn read_beginning<R: Read>(
         (Front::GoesOn, _) => DayFault::goes_on(alloc, file),
         (Front::Neither, _) => DayFault::no_stop(alloc, file),
     };
-    Err(PlayFault::from(fault))
+    Err(EarlyEnd::from(fault))
 }
 
 /// A recorded day that is played, and its printed text.
@@ -172,22 +172,22 @@ impl<'file, 'output, W: Write> DayPlay<'file, 'output, W> {
     }
 
     /// Appends the printed text of a step, and returns the fault of a line that wasn't just played.
-    fn put_step(&mut self, number: u64, step: LineResult) -> Result<(), PlayFault> {
+    fn put_step(&mut self, number: u64, step: LineResult) -> Result<(), EarlyEnd> {
         let (alloc, file) = (self.alloc, self.file);
         match step {
             LineResult::Played => Ok(()),
-            LineResult::Bad => Err(PlayFault::from(DayFault::bad_line(alloc, file, number))),
-            LineResult::Refused(line) => Err(PlayFault::from(DayFault::refused(alloc, file, line))),
+            LineResult::Bad => Err(EarlyEnd::from(DayFault::bad_line(alloc, file, number))),
+            LineResult::Refused(line) => Err(EarlyEnd::from(DayFault::refused(alloc, file, line))),
             LineResult::Differs(lines) if self.shows == Shows::Verdict => {
                 self.output.extend_from_slice(&lines)?;
-                Err(PlayFault::Differs)
+                Err(EarlyEnd::Differs)
             }
-            LineResult::Differs(_) => Err(PlayFault::from(DayFault::differs(alloc, file, number))),
+            LineResult::Differs(_) => Err(EarlyEnd::from(DayFault::differs(alloc, file, number))),
         }
     }
 
     /// Writes the printed text, if it is longer than `most` bytes.
-    fn put_out(&mut self, most: usize) -> Result<(), PlayFault> {
+    fn put_out(&mut self, most: usize) -> Result<(), EarlyEnd> {
         if self.output.len() > most {
             self.writer.write_all(&self.output)?;
             self.output.clear();
@@ -201,7 +201,7 @@ impl<'file, 'output, W: Write> DayPlay<'file, 'output, W> {
         player: &mut Player<'_>,
         number: u64,
         line: &[u8],
-    ) -> Result<(), PlayFault> {
+    ) -> Result<(), EarlyEnd> {
         let step = player.play(number, line, &mut self.output)?;
         self.put_step(number, step)?;
         self.put_out(PRINTED)
@@ -212,7 +212,7 @@ impl<'file, 'output, W: Write> DayPlay<'file, 'output, W> {
         &mut self,
         lines: &mut LineReader<'_, R>,
         player: &mut Player<'_>,
-    ) -> Result<DayEnd, PlayFault> {
+    ) -> Result<DayEnd, EarlyEnd> {
         let mut line = Vec::new(self.alloc);
         for _ in 0..u64::MAX {
             let number = lines.passed().saturating_add(1);
@@ -230,7 +230,7 @@ impl<'file, 'output, W: Write> DayPlay<'file, 'output, W> {
         lines: &mut LineReader<'_, R>,
         engine: &mut JournaledEngine,
         sinks: LogSinks,
-    ) -> Result<DayEnd, PlayFault> {
+    ) -> Result<DayEnd, EarlyEnd> {
         let mut player = Player::new(self.alloc, engine, self.shows, sinks);
         self.play_turns(lines, &mut player)
     }
@@ -242,26 +242,26 @@ impl<'file, 'output, W: Write> DayPlay<'file, 'output, W> {
         lines: &mut LineReader<'_, R>,
         settings: Settings,
         first: JobId,
-    ) -> Result<DayEnd, PlayFault>
+    ) -> Result<DayEnd, EarlyEnd>
         requires { MeetsLimits settings }
     {
         let planner = Pausable::new(AugmentingPaths::new(self.alloc));
         let Ok(mut engine) = Engine::starting_at(self.alloc, settings, planner, first) else {
-            return Err(PlayFault::OutOfMemory);
+            return Err(EarlyEnd::OutOfMemory);
         };
         let sinks = LogSinks::new(self.alloc, &engine, self.shows)?;
         self.play_on(lines, &mut engine, sinks)
     }
 
     /// Plays the whole day.
-    fn play_all<R: Read>(&mut self, lines: &mut LineReader<'_, R>) -> Result<DayEnd, PlayFault> {
+    fn play_all<R: Read>(&mut self, lines: &mut LineReader<'_, R>) -> Result<DayEnd, EarlyEnd> {
         let (text, first) = read_beginning(self.alloc, self.file, lines)?;
         let settings = settings_of(self.alloc, self.file, &text)?;
         self.play_with(lines, settings, first)
     }
 
     /// Plays the whole day, and writes the printed text up to its end.
-    fn play<R: Read>(&mut self, lines: &mut LineReader<'_, R>) -> Result<(), PlayFault> {
+    fn play<R: Read>(&mut self, lines: &mut LineReader<'_, R>) -> Result<(), EarlyEnd> {
         let played = self.play_all(lines);
         if let (Ok(end), Shows::Verdict) = (&played, self.shows) {
             self.put_same(*end)?;
@@ -290,7 +290,7 @@ fn play_day<R: Read, W: Write>(
     reader: &mut R,
     writer: &mut W,
     shows: Shows,
-) -> Result<(), PlayFault> {
+) -> Result<(), EarlyEnd> {
     let mut lines = LineReader::new(alloc, reader)?;
     let mut day = DayPlay::new(alloc, file, writer, shows);
     day.play(&mut lines)
@@ -306,13 +306,13 @@ pub fn play<R: Read, W: Write>(
 ) -> Played {
     let (status, objection) = match play_day(alloc, file, reader, writer, shows) {
         Ok(()) => (ExitStatus::Done, None),
-        Err(PlayFault::Said(status, sentence)) => (status, Some(sentence)),
-        Err(PlayFault::Differs) => (ExitStatus::No, None),
-        Err(PlayFault::OutOfMemory) => (
+        Err(EarlyEnd::Said(status, sentence)) => (status, Some(sentence)),
+        Err(EarlyEnd::Differs) => (ExitStatus::No, None),
+        Err(EarlyEnd::OutOfMemory) => (
             ExitStatus::Failed,
             format!(in alloc; "cannot play {file}: out of memory").ok(),
         ),
-        Err(PlayFault::Failed) => (ExitStatus::Failed, None),
+        Err(EarlyEnd::Failed) => (ExitStatus::Failed, None),
     };
     Played { status, objection }
 }

@@ -9,7 +9,7 @@ use wires::{Door, MemoryWire};
 /// The octets that a device writes to a server that has just started, to which a client prints, and the
 /// octets that the device gets.
 #[derive(Clone, Copy)]
-struct Session {
+struct DeviceSession {
     written: &'static [u8],
     got: &'static [u8],
     /// Whether the server closes the connection.
@@ -25,48 +25,48 @@ const EARLY: &[u8] = b"HELLO A\nREADY\nDONE 1\n";
 /// The bytes of the client's job.
 const JOB: &[u8] = b"JOB 1 5 1 1 iso_a4_210x297mm\nhello";
 
-const SESSIONS: [Session; 8] = [
+const SESSIONS: [DeviceSession; 8] = [
     // The device runs, and gets the job.
-    Session {
+    DeviceSession {
         written: b"HELLO A\nREADY\n",
         got: JOB,
         closes: false,
     },
     // The device reports the end of the job, or its failure, before all of the job went out.
-    Session {
+    DeviceSession {
         written: b"HELLO A\r\nREADY\r\nPAGES 1 1\r\nDONE 1\r\n",
         got: JOB,
         closes: false,
     },
-    Session {
+    DeviceSession {
         written: b"HELLO A\nREADY\nFAIL 1\n",
         got: JOB,
         closes: false,
     },
     // The device doesn't run, or has another medium than the job's.
-    Session {
+    DeviceSession {
         written: b"HELLO A\n",
         got: b"",
         closes: false,
     },
-    Session {
+    DeviceSession {
         written: b"HELLO A\nMEDIA\nREADY\n",
         got: b"",
         closes: false,
     },
     // No device has this name.
-    Session {
+    DeviceSession {
         written: b"HELLO B\nREADY\n",
         got: b"",
         closes: true,
     },
     // The name has to come first, and once.
-    Session {
+    DeviceSession {
         written: b"READY\n",
         got: b"",
         closes: true,
     },
-    Session {
+    DeviceSession {
         written: b"HELLO A\nHELLO A\n",
         got: b"",
         closes: true,
@@ -90,7 +90,7 @@ fn print_room(
 
 /// Returns whether a device gets exactly the octets it is to get, and whether it is closed exactly where it
 /// is to be.
-fn is_kept(alloc: Global, session: Session, cut: (usize, usize)) -> Result<bool, AllocError> {
+fn is_kept(alloc: Global, session: DeviceSession, cut: (usize, usize)) -> Result<bool, AllocError> {
     let mut wire = print_room(alloc, PLAIN.sent, &[session.written], cut)?;
     let mut notes = NoteLog::new(alloc);
     Ok(

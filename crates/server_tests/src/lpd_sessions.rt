@@ -8,7 +8,7 @@ use wires::{Door, MemoryWire};
 
 /// The octets that a client sends to a server that has just started, and the answers.
 #[derive(Clone, Copy)]
-pub struct Session {
+pub struct LpdSession {
     pub sent: &'static [u8],
     pub answered: &'static [u8],
     /// Whether the server closes the connection.
@@ -16,69 +16,69 @@ pub struct Session {
 }
 
 /// A job of one file, the control file first.
-pub const ONE_JOB: Session = Session {
+pub const ONE_JOB: LpdSession = LpdSession {
     sent: b"\x02lab\n\x0223 cfA001host\nHhost\nPann\nfdfA001host\n\x00\x035 dfA001host\nhello\x00",
     answered: b"\x00\x00\x00\x00\x00",
     closes: false,
 };
 
-const SESSIONS: [Session; 12] = [
+const SESSIONS: [LpdSession; 12] = [
     ONE_JOB,
     // The data file comes first.
-    Session {
+    LpdSession {
         sent: b"\x02lab\n\x035 dfA001host\nhello\x00\x0223 cfA001host\nHhost\nPann\nfdfA001host\n\x00",
         answered: b"\x00\x00\x00\x00\x00",
         closes: false,
     },
     // A control file without an owner isn't kept, and the session goes on. An abort has no answer.
-    Session {
+    LpdSession {
         sent: b"\x02lab\n\x0218 cfA001host\nHhost\nfdfA001host\n\x00\x01\n\x035 dfA001host\nhello\x00",
         answered: b"\x00\x00\x01\x00\x00",
         closes: false,
     },
     // An unknown command, an unknown queue, and a command without anything to do.
-    Session {
+    LpdSession {
         sent: b"\x09lab\n",
         answered: b"\x01",
         closes: true,
     },
-    Session {
+    LpdSession {
         sent: b"\x02shop\n",
         answered: b"\x01",
         closes: true,
     },
-    Session {
+    LpdSession {
         sent: b"\x01lab\n\x03lab\n",
         answered: b"",
         closes: true,
     },
-    Session {
+    LpdSession {
         sent: b"\x03shop\n\x02lab\n",
         answered: b"no queue\n",
         closes: true,
     },
     // An empty file, a name of another kind, files that are too large, and a file without its end.
-    Session {
+    LpdSession {
         sent: b"\x02lab\n\x030 dfA001host\n",
         answered: b"\x00\x01",
         closes: true,
     },
-    Session {
+    LpdSession {
         sent: b"\x02lab\n\x023 xfA001host\n",
         answered: b"\x00\x01",
         closes: true,
     },
-    Session {
+    LpdSession {
         sent: b"\x02lab\n\x0265537 cfA001host\n",
         answered: b"\x00\x01",
         closes: true,
     },
-    Session {
+    LpdSession {
         sent: b"\x02lab\n\x0316777217 dfA001host\n",
         answered: b"\x00\x01",
         closes: true,
     },
-    Session {
+    LpdSession {
         sent: b"\x02lab\n\x0223 cfA001host\nHhost\nPann\nfdfA001host\n\x01",
         answered: b"\x00\x00\x01",
         closes: true,
@@ -86,7 +86,11 @@ const SESSIONS: [Session; 12] = [
 ];
 
 /// Returns whether a client gets exactly its answers, and is closed exactly where it is to be.
-fn is_answered(alloc: Global, session: Session, cut: (usize, usize)) -> Result<bool, AllocError> {
+fn is_answered(
+    alloc: Global,
+    session: LpdSession,
+    cut: (usize, usize),
+) -> Result<bool, AllocError> {
     let mut peers = Vec::new(alloc);
     peers.push(client(alloc, Door::Lpd, session.sent, cut)?)?;
     let mut wire = MemoryWire::new(peers);
