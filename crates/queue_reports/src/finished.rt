@@ -17,7 +17,7 @@ pub(crate) fn put_finished(html: Html, sheet: &PageContext<'_>, printer: Printer
         .heading(html, "Finished")
         .markup("<table>\n<thead><tr><th>Job</th>");
     let mut html = sheet.name_heads(html).markup(
-        "<th class=\"n\">PageCount</th><th>Device</th><th class=\"n\">Ended</th></tr></thead>\n<tbody>\n",
+        "<th class=\"n\">Pages</th><th>Device</th><th class=\"n\">Ended</th></tr></thead>\n<tbody>\n",
     );
     for job in jobs {
         if job.printer == printer {

@@ -59,7 +59,7 @@ fn put_table(html: Html, sheet: &PageContext<'_>, jobs: &[&JobView]) -> Html {
         .heading(html, "Waiting")
         .markup("<table>\n<thead><tr><th>Job</th>");
     let mut html = sheet.name_heads(html).markup(
-        "<th class=\"n\">PageCount</th><th>Device</th><th class=\"n\">Ready about</th></tr></thead>\n<tbody>\n",
+        "<th class=\"n\">Pages</th><th>Device</th><th class=\"n\">Ready about</th></tr></thead>\n<tbody>\n",
     );
     for job in jobs {
         html = put_job(html, sheet, job);
