@@ -22,7 +22,7 @@ use Rattle.ipp_operations.specs.ParsedRequest.{Asks}
 use Rattle.connections.specs.declared.ask.Ask.{Ask}
 use Rattle.connections.specs.declared.ask.Ask.TheVariants as ask
 use Rattle.connections.specs.declared.ask.Client.TheVariants as client
-use Rattle.connections.specs.declared.ask.Growth.TheVariants as growth
+use Rattle.connections.specs.declared.ask.AllocFailure.TheVariants as growth
 use Rattle.connections.specs.declared.ask.Part.TheVariants as part
 use Rattle.connections.specs.declared.step.Due.{Due}
 use Rattle.connections.specs.declared.step.Due.TheVariants as due
@@ -419,11 +419,11 @@ abbrev Reported : ℕ → ReportRecord → Step → Type 0
 Reported device said comes = (it : Report) × (report_of it ≡ said) × (comes ≡ step.Asks (ask.Report device it) false)
 
 hello_agrees : (name : List ℕ) (named : Option ℕ) (comes comes' : Step) (after after' : Option ℕ) (entry : Option ℕ → Entry) → StepsHello name named comes after → StepsHello name named comes' after' → Agree comes (entry after) comes' (entry after')
-hello_agrees name None comes comes' after after' entry a b = agree_at comes comes' (step.Breaks (ask.Stranger name)) (entry after) (entry after') (entry None) a.0 b.0 (ap entry a.1) (ap entry b.1)
+hello_agrees name None comes comes' after after' entry a b = agree_at comes comes' (step.Breaks (ask.UnknownDevice name)) (entry after) (entry after') (entry None) a.0 b.0 (ap entry a.1) (ap entry b.1)
 hello_agrees name (Some device) comes comes' after after' entry a b = agree_at comes comes' (step.Asks (ask.Hello device name) false) (entry after) (entry after') (entry (Some device)) a.0 b.0 (ap entry a.1) (ap entry b.1)
 
 hello_usual : (name : List ℕ) (named : Option ℕ) (comes : Step) (after : Option ℕ) → StepsHello name named comes after → (loss : Option Loss) → Loses comes loss → IsUsual loss
-hello_usual name None comes after a loss x = loses_usual comes (step.Breaks (ask.Stranger name)) loss a.0 x (λ loss none. inl none)
+hello_usual name None comes after a loss x = loses_usual comes (step.Breaks (ask.UnknownDevice name)) loss a.0 x (λ loss none. inl none)
 hello_usual name (Some device) comes after a loss x = loses_usual comes (step.Asks (ask.Hello device name) false) loss a.0 x (λ loss none. inl none)
 
 reported_usual : (device : ℕ) (said : ReportRecord) (comes : Step) → Reported device said comes → (loss : Option Loss) → Loses comes loss → IsUsual loss

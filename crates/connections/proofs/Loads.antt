@@ -72,17 +72,17 @@ item_reader what item.BodyPart t u hears = part_reader what t u hears
 item_reader what item.BodyEnd t u (same, begun, ends) = ap (λ (x : IppClientState). x.reader) same
 item_reader what (item.Refuse refusal) t u (is, same) = ap (λ (x : IppClientState). x.reader) same
 
-part_untold : (what : Step) (t u : IppClientState) → HandlesIpp item.BodyPart what t u → u.untold ≡ t.untold
-part_untold (step.Due due last) t u it = ap (λ (x : IppClientState). x.untold) it.1
-part_untold (step.Asks ask last) t u it = absurd it
-part_untold (step.Breaks ask) t u it = ap (λ (x : IppClientState). x.untold) it.1
+part_unreported : (what : Step) (t u : IppClientState) → HandlesIpp item.BodyPart what t u → u.unreported ≡ t.unreported
+part_unreported (step.Due due last) t u it = ap (λ (x : IppClientState). x.unreported) it.1
+part_unreported (step.Asks ask last) t u it = absurd it
+part_unreported (step.Breaks ask) t u it = ap (λ (x : IppClientState). x.unreported) it.1
 
-item_untold : (what : Step) (it : HttpItem) (t u : IppClientState) → HandlesIpp it what t u → u.untold ≡ t.untold
-item_untold what (item.Head closes) t u (is, same, begun) = ap (λ (x : IppClientState). x.untold) same
-item_untold what item.Continue t u (is, same) = ap (λ (x : IppClientState). x.untold) same
-item_untold what item.BodyPart t u hears = part_untold what t u hears
-item_untold what item.BodyEnd t u (same, begun, ends) = ap (λ (x : IppClientState). x.untold) same
-item_untold what (item.Refuse refusal) t u (is, same) = ap (λ (x : IppClientState). x.untold) same
+item_unreported : (what : Step) (it : HttpItem) (t u : IppClientState) → HandlesIpp it what t u → u.unreported ≡ t.unreported
+item_unreported what (item.Head closes) t u (is, same, begun) = ap (λ (x : IppClientState). x.unreported) same
+item_unreported what item.Continue t u (is, same) = ap (λ (x : IppClientState). x.unreported) same
+item_unreported what item.BodyPart t u hears = part_unreported what t u hears
+item_unreported what item.BodyEnd t u (same, begun, ends) = ap (λ (x : IppClientState). x.unreported) same
+item_unreported what (item.Refuse refusal) t u (is, same) = ap (λ (x : IppClientState). x.unreported) same
 
 -- the peer has less to bring, or the step is the last
 abbrev Less : Step → Peer → Peer → Type 0
@@ -90,10 +90,10 @@ Less what x y = (work y < work x) ⊎ IsLast what
 
 less : (settings : ServerSettings) (what : Step) (x y : Peer) → NextPeer settings (Some what) x y → Less what x y
 less settings what (of.Ipp t) (of.Ipp u) (inl (on, is, same)) =
-    inl (rw (ap (λ (x : IppClientState). x.reader) same, ap (λ (x : IppClientState). x.untold) same, on) (omega arith))
+    inl (rw (ap (λ (x : IppClientState). x.reader) same, ap (λ (x : IppClientState). x.unreported) same, on) (omega arith))
 less settings what (of.Ipp t) (of.Ipp u) (inr (off, (it, reader, answers, falls, hears))) =
     let reads : u.reader ≡ reader = item_reader what it (record t { reader = reader }) u hears in
-    let told : u.untold ≡ false = item_untold what it (record t { reader = reader }) u hears ∙ off in
+    let told : u.unreported ≡ false = item_unreported what it (record t { reader = reader }) u hears ∙ off in
     inl (rw (reads, told, off) (omega (arith, falls)))
 less settings what (of.Lpd t) (of.Lpd u) (inl (it, reader, answers, falls, hears)) = inl (subst (λ r. Lpd.work r < Lpd.work t.reader) (sym hears.0) falls)
 less settings what (of.Lpd t) (of.Lpd u) (inr (inl (fault, answers, is, same))) = inr (subst IsLast (sym is) refl)

@@ -86,7 +86,7 @@ pub record HasCome (settings : ServerSettings) (e : Entry) (what : Step) (p : Pe
 -- ---- an IPP client
 
 -- where no bytes of a body are to be told of, the next item is the next step
-pub next_is_item : (what : Option Step) (t u : IppClientState) → t.untold ≡ false → TakesIfItem what t u → NextIpp what t u
+pub next_is_item : (what : Option Step) (t u : IppClientState) → t.unreported ≡ false → TakesIfItem what t u → NextIpp what t u
 next_is_item None t u told takes = (told, takes)
 next_is_item (Some what) t u told takes = inr (told, takes)
 
@@ -94,7 +94,7 @@ fits_ipp : (read : List ℕ) (said : List HttpElement) (closes : Bool) (body : L
 fits_ipp read said closes body reader u stands same is heard = record {
   said = said;
   body = body;
-  untold = [];
+  unreported = [];
   is = ap (λ (x : Bool). entry.Http said x body) (sym is);
   told = λ off. refl;
   stands = subst (λ (xs : List HttpElement). Http.HasRead read xs u.reader) (sym (append-nil said)) (subst (λ (r : HttpState). Http.HasRead read said r) (sym same) stands);
@@ -102,12 +102,12 @@ fits_ipp read said closes body reader u stands same is heard = record {
 }
 
 -- all that the body was fed was told
-stands_told : (read : List ℕ) (progress : PeerRecord) (t : IppClientState) (f : FitsIpp read progress t) → t.untold ≡ false → Http.HasRead read f.said t.reader
+stands_told : (read : List ℕ) (progress : PeerRecord) (t : IppClientState) (f : FitsIpp read progress t) → t.unreported ≡ false → Http.HasRead read f.said t.reader
 stands_told read progress t f off =
     let none : Http.HasRead read (f.said ++ map HasByte []) t.reader = subst (λ (xs : List ℕ). Http.HasRead read (f.said ++ map HasByte xs) t.reader) (f.told off) f.stands in
     subst (λ (xs : List HttpElement). Http.HasRead read xs t.reader) (append-nil f.said) none
 
-heard_told : (read : List ℕ) (progress : PeerRecord) (t : IppClientState) (f : FitsIpp read progress t) → t.untold ≡ false → Body.HasRead f.body t.body
+heard_told : (read : List ℕ) (progress : PeerRecord) (t : IppClientState) (f : FitsIpp read progress t) → t.unreported ≡ false → Body.HasRead f.body t.body
 heard_told read progress t f off =
     let none : Body.HasRead (f.body ++ []) t.body = subst (λ (xs : List ℕ). Body.HasRead (f.body ++ xs) t.body) (f.told off) f.heard in
     subst (λ (xs : List ℕ). Body.HasRead xs t.body) (append-nil f.body) none
@@ -157,18 +157,18 @@ item_comes e said t u body reader what (item.Refuse refusal) stands heard (is, s
 
 heard_ipp : (settings : ServerSettings) (e : Entry) (t u : IppClientState) (what : Step) → FitsIpp e.read e.progress t → NextIpp (Some what) t u → HasCome settings e what (of.Ipp u)
 heard_ipp settings e t u what f (inl (on, is, same)) =
-    let fits : FitsIpp e.read (entry.Http (f.said ++ map HasByte f.untold) t.closes (f.body ++ f.untold)) u =
-    fits_ipp e.read (f.said ++ map HasByte f.untold) t.closes (f.body ++ f.untold) t.reader u f.stands (ap (λ (x : IppClientState). x.reader) same) (ap (λ (x : IppClientState). x.closes) same) (subst (λ (x : IppClientState). Body.HasRead (f.body ++ f.untold) x.body) (sym same) f.heard) in
-    let next : NextItem e f.said t.closes f.body silent (with_progress (entry.Http (f.said ++ map HasByte f.untold) t.closes (f.body ++ f.untold)) e) = record {
+    let fits : FitsIpp e.read (entry.Http (f.said ++ map HasByte f.unreported) t.closes (f.body ++ f.unreported)) u =
+    fits_ipp e.read (f.said ++ map HasByte f.unreported) t.closes (f.body ++ f.unreported) t.reader u f.stands (ap (λ (x : IppClientState). x.reader) same) (ap (λ (x : IppClientState). x.closes) same) (subst (λ (x : IppClientState). Body.HasRead (f.body ++ f.unreported) x.body) (sym same) f.heard) in
+    let next : NextItem e f.said t.closes f.body silent (with_progress (entry.Http (f.said ++ map HasByte f.unreported) t.closes (f.body ++ f.unreported)) e) = record {
       item = item.BodyPart;
-      part = f.untold;
-      next = says_first e.read (f.said ++ map HasByte f.untold) t.reader f.stands;
+      part = f.unreported;
+      next = says_first e.read (f.said ++ map HasByte f.unreported) t.reader f.stands;
       comes = inl refl;
       after = refl;
     } in
     let heard : HasCome settings e silent (of.Ipp u) = record {
-      progress = entry.Http (f.said ++ map HasByte f.untold) t.closes (f.body ++ f.untold);
-      hears = subst (λ (k : PeerRecord). ItemComes settings k e silent (with_progress (entry.Http (f.said ++ map HasByte f.untold) t.closes (f.body ++ f.untold)) e)) (sym f.is) next;
+      progress = entry.Http (f.said ++ map HasByte f.unreported) t.closes (f.body ++ f.unreported);
+      hears = subst (λ (k : PeerRecord). ItemComes settings k e silent (with_progress (entry.Http (f.said ++ map HasByte f.unreported) t.closes (f.body ++ f.unreported)) e)) (sym f.is) next;
       broken = fits;
       whole = λ goes. fits;
     } in
@@ -350,25 +350,25 @@ fed_ipp read piece progress t u f (inl (is, stands)) =
     record {
       said = f.said;
       body = f.body;
-      untold = f.untold;
+      unreported = f.unreported;
       is = f.is ∙ same;
-      told = λ off. f.told (sym (ap (λ (v : IppClientState). v.untold) is) ∙ off);
-      stands = stands read (f.said ++ map HasByte f.untold) f.stands;
-      heard = subst (λ (v : IppClientState). Body.HasRead (f.body ++ f.untold) v.body) (sym is) f.heard;
+      told = λ off. f.told (sym (ap (λ (v : IppClientState). v.unreported) is) ∙ off);
+      stands = stands read (f.said ++ map HasByte f.unreported) f.stands;
+      heard = subst (λ (v : IppClientState). Body.HasRead (f.body ++ f.unreported) v.body) (sym is) f.heard;
     }
 fed_ipp read piece progress t u f (inr (is, stands, heard)) =
     let same : entry.Http f.said t.closes f.body ≡ entry.Http f.said u.closes f.body = sym (ap (λ (v : IppClientState). entry.Http f.said v.closes f.body) is) in
-    let on : u.untold ≡ true = ap (λ (v : IppClientState). v.untold) is in
-    let said : (f.said ++ map HasByte f.untold) ++ map HasByte piece ≡ f.said ++ map HasByte (f.untold ++ piece) =
-    append_assoc f.said (map HasByte f.untold) (map HasByte piece) ∙ ap (λ (xs : List HttpElement). f.said ++ xs) (map_bytes f.untold piece) in
+    let on : u.unreported ≡ true = ap (λ (v : IppClientState). v.unreported) is in
+    let said : (f.said ++ map HasByte f.unreported) ++ map HasByte piece ≡ f.said ++ map HasByte (f.unreported ++ piece) =
+    append_assoc f.said (map HasByte f.unreported) (map HasByte piece) ∙ ap (λ (xs : List HttpElement). f.said ++ xs) (map_bytes f.unreported piece) in
     record {
       said = f.said;
       body = f.body;
-      untold = f.untold ++ piece;
+      unreported = f.unreported ++ piece;
       is = f.is ∙ same;
       told = λ off. let never : true ≡ false = sym on ∙ off in cc;
-      stands = subst (λ (xs : List HttpElement). Http.HasRead (read ++ piece) xs u.reader) said (stands read (f.said ++ map HasByte f.untold) f.stands);
-      heard = subst (λ (xs : List ℕ). Body.HasRead xs u.body) (append_assoc f.body f.untold piece) (heard (f.body ++ f.untold) f.heard);
+      stands = subst (λ (xs : List HttpElement). Http.HasRead (read ++ piece) xs u.reader) said (stands read (f.said ++ map HasByte f.unreported) f.stands);
+      heard = subst (λ (xs : List ℕ). Body.HasRead xs u.body) (append_assoc f.body f.unreported piece) (heard (f.body ++ f.unreported) f.heard);
     }
 
 -- a piece was fed
@@ -393,4 +393,4 @@ fed_peer read piece progress off (of.Device t) (of.Lpd u) f it = absurd it
 
 -- a client of which nothing was read
 pub new_ipp : (t : IppClientState) → IsNewIpp t → FitsIpp [] (entry.Http [] false []) t
-new_ipp t (stands, closes, heard, untold) = fits_ipp [] [] false [] t.reader t stands refl closes heard
+new_ipp t (stands, closes, heard, unreported) = fits_ipp [] [] false [] t.reader t stands refl closes heard

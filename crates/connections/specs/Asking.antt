@@ -17,7 +17,7 @@ use Rattle.connections.specs.declared.connection.Fed.{Fed}
 use Rattle.connections.specs.declared.connection.Fed.TheVariants as fed
 use Rattle.connections.specs.declared.ask.Ask.{Ask}
 use Rattle.connections.specs.declared.ask.Ask.TheVariants as ask
-use Rattle.connections.specs.declared.ask.Growth.TheVariants as growth
+use Rattle.connections.specs.declared.ask.AllocFailure.TheVariants as growth
 use Rattle.connections.specs.declared.step.Step.{Step}
 use Rattle.connections.specs.declared.step.Step.TheVariants as step
 use Rattle.connections.specs.Session.{is_queue}

@@ -7,7 +7,7 @@ use Rattle.http_front.specs.declared.item.HttpItem.TheVariants as item
 use Rattle.events.specs.SameEvent.{SameEvent}
 use Rattle.connections.specs.declared.ask.Ask.{Ask}
 use Rattle.connections.specs.declared.ask.Ask.TheVariants as ask
-use Rattle.connections.specs.declared.ask.Growth.{Growth}
+use Rattle.connections.specs.declared.ask.AllocFailure.{AllocFailure}
 use Rattle.connections.specs.declared.ask.Part.{Part}
 use Rattle.connections.specs.declared.step.Step.{Step}
 use Rattle.connections.specs.Entry.{PeerRecord, Http as OfIpp, Queue as OfLpd, Link as OfDevice, Entry}
@@ -34,7 +34,7 @@ part_of {settings} {e} asks = part_heard settings e.progress e asks.comes asks.m
 
 -- the purpose of the memory that was refused, as an ask is made
 pub data Loss : Type 0 where
-  OfGrowth : Growth → Loss
+  OfGrowth : AllocFailure → Loss
   OfPart : Part → Loss
   -- reading a whole body
   OfBody : Loss
@@ -47,7 +47,7 @@ lost_of (ask.Unread request) = Some OfBody
 lost_of (ask.Lost part) = Some (OfPart part)
 lost_of (ask.Hello device name) = None
 lost_of (ask.Report device report) = None
-lost_of (ask.Stranger name) = None
+lost_of (ask.UnknownDevice name) = None
 lost_of (ask.Fault device) = None
 
 -- ---- asks

@@ -10,7 +10,7 @@ use Rattle.connections.specs.Steps.{due_bytes}
 use Rattle.connections.specs.Peers.{work, unnamed}
 use Rattle.connections.specs.declared.ask.Ask.{Ask}
 use Rattle.connections.specs.declared.ask.Ask.TheVariants as ask
-use Rattle.connections.specs.declared.ask.Growth.TheVariants as growth
+use Rattle.connections.specs.declared.ask.AllocFailure.TheVariants as growth
 use Rattle.connections.specs.declared.step.Step.{Step}
 use Rattle.connections.specs.declared.step.Step.TheVariants as step
 use Rattle.connections.specs.declared.peer.Peer.{Peer}
@@ -51,8 +51,8 @@ abbrev pub is_draining : Bool → ConnectionState → ConnectionState
 is_draining last c = record c { draining = last }
 
 -- the device that gave its name on the connection has another connection
-abbrev pub gives_way : ConnectionState → ConnectionState
-gives_way c = record c { peer = unnamed c.peer; broken = true }
+abbrev pub superseded : ConnectionState → ConnectionState
+superseded c = record c { peer = unnamed c.peer; broken = true }
 
 -- bytes become due: they wait, or memory for them is refused and the connection breaks
 abbrev pub Enqueues : List ℕ → ConnectionState → Ask → ConnectionState → Type 0

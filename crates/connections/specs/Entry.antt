@@ -88,8 +88,8 @@ unnamed (Queue items session) = Queue items session
 unnamed (Link reports device) = Link reports None
 
 -- the device that gave its name on the connection has another connection: the old connection is to be closed as by a fault
-abbrev pub given_up : Entry → Entry
-given_up e = record e { progress = unnamed e.progress; broken = true }
+abbrev pub superseded_entry : Entry → Entry
+superseded_entry e = record e { progress = unnamed e.progress; broken = true }
 
 -- the waiting bytes and the new bytes together exceed what a connection reserves when it is accepted
 abbrev pub needs_memory : List ℕ → Entry → Bool

@@ -37,7 +37,7 @@ use Rattle.wires.specs.declared.wire.Door.TheVariants as door
 
 -- a client of which nothing was read yet
 abbrev pub IsNewIpp : IppClientState → Type 0
-IsNewIpp t = Http.HasRead [] [] t.reader × (t.closes ≡ false) × Body.HasRead [] t.body × (t.untold ≡ false)
+IsNewIpp t = Http.HasRead [] [] t.reader × (t.closes ≡ false) × Body.HasRead [] t.body × (t.unreported ≡ false)
 
 abbrev pub with_http : HttpState → IppClientState → IppClientState
 with_http reader t = record t { reader = reader }
@@ -52,7 +52,7 @@ FeedsReader piece t u = (u ≡ with_http u.reader t) × ((stream : List ℕ) (gi
 -- a piece is bytes of a body, and was fed to the body at once; a later step reports it
 abbrev pub FeedsBody : List ℕ → IppClientState → IppClientState → Type 0
 FeedsBody piece t u =
-    (u ≡ record t { reader = u.reader; body = u.body; untold = true })
+    (u ≡ record t { reader = u.reader; body = u.body; unreported = true })
     × ((stream : List ℕ) (given : List HttpElement) → Http.HasRead stream given t.reader → Http.HasRead (stream ++ piece) (given ++ map HasByte piece) u.reader)
     × ((bytes : List ℕ) → Body.HasRead bytes t.body → Body.HasRead (bytes ++ piece) u.body)
 
@@ -87,8 +87,8 @@ HandlesIpp item.BodyEnd what t u = EndsIpp what t u
 HandlesIpp (item.Refuse refusal) what t u = (what ≡ step.Due (due.Refusal refusal) true) × (u ≡ t)
 
 -- a step reports the bytes that the body was fed before
-abbrev pub TellsBody : Step → IppClientState → IppClientState → Type 0
-TellsBody what t u = (t.untold ≡ true) × (what ≡ silent) × (u ≡ record t { untold = false })
+abbrev pub ReportsBody : Step → IppClientState → IppClientState → Type 0
+ReportsBody what t u = (t.unreported ≡ true) × (what ≡ silent) × (u ≡ record t { unreported = false })
 
 -- the next item was taken off the stream and acted on
 abbrev pub TakesItem : Step → IppClientState → IppClientState → Type 0
@@ -103,8 +103,8 @@ TakesIfItem (Some what) t u = TakesItem what t u
 
 -- the same, if no bytes that the body was fed are still to be reported; else a step reports those
 abbrev pub NextIpp : Option Step → IppClientState → IppClientState → Type 0
-NextIpp None t u = (t.untold ≡ false) × TakesIfItem None t u
-NextIpp (Some what) t u = TellsBody what t u ⊎ ((t.untold ≡ false) × TakesIfItem (Some what) t u)
+NextIpp None t u = (t.unreported ≡ false) × TakesIfItem None t u
+NextIpp (Some what) t u = ReportsBody what t u ⊎ ((t.unreported ≡ false) × TakesIfItem (Some what) t u)
 
 -- ---- an LPD client
 
@@ -203,7 +203,7 @@ NextPeer settings what _ _ = ⊥
 
 -- an upper bound on the steps that a peer's stream can still bring
 abbrev pub work : Peer → ℕ
-work (of.Ipp t) = Http.work t.reader + (if t.untold then 1 else 0)
+work (of.Ipp t) = Http.work t.reader + (if t.unreported then 1 else 0)
 work (of.Lpd t) = Lpd.work t.reader
 work (of.Device t) = Link.work t.reader
 

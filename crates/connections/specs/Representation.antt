@@ -19,11 +19,11 @@ pub record FitsIpp (read : List ℕ) (progress : PeerRecord) (t : IppClientState
   pub said : List HttpElement
   pub body : List ℕ
   -- bytes that the body was fed, and that no step has reported yet
-  pub untold : List ℕ
+  pub unreported : List ℕ
   pub is : progress ≡ entry.Http said t.closes body
-  pub told : t.untold ≡ false → untold ≡ []
-  pub stands : Http.HasRead read (said ++ map HasByte untold) t.reader
-  pub heard : Body.HasRead (body ++ untold) t.body
+  pub told : t.unreported ≡ false → unreported ≡ []
+  pub stands : Http.HasRead read (said ++ map HasByte unreported) t.reader
+  pub heard : Body.HasRead (body ++ unreported) t.body
 
 -- the reader of an LPD client has been fed all bytes read
 pub record FitsLpd (read : List ℕ) (progress : PeerRecord) (t : LpdClientState) : Type 0 where

@@ -12,7 +12,7 @@ pub record IppClientState : Type 0 where
   pub closes : Bool
   pub body : ReaderState
   -- whether the body was fed bytes that no step has reported yet
-  pub untold : Bool
+  pub unreported : Bool
 
 pub record LpdClientState : Type 0 where
   pub reader : LpdState

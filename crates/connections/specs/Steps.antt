@@ -19,7 +19,7 @@ use Rattle.ipp_operations.specs.declared.queue_text.TheConstants.{REFUSED}
 use Rattle.send_queues.specs.Reply.{http_reply, refusal_head}
 use Rattle.connections.specs.declared.ask.Ask.TheVariants as ask
 use Rattle.connections.specs.declared.ask.Client.TheVariants as client
-use Rattle.connections.specs.declared.ask.Growth.TheVariants as growth
+use Rattle.connections.specs.declared.ask.AllocFailure.TheVariants as growth
 use Rattle.connections.specs.declared.ask.Part.TheVariants as part
 use Rattle.connections.specs.declared.step.Due.{Due}
 use Rattle.connections.specs.declared.step.Due.TheVariants as due
@@ -132,9 +132,9 @@ StepsLpd is_queue before (Announces head) what after = AsksAs (heard is_queue be
 
 -- ---- a device
 
--- the step for a name: that of a known device, or of a stranger
+-- the step for a name: that of a known device, or of a unknown_device
 abbrev pub StepsHello : List ℕ → Option ℕ → Step → Option ℕ → Type 0
-StepsHello name None what after = (what ≡ step.Breaks (ask.Stranger name)) × (after ≡ None)
+StepsHello name None what after = (what ≡ step.Breaks (ask.UnknownDevice name)) × (after ≡ None)
 StepsHello name (Some device) what after = (what ≡ step.Asks (ask.Hello device name) false) × (after ≡ Some device)
 
 -- the step for a report, and the device that has given its name after it; the first report is a name, and no later report is

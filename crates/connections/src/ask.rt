@@ -4,7 +4,7 @@ use events::Event;
 
 /// The purpose of the memory that was refused to a connection.
 #[derive(Clone, Copy, PartialEq, Eq)]
-pub enum Growth {
+pub enum AllocFailure {
     /// To read the bytes that its peer sends.
     Input,
     /// To enqueue bytes that become due.
@@ -35,7 +35,7 @@ pub enum Ask {
     /// Nothing: the connection acted on an item by itself, and may have more items.
     Nothing,
     /// The connection broke, since memory was refused.
-    Broke(Growth),
+    Broke(AllocFailure),
     /// An event of a client, which awaits its reply.
     Event(Client, Event),
     /// A request of an IPP client, by its request-id: memory to read it was refused.
@@ -47,7 +47,7 @@ pub enum Ask {
     /// A report of a device that has given its name.
     Report(DeviceId, Report),
     /// The connection broke, since its peer gave a name that is no device's.
-    Stranger(Text),
+    UnknownDevice(Text),
     /// The connection broke by a fault in its peer's stream. The device, if the peer has given its name.
     Fault(Option<DeviceId>),
 }

@@ -4,14 +4,14 @@ ghost use Rattle.device_link.specs.Orders.{cancel_line};
 ghost use Rattle.send_queues.specs.Reply.{http_reply};
 ghost use Rattle.send_queues.specs.declared.queue.TheConstants.{RESERVED_BYTES};
 ghost use Rattle.send_queues.specs.SendQueue.{OffersFront};
-ghost use Rattle.connections.specs.Entry.{opening_entry, ending, broken, given_up};
+ghost use Rattle.connections.specs.Entry.{opening_entry, ending, broken, superseded_entry};
 ghost use Rattle.connections.specs.Steps.{due_bytes, http_status};
 ghost use Rattle.connections.specs.Asking.{Asking, Feeds};
 ghost use Rattle.connections.specs.Peers.{device_of, closes_of};
-ghost use Rattle.connections.specs.Connections.{load, is_read, is_done, is_ended, is_broken, gives_way, Takes, Enqueues, OutgrowsReserve, sent_job, EnqueuesAs};
+ghost use Rattle.connections.specs.Connections.{load, is_read, is_done, is_ended, is_broken, superseded, Takes, Enqueues, OutgrowsReserve, sent_job, EnqueuesAs};
 ghost use Rattle.connections.specs.Representation.{RepresentsConnection, Becomes};
 
-use crate::ask::{Ask, Growth};
+use crate::ask::{AllocFailure, Ask};
 use crate::peer::Peer;
 use crate::step::{Due, Step};
 use base_types::{DeviceId, JobId, Limits, Needs};
@@ -141,11 +141,11 @@ impl Connection {
 
     /// Marks the connection as broken, since its device has another connection. The connection has no device
     /// then.
-    pub fn give_way(&mut self)
-        ensures is { self.new ≡ gives_way self.old }
-        ensures becomes { Becomes (λ e new. new ≡ given_up e) self.old self.new }
+    pub fn supersede(&mut self)
+        ensures is { self.new ≡ superseded self.old }
+        ensures becomes { Becomes (λ e new. new ≡ superseded_entry e) self.old self.new }
     {
-        self.peer.give_way();
+        self.peer.supersede();
         self.broken = true;
     }
 
@@ -211,7 +211,7 @@ impl Connection {
             Ok(()) => Ask::Nothing,
             Err(_) => {
                 self.broken = true;
-                Ask::Broke(Growth::Output)
+                Ask::Broke(AllocFailure::Output)
             }
         }
     }

@@ -4,7 +4,7 @@ ghost use Rattle.settings_file.specs.Settings.{device_named};
 ghost use Rattle.connections.specs.Steps.{StepsHello};
 ghost use Rattle.connections.specs.Peers.{IsNewDevice, IsFedDevice, NextDevice, HandlesReport, HandlesReportIfAny, link_step};
 
-use crate::ask::{Ask, Growth};
+use crate::ask::{AllocFailure, Ask};
 use crate::step::Step;
 use base_types::{DeviceId, Report, Text};
 use device_link::{LinkError, LinkReader};
@@ -56,7 +56,7 @@ impl Device {
     }
 
     /// Forgets the device, since it has another connection.
-    pub fn give_way(&mut self)
+    pub fn supersede(&mut self)
         ensures { self.new ≡ record self.old { device = None } }
     {
         self.device = None;
@@ -68,44 +68,44 @@ impl Device {
         ensures { NextDevice (device_named settings.now) result self.old self.new }
     {
         match self.reader.next_report() {
-            Ok(report) => self.hear_whole(report, settings),
+            Ok(report) => self.handle_whole(report, settings),
             Err(error) => Some(link_step(error, self.device)),
         }
     }
 
     /// Returns the step for a report that was just taken off the stream, if it is whole.
-    fn hear_whole(&mut self, report: Option<Report>, settings: &Settings) -> Option<Step>
+    fn handle_whole(&mut self, report: Option<Report>, settings: &Settings) -> Option<Step>
         ensures { HandlesReportIfAny (device_named settings.now) report result self.old self.new }
     {
         match report {
-            Some(report) => Some(self.hear(report, settings)),
+            Some(report) => Some(self.handle(report, settings)),
             None => None,
         }
     }
 
     /// Returns the step for a report.
-    fn hear(&mut self, report: Report, settings: &Settings) -> Step
+    fn handle(&mut self, report: Report, settings: &Settings) -> Step
         ensures { HandlesReport (device_named settings.now) report result self.old self.new }
     {
         match self.device {
             Some(device) => asks(Ask::Report(device, report)),
-            None => self.greet(report, settings),
+            None => self.await_hello(report, settings),
         }
     }
 
     /// Returns the step for the first report, which has to be a name.
-    fn greet(&mut self, report: Report, settings: &Settings) -> Step
+    fn await_hello(&mut self, report: Report, settings: &Settings) -> Step
         requires { self.old.device ≡ None }
         ensures { HandlesReport (device_named settings.now) report result self.old self.new }
     {
         match report {
-            Report::Hello(name) => self.meet(name, settings),
+            Report::Hello(name) => self.take_name(name, settings),
             _ => Step::Breaks(Ask::Fault(None)),
         }
     }
 
     /// Returns the step for a name, and remembers the device that it names.
-    fn meet(&mut self, name: Text, settings: &Settings) -> Step
+    fn take_name(&mut self, name: Text, settings: &Settings) -> Step
         requires { self.old.device ≡ None }
         ensures reader { self.new.reader ≡ self.old.reader }
         ensures comes { StepsHello name (device_named settings.now name) result self.new.device }
@@ -115,7 +115,7 @@ impl Device {
                 self.device = Some(device);
                 asks(Ask::Hello(device, name))
             }
-            None => Step::Breaks(Ask::Stranger(name)),
+            None => Step::Breaks(Ask::UnknownDevice(name)),
         }
     }
 }
@@ -133,6 +133,6 @@ fn link_step(error: LinkError, device: Option<DeviceId>) -> Step
 {
     match error {
         LinkError::Fault(_) => Step::Breaks(Ask::Fault(device)),
-        LinkError::OutOfMemory => Step::Breaks(Ask::Broke(Growth::Input)),
+        LinkError::OutOfMemory => Step::Breaks(Ask::Broke(AllocFailure::Input)),
     }
 }

@@ -4,9 +4,9 @@ ghost use Rattle.http_front.specs.Stream.{AwaitsBody};
 ghost use Rattle.ipp_operations.specs.ParsedRequest.{Asks};
 ghost use Rattle.ipp_operations.specs.Reader.{HasRead};
 ghost use Rattle.connections.specs.Steps.{EndsBody, asked_step};
-ghost use Rattle.connections.specs.Peers.{IsNewIpp, IsFedIpp, FeedsReader, FeedsBody, NextIpp, TakesIfItem, TellsBody, HandlesIpp, BeginsIpp, TakesPart, EndsIpp, LosesBody};
+ghost use Rattle.connections.specs.Peers.{IsNewIpp, IsFedIpp, FeedsReader, FeedsBody, NextIpp, TakesIfItem, ReportsBody, HandlesIpp, BeginsIpp, TakesPart, EndsIpp, LosesBody};
 
-use crate::ask::{Ask, Client, Growth};
+use crate::ask::{AllocFailure, Ask, Client};
 use crate::step::{Due, Step};
 use http_front::{HttpItem, HttpReader, HttpRejection};
 use ipp_operations::{ParsedRequest, RequestParser};
@@ -24,7 +24,7 @@ pub struct IppClient {
     /// The parser of that request's body.
     body: RequestParser,
     /// Whether the body was fed bytes that no step has reported yet.
-    untold: bool,
+    unreported: bool,
 }
 
 impl Model for IppClient {
@@ -32,7 +32,7 @@ impl Model for IppClient {
 
     ghost Value = { IppClientState };
 
-    ghost view = { λ t. record { reader = t.reader; closes = t.closes; body = t.body; untold = t.untold } };
+    ghost view = { λ t. record { reader = t.reader; closes = t.closes; body = t.body; unreported = t.unreported } };
 }
 
 impl IppClient {
@@ -45,7 +45,7 @@ impl IppClient {
             reader: HttpReader::new(alloc),
             closes: false,
             body: RequestParser::new(alloc),
-            untold: false,
+            unreported: false,
         }
     }
 
@@ -91,7 +91,7 @@ impl IppClient {
     {
         self.body.feed(piece)?;
         self.reader.hear_body(count);
-        self.untold = true;
+        self.unreported = true;
         Ok(())
     }
 
@@ -108,8 +108,8 @@ impl IppClient {
     pub fn next(&mut self) -> Option<Step>
         ensures { NextIpp result self.old self.new }
     {
-        if self.untold {
-            return Some(self.tell_body());
+        if self.unreported {
+            return Some(self.report_body());
         }
         self.next_item()
     }
@@ -119,22 +119,22 @@ impl IppClient {
         ensures { TakesIfItem result self.old self.new }
     {
         match self.reader.next_item() {
-            Some(item) => Some(self.hear(item)),
+            Some(item) => Some(self.handle(item)),
             None => None,
         }
     }
 
     /// Returns the step for the bytes that the body was fed: nothing comes of them yet.
-    fn tell_body(&mut self) -> Step
-        requires { self.old.untold ≡ true }
-        ensures { TellsBody result self.old self.new }
+    fn report_body(&mut self) -> Step
+        requires { self.old.unreported ≡ true }
+        ensures { ReportsBody result self.old self.new }
     {
-        self.untold = false;
+        self.unreported = false;
         due(Due::Nothing, false)
     }
 
     /// Returns the step for an item that was just taken off the stream.
-    fn hear(&mut self, item: HttpItem) -> Step
+    fn handle(&mut self, item: HttpItem) -> Step
         ensures { HandlesIpp item result self.old self.new }
     {
         match item {
@@ -161,7 +161,7 @@ impl IppClient {
     {
         match self.body.feed(self.reader.part()) {
             Ok(()) => due(Due::Nothing, false),
-            Err(_) => Step::Breaks(Ask::Broke(Growth::Input)),
+            Err(_) => Step::Breaks(Ask::Broke(AllocFailure::Input)),
         }
     }
 

@@ -20,7 +20,7 @@ mod peer;
 mod step;
 pub mod table;
 
-pub use ask::{Ask, Client, Growth, Part};
+pub use ask::{AllocFailure, Ask, Client, Part};
 pub use connection::{Connection, Fed};
 pub use device::Device;
 pub use ipp_client::IppClient;

@@ -8,7 +8,7 @@ ghost use Rattle.connections.specs.Commands.{SubmitsJob};
 ghost use Rattle.connections.specs.Steps.{AsksAs, AsksForFile, byte_due, step_of};
 ghost use Rattle.connections.specs.Peers.{IsNewLpd, IsFedLpd, ComesTo, NextLpd, HandlesLpdIfAny};
 
-use crate::ask::{Ask, Client, Growth, Part};
+use crate::ask::{AllocFailure, Ask, Client, Part};
 use crate::step::{Due, Step};
 use base_types::Text;
 use events::{Event, ListQueue, QueueForm, RemoveJobs, SubmitFiles};
@@ -61,28 +61,28 @@ impl LpdClient {
         ensures { NextLpd (is_queue settings.now) result self.old self.new }
     {
         match self.reader.next_item() {
-            Ok(item) => self.hear_whole(item, settings),
+            Ok(item) => self.handle_whole(item, settings),
             Err(error) => Some(step_of(error)),
         }
     }
 
     /// Returns the step for an item that was just taken off the stream, if it is whole.
-    fn hear_whole(&mut self, item: Option<LpdItem>, settings: &Settings) -> Option<Step>
+    fn handle_whole(&mut self, item: Option<LpdItem>, settings: &Settings) -> Option<Step>
         ensures { HandlesLpdIfAny (is_queue settings.now) item result self.old self.new }
     {
         match item {
-            Some(item) => Some(self.hear(item, settings)),
+            Some(item) => Some(self.handle(item, settings)),
             None => None,
         }
     }
 
     /// Returns the step for an item.
-    fn hear(&mut self, item: LpdItem, settings: &Settings) -> Step
+    fn handle(&mut self, item: LpdItem, settings: &Settings) -> Step
         ensures reader { self.new.reader ≡ self.old.reader }
         ensures comes { ComesTo (is_queue settings.now) (item_record item self.old.reader.file) result self.old self.new }
     {
         match item {
-            LpdItem::Command(command) => self.hear_command(command, settings),
+            LpdItem::Command(command) => self.handle_command(command, settings),
             LpdItem::Abort => self.abort(),
             LpdItem::Announced(head) => self.announce(head),
             LpdItem::File => self.take_file(),
@@ -90,7 +90,7 @@ impl LpdClient {
     }
 
     /// Acts on a command. In a session, a command is ignored.
-    fn hear_command(&mut self, command: LpdCommand, settings: &Settings) -> Step
+    fn handle_command(&mut self, command: LpdCommand, settings: &Settings) -> Step
         ensures asks { ComesTo (is_queue settings.now) (HasCommand (command_record command)) result self.old self.new }
         ensures reader { self.new.reader ≡ self.old.reader }
     {
@@ -190,7 +190,7 @@ fn step_of(error: LpdError) -> Step
             due: Due::Byte(REFUSED),
             last: true,
         },
-        LpdError::OutOfMemory => Step::Breaks(Ask::Broke(Growth::Input)),
+        LpdError::OutOfMemory => Step::Breaks(Ask::Broke(AllocFailure::Input)),
     }
 }
 

@@ -76,11 +76,11 @@ impl Peer {
     }
 
     /// Forgets the device, if the peer is one, since it has another connection.
-    pub fn give_way(&mut self)
+    pub fn supersede(&mut self)
         ensures { self.new ≡ unnamed self.old }
     {
         if let Peer::Device(device) = self {
-            device.give_way();
+            device.supersede();
         }
     }
 }

@@ -3,7 +3,7 @@ ghost use Rattle.std.specs.Prelude.{◌≡◌, ◌≢◌, ◌≤◌, ◌<◌, �
 ghost use Rattle.std.specs.Option.{option_map_or};
 ghost use Rattle.slab.specs.Slab.{get};
 ghost use Rattle.device_link.specs.Orders.{cancel_line};
-ghost use Rattle.connections.specs.Connections.{ConnectionState, is_broken, is_ended, gives_way, is_read, is_done};
+ghost use Rattle.connections.specs.Connections.{ConnectionState, is_broken, is_ended, superseded, is_read, is_done};
 ghost use Rattle.connections.specs.Slots.{EnqueuesAt, EnqueuesReply, EnqueuesStatus, EnqueuesJob, IsGrowth, reply_at, status_at, IsReadAt, AsksAt, FeedsAt, changed_at, device_at, is_of, broken_at, ended_at, IsIn, LeavesAs, OffersAt};
 
 use crate::ask::Ask;
@@ -147,11 +147,11 @@ pub fn break_off(connections: &mut Slab<Connection>, key: usize)
 
 /// Marks the connection under a key as broken, since its device has another connection. The connection has no
 /// device then.
-pub fn give_way(connections: &mut Slab<Connection>, key: usize)
-    ensures { connections.new.slots ≡ changed_at key gives_way connections.old.slots }
+pub fn supersede(connections: &mut Slab<Connection>, key: usize)
+    ensures { connections.new.slots ≡ changed_at key superseded connections.old.slots }
 {
     if let Some(connection) = connections.get_mut(key) {
-        connection.give_way();
+        connection.supersede();
     }
 }
 

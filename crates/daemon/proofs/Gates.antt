@@ -3,11 +3,11 @@ use Rattle.std.proofs.Common.{◌≡◌, Bool, true, false, if◌then◌else◌,
 use Rattle.wires.specs.declared.wire.Progress.TheVariants.{Done, Waiting, End, Fault}
 use Rattle.wires.specs.Poll.{Poll, Accepts, Reads, Writes, Closes}
 use Rattle.dispatcher.specs.Notes.{Note}
-use Rattle.server.specs.Polls.{Choice, Happening, Polled, Told, Chosen, Leads}
+use Rattle.server.specs.Polls.{Choice, Happening, Polled, Notified, Chosen, Leads}
 use Rattle.journal.specs.declared.gate.Pass.{Pass}
 use Rattle.journal.specs.declared.gate.Pass.TheVariants.{All, Inward, Outward, Shut}
 use Rattle.journal.specs.Passing.{calls_in, after, Passes, ArePassed, passes, passed}
-use Rattle.daemon.specs.Serving.{AreUntold}
+use Rattle.daemon.specs.Serving.{HasNoNote}
 use Rattle.daemon.proofs.RecordingWire.{true-false}
 
 -- a call that passes follows the earlier calls; any other leaves them
@@ -50,22 +50,22 @@ one_passed polled Shut old (Closes id) new polls is later = later
 -- the calls of these happenings that pass follow the earlier calls
 pub are_called : {S W : Type 0} (moves : S → Happening → S → Type 0) (wire : S → W) (pass : S → Pass) (calls : W → List Poll)
     → ((a : S) (poll : Poll) (b : S) → moves a (Polled poll) b → (pass b ≡ after (pass a) poll) × Passes (λ x p y. calls y ≡ calls x ++ p ∷ []) (pass a) (wire a) poll (wire b))
-    → ((a : S) (note : Note) (b : S) → moves a (Told note) b → (wire b ≡ wire a) × (pass b ≡ pass a))
+    → ((a : S) (note : Note) (b : S) → moves a (Notified note) b → (wire b ≡ wire a) × (pass b ≡ pass a))
     → ((a : S) (choice : Choice) (b : S) → moves a (Chosen choice) b → ⊥)
     → (hs : List Happening) (u v : S) → Leads moves u hs v → calls (wire v) ≡ calls (wire u) ++ passed (pass u) (calls_in hs)
-are_called moves wire pass calls polls tells none [] u v leads = ap (λ s. calls (wire s)) leads ∙ sym (append-nil (calls (wire u)))
-are_called moves wire pass calls polls tells none (Polled poll ∷ hs) u v (mid, moved, later) =
+are_called moves wire pass calls polls notifies none [] u v leads = ap (λ s. calls (wire s)) leads ∙ sym (append-nil (calls (wire u)))
+are_called moves wire pass calls polls notifies none (Polled poll ∷ hs) u v (mid, moved, later) =
     let here : List Poll = if passes (pass u) poll then poll ∷ [] else [] in
     let one = polls u poll mid moved in
-    are_called moves wire pass calls polls tells none hs mid v later
+    are_called moves wire pass calls polls notifies none hs mid v later
     ∙ (ap (λ (p : Pass). calls (wire mid) ++ passed p (calls_in hs)) one.0
     ∙ (ap (λ (l : List Poll). l ++ passed (after (pass u) poll) (calls_in hs)) (one_called calls (pass u) (wire u) poll (wire mid) one.1)
     ∙ append_assoc (calls (wire u)) here (passed (after (pass u) poll) (calls_in hs))))
-are_called moves wire pass calls polls tells none (Told note ∷ hs) u v (mid, moved, later) =
-    let same = tells u note mid moved in
-    are_called moves wire pass calls polls tells none hs mid v later
+are_called moves wire pass calls polls notifies none (Notified note ∷ hs) u v (mid, moved, later) =
+    let same = notifies u note mid moved in
+    are_called moves wire pass calls polls notifies none hs mid v later
     ∙ (ap (λ (p : Pass). calls (wire mid) ++ passed p (calls_in hs)) same.1 ∙ ap (λ w. calls w ++ passed (pass u) (calls_in hs)) same.0)
-are_called moves wire pass calls polls tells none (Chosen choice ∷ hs) u v (mid, moved, later) = absurd (none u choice mid moved)
+are_called moves wire pass calls polls notifies none (Chosen choice ∷ hs) u v (mid, moved, later) = absurd (none u choice mid moved)
 
 none_passed : (pass : Pass) → ArePassed pass []
 none_passed All = tt
@@ -75,38 +75,38 @@ none_passed Shut = tt
 
 pub are_passed : {S W : Type 0} (moves : S → Happening → S → Type 0) (polled : W → Poll → W → Type 0) (wire : S → W) (pass : S → Pass)
     → ((a : S) (poll : Poll) (b : S) → moves a (Polled poll) b → (pass b ≡ after (pass a) poll) × Passes polled (pass a) (wire a) poll (wire b))
-    → ((a : S) (note : Note) (b : S) → moves a (Told note) b → pass b ≡ pass a)
+    → ((a : S) (note : Note) (b : S) → moves a (Notified note) b → pass b ≡ pass a)
     → ((a : S) (choice : Choice) (b : S) → moves a (Chosen choice) b → ⊥)
     → (hs : List Happening) (u v : S) → Leads moves u hs v → ArePassed (pass u) (calls_in hs)
-are_passed moves polled wire pass polls tells none [] u v leads = none_passed (pass u)
-are_passed moves polled wire pass polls tells none (Polled poll ∷ hs) u v (mid, moved, later) =
+are_passed moves polled wire pass polls notifies none [] u v leads = none_passed (pass u)
+are_passed moves polled wire pass polls notifies none (Polled poll ∷ hs) u v (mid, moved, later) =
     let one = polls u poll mid moved in
     one_passed polled (pass u) (wire u) poll (wire mid) (calls_in hs) one.1
-    (subst (λ (p : Pass). ArePassed p (calls_in hs)) one.0 (are_passed moves polled wire pass polls tells none hs mid v later))
-are_passed moves polled wire pass polls tells none (Told note ∷ hs) u v (mid, moved, later) =
-    subst (λ (p : Pass). ArePassed p (calls_in hs)) (tells u note mid moved) (are_passed moves polled wire pass polls tells none hs mid v later)
-are_passed moves polled wire pass polls tells none (Chosen choice ∷ hs) u v (mid, moved, later) = absurd (none u choice mid moved)
+    (subst (λ (p : Pass). ArePassed p (calls_in hs)) one.0 (are_passed moves polled wire pass polls notifies none hs mid v later))
+are_passed moves polled wire pass polls notifies none (Notified note ∷ hs) u v (mid, moved, later) =
+    subst (λ (p : Pass). ArePassed p (calls_in hs)) (notifies u note mid moved) (are_passed moves polled wire pass polls notifies none hs mid v later)
+are_passed moves polled wire pass polls notifies none (Chosen choice ∷ hs) u v (mid, moved, later) = absurd (none u choice mid moved)
 
--- a listener that is told something records it, and nothing takes it back
-stays_told : {S : Type 0} (moves : S → Happening → S → Type 0) (told : S → Bool)
-    → ((a : S) (poll : Poll) (b : S) → moves a (Polled poll) b → told b ≡ told a)
-    → ((a : S) (note : Note) (b : S) → moves a (Told note) b → told b ≡ true)
+-- an observer that is notified something records it, and nothing takes it back
+stays_notified : {S : Type 0} (moves : S → Happening → S → Type 0) (notified : S → Bool)
+    → ((a : S) (poll : Poll) (b : S) → moves a (Polled poll) b → notified b ≡ notified a)
+    → ((a : S) (note : Note) (b : S) → moves a (Notified note) b → notified b ≡ true)
     → ((a : S) (choice : Choice) (b : S) → moves a (Chosen choice) b → ⊥)
-    → (hs : List Happening) (u v : S) → Leads moves u hs v → told u ≡ true → told v ≡ true
-stays_told moves told polls tells none [] u v leads is = ap told leads ∙ is
-stays_told moves told polls tells none (Polled poll ∷ hs) u v (mid, moved, later) is = stays_told moves told polls tells none hs mid v later (polls u poll mid moved ∙ is)
-stays_told moves told polls tells none (Told note ∷ hs) u v (mid, moved, later) is = stays_told moves told polls tells none hs mid v later (tells u note mid moved)
-stays_told moves told polls tells none (Chosen choice ∷ hs) u v (mid, moved, later) is = absurd (none u choice mid moved)
+    → (hs : List Happening) (u v : S) → Leads moves u hs v → notified u ≡ true → notified v ≡ true
+stays_notified moves notified polls notifies none [] u v leads is = ap notified leads ∙ is
+stays_notified moves notified polls notifies none (Polled poll ∷ hs) u v (mid, moved, later) is = stays_notified moves notified polls notifies none hs mid v later (polls u poll mid moved ∙ is)
+stays_notified moves notified polls notifies none (Notified note ∷ hs) u v (mid, moved, later) is = stays_notified moves notified polls notifies none hs mid v later (notifies u note mid moved)
+stays_notified moves notified polls notifies none (Chosen choice ∷ hs) u v (mid, moved, later) is = absurd (none u choice mid moved)
 
-pub are_untold : {S : Type 0} (moves : S → Happening → S → Type 0) (told : S → Bool)
-    → ((a : S) (poll : Poll) (b : S) → moves a (Polled poll) b → told b ≡ told a)
-    → ((a : S) (note : Note) (b : S) → moves a (Told note) b → told b ≡ true)
+pub has_no_note : {S : Type 0} (moves : S → Happening → S → Type 0) (notified : S → Bool)
+    → ((a : S) (poll : Poll) (b : S) → moves a (Polled poll) b → notified b ≡ notified a)
+    → ((a : S) (note : Note) (b : S) → moves a (Notified note) b → notified b ≡ true)
     → ((a : S) (choice : Choice) (b : S) → moves a (Chosen choice) b → ⊥)
-    → (hs : List Happening) (u v : S) → Leads moves u hs v → told v ≡ false → AreUntold hs
-are_untold moves told polls tells none [] u v leads is = tt
-are_untold moves told polls tells none (Polled poll ∷ hs) u v (mid, moved, later) is = are_untold moves told polls tells none hs mid v later is
-are_untold moves told polls tells none (Told note ∷ hs) u v (mid, moved, later) is = true-false (sym (stays_told moves told polls tells none hs mid v later (tells u note mid moved)) ∙ is)
-are_untold moves told polls tells none (Chosen choice ∷ hs) u v (mid, moved, later) is = absurd (none u choice mid moved)
+    → (hs : List Happening) (u v : S) → Leads moves u hs v → notified v ≡ false → HasNoNote hs
+has_no_note moves notified polls notifies none [] u v leads is = tt
+has_no_note moves notified polls notifies none (Polled poll ∷ hs) u v (mid, moved, later) is = has_no_note moves notified polls notifies none hs mid v later is
+has_no_note moves notified polls notifies none (Notified note ∷ hs) u v (mid, moved, later) is = true-false (sym (stays_notified moves notified polls notifies none hs mid v later (notifies u note mid moved)) ∙ is)
+has_no_note moves notified polls notifies none (Chosen choice ∷ hs) u v (mid, moved, later) is = absurd (none u choice mid moved)
 
 -- if all calls pass, these are all calls
 pub all_passed : (polls : List Poll) → passed All polls ≡ polls

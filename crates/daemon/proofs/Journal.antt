@@ -7,7 +7,7 @@ use Rattle.wires.specs.Poll.{Poll, Accepts, Reads, Writes, Closes}
 use Rattle.print_room.specs.State.{State}
 use Rattle.recordings.specs.Lines.{turn_line, came_line, read_line, octets_line}
 use Rattle.recordings.specs.Noting.{NoteState, NotesLine, note_of, with_note, are_comments}
-use Rattle.server.specs.Polls.{Happening, Polled, Told, Chosen}
+use Rattle.server.specs.Polls.{Happening, Polled, Notified, Chosen}
 use Rattle.server.specs.Ledger.{Ledger}
 use Rattle.server.specs.State.{EngineState}
 use Rattle.server.specs.Turn.{Trace, Turned, is_due, is_tick_due}
@@ -18,7 +18,7 @@ use Rattle.journal.specs.Passing.{calls_in, IsIdle, IsQuiet, AreOutward}
 use Rattle.journal.specs.Laws.{TurnsUnticked, AreDue}
 use Rattle.journal.specs.File.{AreLines, IsTurnText, IsFile}
 use Rattle.daemon.specs.declared.serving.Server.{Server}
-use Rattle.daemon.specs.Serving.{calls_of, AreNoted, AreUntold, TakesTurn, Idles, Rests, ServesTurn}
+use Rattle.daemon.specs.Serving.{calls_of, AreNoted, HasNoNote, TakesTurn, Idles, Rests, ServesTurn}
 use Rattle.daemon.specs.Journaling.{IsFiled, KeepsFiled, FilesTurn, NotesEnd, SendsStored}
 
 -- what was before a line, if lines are kept afterwards
@@ -75,8 +75,8 @@ abbrev pub Grows : Type 0
 Grows = (trace : Trace) (file : List ℕ) (moment : ℕ) (hs : List Happening) (text : List ℕ) → IsFile trace file → IsTurnText moment (calls_in hs) text → IsFile (trace ++ Turned moment hs ∷ []) (file ++ text)
 
 -- a turn that is noted with its end
-pub files_noted : Grows → (pass : Pass) (moment : ℕ) (told : Bool) (a b c d : Server) → TakesTurn pass moment told a b → Rests b c → Idles c d → NotesEnd moment c.wire.notes d.wire.notes → FilesTurn a d
-files_noted grows pass moment told a b c d turn rests idles ends stored opening trace filed =
+pub files_noted : Grows → (pass : Pass) (moment : ℕ) (notified : Bool) (a b c d : Server) → TakesTurn pass moment notified a b → Rests b c → Idles c d → NotesEnd moment c.wire.notes d.wire.notes → FilesTurn a d
+files_noted grows pass moment notified a b c d turn rests idles ends stored opening trace filed =
     let hs = turn.happenings in
     let adds = are_added (calls_in hs) a.wire.notes b.wire.notes turn.notes in
     let same : d.engine ≡ b.engine = idles.0 ∙ rests.0.0 in (
@@ -138,14 +138,14 @@ one_idle (Writes id offered End) sum is = absurd cc
 one_idle (Writes id offered Fault) sum is = absurd cc
 one_idle (Closes id) sum is = cc
 
--- a turn without lines of which the listener is told nothing is quiet
-are_quiet : (hs : List Happening) (lines : List ℕ) → AreLines (calls_in hs) lines → lines ≡ [] → AreUntold hs → IsQuiet hs
-are_quiet [] lines are none untold = tt
-are_quiet (Polled poll ∷ hs) lines (sum, rest, is, later) none untold =
+-- a turn without lines of which the observer is notified nothing is quiet
+are_quiet : (hs : List Happening) (lines : List ℕ) → AreLines (calls_in hs) lines → lines ≡ [] → HasNoNote hs → IsQuiet hs
+are_quiet [] lines are none unnotified = tt
+are_quiet (Polled poll ∷ hs) lines (sum, rest, is, later) none unnotified =
     let both = first_none (note_of poll sum) rest (sym is ∙ none) in
-    (one_idle poll sum both.0, are_quiet hs rest later both.1 untold)
-are_quiet (Told note ∷ hs) lines are none untold = absurd untold
-are_quiet (Chosen choice ∷ hs) lines are none untold = are_quiet hs lines are none untold
+    (one_idle poll sum both.0, are_quiet hs rest later both.1 unnotified)
+are_quiet (Notified note ∷ hs) lines are none unnotified = absurd unnotified
+are_quiet (Chosen choice ∷ hs) lines are none unnotified = are_quiet hs lines are none unnotified
 
 same_due : (moment : ℕ) (l : Ledger) (a : EngineState) → Represents l a → is_tick_due moment l ≡ is_due (max moment a.core.last) a.ticked a.undispatched
 same_due moment l a fits =
@@ -154,9 +154,9 @@ same_due moment l a fits =
     ∙ ap (λ (t : Bool). is_due (max moment a.core.last) a.ticked t) fits.undispatched)
 
 -- a turn in which no tick is due, on ledgers
-pub unticked : (pass : Pass) (moment : ℕ) (told : Bool) (a b : Server) (turn : TakesTurn pass moment told a b) → is_due (max moment a.engine.core.last) a.engine.ticked a.engine.undispatched ≡ false
+pub unticked : (pass : Pass) (moment : ℕ) (notified : Bool) (a b : Server) (turn : TakesTurn pass moment notified a b) → is_due (max moment a.engine.core.last) a.engine.ticked a.engine.undispatched ≡ false
     → (l : Ledger) → Represents l a.engine → (l' : Ledger) × TurnsUnticked moment l turn.happenings l' × Represents l' b.engine
-unticked pass moment told a b turn none l fits =
+unticked pass moment notified a b turn none l fits =
     let r = turn.turns l fits in
     (r.0, record { turns = r.1; unticked = same_due moment l a.engine fits ∙ none }, r.2)
 
@@ -174,11 +174,11 @@ lost_lines opening trace d stored journaled whole stands none = record {
 }
 
 -- a turn that isn't noted, by the lines that are kept afterwards
-none_filed : Quiets → (pass : Pass) (moment : ℕ) (told : Bool) (before after : ℕ) (a b c : Server) → TakesTurn pass moment told a b → Rests b c
-    → is_due (max moment a.engine.core.last) a.engine.ticked a.engine.undispatched ≡ false → told ≡ false
+none_filed : Quiets → (pass : Pass) (moment : ℕ) (notified : Bool) (before after : ℕ) (a b c : Server) → TakesTurn pass moment notified a b → Rests b c
+    → is_due (max moment a.engine.core.last) a.engine.ticked a.engine.undispatched ≡ false → notified ≡ false
     → ((text : List ℕ) → a.wire.notes.lines ≡ Some text → before ≡ length text) → ((text : List ℕ) → c.wire.notes.lines ≡ Some text → after ≡ length text) → after ≡ before
     → (stored : List ℕ) (opening : State) (trace : Trace) → IsFiled opening trace a stored → (o : Option (List ℕ)) → c.wire.notes.lines ≡ o → (more : Trace) × IsFiled opening (trace ++ more) c stored
-none_filed quiets pass moment told before after a b c turn rests none untold was is same stored opening trace filed None lines =
+none_filed quiets pass moment notified before after a b c turn rests none unnotified was is same stored opening trace filed None lines =
     let hs = turn.happenings in
     let adds = are_added (calls_in hs) a.wire.notes b.wire.notes turn.notes in (
       Turned moment hs ∷ [],
@@ -186,14 +186,14 @@ none_filed quiets pass moment told before after a b c turn rests none untold was
           (rests.0.2 ∙ (turn.journaled ∙ filed.journaled)) (ap (λ (n : NoteState). n.heads) rests.1 ∙ (adds.heads ∙ filed.whole))
           (subst (λ (e : EngineState). StandsAt opening (trace ++ Turned moment hs ∷ []) e) (sym rests.0.0) (turn.stands opening trace filed.stands)) lines,
     )
-none_filed quiets pass moment told before after a b c turn rests none untold was is same stored opening trace filed (Some now) lines =
+none_filed quiets pass moment notified before after a b c turn rests none unnotified was is same stored opening trace filed (Some now) lines =
     let hs = turn.happenings in
     let adds = are_added (calls_in hs) a.wire.notes b.wire.notes turn.notes in
     let l = adds.added filed.whole now (sym (ap (λ (n : NoteState). n.lines) rests.1) ∙ lines) in
     let empty : l.1 ≡ [] = no_more l.0 l.1 now l.3 (sym (is now lines) ∙ (same ∙ was l.0 l.2)) in
-    let quiet = are_quiet hs l.1 l.4 empty (turn.untold untold) in
+    let quiet = are_quiet hs l.1 l.4 empty (turn.unnotified unnotified) in
     let stood = filed.stands in
-    let r = unticked pass moment told a b turn none stood.0 stood.2 in
+    let r = unticked pass moment notified a b turn none stood.0 stood.2 in
     let back : r.0 ≡ stood.0 = quiets moment stood.0 r.0 hs r.1 quiet in
     let fits : Represents stood.0 c.engine = subst (λ (e : EngineState). Represents stood.0 e) (sym rests.0.0) (subst (λ (x : Ledger). Represents x b.engine) back r.2) in
     let kept : now ≡ l.0 = l.3 ∙ (ap (λ (t : List ℕ). l.0 ++ t) empty ∙ append-nil l.0) in (
@@ -207,11 +207,11 @@ none_filed quiets pass moment told before after a b c turn rests none untold was
     )
 
 -- a turn that isn't noted
-pub files_none : Quiets → (pass : Pass) (moment : ℕ) (told : Bool) (before after : ℕ) (a b c : Server) → TakesTurn pass moment told a b → Rests b c
-    → is_due (max moment a.engine.core.last) a.engine.ticked a.engine.undispatched ≡ false → told ≡ false
+pub files_none : Quiets → (pass : Pass) (moment : ℕ) (notified : Bool) (before after : ℕ) (a b c : Server) → TakesTurn pass moment notified a b → Rests b c
+    → is_due (max moment a.engine.core.last) a.engine.ticked a.engine.undispatched ≡ false → notified ≡ false
     → ((text : List ℕ) → a.wire.notes.lines ≡ Some text → before ≡ length text) → ((text : List ℕ) → c.wire.notes.lines ≡ Some text → after ≡ length text) → after ≡ before → FilesTurn a c
-files_none quiets pass moment told before after a b c turn rests none untold was is same stored opening trace filed =
-    none_filed quiets pass moment told before after a b c turn rests none untold was is same stored opening trace filed c.wire.notes.lines refl
+files_none quiets pass moment notified before after a b c turn rests none unnotified was is same stored opening trace filed =
+    none_filed quiets pass moment notified before after a b c turn rests none unnotified was is same stored opening trace filed c.wire.notes.lines refl
 
 -- a server that rests
 pub rested : (opening : State) (trace : Trace) (a b : Server) (stored : List ℕ) → Rests a b → IsFiled opening trace a stored → IsFiled opening trace b stored
@@ -238,12 +238,12 @@ all_stored opening trace a stored none filed = subst (λ (t : List ℕ). IsFile 
 
 -- a turn in which nothing comes, once no line is kept back
 pub sends_stored : Sends → (moment : ℕ) (a d : Server) (stored : List ℕ) → a.wire.notes.lines ≡ Some [] → is_due (max moment a.engine.core.last) a.engine.ticked a.engine.undispatched ≡ false → ServesTurn Outward moment a d → SendsStored a stored d
-sends_stored sends moment a d stored none due (told, b, turn, idles, lines) = record {
+sends_stored sends moment a d stored none due (notified, b, turn, idles, lines) = record {
   happenings = turn.happenings;
   calls = idles.1 ∙ turn.calls;
   decided = λ opening trace filed.
       let stood = filed.stands in
-      let r = unticked Outward moment told a b turn due stood.0 stood.2 in
+      let r = unticked Outward moment notified a b turn due stood.0 stood.2 in
       (all_stored opening trace a stored none filed, (stood.0, stood.1, sends moment stood.0 r.0 turn.happenings r.1 turn.are_passed));
 }
 

@@ -3,7 +3,7 @@ use Rattle.std.proofs.Common.{◌≡◌, ◌&&◌, ℕ, Bool, true, false, List,
 use Rattle.wires.specs.Poll.{Poll}
 use Rattle.dispatcher.specs.Notes.{Note}
 use Rattle.recordings.specs.Noting.{NoteState, Notes, with_note, end_of, EndsTurn}
-use Rattle.server.specs.Polls.{Choice, Happening, Polled, Told, Chosen, Leads}
+use Rattle.server.specs.Polls.{Choice, Happening, Polled, Notified, Chosen, Leads}
 use Rattle.journal.specs.Passing.{calls_in}
 use Rattle.daemon.specs.Serving.{AreNoted, AddsLines}
 use Rattle.daemon.specs.Journaling.{AddsComments, NotesEnd}
@@ -11,13 +11,13 @@ use Rattle.daemon.specs.Journaling.{AddsComments, NotesEnd}
 -- each call of these happenings is noted, where each poll is noted
 pub are_noted : {S : Type 0} (moves : S → Happening → S → Type 0) (notes : S → NoteState)
     → ((a : S) (poll : Poll) (b : S) → moves a (Polled poll) b → Notes poll (notes a) (notes b))
-    → ((a : S) (note : Note) (b : S) → moves a (Told note) b → notes b ≡ notes a)
+    → ((a : S) (note : Note) (b : S) → moves a (Notified note) b → notes b ≡ notes a)
     → ((a : S) (choice : Choice) (b : S) → moves a (Chosen choice) b → ⊥)
     → (hs : List Happening) (u v : S) → Leads moves u hs v → AreNoted (calls_in hs) (notes u) (notes v)
-are_noted moves notes polls tells none [] u v leads = ap notes leads
-are_noted moves notes polls tells none (Polled poll ∷ hs) u v (mid, moved, later) = (notes mid, polls u poll mid moved, are_noted moves notes polls tells none hs mid v later)
-are_noted moves notes polls tells none (Told note ∷ hs) u v (mid, moved, later) = subst (λ (x : NoteState). AreNoted (calls_in hs) x (notes v)) (tells u note mid moved) (are_noted moves notes polls tells none hs mid v later)
-are_noted moves notes polls tells none (Chosen choice ∷ hs) u v (mid, moved, later) = absurd (none u choice mid moved)
+are_noted moves notes polls notifies none [] u v leads = ap notes leads
+are_noted moves notes polls notifies none (Polled poll ∷ hs) u v (mid, moved, later) = (notes mid, polls u poll mid moved, are_noted moves notes polls notifies none hs mid v later)
+are_noted moves notes polls notifies none (Notified note ∷ hs) u v (mid, moved, later) = subst (λ (x : NoteState). AreNoted (calls_in hs) x (notes v)) (notifies u note mid moved) (are_noted moves notes polls notifies none hs mid v later)
+are_noted moves notes polls notifies none (Chosen choice ∷ hs) u v (mid, moved, later) = absurd (none u choice mid moved)
 
 abbrev Is : Bool → Type 0
 Is true = Unit {0}

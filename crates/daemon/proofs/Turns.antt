@@ -4,7 +4,7 @@ use Rattle.wires.specs.Poll.{Poll}
 use Rattle.print_room.specs.State.{State}
 use Rattle.recordings.specs.Noting.{NoteState, with_note}
 use Rattle.server.specs.Law.{happenings_in}
-use Rattle.server.specs.Polls.{Happening, Polled, Told, Chosen}
+use Rattle.server.specs.Polls.{Happening, Polled, Notified, Chosen}
 use Rattle.server.specs.State.{EngineState}
 use Rattle.server.specs.Turn.{Trace, Turned}
 use Rattle.server.specs.Refinement.{Represents, StandsAt}
@@ -26,31 +26,31 @@ adds_none : (noted : NoteState) → AddsLines noted noted
 adds_none noted = inr ([], no_lines noted.lines)
 
 -- before the turn the server rests
-pub after_rest : (pass : Pass) (moment : ℕ) (told : Bool) (a b c : Server) → Rests a b → TakesTurn pass moment told b c → TakesTurn pass moment told a c
-after_rest pass moment told a b c (idles, noted) turn = record {
+pub after_rest : (pass : Pass) (moment : ℕ) (notified : Bool) (a b c : Server) → Rests a b → TakesTurn pass moment notified b c → TakesTurn pass moment notified a c
+after_rest pass moment notified a b c (idles, noted) turn = record {
   happenings = turn.happenings;
   turns = λ l fits. turn.turns l (subst (λ (e : EngineState). Represents l e) (sym idles.0) fits);
   stands = λ opening trace stands. turn.stands opening trace (subst (λ (e : EngineState). StandsAt opening trace e) (sym idles.0) stands);
   are_passed = turn.are_passed;
   calls = turn.calls ∙ ap (λ (polls : List Poll). polls ++ passed pass (calls_in turn.happenings)) idles.1;
   notes = subst (λ (n : NoteState). AreNoted (calls_in turn.happenings) n c.wire.notes) noted turn.notes;
-  untold = turn.untold;
+  unnotified = turn.unnotified;
   journaled = turn.journaled ∙ idles.2;
 }
 
 -- a turn of the engine, and what a server does before and after it
-pub serves_turn : (pass : Pass) (moment : ℕ) (told : Bool) (a b c d e : Server) → Rests a b → TakesTurn pass moment told b c → Rests c d → Idles d e → AddsLines d.wire.notes e.wire.notes → ServesTurn pass moment a e
-serves_turn pass moment told a b c d e before turn rests then lines =
-    (told, c, after_rest pass moment told a b c before turn, idles_then c d e rests.0 then, subst (λ (n : NoteState). AddsLines n e.wire.notes) rests.1 lines)
+pub serves_turn : (pass : Pass) (moment : ℕ) (notified : Bool) (a b c d e : Server) → Rests a b → TakesTurn pass moment notified b c → Rests c d → Idles d e → AddsLines d.wire.notes e.wire.notes → ServesTurn pass moment a e
+serves_turn pass moment notified a b c d e before turn rests then lines =
+    (notified, c, after_rest pass moment notified a b c before turn, idles_then c d e rests.0 then, subst (λ (n : NoteState). AddsLines n e.wire.notes) rests.1 lines)
 
 -- a turn of the engine, before and after which a server rests
-pub serves_still : (pass : Pass) (moment : ℕ) (told : Bool) (a b c d : Server) → Rests a b → TakesTurn pass moment told b c → Rests c d → ServesTurn pass moment a d
-serves_still pass moment told a b c d before turn rests = serves_turn pass moment told a b c d d before turn rests (refl, refl, refl) (adds_none d.wire.notes)
+pub serves_still : (pass : Pass) (moment : ℕ) (notified : Bool) (a b c d : Server) → Rests a b → TakesTurn pass moment notified b c → Rests c d → ServesTurn pass moment a d
+serves_still pass moment notified a b c d before turn rests = serves_turn pass moment notified a b c d d before turn rests (refl, refl, refl) (adds_none d.wire.notes)
 
 -- a turn, and then the server rests
 pub then_rests : (pass : Pass) (moment : ℕ) (a b c : Server) → ServesTurn pass moment a b → Rests b c → ServesTurn pass moment a c
-then_rests pass moment a b c (told, turned, turn, idles, lines) rests =
-    (told, turned, turn, idles_then turned b c idles rests.0, subst (λ (n : NoteState). AddsLines turned.wire.notes n) (sym rests.1) lines)
+then_rests pass moment a b c (notified, turned, turn, idles, lines) rests =
+    (notified, turned, turn, idles_then turned b c idles rests.0, subst (λ (n : NoteState). AddsLines turned.wire.notes n) (sym rests.1) lines)
 
 -- ---- lists of turns
 
@@ -72,7 +72,7 @@ one_more (at ∷ moments) moment a b c d (begun, turned, first, one, later) turn
 calls_then : (one more : List Happening) → calls_in (one ++ more) ≡ calls_in one ++ calls_in more
 calls_then [] more = refl
 calls_then (Polled poll ∷ one) more = ap (λ (polls : List Poll). poll ∷ polls) (calls_then one more)
-calls_then (Told note ∷ one) more = calls_then one more
+calls_then (Notified note ∷ one) more = calls_then one more
 calls_then (Chosen choice ∷ one) more = calls_then one more
 
 -- the calls of a turn and of the turns after it, where the server idles before and after the turn
@@ -88,7 +88,7 @@ has_turned opening trace [] old new stands idles = record {
   stands = subst (λ (t : Trace). StandsAt opening t new.engine) (sym (append-nil trace)) (subst (λ (e : EngineState). StandsAt opening trace e) (sym idles.0) stands);
   calls = idles.1 ∙ sym (append-nil (calls_of old));
 }
-has_turned opening trace (moment ∷ moments) old new stands (begun, served, first, (told, turned, turn, idles, lines), later) =
+has_turned opening trace (moment ∷ moments) old new stands (begun, served, first, (notified, turned, turn, idles, lines), later) =
     let At = λ (t : Trace) (e : EngineState). StandsAt opening t e in
     let after = trace ++ Turned moment turn.happenings ∷ [] in
     let stood = subst (At trace) (sym first.0) stands in

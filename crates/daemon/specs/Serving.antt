@@ -4,7 +4,7 @@ use Rattle.wires.specs.Poll.{Poll}
 use Rattle.print_room.specs.State.{State}
 use Rattle.recordings.specs.Noting.{NoteState, Notes, with_note}
 use Rattle.server.specs.Law.{happenings_in}
-use Rattle.server.specs.Polls.{Happening, Polled, Told, Chosen}
+use Rattle.server.specs.Polls.{Happening, Polled, Notified, Chosen}
 use Rattle.server.specs.Ledger.{Ledger}
 use Rattle.server.specs.Rel.{Seen}
 use Rattle.server.specs.Turn.{Trace, Turn, Turned}
@@ -23,22 +23,22 @@ abbrev pub AreNoted : List Poll → NoteState → NoteState → Type 0
 AreNoted [] old new = new ≡ old
 AreNoted (poll ∷ polls) old new = (mid : NoteState) × Notes poll old mid × AreNoted polls mid new
 
--- the listener is not notified
-abbrev pub AreUntold : List Happening → Type 0
-AreUntold [] = Unit {0}
-AreUntold (Polled poll ∷ hs) = AreUntold hs
-AreUntold (Told note ∷ hs) = ⊥
-AreUntold (Chosen choice ∷ hs) = AreUntold hs
+-- the observer is not notified
+abbrev pub HasNoNote : List Happening → Type 0
+HasNoNote [] = Unit {0}
+HasNoNote (Polled poll ∷ hs) = HasNoNote hs
+HasNoNote (Notified note ∷ hs) = ⊥
+HasNoNote (Chosen choice ∷ hs) = HasNoNote hs
 
--- A turn of the engine, of which only some calls reach the sockets. It leads each ledger that represents the old engine to one that represents the new engine. For each trace at which the engine was, it is now at that trace followed by this turn. The calls of the turn that pass are exactly those that were made of the sockets, and all calls are noted. `told` indicates whether the listener may have been notified.
-pub record TakesTurn (pass : Pass) (moment : ℕ) (told : Bool) (old new : Server) : Type 0 where
+-- A turn of the engine, of which only some calls reach the sockets. It leads each ledger that represents the old engine to one that represents the new engine. For each trace at which the engine was, it is now at that trace followed by this turn. The calls of the turn that pass are exactly those that were made of the sockets, and all calls are noted. `notified` indicates whether the observer may have been notified.
+pub record TakesTurn (pass : Pass) (moment : ℕ) (notified : Bool) (old new : Server) : Type 0 where
   pub happenings : List Happening
   pub turns : (l : Ledger) → Represents l old.engine → (l' : Ledger) × Seen (Turn moment) l happenings l' × Represents l' new.engine
   pub stands : (opening : State) (trace : Trace) → StandsAt opening trace old.engine → StandsAt opening (trace ++ Turned moment happenings ∷ []) new.engine
   pub are_passed : ArePassed pass (calls_in happenings)
   pub calls : calls_of new ≡ calls_of old ++ passed pass (calls_in happenings)
   pub notes : AreNoted (calls_in happenings) old.wire.notes new.wire.notes
-  pub untold : told ≡ false → AreUntold happenings
+  pub unnotified : notified ≡ false → HasNoNote happenings
   pub journaled : new.journaled ≡ old.journaled
 
 -- the engine is unchanged, and no call was made of the sockets
@@ -55,7 +55,7 @@ AddsLines old new = (new.lines ≡ None) ⊎ ((more : List ℕ) × (new.lines �
 
 -- a turn of the engine, and then lines in the notes that aren't calls
 abbrev pub ServesTurn : Pass → ℕ → Server → Server → Type 0
-ServesTurn pass moment old new = (told : Bool) × (turned : Server) × TakesTurn pass moment told old turned × Idles turned new × AddsLines turned.wire.notes new.wire.notes
+ServesTurn pass moment old new = (notified : Bool) × (turned : Server) × TakesTurn pass moment notified old turned × Idles turned new × AddsLines turned.wire.notes new.wire.notes
 
 -- turns at these moments, in order, in which all calls pass; before, between and after them the server idles
 abbrev pub ServesTurns : List ℕ → Server → Server → Type 0

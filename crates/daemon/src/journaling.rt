@@ -7,7 +7,7 @@ ghost use Rattle.journal.specs.declared.gate.Pass.TheVariants.{Inward, Outward};
 ghost use Rattle.daemon.specs.Serving.{calls_of, Idles, ServesTurn};
 ghost use Rattle.daemon.specs.Journaling.{IsFiled, KeepsFiled, FilesTurn, SendsStored};
 
-use crate::serving::{NoListener, Server};
+use crate::serving::{NoObserver, Server};
 use base_types::{Moment, Text};
 use journal::{Gate, JournaledEngine, Pass, Storage, sent_bytes_were_due};
 use recordings::RecordingWire;
@@ -41,7 +41,7 @@ impl Server {
         ensures turn { ServesTurn Inward moment self.old self.new }
         ensures filed { FilesTurn self.old self.new }
     {
-        let _taken = self.take(Pass::Inward, moment, NoListener, false);
+        let _taken = self.take(Pass::Inward, moment, NoObserver, false);
     }
 
     /// Takes a turn in which nothing is sent, and returns the turn's lines of the log. The error is that memory
@@ -120,7 +120,7 @@ impl Server {
         if self.engine.is_tick_due(moment) {
             return;
         }
-        let _taken = self.take(Pass::Outward, moment, NoListener, false);
+        let _taken = self.take(Pass::Outward, moment, NoObserver, false);
     }
 
     /// As [`Server::write_turn`], and returns the turn's lines of the log. The error is that memory for the lines

@@ -1,54 +1,54 @@
-//! A listener that records whether it was notified.
+//! An observer that records whether it was notified.
 ghost use Rattle.std.specs.Prelude.{◌≡◌, true, false};
 
-use dispatcher::{AllocationSite, DeviceRefusal, Dispatched, Listener};
+use dispatcher::{AllocationSite, DeviceRefusal, Dispatched, Observer};
 use events::Cancel;
 use wires::WireId;
 
-/// A listener that passes its notes on, and records whether it was notified, and whether a growth was
+/// An observer that passes its notes on, and records whether it was notified, and whether a growth was
 /// refused.
 #[derive(Drop)]
-pub(crate) struct ObservationFlags<N: Listener> {
-    pub(crate) listener: N,
-    pub(crate) told: bool,
+pub(crate) struct ObservationFlags<N: Observer> {
+    pub(crate) observer: N,
+    pub(crate) notified: bool,
     pub(crate) refused: bool,
 }
 
-impl<N: Listener> ObservationFlags<N> {
-    /// Creates a listener that was not notified yet.
-    pub(crate) fn new(listener: N) -> ObservationFlags<N>
-        ensures listener { result.listener ≡ listener }
-        ensures told { result.told ≡ false }
+impl<N: Observer> ObservationFlags<N> {
+    /// Creates an observer that was not notified yet.
+    pub(crate) fn new(observer: N) -> ObservationFlags<N>
+        ensures observer { result.observer ≡ observer }
+        ensures notified { result.notified ≡ false }
     {
         ObservationFlags {
-            listener,
-            told: false,
+            observer,
+            notified: false,
             refused: false,
         }
     }
 }
 
-impl<N: Listener> Listener for ObservationFlags<N> {
-    ghost told = { λ old note new. N.told old.listener note new.listener × (new.told ≡ true) };
+impl<N: Observer> Observer for ObservationFlags<N> {
+    ghost notified = { λ old note new. N.notified old.observer note new.observer × (new.notified ≡ true) };
 
     fn dispatched(&mut self, made: &Dispatched<'_>) {
-        self.told = true;
-        self.listener.dispatched(made);
+        self.notified = true;
+        self.observer.dispatched(made);
     }
 
     fn canceled(&mut self, cancel: Cancel) {
-        self.told = true;
-        self.listener.canceled(cancel);
+        self.notified = true;
+        self.observer.canceled(cancel);
     }
 
     fn device_refused(&mut self, id: WireId, why: DeviceRefusal) {
-        self.told = true;
-        self.listener.device_refused(id, why);
+        self.notified = true;
+        self.observer.device_refused(id, why);
     }
 
     fn refused(&mut self, place: AllocationSite, id: Option<WireId>) {
-        self.told = true;
+        self.notified = true;
         self.refused = true;
-        self.listener.refused(place, id);
+        self.observer.refused(place, id);
     }
 }

@@ -12,7 +12,7 @@ use crate::clock::time_of_zero;
 use crate::observation_flags::ObservationFlags;
 use crate::recorder::{Recorder, Tape};
 use base_types::Moment;
-use dispatcher::{AllocationSite, DeviceRefusal, Dispatched, Listener};
+use dispatcher::{AllocationSite, DeviceRefusal, Dispatched, Observer};
 use events::Cancel;
 use journal::{
     Gate, JournaledEngine, Mark, Pass, Pausable, quiet_turns_change_nothing, turns_append_to_files,
@@ -43,10 +43,10 @@ pub struct Server {
     marked: Option<Mark>,
 }
 
-/// The notes that a turn gave a listener, and the connections that came and went.
+/// The notes that a turn gave an observer, and the connections that came and went.
 #[derive(Drop)]
-pub(crate) struct Taken<N: Listener> {
-    listener: N,
+pub(crate) struct Taken<N: Observer> {
+    observer: N,
     visits: Result<Vec<ConnectionEvent>, AllocError>,
 }
 
@@ -61,19 +61,19 @@ fn all_of(
     }
 }
 
-/// Returns whether something happened in a turn: a tick came, the listener was notified, or the notes grew.
-fn has_happened(ticks: bool, told: bool, before: usize, after: usize) -> bool
-    ensures { IsFalse result → (ticks ≡ false) × (told ≡ false) × (after ≡ before) }
+/// Returns whether something happened in a turn: a tick came, the observer was notified, or the notes grew.
+fn has_happened(ticks: bool, notified: bool, before: usize, after: usize) -> bool
+    ensures { IsFalse result → (ticks ≡ false) × (notified ≡ false) × (after ≡ before) }
 {
-    ticks || told || after != before
+    ticks || notified || after != before
 }
 
-/// Returns whether something happened in a turn that a log may show: a tick came, the listener was notified, or a
+/// Returns whether something happened in a turn that a log may show: a tick came, the observer was notified, or a
 /// connection came or went.
-fn shows(ticks: bool, told: bool, visits: &Result<Vec<ConnectionEvent>, AllocError>) -> bool {
+fn shows(ticks: bool, notified: bool, visits: &Result<Vec<ConnectionEvent>, AllocError>) -> bool {
     match visits {
-        Ok(visits) => ticks || told || !visits.is_empty(),
-        Err(_) => ticks || told,
+        Ok(visits) => ticks || notified || !visits.is_empty(),
+        Err(_) => ticks || notified,
     }
 }
 
@@ -161,7 +161,7 @@ impl Server {
     pub fn turn(&mut self, moment: Moment)
         ensures { ServesTurn All moment self.old self.new }
     {
-        let _taken = self.take(Pass::All, moment, NoListener, false);
+        let _taken = self.take(Pass::All, moment, NoObserver, false);
     }
 
     /// Takes one turn of the engine, and returns the turn's lines of the log. The error is that memory for
@@ -181,7 +181,7 @@ impl Server {
     ) -> Result<Vec<u8>, AllocError>
         ensures { Rests self.old self.new }
     {
-        let heard = taken.listener.take()?;
+        let heard = taken.observer.take()?;
         match &taken.visits {
             Ok(visits) => self.formatter.lines(moment, visits, &heard, &self.engine),
             Err(_) => Err(AllocError),
@@ -190,11 +190,11 @@ impl Server {
 
     /// Takes one turn of the engine, of which only some calls reach the sockets, and notes it. `logs` indicates whether
     /// a log is written.
-    pub(crate) fn take<N: Listener>(
+    pub(crate) fn take<N: Observer>(
         &mut self,
         pass: Pass,
         moment: Moment,
-        listener: N,
+        observer: N,
         logs: bool,
     ) -> Taken<N>
         ensures turn { ServesTurn pass moment self.old self.new }
@@ -203,30 +203,30 @@ impl Server {
         self.log_visits(logs);
         let ticks = self.engine.is_tick_due(moment);
         let before = self.wire.notes.text().len();
-        let seen = self.run_turn(pass, moment, listener);
-        let visits = self.visits(moment, ticks, seen.told);
+        let seen = self.run_turn(pass, moment, observer);
+        let visits = self.visits(moment, ticks, seen.notified);
         let after = self.wire.notes.text().len();
         quiet_turns_change_nothing();
         turns_append_to_files();
-        if has_happened(ticks, seen.told, before, after) {
+        if has_happened(ticks, seen.notified, before, after) {
             self.note_turn(moment, &visits, seen.refused);
         }
         Taken {
-            listener: seen.listener,
+            observer: seen.observer,
             visits,
         }
     }
 
-    /// Takes one turn of the engine, which notifies the listener of its notes.
-    fn run_turn<N: Listener>(
+    /// Takes one turn of the engine, which notifies the observer of its notes.
+    fn run_turn<N: Observer>(
         &mut self,
         pass: Pass,
         moment: Moment,
-        listener: N,
+        observer: N,
     ) -> ObservationFlags<N>
-        ensures { TakesTurn pass moment result.told self.old self.new }
+        ensures { TakesTurn pass moment result.notified self.old self.new }
     {
-        let mut witness = ObservationFlags::new(listener);
+        let mut witness = ObservationFlags::new(observer);
         self.wire.wire.wire.set_moment(moment);
         self.wire.wire.set(pass);
         self.engine.turn(&mut self.wire, &mut witness, moment);
@@ -247,12 +247,13 @@ impl Server {
         &mut self,
         moment: Moment,
         ticks: bool,
-        told: bool,
+        notified: bool,
     ) -> Result<Vec<ConnectionEvent>, AllocError>
         ensures { Rests self.old self.new }
     {
         let visits = all_of(self.alloc, self.wire.wire.wire.take_visits());
-        self.formatter.begin(moment, shows(ticks, told, &visits));
+        self.formatter
+            .begin(moment, shows(ticks, notified, &visits));
         visits
     }
 
@@ -388,12 +389,12 @@ impl Server {
     }
 }
 
-/// A listener that ignores its notes.
+/// An observer that ignores its notes.
 #[derive(Drop)]
-pub(crate) struct NoListener;
+pub(crate) struct NoObserver;
 
-impl Listener for NoListener {
-    ghost told = { λ old note new. Unit {0} };
+impl Observer for NoObserver {
+    ghost notified = { λ old note new. Unit {0} };
 
     fn dispatched(&mut self, _made: &Dispatched<'_>) {}
 

@@ -49,7 +49,7 @@ use Rattle.dispatcher.specs.PausePrinter.{paused_of, PausesIt}
 use Rattle.dispatcher.specs.GetJobs.{wanted_of}
 use Rattle.dispatcher.specs.SubmitFiles.{filed_of, FilesJob, FilesNothing, SubmitsFiles}
 use Rattle.dispatcher.specs.ListQueue.{IsListed, ListsIt, ListsNothing, ListsQueue}
-use Rattle.dispatcher.specs.RemoveJobs.{cancels_of_each, told_of, RemovesJobs}
+use Rattle.dispatcher.specs.RemoveJobs.{cancels_of_each, due_cancels, RemovesJobs}
 use Rattle.dispatcher.specs.Step.{Step, StepAt, TakesNoMemory, TakesNoMemoryAt}
 use Rattle.dispatcher.specs.OneStep.{SameLpdAnswer, SameAnswer, SameReply, SameEnd}
 
@@ -240,13 +240,13 @@ lists_as one other same now old reply new b =
 removed_same : (one other : RemoveJobs) → SameRemoval one other → (old : State) → removed_jobs one old ≡ removed_jobs other old
 removed_same one other same old = rw (same.queue, same.agent, same.operands) refl
 
-told_same : (one other : RemoveJobs) → SameRemoval one other → (old : State) → told_of one old ≡ told_of other old
-told_same one other same old = ap (λ (ids : List ℕ). cancels_of_each ids old) (removed_same one other same old)
+notified_same : (one other : RemoveJobs) → SameRemoval one other → (old : State) → due_cancels one old ≡ due_cancels other old
+notified_same one other same old = ap (λ (ids : List ℕ). cancels_of_each ids old) (removed_same one other same old)
 
 removes_as : (one other : RemoveJobs) → SameRemoval one other → (now : ℕ) (old : State) (reply : Effects) (new : State) → RemovesJobs now other old reply new → RemovesJobs now one old reply new
 removes_as one other same now old reply new b = record {
   unanswered = b.unanswered;
-  cancels = b.cancels ∙ sym (told_same one other same old);
+  cancels = b.cancels ∙ sym (notified_same one other same old);
   documents = b.documents;
   state = b.state ∙ ap (λ (agent : List ℕ). canceling_each now agent (removed_jobs other old) old) (sym same.agent) ∙ ap (λ (ids : List ℕ). canceling_each now one.agent ids old) (sym (removed_same one other same old));
 }
@@ -307,7 +307,7 @@ each_need = record {
   equal = λ event now old none. none;
   files = λ one other same now old none. sym (filed_same one other same now old) ∙ none;
   lists = λ one other same now old none. ap (λ (queue : List ℕ). queue_of queue old) (sym same.queue) ∙ none;
-  removes = λ one other same now old none. sym (told_same one other same old) ∙ none;
+  removes = λ one other same now old none. sym (notified_same one other same old) ∙ none;
   reports = λ device one other same now old none. tt;
 }
 

@@ -18,7 +18,7 @@ use Rattle.dispatcher.specs.GetJobAttributes.{ShowsJob}
 use Rattle.dispatcher.specs.GetJobs.{ListsJobs, wanted_of}
 use Rattle.dispatcher.specs.SubmitFiles.{SubmitsFiles, filed_of}
 use Rattle.dispatcher.specs.ListQueue.{ListsQueue}
-use Rattle.dispatcher.specs.RemoveJobs.{RemovesJobs, told_of}
+use Rattle.dispatcher.specs.RemoveJobs.{RemovesJobs, due_cancels}
 use Rattle.listings.specs.Queue.{queue_of}
 use Rattle.print_room.specs.Report.{Reports}
 use Rattle.print_room.specs.State.{State}
@@ -76,7 +76,7 @@ TakesNoMemoryAt (Is.PausePrinter request) now old = Unit {0}
 TakesNoMemoryAt (Is.ResumePrinter request) now old = Unit {0}
 TakesNoMemoryAt (Is.SubmitFiles request) now old = filed_of request now old ≡ None
 TakesNoMemoryAt (Is.ListQueue request) now old = queue_of request.queue old ≡ None
-TakesNoMemoryAt (Is.RemoveJobs request) now old = told_of request old ≡ []
+TakesNoMemoryAt (Is.RemoveJobs request) now old = due_cancels request old ≡ []
 TakesNoMemoryAt (Is.Report device report) now old = Unit {0}
 TakesNoMemoryAt Is.Tick now old = Unit {0}
 

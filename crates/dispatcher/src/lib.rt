@@ -26,7 +26,7 @@ mod get_jobs;
 mod hold_job;
 mod law;
 mod list_queue;
-mod listener;
+mod observer;
 mod outcome;
 mod pause_printer;
 mod print_job;
@@ -40,7 +40,7 @@ mod validate_job;
 
 pub use dispatch::Dispatched;
 pub use law::{one_step, same_needs};
-pub use listener::{AllocationSite, DeviceRefusal, Listener};
+pub use observer::{AllocationSite, DeviceRefusal, Observer};
 pub use outcome::Outcome;
 pub use print_room::Started;
 pub use run::Timed;

@@ -1,7 +1,7 @@
 //! The step of an LPD client's request to remove jobs from a queue (RFC 1179, section 5.5).
 ghost use Rattle.std.specs.Prelude.{◌≡◌, ◌≢◌, ◌≤◌, ◌++◌, [], IfOk, OnOk, IsOk, OnErr, option_to_list};
 ghost use Rattle.listings.specs.Removal.{active_job, named_jobs};
-ghost use Rattle.dispatcher.specs.RemoveJobs.{RemovesJobs, cancels_if_named, cancels_of_each, told_of};
+ghost use Rattle.dispatcher.specs.RemoveJobs.{RemovesJobs, cancels_if_named, cancels_of_each, due_cancels};
 
 use crate::cancel_job::cancels_of;
 use base_types::{Moment, PrinterId, Text};
@@ -21,30 +21,34 @@ pub(crate) fn remove_jobs(
     requires { room.old.last ≤ now }
     ensures ok { IfOk result (λ reply. RemovesJobs now request.now room.old reply room.new) }
     ensures err { OnErr result (room.new ≡ room.old) }
-    ensures light { told_of request.now room.old ≡ [] → IsOk result }
+    ensures light { due_cancels request.now room.old ≡ [] → IsOk result }
 {
-    let cancels = told_of(alloc, room, request)?;
+    let cancels = due_cancels(alloc, room, request)?;
     remove(room, request, now);
     Ok(Effects::removed(alloc, cancels))
 }
 
 /// The cancels for the removed jobs. The only error is out of memory.
-fn told_of(alloc: Global, room: &PrintRoom, request: &RemoveJobs) -> Result<Vec<Cancel>, AllocError>
-    ensures ok { IfOk result (λ cancels. cancels.items ≡ told_of request.now room.now) }
-    ensures err { OnErr result (told_of request.now room.now ≢ []) }
+fn due_cancels(
+    alloc: Global,
+    room: &PrintRoom,
+    request: &RemoveJobs,
+) -> Result<Vec<Cancel>, AllocError>
+    ensures ok { IfOk result (λ cancels. cancels.items ≡ due_cancels request.now room.now) }
+    ensures err { OnErr result (due_cancels request.now room.now ≢ []) }
 {
     let Some(printer) = queue_of(room, &request.queue) else {
         return Ok(Vec::new(alloc));
     };
     if request.operands.is_empty() {
-        told_of_active(alloc, room, printer, &request.agent)
+        cancels_of_active(alloc, room, printer, &request.agent)
     } else {
-        told_of_named(alloc, room, printer, request)
+        cancels_of_named(alloc, room, printer, request)
     }
 }
 
 /// The cancel for the job that is removed if the request names no job.
-fn told_of_active(
+fn cancels_of_active(
     alloc: Global,
     room: &PrintRoom,
     printer: PrinterId,
@@ -60,7 +64,7 @@ fn told_of_active(
 }
 
 /// The cancels for the jobs that the request names.
-fn told_of_named(
+fn cancels_of_named(
     alloc: Global,
     room: &PrintRoom,
     printer: PrinterId,

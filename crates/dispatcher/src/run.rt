@@ -1,11 +1,11 @@
 //! Events, one after the other. Each is a step, the cancels of its reply, and a dispatch unless it is a
 //! query.
 ghost use Rattle.std.specs.Prelude.{◌≡◌, max, IfOk, OnErr, map};
-ghost use Rattle.dispatcher.specs.Notes.{Canceled, Tells};
+ghost use Rattle.dispatcher.specs.Notes.{Canceled, Notifies};
 ghost use Rattle.dispatcher.specs.Run.{Comes, Run};
 ghost use Rattle.dispatcher.specs.Plans.{PlansAs};
 
-use crate::listener::{AllocationSite, Listener};
+use crate::observer::{AllocationSite, Observer};
 use crate::outcome::Outcome;
 use crate::server_core::Core;
 use base_types::Moment;
@@ -32,54 +32,54 @@ enum Made {
 }
 
 impl<P: Planner + Drop> Core<P> {
-    /// Takes the step of an event, and dispatches unless the event is a query. The listener is notified of
+    /// Takes the step of an event, and dispatches unless the event is a query. The observer is notified of
     /// the cancels and of the dispatch.
     ///
     /// Whenever a plan is made, its priority classes are planned from the highest down. Given when the classes
     /// above leave each device free, each class has the least total of estimated completion times among all
     /// ways to assign its ready jobs to capable devices and order them. The plan's prices prove that to the
     /// checker, which reads the plan alone. Each ready job without a capable device is named.
-    pub fn handle<L: Listener>(&mut self, timed: Timed, listener: &mut L) -> Outcome
-        ensures { Comes L.told self.old listener.old timed result self.new listener.new }
+    pub fn handle<L: Observer>(&mut self, timed: Timed, observer: &mut L) -> Outcome
+        ensures { Comes L.notified self.old observer.old timed result self.new observer.new }
     {
         let Timed { event, moment } = timed;
         let is_query = event.is_query();
         let Ok(reply) = self.apply(event, moment) else {
             return Outcome::Dropped;
         };
-        tell_cancels(&reply.cancels, listener);
+        notify_cancels(&reply.cancels, observer);
         if is_query {
             return Outcome::Queried(reply);
         }
-        match self.plan(moment, listener) {
+        match self.plan(moment, observer) {
             Made::Refused => Outcome::Undispatched(reply),
             Made::Idle => Outcome::Idle(reply),
             Made::Planned => Outcome::Dispatched(reply),
         }
     }
 
-    /// Dispatches, and notifies the listener.
-    fn plan<L: Listener>(&mut self, moment: Moment, listener: &mut L) -> Made
-        ensures { PlansAs L.told (max moment self.old.last) self.old listener.old result self.new listener.new }
+    /// Dispatches, and notifies the observer.
+    fn plan<L: Observer>(&mut self, moment: Moment, observer: &mut L) -> Made
+        ensures { PlansAs L.notified (max moment self.old.last) self.old observer.old result self.new observer.new }
     {
         match self.dispatch(moment) {
             Ok(true) => {
-                listener.dispatched(&self.dispatched(true));
+                observer.dispatched(&self.dispatched(true));
                 Made::Planned
             }
             Ok(false) => {
-                listener.dispatched(&self.dispatched(false));
+                observer.dispatched(&self.dispatched(false));
                 Made::Idle
             }
             Err(_) => {
-                listener.refused(AllocationSite::Dispatch, None);
+                observer.refused(AllocationSite::Dispatch, None);
                 Made::Refused
             }
         }
     }
 
     /// Takes the steps of events, one after the other, each with a dispatch after it unless it is a query.
-    /// Returns the outcome of each event. The listener is notified of the cancels and of each plan with the jobs
+    /// Returns the outcome of each event. The observer is notified of the cancels and of each plan with the jobs
     /// that began.
     ///
     /// For each list of requests, moments and device reports, whenever a plan is made, its priority classes are
@@ -89,28 +89,28 @@ impl<P: Planner + Drop> Core<P> {
     /// without a capable device is named.
     ///
     /// The only error is out of memory for the outcomes, before any event.
-    pub fn run<L: Listener>(
+    pub fn run<L: Observer>(
         &mut self,
         alloc: Global,
         events: Vec<Timed>,
-        listener: &mut L,
+        observer: &mut L,
     ) -> Result<Vec<Outcome>, AllocError>
-        ensures ok { IfOk result (λ outcomes. Run L.told self.old listener.old events.items outcomes.items self.new listener.new) }
-        ensures err { OnErr result ((self.new ≡ self.old) × (listener.new ≡ listener.old)) }
+        ensures ok { IfOk result (λ outcomes. Run L.notified self.old observer.old events.items outcomes.items self.new observer.new) }
+        ensures err { OnErr result ((self.new ≡ self.old) × (observer.new ≡ observer.old)) }
     {
         let mut outcomes = Vec::with_capacity(alloc, events.len())?;
         for timed in events {
-            outcomes.push_reserved(self.handle(timed, listener));
+            outcomes.push_reserved(self.handle(timed, observer));
         }
         Ok(outcomes)
     }
 }
 
-/// Tells the listener of cancels.
-fn tell_cancels<L: Listener>(cancels: &[Cancel], listener: &mut L)
-    ensures { Tells L.told listener.old (map Canceled cancels.now) listener.new }
+/// Notifies the observer of cancels.
+fn notify_cancels<L: Observer>(cancels: &[Cancel], observer: &mut L)
+    ensures { Notifies L.notified observer.old (map Canceled cancels.now) observer.new }
 {
     for cancel in cancels {
-        listener.canceled(*cancel);
+        observer.canceled(*cancel);
     }
 }

@@ -5,7 +5,7 @@ use Rattle.wires.specs.Poll.{Poll}
 use Rattle.dispatcher.specs.Notes.{Note}
 use Rattle.recordings.specs.Lines.{turn_line}
 use Rattle.recordings.specs.Noting.{NoteState, Notes, EndsTurn}
-use Rattle.server.specs.Polls.{Choice, Happening, Polled, Told, Chosen}
+use Rattle.server.specs.Polls.{Choice, Happening, Polled, Notified, Chosen}
 use Rattle.server.specs.State.{EngineState}
 use Rattle.server.specs.Refinement.{RefinesTurn}
 use Rattle.server.specs.Turn.{Turned}
@@ -24,12 +24,12 @@ kept_lines (Some lines) is = (lines, refl)
 pub keeps_turn : {S : Type 0} (moves : S → Happening → S → Type 0) (moment : ℕ) (u : S) (a : EngineState) (v : S) (b : EngineState) → RefinesTurn moves moment u a v b
     → (notes : S → NoteState)
     → ((x : S) (poll : Poll) (y : S) → moves x (Polled poll) y → Notes poll (notes x) (notes y))
-    → ((x : S) (note : Note) (y : S) → moves x (Told note) y → notes y ≡ notes x)
+    → ((x : S) (note : Note) (y : S) → moves x (Notified note) y → notes y ≡ notes x)
     → ((x : S) (choice : Choice) (y : S) → moves x (Chosen choice) y → ⊥)
     → notes u ≡ record { lines = Some []; heads = false }
     → (ended : Option (List ℕ)) → EndsTurn moment false (notes v).lines ended → (text : List ℕ) → ended ≡ Some text → (before : List ℕ) → KeepsPlayed before a (before ++ text) b
-keeps_turn moves moment u a v b turn notes polls tells none empty ended ends text is before opening played =
-    let turns : Turns moment a (notes u) b (notes v) = turns_as moves moment u a v b turn notes polls tells none in
+keeps_turn moves moment u a v b turn notes polls notifies none empty ended ends text is before opening played =
+    let turns : Turns moment a (notes u) b (notes v) = turns_as moves moment u a v b turn notes polls notifies none in
     let end = added_line (turn_line moment) (notes v).lines ended ends text is in
     let is_text : IsTurnText moment (calls_in turns.happenings) text = record {
       lines = end.0;

@@ -12,9 +12,9 @@ use Rattle.events.specs.declared.effects.Effects.{Effects}
 use Rattle.events.specs.declared.effects.Cancel.{Cancel}
 use Rattle.dispatcher.specs.declared.outcome.Outcome.{Outcome}
 use Rattle.dispatcher.specs.declared.outcome.Outcome.TheVariants.{Dropped, Queried, Undispatched, Idle, Dispatched}
-use Rattle.dispatcher.specs.declared.listener.AllocationSite.TheVariants.{Enqueue}
+use Rattle.dispatcher.specs.declared.observer.AllocationSite.TheVariants.{Enqueue}
 use Rattle.dispatcher.specs.Notes.{Note, Planned}
-use Rattle.dispatcher.specs.Run.{Handles, cancels_told}
+use Rattle.dispatcher.specs.Run.{Handles, cancel_notes}
 use Rattle.wires.specs.Poll.{Poll, Accepts, Reads, Writes}
 use Rattle.wires.specs.declared.wire.Progress.{Progress}
 use Rattle.wires.specs.declared.wire.Progress.TheVariants as wire
@@ -22,12 +22,12 @@ use Rattle.wires.specs.declared.wire.Door.{Door}
 use Rattle.wires.specs.declared.wire.Door.TheVariants.{Ipp, Lpd, Devices}
 use Rattle.connections.specs.Entry.{Entry, device_of, broken, owing, needs_memory, waiting}
 use Rattle.device_link.specs.Orders.{cancel_line}
-use Rattle.server.specs.Polls.{Happening, Polled, Told, Chosen, Choice, Found, Looked, seen}
+use Rattle.server.specs.Polls.{Happening, Polled, Notified, Chosen, Choice, Found, Looked, seen}
 use Rattle.server.specs.Ledger.{Ledger, Fate, Drained, Broken, with_entry, without, job_bytes}
 use Rattle.server.specs.Rel.{Rel, Nothing, Polls, Chooses, Then, If, Or, Times, Each, EachOf}
 use Rattle.server.specs.Enqueuing.{Sets, Breaks, BreaksAt, Drops, EnqueuesOpen, EnqueuesAt, EnqueuesOn}
 use Rattle.server.specs.Happening.{Decides, Sends, Starts, StartsAll, SendsAll, Orders, found_by}
-use Rattle.server.specs.Closing.{Leaves, IsGone, ClosesAs, ClosesFirst, IsBroken, NoneBroken, Settles}
+use Rattle.server.specs.Closing.{Leaves, IsGone, ClosesAs, ClosesFirst, IsBroken, NoneBroken, ClosesBroken}
 use Rattle.server.specs.Polling.{AcceptsAs, AcceptsOne, AcceptsAt, Fails, ReadsAs, ReadsOpen, ReadsAt, is_read, ReadsOne, WritesAs, WritesOpen, WritesAt, WritesOne, is_done, EndsAt, EndsOne}
 use Rattle.server.specs.Turn.{is_tick_due, Ticks, TicksIfDue, Covers, Round, Turn}
 use Rattle.journal.specs.Passing.{calls_in, IsLost, AreLost}
@@ -40,30 +40,30 @@ use Rattle.journal.proofs.WaitingJobs.{stay_is, stay_then, stay_reported, stay_m
 abbrev Loses : List Happening → Type 0
 Loses [] = Unit {0}
 Loses (Polled poll ∷ hs) = IsLost poll × Loses hs
-Loses (Told note ∷ hs) = BeginsNone note × Loses hs
+Loses (Notified note ∷ hs) = BeginsNone note × Loses hs
 Loses (Chosen choice ∷ hs) = Loses hs
 
 -- what is among the happenings is among them and one more
 contains_later : (h : Happening) (hs : List Happening) (k : Happening) → Contains hs k → Contains (h ∷ hs) k
 contains_later h hs k is = (suc is.0, omega (arith, is.1), is.2)
 
--- the happenings with their choices, where a wire and a listener see all but the choices
+-- the happenings with their choices, where a wire and an observer see all but the choices
 loses : (hs : List Happening) → AreLost (calls_in (seen hs)) → NoneBegins (seen hs) → Loses hs
 loses [] lost none = tt
 loses (Polled poll ∷ hs) lost none =
-    (lost.0, loses hs lost.1 (λ note is. none note (contains_later (Polled poll) (seen hs) (Told note) is)))
-loses (Told note ∷ hs) lost none = (none note (0, omega arith, refl), loses hs lost (λ other is. none other (contains_later (Told note) (seen hs) (Told other) is)))
+    (lost.0, loses hs lost.1 (λ note is. none note (contains_later (Polled poll) (seen hs) (Notified note) is)))
+loses (Notified note ∷ hs) lost none = (none note (0, omega arith, refl), loses hs lost (λ other is. none other (contains_later (Notified note) (seen hs) (Notified other) is)))
 loses (Chosen choice ∷ hs) lost none = loses hs lost none
 
 -- two lists of happenings, one after the other
 loses_apart : (front back : List Happening) → Loses (front ++ back) → Loses front × Loses back
 loses_apart [] back lost = (tt, lost)
 loses_apart (Polled poll ∷ front) back (is, rest) = let parts = loses_apart front back rest in ((is, parts.0), parts.1)
-loses_apart (Told note ∷ front) back (is, rest) = let parts = loses_apart front back rest in ((is, parts.0), parts.1)
+loses_apart (Notified note ∷ front) back (is, rest) = let parts = loses_apart front back rest in ((is, parts.0), parts.1)
 loses_apart (Chosen choice ∷ front) back rest = loses_apart front back rest
 
 -- the last note begins no job
-last_begins : (notes : List Note) (note : Note) → Loses (map Told (notes ++ note ∷ [])) → BeginsNone note
+last_begins : (notes : List Note) (note : Note) → Loses (map Notified (notes ++ note ∷ [])) → BeginsNone note
 last_begins [] note lost = lost.0
 last_begins (other ∷ notes) note lost = last_begins notes note lost.1
 
@@ -168,20 +168,20 @@ dispatched_stay now old plan started new none it =
     subst (λ (s : State). WaitingStay old s) (sym plain) (stay_marked now plan started old)
 
 -- the core handles the report that a device is gone
-handles_in : (moment device : ℕ) (outcome : Outcome) (old : State) (notes : List Note) (new : State) → Handles moment (Is.Report device Gone) old outcome notes new → Loses (map Told notes) → WaitingStay old new
+handles_in : (moment device : ℕ) (outcome : Outcome) (old : State) (notes : List Note) (new : State) → Handles moment (Is.Report device Gone) old outcome notes new → Loses (map Notified notes) → WaitingStay old new
 handles_in moment device Dropped old notes new it lost = stay_is old new it.0
 handles_in moment device (Queried reply) old notes new it lost = stay_reported (max moment old.last) device old reply.documents.items new it.1.reports
 handles_in moment device (Undispatched reply) old notes new it lost = stay_reported (max moment old.last) device old reply.documents.items new it.1.reports
-handles_in moment device (Idle reply) old notes new (query, mid, step, dispatches, told) lost =
+handles_in moment device (Idle reply) old notes new (query, mid, step, dispatches, notified) lost =
     subst (λ (s : State). WaitingStay old s) (sym dispatches.2) (stay_reported (max moment old.last) device old reply.documents.items mid step.reports)
-handles_in moment device (Dispatched reply) old notes new (query, mid, step, plan, dispatches, told) lost =
-    let none : new.begun ≡ [] = last_begins (cancels_told reply) (Planned (Some plan) new.begun) (subst (λ (ns : List Note). Loses (map Told ns)) told lost) in
+handles_in moment device (Dispatched reply) old notes new (query, mid, step, plan, dispatches, notified) lost =
+    let none : new.begun ≡ [] = last_begins (cancel_notes reply) (Planned (Some plan) new.begun) (subst (λ (ns : List Note). Loses (map Notified ns)) notified lost) in
     stay_then old mid new
     (stay_reported (max moment old.last) device old reply.documents.items mid step.reports)
     (dispatched_stay (max moment mid.last) mid plan new.begun new none dispatches)
 
 -- the notes are among the happenings
-loses_notes : (outcome : Outcome) (notes : List Note) → Loses (found_by outcome ++ map Told notes) → Loses (map Told notes)
+loses_notes : (outcome : Outcome) (notes : List Note) → Loses (found_by outcome ++ map Notified notes) → Loses (map Notified notes)
 loses_notes Dropped notes lost = lost
 loses_notes (Queried reply) notes lost = lost
 loses_notes (Undispatched reply) notes lost = lost
@@ -191,7 +191,7 @@ loses_notes (Dispatched reply) notes lost = lost
 decides_in : (moment device : ℕ) (outcome : Outcome) → Within (Decides moment (Is.Report device Gone) outcome)
 decides_in moment device outcome l hs l' it lost =
     subst (λ (x : Ledger). WaitingStay l.core x.core) (sym it.after)
-    (handles_in moment device outcome l.core it.notes it.state it.handles (loses_notes outcome it.notes (subst Loses it.told lost)))
+    (handles_in moment device outcome l.core it.notes it.state it.handles (loses_notes outcome it.notes (subst Loses it.notified lost)))
 
 gone_in : (moment : ℕ) (o : Option ℕ) → Within (IsGone moment o)
 gone_in moment None l hs l' it = nothing_in l hs l' it
@@ -205,7 +205,7 @@ leaves_in fate key e l hs l' it lost = same_core l (without key e fate l) l' ref
 closes_in : (moment : ℕ) (fate : Fate) (key : ℕ) (e : Entry) → Within (ClosesAs moment fate key e)
 closes_in moment fate key e = then_in (leaves_in fate key e) (gone_in moment (device_of e.progress))
 
-settles_in : (moment : ℕ) → Within (Settles moment)
+settles_in : (moment : ℕ) → Within (ClosesBroken moment)
 settles_in moment l hs l' it = times_in it.0.0 (ClosesFirst moment) (λ a ks b first. closes_in moment Broken first.key first.entry a ks b first.closes) l hs l' it.0.1
 
 fails_in : (moment key : ℕ) → Within (Fails moment key)
@@ -254,7 +254,7 @@ writes_one_in moment key l hs l' it = writes_at_in moment key (l.entries key) l 
 ends_at_in : (moment key : ℕ) (o : Option Entry) → Within (EndsAt moment key o)
 ends_at_in moment key None = nothing_in
 ends_at_in moment key (Some e) =
-    if_in (is_done e) (Then (ClosesAs moment Drained key e) (Settles moment)) Nothing (then_in (closes_in moment Drained key e) (settles_in moment)) nothing_in
+    if_in (is_done e) (Then (ClosesAs moment Drained key e) (ClosesBroken moment)) Nothing (then_in (closes_in moment Drained key e) (settles_in moment)) nothing_in
 
 ends_one_in : (moment key : ℕ) → Within (EndsOne moment key)
 ends_one_in moment key l hs l' it = ends_at_in moment key (l.entries key) l hs l' it
@@ -287,7 +287,7 @@ after_tick_in moment = then_in (accepts_in Ipp) (then_in (accepts_in Lpd) (then_
 -- no tick is due
 no_tick_in : (moment : ℕ) (l : Ledger) (hs : List Happening) (l' : Ledger) → is_tick_due moment l ≡ false → TicksIfDue moment l hs l' → WaitingStay l.core l'.core
 no_tick_in moment l hs l' not_due it =
-    let nothing : Nothing l hs l' = subst (λ (t : Bool). If t (Then (Ticks moment) (Settles moment)) Nothing l hs l') not_due it in
+    let nothing : Nothing l hs l' = subst (λ (t : Bool). If t (Then (Ticks moment) (ClosesBroken moment)) Nothing l hs l') not_due it in
     same_core l l l' refl nothing.1
 
 -- in such a turn the jobs that wait stay

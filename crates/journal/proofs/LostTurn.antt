@@ -7,7 +7,7 @@ use Rattle.wires.specs.Poll.{Poll}
 use Rattle.dispatcher.specs.Notes.{Note}
 use Rattle.connections.specs.Slots.{broken_at}
 use Rattle.recordings.specs.Noting.{NoteState, Notes, EndsTurn, with_note, restarted_line}
-use Rattle.server.specs.Polls.{Choice, Happening, Polled, Told, Chosen, Leads}
+use Rattle.server.specs.Polls.{Choice, Happening, Polled, Notified, Chosen, Leads}
 use Rattle.server.specs.Ledger.{Ledger}
 use Rattle.server.specs.State.{EngineState}
 use Rattle.server.specs.Turn.{Trace, Turned, is_due, is_tick_due}
@@ -27,7 +27,7 @@ use Rattle.journal.proofs.Played.{filed_behind}
 -- ---- the happenings of such a turn
 
 -- no job begins at a happening, nor later
-none_then : (h : Happening) (hs : List Happening) → ((note : Note) → h ≡ Told note → BeginsNone note) → NoneBegins hs → NoneBegins (h ∷ hs)
+none_then : (h : Happening) (hs : List Happening) → ((note : Note) → h ≡ Notified note → BeginsNone note) → NoneBegins hs → NoneBegins (h ∷ hs)
 none_then h hs first later note (zero, inside, is) = first note is
 none_then h hs first later note (suc k, inside, is) = later note (k, omega (arith, inside), is)
 
@@ -38,29 +38,29 @@ none_at_all note (k, inside, is) = absurd (omega (arith, inside))
 -- the note of a happening
 abbrev note_or : Note → Happening → Note
 note_or other (Polled poll) = other
-note_or other (Told note) = note
+note_or other (Notified note) = note
 note_or other (Chosen choice) = other
 
 -- a call is no note
-no_note : (poll : Poll) (note : Note) → Polled poll ≡ Told note → BeginsNone note
+no_note : (poll : Poll) (note : Note) → Polled poll ≡ Notified note → BeginsNone note
 no_note poll note is = absurd (cc)
 
 -- Where a property of the state after a happening says that it held before, and that the call is lost or no job begins, all calls are lost, and no job begins.
 all_lost : {S : Type 0} (moves : S → Happening → S → Type 0) (Good : S → Type 0)
     → ((a : S) (poll : Poll) (b : S) → moves a (Polled poll) b → Good b → Good a × IsLost poll)
-    → ((a : S) (note : Note) (b : S) → moves a (Told note) b → Good b → Good a × BeginsNone note)
+    → ((a : S) (note : Note) (b : S) → moves a (Notified note) b → Good b → Good a × BeginsNone note)
     → ((a : S) (choice : Choice) (b : S) → moves a (Chosen choice) b → ⊥)
     → (hs : List Happening) (u v : S) → Leads moves u hs v → Good v → Good u × AreLost (calls_in hs) × NoneBegins hs
-all_lost moves Good polls tells none [] u v leads good = (subst Good leads good, tt, none_at_all)
-all_lost moves Good polls tells none (Polled poll ∷ hs) u v (mid, moved, later) good =
-    let rest = all_lost moves Good polls tells none hs mid v later good in
+all_lost moves Good polls notifies none [] u v leads good = (subst Good leads good, tt, none_at_all)
+all_lost moves Good polls notifies none (Polled poll ∷ hs) u v (mid, moved, later) good =
+    let rest = all_lost moves Good polls notifies none hs mid v later good in
     let first = polls u poll mid moved rest.0 in
     (first.0, (first.1, rest.1), none_then (Polled poll) hs (no_note poll) rest.2)
-all_lost moves Good polls tells none (Told note ∷ hs) u v (mid, moved, later) good =
-    let rest = all_lost moves Good polls tells none hs mid v later good in
-    let first = tells u note mid moved rest.0 in
-    (first.0, rest.1, none_then (Told note) hs (λ other same. subst BeginsNone (ap (note_or note) same) first.1) rest.2)
-all_lost moves Good polls tells none (Chosen choice ∷ hs) u v (mid, moved, later) good = absurd (none u choice mid moved)
+all_lost moves Good polls notifies none (Notified note ∷ hs) u v (mid, moved, later) good =
+    let rest = all_lost moves Good polls notifies none hs mid v later good in
+    let first = notifies u note mid moved rest.0 in
+    (first.0, rest.1, none_then (Notified note) hs (λ other same. subst BeginsNone (ap (note_or note) same) first.1) rest.2)
+all_lost moves Good polls notifies none (Chosen choice ∷ hs) u v (mid, moved, later) good = absurd (none u choice mid moved)
 
 -- ---- the turn
 
@@ -83,18 +83,18 @@ lost_stay moves moment u a v b turn lost none not_due whole l fits =
 pub loses_all : {S : Type 0} (moves : S → Happening → S → Type 0) (moment : ℕ) (u : S) (a : EngineState) (v : S) (b : EngineState) → RefinesTurn moves moment u a v b
     → (Good : S → Type 0)
     → ((x : S) (poll : Poll) (y : S) → moves x (Polled poll) y → Good y → Good x × IsLost poll)
-    → ((x : S) (note : Note) (y : S) → moves x (Told note) y → Good y → Good x × BeginsNone note)
+    → ((x : S) (note : Note) (y : S) → moves x (Notified note) y → Good y → Good x × BeginsNone note)
     → (notes : S → NoteState)
     → ((x : S) (poll : Poll) (y : S) → moves x (Polled poll) y → Notes poll (notes x) (notes y))
-    → ((x : S) (note : Note) (y : S) → moves x (Told note) y → notes y ≡ notes x)
+    → ((x : S) (note : Note) (y : S) → moves x (Notified note) y → notes y ≡ notes x)
     → ((x : S) (choice : Choice) (y : S) → moves x (Chosen choice) y → ⊥)
     → notes u ≡ record { lines = Some []; heads = false } → Good v
     → is_due (max moment a.core.last) a.ticked a.undispatched ≡ false → ((key : ℕ) → broken_at a.slots key ≡ false)
     → (count_by is_some b.slots == 0) ≡ true
     → (c d : Option (List ℕ)) → (c ≡ None) ⊎ (c ≡ with_note restarted_line (notes v).lines) → EndsTurn moment false c d → (text : List ℕ) → d ≡ Some text → LosesAll a text b
-loses_all moves moment u a v b turn Good lose begin notes polls tells none empty good not_due whole out c d restarts ends text is =
+loses_all moves moment u a v b turn Good lose begin notes polls notifies none empty good not_due whole out c d restarts ends text is =
     let lost = all_lost moves Good lose begin none turn.happenings u v turn.leads good in
-    let added : Adds (AreLines (calls_in turn.happenings)) (notes u) (notes v) = are_added moves notes polls tells none turn.happenings u v turn.leads in
+    let added : Adds (AreLines (calls_in turn.happenings)) (notes u) (notes v) = are_added moves notes polls notifies none turn.happenings u v turn.leads in
     let are : (lines : List ℕ) → (notes v).lines ≡ Some lines → AreLines (calls_in turn.happenings) lines = first_lines (calls_in turn.happenings) (notes u) (notes v) added empty in
     record {
       moment = moment;

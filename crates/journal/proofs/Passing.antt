@@ -3,7 +3,7 @@ use Rattle.std.proofs.Common.{◌≡◌, List, [], ◌∷◌, ◌++◌, refl, ap
 use Rattle.std.specs.Prelude.{◌⊎◌}
 use Rattle.wires.specs.Poll.{Poll, Accepts, Reads, Writes, Closes}
 use Rattle.wires.specs.declared.wire.Progress.TheVariants.{Done, Waiting, End, Fault}
-use Rattle.server.specs.Polls.{Happening, Polled, Told, Chosen, seen}
+use Rattle.server.specs.Polls.{Happening, Polled, Notified, Chosen, seen}
 use Rattle.journal.specs.Passing.{calls_in, IsQuiet, AllWait, AreOutward}
 
 -- ---- the calls among happenings
@@ -12,30 +12,30 @@ use Rattle.journal.specs.Passing.{calls_in, IsQuiet, AllWait, AreOutward}
 pub calls_append : (hs ks : List Happening) → calls_in (hs ++ ks) ≡ calls_in hs ++ calls_in ks
 calls_append [] ks = refl
 calls_append (Polled poll ∷ hs) ks = ap (λ (polls : List Poll). poll ∷ polls) (calls_append hs ks)
-calls_append (Told note ∷ hs) ks = calls_append hs ks
+calls_append (Notified note ∷ hs) ks = calls_append hs ks
 calls_append (Chosen choice ∷ hs) ks = calls_append hs ks
 
 -- no choice is a call
 pub calls_seen : (hs : List Happening) → calls_in (seen hs) ≡ calls_in hs
 calls_seen [] = refl
 calls_seen (Polled poll ∷ hs) = ap (λ (polls : List Poll). poll ∷ polls) (calls_seen hs)
-calls_seen (Told note ∷ hs) = calls_seen hs
+calls_seen (Notified note ∷ hs) = calls_seen hs
 calls_seen (Chosen choice ∷ hs) = calls_seen hs
 
 -- ---- quiet happenings
 
--- happenings are quiet if those that a wire and a listener see are
+-- happenings are quiet if those that a wire and an observer see are
 pub quiet_seen : (hs : List Happening) → IsQuiet (seen hs) → IsQuiet hs
 quiet_seen [] quiet = quiet
 quiet_seen (Polled poll ∷ hs) quiet = (quiet.0, quiet_seen hs quiet.1)
-quiet_seen (Told note ∷ hs) quiet = quiet
+quiet_seen (Notified note ∷ hs) quiet = quiet
 quiet_seen (Chosen choice ∷ hs) quiet = quiet_seen hs quiet
 
 -- both parts of quiet happenings are quiet
 pub quiet_parts : (hs ks : List Happening) → IsQuiet (hs ++ ks) → IsQuiet hs × IsQuiet ks
 quiet_parts [] ks quiet = (tt, quiet)
 quiet_parts (Polled poll ∷ hs) ks quiet = let parts = quiet_parts hs ks quiet.1 in ((quiet.0, parts.0), parts.1)
-quiet_parts (Told note ∷ hs) ks quiet = absurd quiet
+quiet_parts (Notified note ∷ hs) ks quiet = absurd quiet
 quiet_parts (Chosen choice ∷ hs) ks quiet = quiet_parts hs ks quiet
 
 -- ---- calls of which none but closes pass

@@ -12,7 +12,7 @@ use Rattle.server.specs.Polls.{Happening, Polled}
 use Rattle.server.specs.Ledger.{Ledger, Fate, Broken, Drained}
 use Rattle.server.specs.Rel.{Rel, Nothing, Polls, Then, If, Times, Each}
 use Rattle.server.specs.Enqueuing.{Sets}
-use Rattle.server.specs.Closing.{Leaves, IsGone, ClosesAs, ClosesFirst, Settles}
+use Rattle.server.specs.Closing.{Leaves, IsGone, ClosesAs, ClosesFirst, ClosesBroken}
 use Rattle.server.specs.Polling.{Opens, AcceptsAs, AcceptsOne, AcceptsAt, FeedsOne, Fails, ReadsAs, ReadsOpen, ReadsAt, ReadsOne, is_read, WritesAs, WritesOpen, WritesAt, WritesOne, EndsAt, EndsOne, is_done}
 use Rattle.server.specs.Turn.{is_tick_due, Ticks, TicksIfDue, Covers, Rounds, Round, Turn}
 use Rattle.journal.specs.Passing.{IsIdle, IsQuiet}
@@ -84,7 +84,7 @@ loud_closes moment fate key e = loud_then (Leaves fate key e) (IsGone moment (de
 still_first : (moment : ℕ) → Still (ClosesFirst moment)
 still_first moment = still_loud (record { loud = λ l hs l' quiet it. (loud_closes moment Broken it.key it.entry).loud l hs l' quiet it.closes })
 
-still_settles : (moment : ℕ) → Still (Settles moment)
+still_settles : (moment : ℕ) → Still (ClosesBroken moment)
 still_settles moment = record { still = λ l hs l' quiet it. (still_times it.0.0 (ClosesFirst moment) (still_first moment)).still l hs l' quiet it.0.1 }
 
 ends_at : (moment key : ℕ) (o : Option Entry) → Still (EndsAt moment key o)
@@ -164,7 +164,7 @@ still_polling moment = still_then (still_accepts Ipp) (still_then (still_accepts
 
 -- no tick comes where none is due
 unticked : (moment : ℕ) (l : Ledger) (hs : List Happening) (l' : Ledger) → is_tick_due moment l ≡ false → TicksIfDue moment l hs l' → l' ≡ l
-unticked moment l hs l' none it = let nothing : Nothing l hs l' = subst (λ (t : Bool). If t (Then (Ticks moment) (Settles moment)) Nothing l hs l') none it in nothing.1
+unticked moment l hs l' none it = let nothing : Nothing l hs l' = subst (λ (t : Bool). If t (Then (Ticks moment) (ClosesBroken moment)) Nothing l hs l') none it in nothing.1
 
 still_turn : (moment : ℕ) (l : Ledger) (hs : List Happening) (l' : Ledger) → is_tick_due moment l ≡ false → IsQuiet hs → Turn moment l hs l' → l' ≡ l
 still_turn moment l hs l' none quiet it =
@@ -174,6 +174,6 @@ still_turn moment l hs l' none quiet it =
     let later = quiet_parts rest.front rest.back (subst IsQuiet rest.whole parts.1) in
     (still_polling moment).still rest.mid rest.back l' later.1 rest.second ∙ unticked moment l rest.front rest.mid none rest.first
 
--- a turn without a tick leaves the ledger unchanged if a wire and a listener see only quiet happenings
+-- a turn without a tick leaves the ledger unchanged if a wire and an observer see only quiet happenings
 pub unchanged : (moment : ℕ) (old new : Ledger) (hs : List Happening) → TurnsUnticked moment old hs new → IsQuiet hs → new ≡ old
 unchanged moment old new hs it quiet = still_turn moment old it.turns.0 new it.unticked (quiet_seen it.turns.0 (subst IsQuiet (sym it.turns.1) quiet)) it.turns.2

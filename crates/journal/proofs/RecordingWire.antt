@@ -6,7 +6,7 @@ use Rattle.wires.specs.Poll.{Poll}
 use Rattle.dispatcher.specs.Notes.{Note}
 use Rattle.recordings.specs.Lines.{turn_line}
 use Rattle.recordings.specs.Noting.{NoteState, Notes, NotesLine, EndsTurn, note_of, with_note, restarted_line}
-use Rattle.server.specs.Polls.{Choice, Happening, Polled, Told, Chosen, Leads}
+use Rattle.server.specs.Polls.{Choice, Happening, Polled, Notified, Chosen, Leads}
 use Rattle.server.specs.State.{EngineState}
 use Rattle.server.specs.Refinement.{RefinesTurn}
 use Rattle.journal.specs.Passing.{calls_in}
@@ -53,15 +53,15 @@ add_none a b same = (ap (λ (n : NoteState). n.heads) same, λ whole now is. (no
 -- the lines of the calls of these happenings are added, where each call is noted
 pub are_added : {S : Type 0} (moves : S → Happening → S → Type 0) (notes : S → NoteState)
     → ((a : S) (poll : Poll) (b : S) → moves a (Polled poll) b → Notes poll (notes a) (notes b))
-    → ((a : S) (note : Note) (b : S) → moves a (Told note) b → notes b ≡ notes a)
+    → ((a : S) (note : Note) (b : S) → moves a (Notified note) b → notes b ≡ notes a)
     → ((a : S) (choice : Choice) (b : S) → moves a (Chosen choice) b → ⊥)
     → (hs : List Happening) (u v : S) → Leads moves u hs v → Adds (AreLines (calls_in hs)) (notes u) (notes v)
-are_added moves notes polls tells none [] u v leads = add_none (notes u) (notes v) (ap notes leads)
-are_added moves notes polls tells none (Polled poll ∷ hs) u v (mid, moved, later) =
-    add_one poll (calls_in hs) (notes u) (notes mid) (notes v) (polls u poll mid moved) (are_added moves notes polls tells none hs mid v later)
-are_added moves notes polls tells none (Told note ∷ hs) u v (mid, moved, later) =
-    subst (λ (x : NoteState). Adds (AreLines (calls_in hs)) x (notes v)) (tells u note mid moved) (are_added moves notes polls tells none hs mid v later)
-are_added moves notes polls tells none (Chosen choice ∷ hs) u v (mid, moved, later) = absurd (none u choice mid moved)
+are_added moves notes polls notifies none [] u v leads = add_none (notes u) (notes v) (ap notes leads)
+are_added moves notes polls notifies none (Polled poll ∷ hs) u v (mid, moved, later) =
+    add_one poll (calls_in hs) (notes u) (notes mid) (notes v) (polls u poll mid moved) (are_added moves notes polls notifies none hs mid v later)
+are_added moves notes polls notifies none (Notified note ∷ hs) u v (mid, moved, later) =
+    subst (λ (x : NoteState). Adds (AreLines (calls_in hs)) x (notes v)) (notifies u note mid moved) (are_added moves notes polls notifies none hs mid v later)
+are_added moves notes polls notifies none (Chosen choice ∷ hs) u v (mid, moved, later) = absurd (none u choice mid moved)
 
 -- where no lines were kept before, the lines that are kept are those of the calls
 pub first_lines : (polls : List Poll) (a b : NoteState) → Adds (AreLines polls) a b → a ≡ record { lines = Some []; heads = false } → (lines : List ℕ) → b.lines ≡ Some lines → AreLines polls lines
@@ -76,14 +76,14 @@ first_lines polls a b added empty lines is =
 pub turns_as : {S : Type 0} (moves : S → Happening → S → Type 0) (moment : ℕ) (u : S) (a : EngineState) (v : S) (b : EngineState) → RefinesTurn moves moment u a v b
     → (notes : S → NoteState)
     → ((x : S) (poll : Poll) (y : S) → moves x (Polled poll) y → Notes poll (notes x) (notes y))
-    → ((x : S) (note : Note) (y : S) → moves x (Told note) y → notes y ≡ notes x)
+    → ((x : S) (note : Note) (y : S) → moves x (Notified note) y → notes y ≡ notes x)
     → ((x : S) (choice : Choice) (y : S) → moves x (Chosen choice) y → ⊥)
     → Turns moment a (notes u) b (notes v)
-turns_as moves moment u a v b turn notes polls tells none = record {
+turns_as moves moment u a v b turn notes polls notifies none = record {
   happenings = turn.happenings;
   stands = turn.stands;
   noted = λ empty.
-      let added : Adds (AreLines (calls_in turn.happenings)) (notes u) (notes v) = are_added moves notes polls tells none turn.happenings u v turn.leads in
+      let added : Adds (AreLines (calls_in turn.happenings)) (notes u) (notes v) = are_added moves notes polls notifies none turn.happenings u v turn.leads in
       (added.0 ∙ ap (λ (n : NoteState). n.heads) empty, λ lines is. first_lines (calls_in turn.happenings) (notes u) (notes v) added empty lines is);
 }
 

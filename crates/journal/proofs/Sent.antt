@@ -14,7 +14,7 @@ use Rattle.server.specs.Polls.{Happening, Polled, Chosen, Looked}
 use Rattle.server.specs.Ledger.{Ledger, Fate, Broken, Drained}
 use Rattle.server.specs.Rel.{Rel, Nothing, Polls, Then, If, Times, Each}
 use Rattle.server.specs.Enqueuing.{Sets}
-use Rattle.server.specs.Closing.{Leaves, ClosesAs, ClosesFirst, Settles}
+use Rattle.server.specs.Closing.{Leaves, ClosesAs, ClosesFirst, ClosesBroken}
 use Rattle.server.specs.Polling.{AcceptsAs, AcceptsOne, AcceptsAt, ReadsAs, ReadsOpen, ReadsAt, ReadsOne, is_read, WritesAs, WritesOpen, WritesAt, WritesOne, EndsAt, EndsOne, is_done}
 use Rattle.server.specs.Turn.{is_tick_due, Ticks, TicksIfDue, Covers, Rounds, Round, Turn}
 use Rattle.journal.specs.Passing.{calls_in, AllWait, AreOutward}
@@ -147,7 +147,7 @@ sends_closes old P Q moment fate key e = sends_then (sends_leaves old P fate key
 closes_first : (old : Ledger) (P : Ledger → Type 0) (moment : ℕ) → Sends old P (ClosesFirst moment) P
 closes_first old P moment = record { sends = λ l hs l' p outward it. (sends_closes old P P moment Broken it.key it.entry).sends l hs l' p outward it.closes }
 
-sends_settles : (old : Ledger) (P : Ledger → Type 0) (moment : ℕ) → Sends old P (Settles moment) P
+sends_settles : (old : Ledger) (P : Ledger → Type 0) (moment : ℕ) → Sends old P (ClosesBroken moment) P
 sends_settles old P moment = record { sends = λ l hs l' p outward it. (sends_times old P it.0.0 (ClosesFirst moment) (closes_first old P moment)).sends l hs l' p outward it.0.1 }
 
 ends_at : (old : Ledger) (P : Ledger → Type 0) (moment key : ℕ) (o : Option Entry) → Sends old P (EndsAt moment key o) P
@@ -244,7 +244,7 @@ old_keeps old l same other past = ap (λ (x : Ledger). x.entries other) same
 sends_unticked : (old : Ledger) (moment : ℕ) → is_tick_due moment old ≡ false → Sends old (IsOld old) (TicksIfDue moment) (IsOld old)
 sends_unticked old moment none = record {
   sends = λ l hs l' same outward it.
-      let nothing : Nothing l hs l' = subst (λ (t : Bool). If t (Then (Ticks moment) (Settles moment)) Nothing l hs l') (ap (is_tick_due moment) same ∙ none) it in
+      let nothing : Nothing l hs l' = subst (λ (t : Bool). If t (Then (Ticks moment) (ClosesBroken moment)) Nothing l hs l') (ap (is_tick_due moment) same ∙ none) it in
       (sends_nothing old (IsOld old)).sends l hs l' same outward nothing;
 }
 

@@ -11,12 +11,12 @@ use Rattle.wires.specs.declared.wire.Progress.TheVariants.{Done}
 use Rattle.wires.specs.Poll.{Poll, Writes}
 use Rattle.send_queues.specs.SendQueue.{IsFront}
 use Rattle.connections.specs.Entry.{Entry, waiting}
-use Rattle.server.specs.Polls.{Happening, Told}
+use Rattle.server.specs.Polls.{Happening, Notified}
 use Rattle.server.specs.Ledger.{Ledger}
 use Rattle.server.specs.Rel.{Seen}
 use Rattle.server.specs.Turn.{Turn, is_tick_due}
 
--- the turn leads from one ledger to another as a wire and a listener see it, and no tick is due in it
+-- the turn leads from one ledger to another as a wire and an observer see it, and no tick is due in it
 pub record TurnsUnticked (moment : ℕ) (old : Ledger) (hs : List Happening) (new : Ledger) : Type 0 where
   pub turns : Seen (Turn moment) old hs new
   pub unticked : is_tick_due moment old ≡ false
@@ -54,4 +54,4 @@ BeginsNone (Planned plan started) = started ≡ []
 BeginsNone _ = Unit {0}
 
 abbrev pub NoneBegins : List Happening → Type 0
-NoneBegins hs = (note : Note) → Contains hs (Told note) → BeginsNone note
+NoneBegins hs = (note : Note) → Contains hs (Notified note) → BeginsNone note

@@ -2,7 +2,7 @@
 use Rattle.std.specs.Prelude.{◌≡◌, Bool, true, false, if◌then◌else◌, List, [], ◌∷◌, ◌++◌}
 use Rattle.wires.specs.declared.wire.Progress.TheVariants.{Done, Waiting, End, Fault}
 use Rattle.wires.specs.Poll.{Poll, Accepts, Reads, Writes, Closes}
-use Rattle.server.specs.Polls.{Happening, Polled, Told, Chosen}
+use Rattle.server.specs.Polls.{Happening, Polled, Notified, Chosen}
 use Rattle.journal.specs.declared.gate.Pass.{Pass}
 use Rattle.journal.specs.declared.gate.Pass.TheVariants.{All, Inward, Outward, Shut}
 
@@ -10,7 +10,7 @@ use Rattle.journal.specs.declared.gate.Pass.TheVariants.{All, Inward, Outward, S
 abbrev pub calls_in : List Happening → List Poll
 calls_in [] = []
 calls_in (Polled poll ∷ hs) = poll ∷ calls_in hs
-calls_in (Told note ∷ hs) = calls_in hs
+calls_in (Notified note ∷ hs) = calls_in hs
 calls_in (Chosen choice ∷ hs) = calls_in hs
 
 -- ---- a turn in which nothing happens
@@ -25,11 +25,11 @@ IsIdle (Reads id answer) = answer ≡ Waiting
 IsIdle (Writes id offered answer) = answer ≡ Waiting
 IsIdle (Closes id) = ⊥
 
--- each call is idle, and the listener is not notified
+-- each call is idle, and the observer is not notified
 abbrev pub IsQuiet : List Happening → Type 0
 IsQuiet [] = Unit {0}
 IsQuiet (Polled poll ∷ hs) = IsIdle poll × IsQuiet hs
-IsQuiet (Told note ∷ hs) = ⊥
+IsQuiet (Notified note ∷ hs) = ⊥
 IsQuiet (Chosen choice ∷ hs) = IsQuiet hs
 
 -- ---- a turn in which nothing is sent

@@ -9,7 +9,7 @@ ghost use Rattle.journal.specs.File.{IsTurnText, IsFile};
 ghost use Rattle.journal.specs.Laws.{TurnsUnticked, AreDue, WaitingStay, NoneBegins};
 
 /// A turn changes nothing if no tick is due in it, each of its calls would have to wait or accepts no connection,
-/// and the listener is not notified. A journal leaves out such turns.
+/// and the observer is not notified. A journal leaves out such turns.
 pub fn quiet_turns_change_nothing()
     ensures { (moment : ℕ) (old new : Ledger) (hs : List Happening) → TurnsUnticked moment old hs new → IsQuiet hs → new ≡ old }
 {}

@@ -1,12 +1,12 @@
-//! A listener that records what must not happen while an engine plays a file.
+//! An observer that records what must not happen while an engine plays a file.
 ghost use Rattle.std.specs.Prelude.{◌≡◌, false};
 ghost use Rattle.journal.specs.Laws.{BeginsNone};
 
-use dispatcher::{AllocationSite, DeviceRefusal, Dispatched, Listener};
+use dispatcher::{AllocationSite, DeviceRefusal, Dispatched, Observer};
 use events::Cancel;
 use wires::WireId;
 
-/// A listener that records whether a job began, and whether memory was refused.
+/// An observer that records whether a job began, and whether memory was refused.
 #[derive(Drop)]
 pub(crate) struct RestartWitness {
     pub(crate) began: bool,
@@ -16,7 +16,7 @@ pub(crate) struct RestartWitness {
 }
 
 impl RestartWitness {
-    /// Creates a listener that was not notified yet.
+    /// Creates an observer that was not notified yet.
     pub(crate) fn new() -> RestartWitness {
         RestartWitness {
             began: false,
@@ -26,8 +26,8 @@ impl RestartWitness {
     }
 }
 
-impl Listener for RestartWitness {
-    ghost told = { λ old note new. new.began ≡ false → (old.began ≡ false) × BeginsNone note };
+impl Observer for RestartWitness {
+    ghost notified = { λ old note new. new.began ≡ false → (old.began ≡ false) × BeginsNone note };
 
     fn dispatched(&mut self, made: &Dispatched<'_>) {
         if !made.started().is_empty() {

@@ -79,7 +79,7 @@ fn lose_all(
 ) -> Result<Vec<u8>, PlayFault>
     ensures { IfOk result (λ text. LosesAll engine.old text.items engine.new) }
 {
-    if engine.is_tick_due(moment) || !engine.is_settled() {
+    if engine.is_tick_due(moment) || !engine.has_no_broken() {
         return Err(PlayFault::OutOfMemory);
     }
     let mut wire = RecordingWire::new(alloc, LostWire::new());

@@ -14,7 +14,7 @@ use crate::pausable::Pausable;
 use crate::restart_witness::RestartWitness;
 use crate::storage::StoredLines;
 use base_types::{JobId, Moment};
-use dispatcher::Listener;
+use dispatcher::Observer;
 use plan_solver::AugmentingPaths;
 use recordings::{Entry, RecordingWire, ReplayWire, are_comments, read_entry};
 use server::Engine;
@@ -209,14 +209,14 @@ impl Resumption {
 }
 
 /// Has an engine take a turn in which no plan is made.
-pub(crate) fn turn_paused<W: Wire, N: Listener>(
+pub(crate) fn turn_paused<W: Wire, N: Observer>(
     alloc: Global,
     engine: &mut JournaledEngine,
     wire: &mut W,
     notes: &mut N,
     moment: Moment,
 )
-    ensures { RefinesTurn (both W.polled N.told) moment (wire.old, notes.old) engine.old (wire.new, notes.new) engine.new }
+    ensures { RefinesTurn (both W.polled N.notified) moment (wire.old, notes.old) engine.old (wire.new, notes.new) engine.new }
 {
     let mut paused = Pausable::paused(AugmentingPaths::new(alloc));
     engine.swap_planner(&mut paused);

@@ -2,7 +2,7 @@
 
 use crate::playing::Shows;
 use base_types::Text;
-use dispatcher::{AllocationSite, DeviceRefusal, Dispatched, Listener};
+use dispatcher::{AllocationSite, DeviceRefusal, Dispatched, Observer};
 use events::Cancel;
 use server::{LoggedNote, NoteLog};
 use std::alloc::{AllocError, Global};
@@ -10,7 +10,7 @@ use std::mem;
 use traces::{put_cancel, put_dispatch};
 use wires::WireId;
 
-/// A listener that stores the lines of each dispatch and of each cancel, as a trace prints them; or all
+/// An observer that stores the lines of each dispatch and of each cancel, as a trace prints them; or all
 /// notes, for a log.
 #[derive(Drop)]
 pub(crate) struct Observation {
@@ -24,8 +24,8 @@ pub(crate) struct Observation {
     unplanned: bool,
 }
 
-impl Listener for Observation {
-    ghost told = { λ old note new. Unit {0} };
+impl Observer for Observation {
+    ghost notified = { λ old note new. Unit {0} };
 
     fn dispatched(&mut self, made: &Dispatched<'_>) {
         match self.shows {
@@ -57,7 +57,7 @@ impl Listener for Observation {
 }
 
 impl Observation {
-    /// Creates a listener without notes. `names` are those of the devices.
+    /// Creates an observer without notes. `names` are those of the devices.
     pub(crate) fn new(alloc: Global, shows: Shows, names: Vec<Text>) -> Observation {
         Observation {
             alloc,

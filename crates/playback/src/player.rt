@@ -35,7 +35,7 @@ pub(crate) enum DayEnd {
     WithinTurn { ended: u64 },
 }
 
-/// The listener of a server, and the formatter for the lines of a log.
+/// The observer of a server, and the formatter for the lines of a log.
 #[derive(Drop)]
 pub(crate) struct LogSinks {
     observation: Observation,

@@ -1,6 +1,6 @@
 //! The turns of a server that plays recorded lines.
 use base_types::Moment;
-use dispatcher::Listener;
+use dispatcher::Observer;
 use journal::{JournaledEngine, Pausable};
 use plan_solver::AugmentingPaths;
 use recordings::ReplayWire;
@@ -8,11 +8,11 @@ use std::alloc::Global;
 
 /// Has a server take the turn of a script at a moment. In a turn in which a restarted server lost its connections no
 /// plan is made.
-pub(crate) fn take_turn<N: Listener>(
+pub(crate) fn take_turn<N: Observer>(
     alloc: Global,
     engine: &mut JournaledEngine,
     script: &mut ReplayWire,
-    listener: &mut N,
+    observer: &mut N,
     moment: Moment,
     restarted: bool,
 ) {
@@ -20,7 +20,7 @@ pub(crate) fn take_turn<N: Listener>(
     if restarted {
         engine.swap_planner(&mut paused);
     }
-    engine.turn(script, listener, moment);
+    engine.turn(script, observer, moment);
     if restarted {
         engine.swap_planner(&mut paused);
     }

@@ -407,5 +407,5 @@ pub typed : (who : Client) (moment : ℕ) (event : Event) (old : State) (outcome
 typed who moment event old Dropped notes new of it = tt
 typed who moment event old (Queried reply) notes new of it = typed_step who event _ old reply new of it.1
 typed who moment event old (Undispatched reply) notes new of it = typed_step who event _ old reply new of it.1
-typed who moment event old (Idle reply) notes new of (asks, mid, step, rest, told) = typed_step who event _ old reply mid of step
-typed who moment event old (Dispatched reply) notes new of (asks, mid, step, plan, rest, told) = typed_step who event _ old reply mid of step
+typed who moment event old (Idle reply) notes new of (asks, mid, step, rest, notified) = typed_step who event _ old reply mid of step
+typed who moment event old (Dispatched reply) notes new of (asks, mid, step, plan, rest, notified) = typed_step who event _ old reply mid of step

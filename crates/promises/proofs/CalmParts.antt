@@ -15,8 +15,8 @@ use Rattle.events.specs.declared.status.Status.{Status}
 use Rattle.events.specs.declared.status.Status.TheVariants.{TemporaryError}
 use Rattle.dispatcher.specs.declared.outcome.Outcome.{Outcome}
 use Rattle.dispatcher.specs.declared.outcome.Outcome.TheVariants.{Dropped, Queried, Undispatched, Idle, Dispatched}
-use Rattle.dispatcher.specs.declared.listener.AllocationSite.{AllocationSite}
-use Rattle.dispatcher.specs.declared.listener.AllocationSite.TheVariants as At
+use Rattle.dispatcher.specs.declared.observer.AllocationSite.{AllocationSite}
+use Rattle.dispatcher.specs.declared.observer.AllocationSite.TheVariants as At
 use Rattle.dispatcher.specs.Notes.{Note, Refused}
 use Rattle.dispatcher.specs.Run.{Handles}
 use Rattle.ipp_operations.specs.QueueText.{ack_of, text_of}
@@ -26,16 +26,16 @@ use Rattle.connections.specs.declared.ask.Client.{Client}
 use Rattle.connections.specs.declared.ask.Client.TheVariants as client
 use Rattle.connections.specs.Entry.{Entry, closes_of, broken, owing, needs_memory}
 use Rattle.connections.specs.Steps.{http_status}
-use Rattle.server.specs.Polls.{Happening, Told, Choice, Found}
+use Rattle.server.specs.Polls.{Happening, Notified, Choice, Found}
 use Rattle.server.specs.Ledger.{Ledger, at_key, with_entry, job_bytes}
-use Rattle.server.specs.Rel.{Rel, Nothing, Polls, Tells, Chooses, Then, If, Or, EachOf}
+use Rattle.server.specs.Rel.{Rel, Nothing, Polls, Notifies, Chooses, Then, If, Or, EachOf}
 use Rattle.server.specs.Enqueuing.{BreaksAt, Breaks, EnqueuesOpen, EnqueuesAt, EnqueuesWhere, Enqueues, EnqueuesOn, EnqueuesReplyAt, EnqueuesResponse, EnqueuesStatus}
 use Rattle.server.specs.Happening.{found_by, Sends, SendsAll, Starts, StartsAll, Orders, Happens}
 use Rattle.server.specs.Answering as Ans
 use Rattle.server.specs.Turn as Between
 use Rattle.server.specs.Turn.{Turn}
 use Rattle.server.specs.Law.{core_note, core_notes}
-use Rattle.promises.proofs.EventNotes.{told_all}
+use Rattle.promises.proofs.EventNotes.{notified_all}
 use Rattle.promises.proofs.DeviceReports.{Grows, grows_as, Kept, kept_same, kept_then, here, aside, by_key, KeptAll}
 
 -- ---- the notes of the core
@@ -43,8 +43,8 @@ use Rattle.promises.proofs.DeviceReports.{Grows, grows_as, Kept, kept_same, kept
 pub notes_append : (hs ks : List Happening) → core_notes (hs ++ ks) ≡ core_notes hs ++ core_notes ks
 notes_append hs ks = flat_map-append core_note hs ks
 
-told_notes : (moment : ℕ) (event : Event) (old : State) (outcome : Outcome) (notes : List Note) (new : State) → Handles moment event old outcome notes new → core_notes (map Told notes) ≡ notes
-told_notes moment event old outcome notes new it = told_all core_note (λ cancel. refl) (λ plan started. refl) refl moment event old outcome notes new it
+notified_notes : (moment : ℕ) (event : Event) (old : State) (outcome : Outcome) (notes : List Note) (new : State) → Handles moment event old outcome notes new → core_notes (map Notified notes) ≡ notes
+notified_notes moment event old outcome notes new it = notified_all core_note (λ cancel. refl) (λ plan started. refl) refl moment event old outcome notes new it
 
 found_silent : (outcome : Outcome) → core_notes (found_by outcome) ≡ []
 found_silent Dropped = refl
@@ -107,8 +107,8 @@ pub calms_if : (test : Bool) (R S : Rel) → Calms R → Calms S → Calms (If t
 calms_if true R S f g l hs l' it = f l hs l' it
 calms_if false R S f g l hs l' it = g l hs l' it
 
-pub calms_tells : (note : Note) → core_notes (Told note ∷ []) ≡ [] → Calms (Tells note)
-calms_tells note silent l hs l' it = calm_still l hs l' (ap core_notes it.0 ∙ silent) it.1
+pub calms_notifies : (note : Note) → core_notes (Notified note ∷ []) ≡ [] → Calms (Notifies note)
+calms_notifies note silent l hs l' it = calm_still l hs l' (ap core_notes it.0 ∙ silent) it.1
 
 pub calms_polls : (poll : Poll) → Calms (Polls poll)
 calms_polls poll l hs l' it = calm_still l hs l' (ap core_notes it.0) it.1
@@ -190,7 +190,7 @@ calms_orders (Dispatched reply) = calms_then {R = SendsAll reply} {S = StartsAll
 
 pub loses_reply : (key id request : ℕ) (query : Bool) → Calms (Ans.LosesReply key id request query)
 loses_reply key id request query =
-    calms_then (calms_tells (Refused At.Reply (Some id)) refl) (calms_if query (EnqueuesStatus key TemporaryError request) (Breaks key) (calms_status key TemporaryError request) (calms_breaks key))
+    calms_then (calms_notifies (Refused At.Reply (Some id)) refl) (calms_if query (EnqueuesStatus key TemporaryError request) (Breaks key) (calms_status key TemporaryError request) (calms_breaks key))
 
 pub replies_with : (key id request : ℕ) (query : Bool) (answer : Response) → Calms (Ans.RepliesWith key id request query answer)
 replies_with key id request query (answered.Ipp answer) l hs l' (inl (bytes, are, it)) = calms_then (calms_choice Found) (calms_reply key bytes) l hs l' it
@@ -199,23 +199,23 @@ replies_with key id request query (answered.Lpd answer) l hs l' it = calms_nothi
 replies_with key id request query answered.Nothing l hs l' it = calms_nothing l hs l' it
 
 pub calms_shows : (key id : ℕ) (text : List ℕ) → Calms (Ans.Shows key id text)
-calms_shows key id text = calms_or (calms_then (calms_choice Found) (calms_enqueues key text)) (calms_then (calms_tells (Refused At.Reply (Some id)) refl) (calms_breaks key))
+calms_shows key id text = calms_or (calms_then (calms_choice Found) (calms_enqueues key text)) (calms_then (calms_notifies (Refused At.Reply (Some id)) refl) (calms_breaks key))
 
-pub is_told : (key id : ℕ) (answer : LpdResponse) → Calms (Ans.IsTold key id answer)
-is_told key id (shown.Taken taken) = calms_enqueues key (ack_of (shown.Taken taken) ∷ [])
-is_told key id (shown.Queue listing) = calms_shows key id (text_of (shown.Queue listing))
-is_told key id shown.NoQueue = calms_shows key id (text_of shown.NoQueue)
+pub is_notified : (key id : ℕ) (answer : LpdResponse) → Calms (Ans.SendsLpd key id answer)
+is_notified key id (shown.Taken taken) = calms_enqueues key (ack_of (shown.Taken taken) ∷ [])
+is_notified key id (shown.Queue listing) = calms_shows key id (text_of (shown.Queue listing))
+is_notified key id shown.NoQueue = calms_shows key id (text_of shown.NoQueue)
 
 pub is_shown : (key id : ℕ) (answer : Response) → Calms (Ans.IsShown key id answer)
-is_shown key id (answered.Lpd answer) = is_told key id answer
+is_shown key id (answered.Lpd answer) = is_notified key id answer
 is_shown key id (answered.Ipp answer) = calms_nothing
 is_shown key id answered.Nothing = calms_nothing
 
 pub calms_dropped : (key id request : ℕ) → Calms (Ans.Drops key id request)
-calms_dropped key id request = calms_then (calms_tells (Refused At.Event (Some id)) refl) (calms_status key TemporaryError request)
+calms_dropped key id request = calms_then (calms_notifies (Refused At.Event (Some id)) refl) (calms_status key TemporaryError request)
 
-pub calms_declines : (place : AllocationSite) (key id : ℕ) → core_notes (Told (Refused place (Some id)) ∷ []) ≡ [] → Calms (Ans.Declines place key id)
-calms_declines place key id silent = calms_then (calms_tells (Refused place (Some id)) silent) (calms_enqueues key (1 ∷ []))
+pub calms_declines : (place : AllocationSite) (key id : ℕ) → core_notes (Notified (Refused place (Some id)) ∷ []) ≡ [] → Calms (Ans.Declines place key id)
+calms_declines place key id silent = calms_then (calms_notifies (Refused place (Some id)) silent) (calms_enqueues key (1 ∷ []))
 
 pub calms_answers : (key id : ℕ) (who : Client) (query : Bool) (reply : Option Effects) → Calms (Ans.Answers key id who query reply)
 calms_answers key id (client.Ipp request) query (Some reply) = replies_with key id request query reply.answer
@@ -223,12 +223,12 @@ calms_answers key id (client.Ipp request) query None = calms_dropped key id requ
 calms_answers key id client.LpdJob query (Some reply) = is_shown key id reply.answer
 calms_answers key id client.LpdJob query None = calms_declines At.Event key id refl
 calms_answers key id client.LpdCommand query (Some reply) = is_shown key id reply.answer
-calms_answers key id client.LpdCommand query None = calms_then (calms_tells (Refused At.Event (Some id)) refl) (calms_breaks key)
+calms_answers key id client.LpdCommand query None = calms_then (calms_notifies (Refused At.Event (Some id)) refl) (calms_breaks key)
 
 pub body_answers : (request : ℕ) (reply : Option Effects) (bytes : List ℕ) → Calms (Between.Answers request reply bytes)
 body_answers request (Some reply) bytes l hs l' (inl (are, it)) = calms_choice Found l hs l' it
-body_answers request (Some reply) bytes l hs l' (inr it) = calms_tells (Refused At.Reply None) refl l hs l' it
-body_answers request None bytes l hs l' it = calms_tells (Refused At.Event None) refl l hs l' it
+body_answers request (Some reply) bytes l hs l' (inr it) = calms_notifies (Refused At.Reply None) refl l hs l' it
+body_answers request None bytes l hs l' it = calms_notifies (Refused At.Event None) refl l hs l' it
 
 -- ---- an event
 
@@ -240,9 +240,9 @@ pub happened : (moment : ℕ) (event : Event) (outcome : Outcome) (l : Ledger) (
 happened moment event outcome l hs l' it =
     let d = it.first in
     let sent = calms_orders outcome it.mid it.back l' it.second in
-    let told : core_notes it.front ≡ d.notes =
-    ap core_notes d.told ∙ (notes_append (found_by outcome) (map Told d.notes) ∙ (ap (λ (ns : List Note). ns ++ core_notes (map Told d.notes)) (found_silent outcome) ∙ told_notes moment event l.core outcome d.notes d.state d.handles)) in
-    let all : core_notes hs ≡ d.notes = ap core_notes it.whole ∙ (notes_append it.front it.back ∙ (ap (λ (ns : List Note). core_notes it.front ++ ns) sent.notes ∙ (append-nil (core_notes it.front) ∙ told))) in
+    let notified : core_notes it.front ≡ d.notes =
+    ap core_notes d.notified ∙ (notes_append (found_by outcome) (map Notified d.notes) ∙ (ap (λ (ns : List Note). ns ++ core_notes (map Notified d.notes)) (found_silent outcome) ∙ notified_notes moment event l.core outcome d.notes d.state d.handles)) in
+    let all : core_notes hs ≡ d.notes = ap core_notes it.whole ∙ (notes_append it.front it.back ∙ (ap (λ (ns : List Note). core_notes it.front ++ ns) sent.notes ∙ (append-nil (core_notes it.front) ∙ notified))) in
     record {
       handles = subst (λ (c : State). Handles moment event l.core outcome (core_notes hs) c) (sym (sent.core ∙ ap (λ (x : Ledger). x.core) d.after)) (subst (λ (ns : List Note). Handles moment event l.core outcome ns d.state) (sym all) d.handles);
       kept = kept_next l it.mid l' (kept_still l it.mid (ap (λ (x : Ledger). x.closed) d.after) (ap (λ (x : Ledger). x.entries) d.after)) sent.kept;

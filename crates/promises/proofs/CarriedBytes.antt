@@ -17,9 +17,9 @@ use Rattle.events.specs.Event.{is_query}
 use Rattle.device_link.specs.Orders.{cancel_line}
 use Rattle.dispatcher.specs.declared.outcome.Outcome.{Outcome}
 use Rattle.dispatcher.specs.declared.outcome.Outcome.TheVariants.{Dropped, Queried, Undispatched, Idle, Dispatched}
-use Rattle.dispatcher.specs.declared.listener.DeviceRefusal.TheVariants as why
-use Rattle.dispatcher.specs.declared.listener.AllocationSite.{AllocationSite}
-use Rattle.dispatcher.specs.declared.listener.AllocationSite.TheVariants as At
+use Rattle.dispatcher.specs.declared.observer.DeviceRefusal.TheVariants as why
+use Rattle.dispatcher.specs.declared.observer.AllocationSite.{AllocationSite}
+use Rattle.dispatcher.specs.declared.observer.AllocationSite.TheVariants as At
 use Rattle.dispatcher.specs.Notes.{Note, DeviceRefused, Refused}
 use Rattle.dispatcher.specs.Run.{reply_of}
 use Rattle.ipp_operations.specs.declared.parsed_request.ParsedRequest.{ParsedRequest}
@@ -39,17 +39,17 @@ use Rattle.connections.specs.declared.ask.Client.TheVariants as client
 use Rattle.connections.specs.declared.step.Step.{Step}
 use Rattle.connections.specs.declared.step.Step.TheVariants as step
 use Rattle.connections.specs.Steps.{http_status, due_bytes}
-use Rattle.connections.specs.Entry.{PeerRecord, Http, Queue, Link, Entry, opening_entry, device_of, closes_of, broken, owing, given_up, with_progress, finishing, reading, waiting, needs_memory}
+use Rattle.connections.specs.Entry.{PeerRecord, Http, Queue, Link, Entry, opening_entry, device_of, closes_of, broken, owing, superseded_entry, with_progress, finishing, reading, waiting, needs_memory}
 use Rattle.connections.specs.Asking.{ItemComes, StepsTo, AsksNext}
-use Rattle.server.specs.Polls.{Happening, Polled, Told, Choice, Found, Rested, Looked, Chosen}
+use Rattle.server.specs.Polls.{Happening, Polled, Notified, Choice, Found, Rested, Looked, Chosen}
 use Rattle.server.specs.Ledger.{Ledger, Fate, Drained, Broken, at_key, with_entry, job_bytes, opening_ledger}
 use Rattle.print_room.specs.State.{State}
-use Rattle.server.specs.Rel.{Rel, Nothing, Polls, Tells, Chooses, Then, If, Or, Times, Many, Each, EachOf}
+use Rattle.server.specs.Rel.{Rel, Nothing, Polls, Notifies, Chooses, Then, If, Or, Times, Many, Each, EachOf}
 use Rattle.server.specs.Enqueuing.{Sets, BreaksAt, Breaks, Drops, EnqueuesOpen, EnqueuesAt, EnqueuesWhere, Enqueues, EnqueuesReplyAt, EnqueuesResponse, EnqueuesStatus, EnqueuesOn}
 use Rattle.server.specs.Happening.{now_at, found_by, Decides, Sends, Starts, StartsAll, SendsAll, Orders, Happens, Unanswered}
-use Rattle.server.specs.Closing.{Leaves, IsGone, ClosesAs, ClosesFirst, Settles}
+use Rattle.server.specs.Closing.{Leaves, IsGone, ClosesAs, ClosesFirst, ClosesBroken}
 use Rattle.server.specs.Answering as Ans
-use Rattle.server.specs.Greeting.{GivesWayAt, GivesWay, SaysName, TakesOver, Greets}
+use Rattle.server.specs.Hello.{IsSupersededAt, IsSuperseded, SaysName, TakesOver, HandlesHello}
 use Rattle.server.specs.Acting.{place_of, place_of_part, Asks, ActsOn, ActsNext}
 use Rattle.server.specs.Polling.{Opens, AcceptsAs, AcceptsOne, AcceptsAt, Acts, Serves, FedWhole, FeedsAt, FeedsOne, Fails, ReadsAs, ReadsOpen, ReadsAt, is_read, ReadsOne, WritesAs, WritesOpen, WritesAt, WritesOne, is_done, EndsAt, EndsOne}
 use Rattle.server.specs.Turn as Between
@@ -79,8 +79,8 @@ steady_owing e bytes = record { id = refl; taken = refl; more = (bytes, refl); r
 steady_broken : (e : Entry) → Steady e (broken e)
 steady_broken e = record { id = refl; taken = refl; more = no_more e (broken e) refl; read = λ draining sound. cc }
 
-steady_given_up : (e : Entry) → Steady e (given_up e)
-steady_given_up e = record { id = refl; taken = refl; more = no_more e (given_up e) refl; read = λ draining sound. cc }
+steady_given_up : (e : Entry) → Steady e (superseded_entry e)
+steady_given_up e = record { id = refl; taken = refl; more = no_more e (superseded_entry e) refl; read = λ draining sound. cc }
 
 steady_ended : (e : Entry) → Steady e (record e { ended = true })
 steady_ended e = record { id = refl; taken = refl; more = no_more e (record e { ended = true }) refl; read = λ draining sound. (draining, sound, refl) }
@@ -212,13 +212,13 @@ follow_sets key d e l l' there steady after k f is = by (at_cases key (Some e) l
 carried_append : (c : Carried) (hs ks : List Happening) → carried c (hs ++ ks) ≡ carried (carried c hs) ks
 carried_append c [] ks = refl
 carried_append c (Polled poll ∷ hs) ks = carried_append (carry c poll) hs ks
-carried_append c (Told note ∷ hs) ks = carried_append c hs ks
+carried_append c (Notified note ∷ hs) ks = carried_append c hs ks
 carried_append c (Chosen choice ∷ hs) ks = carried_append c hs ks
 
 new_append : (c : Carried) (hs ks : List Happening) → AreNew c (hs ++ ks) → AreNew c hs × AreNew (carried c hs) ks
 new_append c [] ks new = (tt, new)
 new_append c (Polled poll ∷ hs) ks new = let more = new_append (carry c poll) hs ks new.1 in ((new.0, more.0), more.1)
-new_append c (Told note ∷ hs) ks new = new_append c hs ks new
+new_append c (Notified note ∷ hs) ks new = new_append c hs ks new
 new_append c (Chosen choice ∷ hs) ks new = new_append c hs ks new
 
 -- the carried bytes agree with the ledger after the part too
@@ -248,8 +248,8 @@ carries_nothing c l hs l' a new it = carries_quiet c l hs l' a (ap (carried c) i
 carries_chooses : (choice : Choice) → Carries (Chooses choice)
 carries_chooses choice c l hs l' a new it = carries_quiet c l hs l' a (ap (carried c) it.0) (follow_same l l' (ap (λ (x : Ledger). x.entries) it.1))
 
-carries_tells : (note : Note) → Carries (Tells note)
-carries_tells note c l hs l' a new it = carries_quiet c l hs l' a (ap (carried c) it.0) (follow_same l l' (ap (λ (x : Ledger). x.entries) it.1))
+carries_notifies : (note : Note) → Carries (Notifies note)
+carries_notifies note c l hs l' a new it = carries_quiet c l hs l' a (ap (carried c) it.0) (follow_same l l' (ap (λ (x : Ledger). x.entries) it.1))
 
 carries_times : (n : ℕ) (R : Rel) → Carries R → Carries (Times n R)
 carries_times zero R r = carries_nothing
@@ -336,9 +336,9 @@ carries_orders (Undispatched reply) = carries_sends reply
 carries_orders (Idle reply) = carries_sends reply
 carries_orders (Dispatched reply) = carries_then (SendsAll reply) StartsAll (carries_sends reply) carries_starts
 
-told_carried : (c : Carried) (notes : List Note) → carried c (map Told notes) ≡ c
-told_carried c [] = refl
-told_carried c (note ∷ notes) = told_carried c notes
+notified_carried : (c : Carried) (notes : List Note) → carried c (map Notified notes) ≡ c
+notified_carried c [] = refl
+notified_carried c (note ∷ notes) = notified_carried c notes
 
 found_carried : (c : Carried) (outcome : Outcome) (hs : List Happening) → carried c (found_by outcome ++ hs) ≡ carried c hs
 found_carried c Dropped hs = refl
@@ -348,7 +348,7 @@ found_carried c (Idle reply) hs = refl
 found_carried c (Dispatched reply) hs = refl
 
 carries_decides : (moment : ℕ) (event : Event) (outcome : Outcome) → Carries (Decides moment event outcome)
-carries_decides moment event outcome c l hs l' a new it = carries_quiet c l hs l' a (ap (carried c) it.told ∙ (found_carried c outcome (map Told it.notes) ∙ told_carried c it.notes)) (follow_same l l' (ap (λ (x : Ledger). x.entries) it.after))
+carries_decides moment event outcome c l hs l' a new it = carries_quiet c l hs l' a (ap (carried c) it.notified ∙ (found_carried c outcome (map Notified it.notes) ∙ notified_carried c it.notes)) (follow_same l l' (ap (λ (x : Ledger). x.entries) it.after))
 
 carries_happens : (moment : ℕ) (event : Event) (outcome : Outcome) → Carries (Happens moment event outcome)
 carries_happens moment event outcome = carries_then (Decides moment event outcome) (Orders outcome) (carries_decides moment event outcome) (carries_orders outcome)
@@ -359,11 +359,11 @@ carries_unanswered moment event c l hs l' a new (outcome, it) = carries_happens 
 -- ---- answers
 
 carries_dropped : (key id request : ℕ) → Carries (Ans.Drops key id request)
-carries_dropped key id request = carries_then (Tells (Refused At.Event (Some id))) (EnqueuesStatus key TemporaryError request) (carries_tells (Refused At.Event (Some id))) (carries_status key TemporaryError request)
+carries_dropped key id request = carries_then (Notifies (Refused At.Event (Some id))) (EnqueuesStatus key TemporaryError request) (carries_notifies (Refused At.Event (Some id))) (carries_status key TemporaryError request)
 
 carries_lost : (key id request : ℕ) (query : Bool) → Carries (Ans.LosesReply key id request query)
 carries_lost key id request query =
-    carries_then (Tells (Refused At.Reply (Some id))) (If query (EnqueuesStatus key TemporaryError request) (Breaks key)) (carries_tells (Refused At.Reply (Some id)))
+    carries_then (Notifies (Refused At.Reply (Some id))) (If query (EnqueuesStatus key TemporaryError request) (Breaks key)) (carries_notifies (Refused At.Reply (Some id)))
     (carries_if query (EnqueuesStatus key TemporaryError request) (Breaks key) (carries_status key TemporaryError request) (carries_breaks key))
 
 carries_replies_with : (key id request : ℕ) (query : Bool) (answer : Response) → Carries (Ans.RepliesWith key id request query answer)
@@ -377,20 +377,20 @@ carries_replies key id request query (Some reply) = carries_replies_with key id 
 carries_replies key id request query None = carries_dropped key id request
 
 carries_declines : (place : AllocationSite) (key id : ℕ) → Carries (Ans.Declines place key id)
-carries_declines place key id = carries_then (Tells (Refused place (Some id))) (Enqueues key (1 ∷ [])) (carries_tells (Refused place (Some id))) (carries_enqueues key (1 ∷ []))
+carries_declines place key id = carries_then (Notifies (Refused place (Some id))) (Enqueues key (1 ∷ [])) (carries_notifies (Refused place (Some id))) (carries_enqueues key (1 ∷ []))
 
 carries_shows : (key id : ℕ) (text : List ℕ) → Carries (Ans.Shows key id text)
 carries_shows key id text =
-    carries_or (Then (Chooses Found) (Enqueues key text)) (Then (Tells (Refused At.Reply (Some id))) (Breaks key)) (carries_then (Chooses Found) (Enqueues key text) (carries_chooses Found) (carries_enqueues key text))
-    (carries_then (Tells (Refused At.Reply (Some id))) (Breaks key) (carries_tells (Refused At.Reply (Some id))) (carries_breaks key))
+    carries_or (Then (Chooses Found) (Enqueues key text)) (Then (Notifies (Refused At.Reply (Some id))) (Breaks key)) (carries_then (Chooses Found) (Enqueues key text) (carries_chooses Found) (carries_enqueues key text))
+    (carries_then (Notifies (Refused At.Reply (Some id))) (Breaks key) (carries_notifies (Refused At.Reply (Some id))) (carries_breaks key))
 
-carries_told : (key id : ℕ) (answer : LpdResponse) → Carries (Ans.IsTold key id answer)
-carries_told key id (shown.Taken taken) = carries_enqueues key (ack_of (shown.Taken taken) ∷ [])
-carries_told key id (shown.Queue listing) = carries_shows key id (text_of (shown.Queue listing))
-carries_told key id shown.NoQueue = carries_shows key id (text_of shown.NoQueue)
+carries_notified : (key id : ℕ) (answer : LpdResponse) → Carries (Ans.SendsLpd key id answer)
+carries_notified key id (shown.Taken taken) = carries_enqueues key (ack_of (shown.Taken taken) ∷ [])
+carries_notified key id (shown.Queue listing) = carries_shows key id (text_of (shown.Queue listing))
+carries_notified key id shown.NoQueue = carries_shows key id (text_of shown.NoQueue)
 
 carries_shown : (key id : ℕ) (answer : Response) → Carries (Ans.IsShown key id answer)
-carries_shown key id (answered.Lpd answer) = carries_told key id answer
+carries_shown key id (answered.Lpd answer) = carries_notified key id answer
 carries_shown key id (answered.Ipp answer) = carries_nothing
 carries_shown key id answered.Nothing = carries_nothing
 
@@ -399,7 +399,7 @@ carries_answers key id (client.Ipp request) query reply = carries_replies key id
 carries_answers key id client.LpdJob query (Some reply) = carries_shown key id reply.answer
 carries_answers key id client.LpdJob query None = carries_declines At.Event key id
 carries_answers key id client.LpdCommand query (Some reply) = carries_shown key id reply.answer
-carries_answers key id client.LpdCommand query None = carries_then (Tells (Refused At.Event (Some id))) (Breaks key) (carries_tells (Refused At.Event (Some id))) (carries_breaks key)
+carries_answers key id client.LpdCommand query None = carries_then (Notifies (Refused At.Event (Some id))) (Breaks key) (carries_notifies (Refused At.Event (Some id))) (carries_breaks key)
 
 -- ---- closings
 
@@ -438,16 +438,16 @@ carries_closes moment fate key e c l hs l' a there new it =
 carries_first : (moment : ℕ) → Carries (ClosesFirst moment)
 carries_first moment c l hs l' a new it = carries_closes moment Broken it.key it.entry c l hs l' a it.there new it.closes
 
-carries_settles : (moment : ℕ) → Carries (Settles moment)
+carries_settles : (moment : ℕ) → Carries (ClosesBroken moment)
 carries_settles moment c l hs l' a new it = carries_many (ClosesFirst moment) (carries_first moment) c l hs l' a new it.0
 
 -- ---- the asks of a connection
 
-gives_way_at : (key : ℕ) → CarriesAt key (GivesWayAt key)
+gives_way_at : (key : ℕ) → CarriesAt key (IsSupersededAt key)
 gives_way_at key None c l hs l' there a new it = carries_nothing c l hs l' a new it
-gives_way_at key (Some e) c l hs l' there a new it = carries_sets key e (given_up e) c l hs l' a there (steady_given_up e) it
+gives_way_at key (Some e) c l hs l' there a new it = carries_sets key e (superseded_entry e) c l hs l' a there (steady_given_up e) it
 
-carries_way : (key : ℕ) → Carries (GivesWay key)
+carries_way : (key : ℕ) → Carries (IsSuperseded key)
 carries_way key c l hs l' a new it = gives_way_at key (l.entries key) c l hs l' refl a new it
 
 carries_name : (moment device : ℕ) (name : List ℕ) → Carries (SaysName moment device name)
@@ -455,26 +455,26 @@ carries_name moment device name = carries_unanswered moment (Is.Report device (r
 
 carries_over : (moment old device : ℕ) (name : List ℕ) → Carries (TakesOver moment old device name)
 carries_over moment old device name =
-    carries_then (GivesWay old) (Then (IsGone moment (Some device)) (SaysName moment device name)) (carries_way old)
+    carries_then (IsSuperseded old) (Then (IsGone moment (Some device)) (SaysName moment device name)) (carries_way old)
     (carries_then (IsGone moment (Some device)) (SaysName moment device name) (carries_gone moment (Some device)) (carries_name moment device name))
 
-carries_greets : (moment key id device : ℕ) (name : List ℕ) → Carries (Greets moment key id device name)
+carries_greets : (moment key id device : ℕ) (name : List ℕ) → Carries (HandlesHello moment key id device name)
 carries_greets moment key id device name c l hs l' a new (inl (alone, it)) = carries_name moment device name c l hs l' a new it
 carries_greets moment key id device name c l hs l' a new (inr (inl (old, has, it))) = carries_over moment old device name c l hs l' a new it
 carries_greets moment key id device name c l hs l' a new (inr (inr (old, has, it))) =
-    carries_then (GivesWay key) (Tells (DeviceRefused id (why.Connected device))) (carries_way key) (carries_tells (DeviceRefused id (why.Connected device))) c l hs l' a new it
+    carries_then (IsSuperseded key) (Notifies (DeviceRefused id (why.Connected device))) (carries_way key) (carries_notifies (DeviceRefused id (why.Connected device))) c l hs l' a new it
 
 carries_does : (moment key id : ℕ) (what : Ask) → Carries (ActsOn moment key id what)
 carries_does moment key id ask.Nothing = carries_nothing
-carries_does moment key id (ask.Broke growth) = carries_tells (Refused (place_of growth) (Some id))
+carries_does moment key id (ask.Broke growth) = carries_notifies (Refused (place_of growth) (Some id))
 carries_does moment key id (ask.Event who event) =
     λ c l hs l' a new it. carries_then (Happens moment event it.0) (Ans.Answers key id who (is_query event) (reply_of it.0)) (carries_happens moment event it.0) (carries_answers key id who (is_query event) (reply_of it.0)) c l hs l' a new it.1
 carries_does moment key id (ask.Unread request) = carries_dropped key id request
 carries_does moment key id (ask.Lost part) = carries_declines (place_of_part part) key id
 carries_does moment key id (ask.Hello device name) = carries_greets moment key id device name
 carries_does moment key id (ask.Report device report) = carries_unanswered moment (Is.Report device report)
-carries_does moment key id (ask.Stranger name) = carries_tells (DeviceRefused id (why.UnknownName name))
-carries_does moment key id (ask.Fault device) = carries_tells (DeviceRefused id (why.Fault device))
+carries_does moment key id (ask.UnknownDevice name) = carries_notifies (DeviceRefused id (why.UnknownName name))
+carries_does moment key id (ask.Fault device) = carries_notifies (DeviceRefused id (why.Fault device))
 
 carries_asks : (key id : ℕ) (what : Ask) → Carries (Asks key id what)
 carries_asks key id what c l hs l' a new it =
@@ -482,7 +482,7 @@ carries_asks key id what c l hs l' a new it =
 
 carries_acts : (moment key : ℕ) → Carries (Acts moment key)
 carries_acts moment key =
-    carries_then (ActsNext moment key) (Settles moment) (λ c l hs l' a new it. carries_then (Asks key it.0 it.1) (ActsOn moment key it.0 it.1) (carries_asks key it.0 it.1) (carries_does moment key it.0 it.1) c l hs l' a new it.2) (carries_settles moment)
+    carries_then (ActsNext moment key) (ClosesBroken moment) (λ c l hs l' a new it. carries_then (Asks key it.0 it.1) (ActsOn moment key it.0 it.1) (carries_asks key it.0 it.1) (carries_does moment key it.0 it.1) c l hs l' a new it.2) (carries_settles moment)
 
 carries_serves : (moment key : ℕ) → Carries (Serves moment key)
 carries_serves moment key c l hs l' a new it = carries_then (Many (Acts moment key)) (Chooses Rested) (carries_many (Acts moment key) (carries_acts moment key)) (carries_chooses Rested) c l hs l' a new it.0
@@ -490,7 +490,7 @@ carries_serves moment key c l hs l' a new it = carries_then (Many (Acts moment k
 -- ---- reads and writes
 
 carries_fails : (moment key : ℕ) → Carries (Fails moment key)
-carries_fails moment key = carries_then (Breaks key) (Settles moment) (carries_breaks key) (carries_settles moment)
+carries_fails moment key = carries_then (Breaks key) (ClosesBroken moment) (carries_breaks key) (carries_settles moment)
 
 -- another entry of the same connection under a key, with the bytes carried for it: bytes read, or bytes taken
 agrees_with : (key : ℕ) (d e : Entry) (c c' : Carried) (l l' : Ledger) → Agrees c l → l.entries key ≡ Some d → l'.entries ≡ at_key key (Some e) l.entries → e.id ≡ d.id → c'.open_now ≡ c.open_now
@@ -570,7 +570,7 @@ fed_whole : (moment key : ℕ) (e : Entry) (bytes : List ℕ) (c : Carried) (l :
 fed_whole moment key e bytes c l hs l' a there new (inl it) =
     fed_then key e (reading bytes e) bytes hs it.front it.back (Serves moment key) c l it.mid l' (carries_serves moment key) a there it.whole (λ k. ap (carried k) it.first.0) it.first.1 refl refl refl (λ draining sound. (draining, sound, refl)) new it.second
 fed_whole moment key e bytes c l hs l' a there new (inr it) =
-    fed_then key e (broken e) bytes hs it.front it.back (Settles moment) c l it.mid l' (carries_settles moment) a there it.whole (λ k. ap (carried k) it.first.0) it.first.1 refl refl refl (λ draining sound. cc) new it.second
+    fed_then key e (broken e) bytes hs it.front it.back (ClosesBroken moment) c l it.mid l' (carries_settles moment) a there it.whole (λ k. ap (carried k) it.first.0) it.first.1 refl refl refl (λ draining sound. cc) new it.second
 
 fed_open : (t : Bool) (moment key : ℕ) (e : Entry) (bytes : List ℕ) (c : Carried) (l : Ledger) (hs : List Happening) (l' : Ledger) → e.draining ≡ t → Agrees c l → l.entries key ≡ Some e → AreNew (carry c (Reads e.id (wire.Done bytes))) hs → If t (Sets key e) (FedWhole moment key e bytes) l hs l' → Agrees (carried (carry c (Reads e.id (wire.Done bytes))) hs) l'
 fed_open true moment key e bytes c l hs l' draining a there new it =
@@ -664,7 +664,7 @@ carries_writes moment key c l hs l' a new it = writes_at moment key (l.entries k
 
 -- ---- closings that are not at once
 
-ends_if : (t : Bool) (moment key : ℕ) (e : Entry) (c : Carried) (l : Ledger) (hs : List Happening) (l' : Ledger) → Agrees c l → l.entries key ≡ Some e → AreNew c hs → If t (Then (ClosesAs moment Drained key e) (Settles moment)) Nothing l hs l' → Agrees (carried c hs) l'
+ends_if : (t : Bool) (moment key : ℕ) (e : Entry) (c : Carried) (l : Ledger) (hs : List Happening) (l' : Ledger) → Agrees c l → l.entries key ≡ Some e → AreNew c hs → If t (Then (ClosesAs moment Drained key e) (ClosesBroken moment)) Nothing l hs l' → Agrees (carried c hs) l'
 ends_if true moment key e c l hs l' a there new it =
     let both = new_append c it.front it.back (subst (AreNew c) it.whole new) in
     subst (λ (x : Carried). Agrees x l') (sym (ap (carried c) it.whole ∙ carried_append c it.front it.back))
@@ -784,7 +784,7 @@ carries_ticks moment c l hs l' a new it = carries_then (Notes (now_at moment l))
 
 carries_tick : (moment : ℕ) → Carries (TicksIfDue moment)
 carries_tick moment c l hs l' a new it =
-    carries_if (is_tick_due moment l) (Then (Ticks moment) (Settles moment)) Nothing (carries_then (Ticks moment) (Settles moment) (carries_ticks moment) (carries_settles moment)) carries_nothing c l hs l' a new it
+    carries_if (is_tick_due moment l) (Then (Ticks moment) (ClosesBroken moment)) Nothing (carries_then (Ticks moment) (ClosesBroken moment) (carries_ticks moment) (carries_settles moment)) carries_nothing c l hs l' a new it
 
 carries_covers : (n : ℕ) → Carries (Covers n)
 carries_covers n c l hs l' a new it = carries_chooses (Looked n) c l hs l' a new it.1
@@ -797,26 +797,26 @@ carries_round moment c l hs l' a new (n, it) =
 
 carries_turn : (moment : ℕ) → Carries (Turn moment)
 carries_turn moment =
-    carries_then (Settles moment) (Then (TicksIfDue moment) (Then (AcceptsAt Ipp) (Then (AcceptsAt Lpd) (Then (AcceptsAt Devices) (Round moment))))) (carries_settles moment)
+    carries_then (ClosesBroken moment) (Then (TicksIfDue moment) (Then (AcceptsAt Ipp) (Then (AcceptsAt Lpd) (Then (AcceptsAt Devices) (Round moment))))) (carries_settles moment)
     (carries_then (TicksIfDue moment) (Then (AcceptsAt Ipp) (Then (AcceptsAt Lpd) (Then (AcceptsAt Devices) (Round moment)))) (carries_tick moment)
     (carries_then (AcceptsAt Ipp) (Then (AcceptsAt Lpd) (Then (AcceptsAt Devices) (Round moment))) (carries_accepts Ipp)
     (carries_then (AcceptsAt Lpd) (Then (AcceptsAt Devices) (Round moment)) (carries_accepts Lpd) (carries_then (AcceptsAt Devices) (Round moment) (carries_accepts Devices) (carries_round moment)))))
 
 between_answers : (request : ℕ) (reply : Option Effects) (bytes : List ℕ) → Carries (Between.Answers request reply bytes)
 between_answers request (Some reply) bytes c l hs l' a new (inl (are, it)) = carries_chooses Found c l hs l' a new it
-between_answers request (Some reply) bytes c l hs l' a new (inr it) = carries_tells (Refused At.Reply None) c l hs l' a new it
-between_answers request None bytes c l hs l' a new it = carries_tells (Refused At.Event None) c l hs l' a new it
+between_answers request (Some reply) bytes c l hs l' a new (inr it) = carries_notifies (Refused At.Reply None) c l hs l' a new it
+between_answers request None bytes c l hs l' a new it = carries_notifies (Refused At.Event None) c l hs l' a new it
 
 body_asks : (moment : ℕ) (it : ParsedRequest) (served : Between.Outcome) → Carries (BodyAsks moment it served)
 body_asks moment asked.TooShort served c l hs l' a new it = carries_nothing c l hs l' a new it.1
 body_asks moment (asked.Refused status request) served c l hs l' a new (is, inl it) = carries_chooses Found c l hs l' a new it
-body_asks moment (asked.Refused status request) served c l hs l' a new (is, inr it) = carries_tells (Refused At.Reply None) c l hs l' a new it
+body_asks moment (asked.Refused status request) served c l hs l' a new (is, inr it) = carries_notifies (Refused At.Reply None) c l hs l' a new it
 body_asks moment (asked.Event request event) served c l hs l' a new (bytes, is, (outcome, it)) =
     carries_then (Happens moment event outcome) (Between.Answers request (reply_of outcome) bytes) (carries_happens moment event outcome) (between_answers request (reply_of outcome) bytes) c l hs l' a new it
 
 body_comes : (moment : ℕ) (body : List ℕ) (served : Between.Outcome) → Carries (BodyComes moment body served)
 body_comes moment body served c l hs l' a new (inl (it, asks, comes)) = carries_then (Chooses Found) (BodyAsks moment it served) (carries_chooses Found) (body_asks moment it served) c l hs l' a new comes
-body_comes moment body served c l hs l' a new (inr it) = carries_tells (Refused At.Event None) c l hs l' a new it
+body_comes moment body served c l hs l' a new (inr it) = carries_notifies (Refused At.Event None) c l hs l' a new it
 
 carries_action : (action : Action) (c : Carried) (l l' : Ledger) → Agrees c l → AreNew c (happenings_of action) → DoesAction action l l' → Agrees (carried c (happenings_of action)) l'
 carries_action (Turned moment hs) c l l' a new it = carries_turn moment c l hs l' a new it

@@ -491,7 +491,7 @@ module _ (ordered : ElementsInOrder) (some : SomeParse) (stays : FirstStays) whe
     handled = all.handled;
     timed = all.timed;
     run = all.run;
-    told = all.told;
+    notified = all.notified;
     each = λ key e there. so opening key all.handled e e.progress refl (all.answered key e there) (all.cut_off key e there);
     closed = all_so opening all.handled l.closed all.closed all.closed_cut_off;
     first = all.first;

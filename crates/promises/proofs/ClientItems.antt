@@ -15,7 +15,7 @@ use Rattle.wires.specs.declared.wire.Progress.{Progress as WireAnswer}
 use Rattle.wires.specs.declared.wire.Progress.TheVariants as wire
 use Rattle.wires.specs.declared.wire.Door.{Door}
 use Rattle.wires.specs.declared.wire.Door.TheVariants.{Ipp, Lpd, Devices}
-use Rattle.connections.specs.Entry.{PeerRecord, Http, Queue, Link, Entry, opening_entry, device_of, closes_of, broken, owing, given_up, unnamed, reading, waiting, needs_memory}
+use Rattle.connections.specs.Entry.{PeerRecord, Http, Queue, Link, Entry, opening_entry, device_of, closes_of, broken, owing, superseded_entry, unnamed, reading, waiting, needs_memory}
 use Rattle.connections.specs.Asking.{ItemComes, StepsTo, AsksNext}
 use Rattle.connections.specs.declared.ask.Ask.{Ask}
 use Rattle.connections.specs.declared.ask.Ask.TheVariants as ask
@@ -40,21 +40,21 @@ use Rattle.events.specs.declared.effects.LpdResponse.TheVariants as shown
 use Rattle.events.specs.declared.status.Status.{Status}
 use Rattle.events.specs.declared.status.Status.TheVariants.{TemporaryError}
 use Rattle.events.specs.Event.{is_query}
-use Rattle.dispatcher.specs.declared.listener.DeviceRefusal.TheVariants as why
-use Rattle.dispatcher.specs.declared.listener.AllocationSite.{AllocationSite}
-use Rattle.dispatcher.specs.declared.listener.AllocationSite.TheVariants as At
+use Rattle.dispatcher.specs.declared.observer.DeviceRefusal.TheVariants as why
+use Rattle.dispatcher.specs.declared.observer.AllocationSite.{AllocationSite}
+use Rattle.dispatcher.specs.declared.observer.AllocationSite.TheVariants as At
 use Rattle.dispatcher.specs.Notes.{Note, DeviceRefused, Refused}
 use Rattle.ipp_operations.specs.QueueText.{ack_of, text_of}
 use Rattle.send_queues.specs.Reply.{http_reply}
 use Rattle.server.specs.Answering as Ans
-use Rattle.server.specs.Greeting.{GivesWayAt, GivesWay, SaysName, Greets}
+use Rattle.server.specs.Hello.{IsSupersededAt, IsSuperseded, SaysName, HandlesHello}
 use Rattle.server.specs.Acting.{place_of, place_of_part, Asks, ActsOn, ActsNext}
 use Rattle.server.specs.Polls.{Happening, Choice, Found, Rested}
 use Rattle.server.specs.Ledger.{Ledger, Fate, Drained, Broken, at_key, job_bytes, opening_ledger}
-use Rattle.server.specs.Rel.{Rel, Nothing, Polls, Tells, Chooses, Then, If, Or, Times, Many, Each, EachOf}
+use Rattle.server.specs.Rel.{Rel, Nothing, Polls, Notifies, Chooses, Then, If, Or, Times, Many, Each, EachOf}
 use Rattle.server.specs.Enqueuing.{Sets, BreaksAt, Breaks, Drops, EnqueuesOpen, EnqueuesAt, EnqueuesWhere, Enqueues, EnqueuesReplyAt, EnqueuesResponse, EnqueuesStatus, EnqueuesOn}
 use Rattle.server.specs.Happening.{now_at, Decides, Sends, Starts, StartsAll, SendsAll, Orders, Happens, Unanswered}
-use Rattle.server.specs.Closing.{Leaves, IsGone, ClosesAs, ClosesFirst, Settles}
+use Rattle.server.specs.Closing.{Leaves, IsGone, ClosesAs, ClosesFirst, ClosesBroken}
 use Rattle.server.specs.Polling.{Opens, AcceptsAs, AcceptsOne, AcceptsAt, Acts, Serves, FedWhole, FeedsAt, Fails, ReadsAs, ReadsOpen, ReadsAt, is_read, ReadsOne, WritesAs, WritesOpen, WritesAt, WritesOne, is_done, EndsAt, EndsOne}
 use Rattle.server.specs.Turn as Between
 use Rattle.server.specs.Turn.{Ticks, Notes, is_tick_due, TicksIfDue, Covers, Round, Turn, BodyAsks, BodyComes, Action, Turned, Served_body, Reported, Ticked, Trace, DoesAction, Runs}
@@ -166,8 +166,8 @@ keeps_times (suc n) R r = keeps_then (Times n R) R (keeps_times n R r) r
 keeps_many : (R : Rel) → Keeps R → Keeps (Many R)
 keeps_many R r l hs l' first (n, it) = keeps_times n R r l hs l' first it
 
-keeps_tells : (note : Note) → Keeps (Tells note)
-keeps_tells note l hs l' first it = keeps_same l l' (ap (λ (x : Ledger). x.entries) it.1) (ap (λ (x : Ledger). x.closed) it.1) first
+keeps_notifies : (note : Note) → Keeps (Notifies note)
+keeps_notifies note l hs l' first it = keeps_same l l' (ap (λ (x : Ledger). x.entries) it.1) (ap (λ (x : Ledger). x.closed) it.1) first
 
 keeps_chooses : (choice : Choice) → Keeps (Chooses choice)
 keeps_chooses choice l hs l' first it = keeps_same l l' (ap (λ (x : Ledger). x.entries) it.1) (ap (λ (x : Ledger). x.closed) it.1) first
@@ -242,7 +242,7 @@ keeps_closes moment fate key e l hs l' first is it = keeps_gone moment (device_o
 closes_first : (moment : ℕ) → Keeps (ClosesFirst moment)
 closes_first moment l hs l' first it = keeps_closes moment Broken it.key it.entry l hs l' first (there l it.key it.entry first it.there) it.closes
 
-keeps_settles : (moment : ℕ) → Keeps (Settles moment)
+keeps_settles : (moment : ℕ) → Keeps (ClosesBroken moment)
 keeps_settles moment l hs l' first it = keeps_many (ClosesFirst moment) (closes_first moment) l hs l' first it.0
 
 -- ---- replies
@@ -258,11 +258,11 @@ keeps_status : (key : ℕ) (status : Status) (request : ℕ) → Keeps (Enqueues
 keeps_status key status request l hs l' first it = reply_at (λ closes. http_status closes status request) key (l.entries key) l hs l' first it
 
 keeps_dropped : (key id request : ℕ) → Keeps (Ans.Drops key id request)
-keeps_dropped key id request = keeps_then (Tells (Refused At.Event (Some id))) (EnqueuesStatus key TemporaryError request) (keeps_tells (Refused At.Event (Some id))) (keeps_status key TemporaryError request)
+keeps_dropped key id request = keeps_then (Notifies (Refused At.Event (Some id))) (EnqueuesStatus key TemporaryError request) (keeps_notifies (Refused At.Event (Some id))) (keeps_status key TemporaryError request)
 
 keeps_lost : (key id request : ℕ) (query : Bool) → Keeps (Ans.LosesReply key id request query)
 keeps_lost key id request query =
-    keeps_then (Tells (Refused At.Reply (Some id))) (If query (EnqueuesStatus key TemporaryError request) (Breaks key)) (keeps_tells (Refused At.Reply (Some id)))
+    keeps_then (Notifies (Refused At.Reply (Some id))) (If query (EnqueuesStatus key TemporaryError request) (Breaks key)) (keeps_notifies (Refused At.Reply (Some id)))
     (keeps_if query (EnqueuesStatus key TemporaryError request) (Breaks key) (keeps_status key TemporaryError request) (breaks_all key))
 
 keeps_replies_with : (key id request : ℕ) (query : Bool) (answer : Response) → Keeps (Ans.RepliesWith key id request query answer)
@@ -276,20 +276,20 @@ keeps_replies key id request query (Some reply) = keeps_replies_with key id requ
 keeps_replies key id request query None = keeps_dropped key id request
 
 keeps_declines : (place : AllocationSite) (key id : ℕ) → Keeps (Ans.Declines place key id)
-keeps_declines place key id = keeps_then (Tells (Refused place (Some id))) (Enqueues key (1 ∷ [])) (keeps_tells (Refused place (Some id))) (keeps_enqueues key (1 ∷ []))
+keeps_declines place key id = keeps_then (Notifies (Refused place (Some id))) (Enqueues key (1 ∷ [])) (keeps_notifies (Refused place (Some id))) (keeps_enqueues key (1 ∷ []))
 
 keeps_shows : (key id : ℕ) (text : List ℕ) → Keeps (Ans.Shows key id text)
 keeps_shows key id text =
-    keeps_or (Then (Chooses Found) (Enqueues key text)) (Then (Tells (Refused At.Reply (Some id))) (Breaks key)) (keeps_then (Chooses Found) (Enqueues key text) (keeps_chooses Found) (keeps_enqueues key text))
-    (keeps_then (Tells (Refused At.Reply (Some id))) (Breaks key) (keeps_tells (Refused At.Reply (Some id))) (breaks_all key))
+    keeps_or (Then (Chooses Found) (Enqueues key text)) (Then (Notifies (Refused At.Reply (Some id))) (Breaks key)) (keeps_then (Chooses Found) (Enqueues key text) (keeps_chooses Found) (keeps_enqueues key text))
+    (keeps_then (Notifies (Refused At.Reply (Some id))) (Breaks key) (keeps_notifies (Refused At.Reply (Some id))) (breaks_all key))
 
-keeps_told : (key id : ℕ) (answer : LpdResponse) → Keeps (Ans.IsTold key id answer)
-keeps_told key id (shown.Taken taken) = keeps_enqueues key (ack_of (shown.Taken taken) ∷ [])
-keeps_told key id (shown.Queue listing) = keeps_shows key id (text_of (shown.Queue listing))
-keeps_told key id shown.NoQueue = keeps_shows key id (text_of shown.NoQueue)
+keeps_notified : (key id : ℕ) (answer : LpdResponse) → Keeps (Ans.SendsLpd key id answer)
+keeps_notified key id (shown.Taken taken) = keeps_enqueues key (ack_of (shown.Taken taken) ∷ [])
+keeps_notified key id (shown.Queue listing) = keeps_shows key id (text_of (shown.Queue listing))
+keeps_notified key id shown.NoQueue = keeps_shows key id (text_of shown.NoQueue)
 
 keeps_shown : (key id : ℕ) (answer : Response) → Keeps (Ans.IsShown key id answer)
-keeps_shown key id (answered.Lpd answer) = keeps_told key id answer
+keeps_shown key id (answered.Lpd answer) = keeps_notified key id answer
 keeps_shown key id (answered.Ipp answer) = keeps_nothing
 keeps_shown key id answered.Nothing = keeps_nothing
 
@@ -298,26 +298,26 @@ keeps_answers key id (client.Ipp request) query reply = keeps_replies key id req
 keeps_answers key id client.LpdJob query (Some reply) = keeps_shown key id reply.answer
 keeps_answers key id client.LpdJob query None = keeps_declines At.Event key id
 keeps_answers key id client.LpdCommand query (Some reply) = keeps_shown key id reply.answer
-keeps_answers key id client.LpdCommand query None = keeps_then (Tells (Refused At.Event (Some id))) (Breaks key) (keeps_tells (Refused At.Event (Some id))) (breaks_all key)
+keeps_answers key id client.LpdCommand query None = keeps_then (Notifies (Refused At.Event (Some id))) (Breaks key) (keeps_notifies (Refused At.Event (Some id))) (breaks_all key)
 
-gives_way_at : (key : ℕ) (o : Option Entry) (l : Ledger) (hs : List Happening) (l' : Ledger) → AllFirst l → FirstAt o → GivesWayAt key o l hs l' → AllFirst l'
+gives_way_at : (key : ℕ) (o : Option Entry) (l : Ledger) (hs : List Happening) (l' : Ledger) → AllFirst l → FirstAt o → IsSupersededAt key o l hs l' → AllFirst l'
 gives_way_at key None l hs l' first is it = keeps_nothing l hs l' first it
-gives_way_at key (Some e) l hs l' first is it = keeps_sets key (given_up e) l hs l' first (first_unnamed e.read e.progress is) it
+gives_way_at key (Some e) l hs l' first is it = keeps_sets key (superseded_entry e) l hs l' first (first_unnamed e.read e.progress is) it
 
-keeps_gives_way : (key : ℕ) → Keeps (GivesWay key)
+keeps_gives_way : (key : ℕ) → Keeps (IsSuperseded key)
 keeps_gives_way key l hs l' first it = gives_way_at key (l.entries key) l hs l' first (first.here key) it
 
-keeps_greets : (moment key id device : ℕ) (name : List ℕ) → Keeps (Greets moment key id device name)
+keeps_greets : (moment key id device : ℕ) (name : List ℕ) → Keeps (HandlesHello moment key id device name)
 keeps_greets moment key id device name l hs l' first (inl (alone, it)) = keeps_unanswered moment (Is.Report device (report.Hello name)) l hs l' first it
 keeps_greets moment key id device name l hs l' first (inr (inl (other, has, it))) =
-    keeps_then (GivesWay other) (Then (IsGone moment (Some device)) (SaysName moment device name)) (keeps_gives_way other)
+    keeps_then (IsSuperseded other) (Then (IsGone moment (Some device)) (SaysName moment device name)) (keeps_gives_way other)
     (keeps_then (IsGone moment (Some device)) (SaysName moment device name) (keeps_unanswered moment (Is.Report device report.Gone)) (keeps_unanswered moment (Is.Report device (report.Hello name)))) l hs l' first it
 keeps_greets moment key id device name l hs l' first (inr (inr (other, has, it))) =
-    keeps_then (GivesWay key) (Tells (DeviceRefused id (why.Connected device))) (keeps_gives_way key) (keeps_tells (DeviceRefused id (why.Connected device))) l hs l' first it
+    keeps_then (IsSuperseded key) (Notifies (DeviceRefused id (why.Connected device))) (keeps_gives_way key) (keeps_notifies (DeviceRefused id (why.Connected device))) l hs l' first it
 
 keeps_does : (moment key id : ℕ) (what : Ask) → Keeps (ActsOn moment key id what)
 keeps_does moment key id ask.Nothing = keeps_nothing
-keeps_does moment key id (ask.Broke growth) = keeps_tells (Refused (place_of growth) (Some id))
+keeps_does moment key id (ask.Broke growth) = keeps_notifies (Refused (place_of growth) (Some id))
 keeps_does moment key id (ask.Event who event) = λ l hs l' first (outcome, it).
     keeps_then (Happens moment event outcome) (Ans.Answers key id who (is_query event) (reply_of outcome)) (keeps_happens moment event outcome)
     (keeps_answers key id who (is_query event) (reply_of outcome)) l hs l' first it
@@ -325,8 +325,8 @@ keeps_does moment key id (ask.Unread request) = keeps_dropped key id request
 keeps_does moment key id (ask.Lost part) = keeps_declines (place_of_part part) key id
 keeps_does moment key id (ask.Hello device name) = keeps_greets moment key id device name
 keeps_does moment key id (ask.Report device said) = keeps_unanswered moment (Is.Report device said)
-keeps_does moment key id (ask.Stranger name) = keeps_tells (DeviceRefused id (why.UnknownName name))
-keeps_does moment key id (ask.Fault device) = keeps_tells (DeviceRefused id (why.Fault device))
+keeps_does moment key id (ask.UnknownDevice name) = keeps_notifies (DeviceRefused id (why.UnknownName name))
+keeps_does moment key id (ask.Fault device) = keeps_notifies (DeviceRefused id (why.Fault device))
 
 keeps_asks : (key id : ℕ) (what : Ask) → Keeps (Asks key id what)
 keeps_asks key id what l hs l' first a = keeps_at key (Some a.new) l l' first (first_asks l.core.settings what a.entry a.new (there l key a.entry first a.there) a.asks) (ap (λ (x : Ledger). x.entries) a.after) (ap (λ (x : Ledger). x.closed) a.after)
@@ -336,12 +336,12 @@ keeps_acts_next moment key l hs l' first (id, what, it) = keeps_then (Asks key i
 
 keeps_serves : (moment key : ℕ) → Keeps (Serves moment key)
 keeps_serves moment key l hs l' first it =
-    keeps_then (Many (Acts moment key)) (Chooses Rested) (keeps_many (Acts moment key) (keeps_then (ActsNext moment key) (Settles moment) (keeps_acts_next moment key) (keeps_settles moment))) (keeps_chooses Rested) l hs l' first it.0
+    keeps_then (Many (Acts moment key)) (Chooses Rested) (keeps_many (Acts moment key) (keeps_then (ActsNext moment key) (ClosesBroken moment) (keeps_acts_next moment key) (keeps_settles moment))) (keeps_chooses Rested) l hs l' first it.0
 
 -- ---- reads, writes and closings
 
 keeps_fails : (moment key : ℕ) → Keeps (Fails moment key)
-keeps_fails moment key = keeps_then (Breaks key) (Settles moment) (breaks_all key) (keeps_settles moment)
+keeps_fails moment key = keeps_then (Breaks key) (ClosesBroken moment) (breaks_all key) (keeps_settles moment)
 
 own_fed : (moment key : ℕ) (e : Entry) (bytes : List ℕ) (l : Ledger) (hs : List Happening) (l' : Ledger) → AllFirst l → First e → FedWhole moment key e bytes l hs l' → AllFirst l'
 own_fed moment key e bytes l hs l' first is (inl it) =
@@ -397,7 +397,7 @@ own_writes moment key (Some e) l hs l' first is it = own_writes_if (nat_lt 0 (le
 keeps_writes : (moment key : ℕ) → Keeps (WritesOne moment key)
 keeps_writes moment key l hs l' first it = own_writes moment key (l.entries key) l hs l' first (first.here key) it
 
-ends_if : (t : Bool) (moment key : ℕ) (e : Entry) (l : Ledger) (hs : List Happening) (l' : Ledger) → AllFirst l → First e → If t (Then (ClosesAs moment Drained key e) (Settles moment)) Nothing l hs l' → AllFirst l'
+ends_if : (t : Bool) (moment key : ℕ) (e : Entry) (l : Ledger) (hs : List Happening) (l' : Ledger) → AllFirst l → First e → If t (Then (ClosesAs moment Drained key e) (ClosesBroken moment)) Nothing l hs l' → AllFirst l'
 ends_if true moment key e l hs l' first is it = keeps_settles moment it.mid it.back l' (keeps_closes moment Drained key e l it.front it.mid first is it.first) it.second
 ends_if false moment key e l hs l' first is it = keeps_nothing l hs l' first it
 
@@ -436,7 +436,7 @@ keeps_ticks moment l hs l' first it =
 
 keeps_tick : (moment : ℕ) → Keeps (TicksIfDue moment)
 keeps_tick moment l hs l' first it =
-    keeps_if (is_tick_due moment l) (Then (Ticks moment) (Settles moment)) Nothing (keeps_then (Ticks moment) (Settles moment) (keeps_ticks moment) (keeps_settles moment)) keeps_nothing l hs l' first it
+    keeps_if (is_tick_due moment l) (Then (Ticks moment) (ClosesBroken moment)) Nothing (keeps_then (Ticks moment) (ClosesBroken moment) (keeps_ticks moment) (keeps_settles moment)) keeps_nothing l hs l' first it
 
 keeps_round : (moment : ℕ) → Keeps (Round moment)
 keeps_round moment l hs l' first (n, it) =
@@ -446,7 +446,7 @@ keeps_round moment l hs l' first (n, it) =
 
 keeps_turn : (moment : ℕ) → Keeps (Turn moment)
 keeps_turn moment =
-    keeps_then (Settles moment) (Then (TicksIfDue moment) (Then (AcceptsAt Ipp) (Then (AcceptsAt Lpd) (Then (AcceptsAt Devices) (Round moment))))) (keeps_settles moment)
+    keeps_then (ClosesBroken moment) (Then (TicksIfDue moment) (Then (AcceptsAt Ipp) (Then (AcceptsAt Lpd) (Then (AcceptsAt Devices) (Round moment))))) (keeps_settles moment)
     (keeps_then (TicksIfDue moment) (Then (AcceptsAt Ipp) (Then (AcceptsAt Lpd) (Then (AcceptsAt Devices) (Round moment)))) (keeps_tick moment)
     (keeps_then (AcceptsAt Ipp) (Then (AcceptsAt Lpd) (Then (AcceptsAt Devices) (Round moment))) (keeps_accepts Ipp)
     (keeps_then (AcceptsAt Lpd) (Then (AcceptsAt Devices) (Round moment)) (keeps_accepts Lpd) (keeps_then (AcceptsAt Devices) (Round moment) (keeps_accepts Devices) (keeps_round moment)))))

@@ -8,15 +8,15 @@ use Rattle.print_room.specs.State.{State}
 use Rattle.events.specs.declared.event.Event.{Event}
 use Rattle.events.specs.declared.event.Event.TheVariants as Is
 use Rattle.events.specs.Event.{is_query}
-use Rattle.dispatcher.specs.declared.listener.AllocationSite.{AllocationSite}
-use Rattle.dispatcher.specs.declared.listener.AllocationSite.TheVariants as At
+use Rattle.dispatcher.specs.declared.observer.AllocationSite.{AllocationSite}
+use Rattle.dispatcher.specs.declared.observer.AllocationSite.TheVariants as At
 use Rattle.dispatcher.specs.Notes.{Note, Refused}
 use Rattle.dispatcher.specs.Run.{reply_of}
 use Rattle.connections.specs.declared.ask.Ask.{Ask}
 use Rattle.connections.specs.declared.ask.Ask.TheVariants as ask
 use Rattle.connections.specs.declared.ask.Client.{Client}
 use Rattle.connections.specs.declared.ask.Client.TheVariants as client
-use Rattle.connections.specs.declared.ask.Growth.TheVariants as growth
+use Rattle.connections.specs.declared.ask.AllocFailure.TheVariants as growth
 use Rattle.connections.specs.declared.step.Step.{Step}
 use Rattle.connections.specs.declared.step.Step.TheVariants as step
 use Rattle.connections.specs.Steps.{no_memory, due_bytes}
@@ -24,9 +24,9 @@ use Rattle.connections.specs.Entry.{PeerRecord, Http, Queue, Link, Entry, closes
 use Rattle.connections.specs.Asking.{ItemComes, StepsTo}
 use Rattle.server.specs.Polls.{Happening, Rested}
 use Rattle.server.specs.Ledger.{Ledger}
-use Rattle.server.specs.Rel.{Nothing, Tells, Chooses, Many}
+use Rattle.server.specs.Rel.{Nothing, Notifies, Chooses, Many}
 use Rattle.server.specs.Enqueuing.{IsDevice}
-use Rattle.server.specs.Closing.{Settles}
+use Rattle.server.specs.Closing.{ClosesBroken}
 use Rattle.server.specs.Answering as Ans
 use Rattle.server.specs.Acting.{place_of, place_of_part, Asks, ActsOn, ActsNext}
 use Rattle.server.specs.Polling.{Acts, Serves}
@@ -35,9 +35,9 @@ use Rattle.promises.proofs.AnswerKinds.{EventOf, typed}
 use Rattle.promises.specs.Answers.{Act, ClientTalk, drains, IsFrontOf, IsNext, IsOwed, IsStateOf, asked_by, IsLast, BrokeAfter, IsOneAtMost}
 use Rattle.promises.proofs.SentToDevices.{Counts, due_at, FreshTalk, IsFresh, IsClient, same_key, other_key, is_key, Ordered, notes_append, calm_sets, Good, one_entry, not_key, client_none, client_fresh, no_true, counts_device, ordered_then, sent_by, IsLost, lost_device, breaks_same, ReadsOn, reads_still, reads_then}
 use Rattle.promises.proofs.HandledEvents.{happened, CameAs, Goes, goes_then, goes_calm, TalkedAs, Went, progressed_still, one_handled, none_closed, LostAs, lost_by, StopsAs, stops_still, acts_on}
-use Rattle.promises.proofs.DueToClients.{calms_chooses, Gave, gave_still, gives_nothing, at_aside, at_here, Just_these, Loose, told_of, refusal_at, one_refusal, given, No_memory, gives_dropped, gives_declines, gives_answers}
+use Rattle.promises.proofs.DueToClients.{calms_chooses, Gave, gave_still, gives_nothing, at_aside, at_here, Just_these, Loose, notified_of, refusal_at, one_refusal, given, No_memory, gives_dropped, gives_declines, gives_answers}
 use Rattle.promises.proofs.EventsOfTurns.{Moves, moves_calm, moves_then, moves_many, moves_settles}
-use Rattle.promises.proofs.StreamSteps.{IsClientAsk, silent_run, tells_part, device_does, IsClientStep, client_hears, DeviceAsks, device_hears}
+use Rattle.promises.proofs.StreamSteps.{IsClientAsk, silent_run, notifies_part, device_does, IsClientStep, client_hears, DeviceAsks, device_hears}
 use Rattle.promises.proofs.DeviceNames.{Just, greets}
 
 -- ---- the asks come about
@@ -60,7 +60,7 @@ pub record Acted (moment key : ℕ) (comes : Step) (new : Entry) (base : List �
   pub sent : ℕ → List ℕ
   pub run : AreHandled l.core handled l'.core
   pub timed : AreAt true moment handled
-  pub told : run_notes hs ≡ flat_map (λ (it : Handled). it.notes) handled
+  pub notified : run_notes hs ≡ flat_map (λ (it : Handled). it.notes) handled
   pub sends : (device : ℕ) (before : List ℕ) → due_by device before handled ≡ before ++ sent device
   pub others : (k : ℕ) → k ≢ key → Ordered sent (l.entries k) (l'.entries k)
   pub aside : (k : ℕ) → k ≢ key → asked_by k handled ≡ []
@@ -84,9 +84,9 @@ refusal_timed moment id key None core = All-nil (IsAt true moment)
 refusal_timed moment id key (Some place) core =
     All-cons (IsAt true moment) (record { moment = moment; what = MemoryRefused place (Some id); notes = Refused place (Some id) ∷ []; state = core; named = None; asked = Some key }) [] (refl, refl) (All-nil (IsAt true moment))
 
-pub refusal_told : (moment id key : ℕ) (lost : Option AllocationSite) (core : State) → told_of id lost ≡ flat_map (λ (it : Handled). it.notes) (refusal_at moment id key core lost)
-refusal_told moment id key None core = refl
-refusal_told moment id key (Some place) core = refl
+pub refusal_notified : (moment id key : ℕ) (lost : Option AllocationSite) (core : State) → notified_of id lost ≡ flat_map (λ (it : Handled). it.notes) (refusal_at moment id key core lost)
+refusal_notified moment id key None core = refl
+refusal_notified moment id key (Some place) core = refl
 
 pub refusal_sends : (moment id key : ℕ) (lost : Option AllocationSite) (core : State) (device : ℕ) (before : List ℕ) → due_by device before (refusal_at moment id key core lost) ≡ before
 refusal_sends moment id key None core device before = refl
@@ -106,13 +106,13 @@ refusal_few moment id key (Some place) core = tt
 
 pub acted_calm : (moment key : ℕ) (lost : Option AllocationSite) (comes : Step) (new : Entry) (base : List ℕ) (Q : Bool → List ℕ → Type 0) (l : Ledger) (hs : List Happening) (l' : Ledger) → l.entries key ≡ Some new → ClientTalk new.progress
     → ((bytes : List ℕ) → new.broken ≡ false → Q (closes_of new.progress) bytes → (given : List ℕ) × IsOwed new.id (closes_of new.progress) comes (refusal_at moment new.id key l'.core lost) given × (new.due ++ bytes ≡ base ++ given)) → HaltsAs comes new base (refusal_at moment new.id key l'.core lost) new
-    → Gave (told_of new.id lost) key Q l hs l' → Acted moment key comes new base l hs l'
+    → Gave (notified_of new.id lost) key Q l hs l' → Acted moment key comes new base l hs l'
 acted_calm moment key lost comes new base Q l hs l' there client owed halted g = record {
   handled = refusal_at moment new.id key l'.core lost;
   sent = λ device. [];
   run = refusal_run moment new.id key lost l.core l'.core g.core;
   timed = refusal_timed moment new.id key lost l'.core;
-  told = g.notes ∙ refusal_told moment new.id key lost l'.core;
+  notified = g.notes ∙ refusal_notified moment new.id key lost l'.core;
   sends = λ device before. refusal_sends moment new.id key lost l'.core device before ∙ sym (append-nil before);
   others = g.others;
   aside = refusal_aside moment new.id key lost l'.core;
@@ -165,7 +165,7 @@ acted_event moment key who event last new l hs l' own good there client (outcome
     event_few None = tt
     event_few (Some place) = (tt, λ is. is)
 
-    by : (given : (lost : Option AllocationSite) × Gave (told_of new.id lost) key (λ closes bytes. Loose closes who (is_query event) (reply_of outcome) lost bytes) it.mid it.back l') → Acted moment key (step.Asks (ask.Event who event) last) new new.due l hs l'
+    by : (given : (lost : Option AllocationSite) × Gave (notified_of new.id lost) key (λ closes bytes. Loose closes who (is_query event) (reply_of outcome) lost bytes) it.mid it.back l') → Acted moment key (step.Asks (ask.Event who event) last) new new.due l hs l'
     by (lost, g) =
         let one = happened moment event outcome l it.front it.mid good it.first in
         let refused : List Handled = refusal_at moment new.id key l'.core lost in
@@ -176,7 +176,7 @@ acted_event moment key who event last new l hs l' own good there client (outcome
           sent = sent_by outcome it.mid.core;
           run = (one.handles, refusal_run moment new.id key lost it.mid.core l'.core g.core);
           timed = All-cons (IsAt true moment) h (refusal_at moment new.id key l'.core lost) (refl, sym (own_nameless true who event own)) (refusal_timed moment new.id key lost l'.core);
-          told = ap run_notes it.whole ∙ (notes_append it.front it.back ∙ ap (λ (ns : List Note). run_notes it.front ++ ns) (g.notes ∙ refusal_told moment new.id key lost l'.core));
+          notified = ap run_notes it.whole ∙ (notes_append it.front it.back ∙ ap (λ (ns : List Note). run_notes it.front ++ ns) (g.notes ∙ refusal_notified moment new.id key lost l'.core));
           sends = λ device before. refusal_sends moment new.id key lost l'.core device (before ++ sent_by outcome it.mid.core device);
           others = λ k apart. more k (ordered_then (sent_by outcome it.mid.core) (λ device. []) (l.entries k) (it.mid.entries k) (l'.entries k) (one.each k) (g.others k apart));
           aside = λ k apart. ap (λ (t : Bool). (if t then h ∷ [] else []) ++ asked_by k (refusal_at moment new.id key l'.core lost)) (not_key key k (λ same. apart (sym same))) ∙ refusal_aside moment new.id key lost l'.core k apart;
@@ -223,10 +223,10 @@ acted_asks moment key (ask.Unread request) last new l hs l' is good there client
     (gives_dropped key new.id request l hs l' it)
 acted_asks moment key (ask.Lost part) last new l hs l' is good there client it =
     acted_calm moment key (Some (place_of_part part)) (step.Asks (ask.Lost part) last) new new.due (Just_these (1 ∷ [])) l hs l' there client (λ bytes sound these. (bytes, (one_refusal moment new.id key l'.core (Some (place_of_part part)) (place_of_part part) refl, these), refl)) (inl refl)
-    (gives_declines (place_of_part part) key new.id (tells_part part new.id) l hs l' it)
+    (gives_declines (place_of_part part) key new.id (notifies_part part new.id) l hs l' it)
 acted_asks moment key (ask.Hello device name) last new l hs l' is good there client it = absurd is
 acted_asks moment key (ask.Report device report) last new l hs l' is good there client it = absurd is
-acted_asks moment key (ask.Stranger name) last new l hs l' is good there client it = absurd is
+acted_asks moment key (ask.UnknownDevice name) last new l hs l' is good there client it = absurd is
 acted_asks moment key (ask.Fault device) last new l hs l' is good there client it = absurd is
 
 -- of any step of a client
@@ -236,16 +236,16 @@ acted_by moment key id (step.Due due last) m new what l hs l' fine (inl (is, aft
     acted_calm moment key None (step.Due due last) new m.due (Just_these []) l hs l' there (subst (λ (x : Entry). ClientTalk x.progress) (sym after) client)
     (λ bytes sound none. (due_bytes due, (refl, refl), ap (λ (more : List ℕ). new.due ++ more) none ∙ (append-nil new.due ∙ ap (λ (x : Entry). x.due) after))) (inr (due_bytes due, (refl, refl), ap (λ (x : Entry). x.due) after)) (gives_nothing key (Just_these []) (λ closes. refl) l hs l' nothing)
 acted_by moment key id (step.Due due last) m new what l hs l' fine (inr (is, needs, after)) client its good there it =
-    let told : Tells (Refused (place_of growth.Output) (Some id)) l hs l' = subst (λ (a : Ask). ActsOn moment key id a l hs l') is it in
+    let notified : Notifies (Refused (place_of growth.Output) (Some id)) l hs l' = subst (λ (a : Ask). ActsOn moment key id a l hs l') is it in
     acted_calm moment key None (step.Due due last) new m.due (Just_these []) l hs l' there (subst (λ (x : Entry). ClientTalk x.progress) (sym after) client)
-    (λ bytes sound none. absurd (no_true new.broken (ap (λ (x : Entry). x.broken) after) sound)) (inl (ap (λ (x : Entry). x.due) after)) (gave_still key (Just_these []) l hs l' (ap run_notes told.0 ∙ silent_run growth.Output id) told.1 (λ closes. refl))
+    (λ bytes sound none. absurd (no_true new.broken (ap (λ (x : Entry). x.broken) after) sound)) (inl (ap (λ (x : Entry). x.due) after)) (gave_still key (Just_these []) l hs l' (ap run_notes notified.0 ∙ silent_run growth.Output id) notified.1 (λ closes. refl))
 acted_by moment key id (step.Asks asked last) m new what l hs l' fine (is, after) client its good there it =
     let a = acted_asks moment key asked last new l hs l' fine good there (subst (λ (x : Entry). ClientTalk x.progress) (sym after) client) (subst (λ (i : ℕ). ActsOn moment key i asked l hs l') its (subst (λ (a : Ask). ActsOn moment key id a l hs l') is it)) in
     subst (λ (due : List ℕ). Acted moment key (step.Asks asked last) new due l hs l') (ap (λ (x : Entry). x.due) after) a
 acted_by moment key id (step.Breaks asked) m new what l hs l' fine (is, after) client its good there it =
-    let told : Tells (Refused (place_of growth.Input) (Some id)) l hs l' = subst (λ (a : Ask). ActsOn moment key id a l hs l') (is ∙ fine) it in
+    let notified : Notifies (Refused (place_of growth.Input) (Some id)) l hs l' = subst (λ (a : Ask). ActsOn moment key id a l hs l') (is ∙ fine) it in
     acted_calm moment key None (step.Breaks asked) new m.due (Just_these []) l hs l' there (subst (λ (x : Entry). ClientTalk x.progress) (sym after) client)
-    (λ bytes sound none. absurd (no_true new.broken (ap (λ (x : Entry). x.broken) after) sound)) (inl (ap (λ (x : Entry). x.due) after)) (gave_still key (Just_these []) l hs l' (ap run_notes told.0 ∙ silent_run growth.Input id) told.1 (λ closes. refl))
+    (λ bytes sound none. absurd (no_true new.broken (ap (λ (x : Entry). x.broken) after) sound)) (inl (ap (λ (x : Entry). x.due) after)) (gave_still key (Just_these []) l hs l' (ap run_notes notified.0 ∙ silent_run growth.Input id) notified.1 (λ closes. refl))
 
 -- the next of a client's stream, as an act has it
 pub next_of : (settings : ServerSettings) (progress : PeerRecord) (e : Entry) (comes : Step) (mid : Entry) → ClientTalk progress → e.progress ≡ progress → IsClientStep comes → ItemComes settings progress e comes mid → (mid.due ≡ e.due) × (((comes ≡ no_memory) × (mid.progress ≡ progress)) ⊎ IsNext settings e.read progress comes mid.progress) × ReadsOn e mid
@@ -283,7 +283,7 @@ client_acts moment key id what l front mid back l' hs whole good a client does =
   good = record { one = λ device k other p q. one device k other (k == key) refl (other == key) refl p q; fresh = λ k. fresh k (k == key) refl };
   run = subst (λ (s : State). AreHandled s acted.handled l'.core) core acted.run;
   timed = acted.timed;
-  told = ap run_notes whole ∙ (notes_append front back ∙ (ap (λ (ns : List Note). ns ++ run_notes back) (ap run_notes a.chosen) ∙ acted.told));
+  notified = ap run_notes whole ∙ (notes_append front back ∙ (ap (λ (ns : List Note). ns ++ run_notes back) (ap run_notes a.chosen) ∙ acted.notified));
   came = λ k device counts. came k device (k == key) refl counts;
   lost = λ k device is. lost k device (k == key) refl is;
   progresses = λ k e is of sound. progresses k e (k == key) refl is of sound;
@@ -481,7 +481,7 @@ pub moves_acts_next : (moment key : ℕ) → Moves true moment (ActsNext moment 
 moves_acts_next moment key l hs l' good (id, what, it) = acts_by moment key id what l it.front it.mid it.back l' hs it.whole good it.first it.first.entry.progress refl it.second
 
 pub moves_acts : (moment key : ℕ) → Moves true moment (Acts moment key)
-moves_acts moment key = moves_then true moment (ActsNext moment key) (Settles moment) (moves_acts_next moment key) (moves_settles moment)
+moves_acts moment key = moves_then true moment (ActsNext moment key) (ClosesBroken moment) (moves_acts_next moment key) (moves_settles moment)
 
 pub moves_serves : (moment key : ℕ) → Moves true moment (Serves moment key)
 moves_serves moment key l hs l' good it = moves_then true moment (Many (Acts moment key)) (Chooses Rested) (moves_many true moment (Acts moment key) (moves_acts moment key)) (moves_calm true moment (Chooses Rested) (calms_chooses Rested)) l hs l' good it.0

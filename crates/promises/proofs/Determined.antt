@@ -3,9 +3,9 @@ use Rattle.std.proofs.Common.{◌≡◌, ℕ, zero, suc, Bool, true, false, List
 use Rattle.std.proofs.lemmas.List.{append_cancel_left}
 use Rattle.wires.specs.Poll.{Poll}
 use Rattle.dispatcher.specs.Notes.{Note}
-use Rattle.server.specs.Polls.{Happening, Polled, Told, Choice, Chosen}
+use Rattle.server.specs.Polls.{Happening, Polled, Notified, Choice, Chosen}
 use Rattle.server.specs.Ledger.{Ledger}
-use Rattle.server.specs.Rel.{Rel, Nothing, Polls, Tells, Chooses, Then, If, Or, Times, Many, Each, EachOf}
+use Rattle.server.specs.Rel.{Rel, Nothing, Polls, Notifies, Chooses, Then, If, Or, Times, Many, Each, EachOf}
 
 -- From one ledger, and where one list goes on from both: both took the same of it, and came to the same ledger.
 pub record Alike (R S : Rel) : Type 0 where
@@ -29,8 +29,8 @@ fixed_nothing = fixed_just (λ l. []) (λ l. l)
 pub fixed_polls : (poll : Poll) → Fixed (Polls poll)
 fixed_polls poll = fixed_just (λ l. Polled poll ∷ []) (λ l. l)
 
-pub fixed_tells : (note : Note) → Fixed (Tells note)
-fixed_tells note = fixed_just (λ l. Told note ∷ []) (λ l. l)
+pub fixed_notifies : (note : Note) → Fixed (Notifies note)
+fixed_notifies note = fixed_just (λ l. Notified note ∷ []) (λ l. l)
 
 pub fixed_chooses : (choice : Choice) → Fixed (Chooses choice)
 fixed_chooses choice = fixed_just (λ l. Chosen choice ∷ []) (λ l. l)
@@ -79,8 +79,8 @@ begins_just kind is h tail xs of same = subst (BeginsAs kind is) (sym same) of
 pub begins_chooses : (kind : Happening → Bool) (is : Bool) (choice : Choice) → kind (Chosen choice) ≡ is → Begins kind is (Chooses choice)
 begins_chooses kind is choice of = record { begins = λ l hs a it. begins_just kind is (Chosen choice) [] hs of it.0 }
 
-pub begins_tells : (kind : Happening → Bool) (is : Bool) (note : Note) → kind (Told note) ≡ is → Begins kind is (Tells note)
-begins_tells kind is note of = record { begins = λ l hs a it. begins_just kind is (Told note) [] hs of it.0 }
+pub begins_notifies : (kind : Happening → Bool) (is : Bool) (note : Note) → kind (Notified note) ≡ is → Begins kind is (Notifies note)
+begins_notifies kind is note of = record { begins = λ l hs a it. begins_just kind is (Notified note) [] hs of it.0 }
 
 pub begins_polls : (kind : Happening → Bool) (is : Bool) (poll : Poll) → kind (Polled poll) ≡ is → Begins kind is (Polls poll)
 begins_polls kind is poll of = record { begins = λ l hs a it. begins_just kind is (Polled poll) [] hs of it.0 }
@@ -88,7 +88,7 @@ begins_polls kind is poll of = record { begins = λ l hs a it. begins_just kind 
 -- a choice comes first
 abbrev pub is_choice : Happening → Bool
 is_choice (Polled poll) = false
-is_choice (Told note) = false
+is_choice (Notified note) = false
 is_choice (Chosen choice) = true
 
 -- the first happening of one list is one
@@ -104,13 +104,13 @@ choice_one choice other R S l hs rest a ks more b e p q =
     same_choice choice other
     (first_one (Chosen choice) (Chosen other) hs rest ks more p.back q.back e (p.whole ∙ ap (λ (z : List Happening). z ++ p.back) p.first.0) (q.whole ∙ ap (λ (z : List Happening). z ++ q.back) q.first.0))
 
--- one after the other, where the first part tells how the second parts are alike
+-- one after the other, where the first part notifies how the second parts are alike
 pub then_one : {X : Type 0} (D D' R R' : Rel) (l : Ledger) (hs rest : List Happening) (a : Ledger) (ks more : List Happening) (b : Ledger) → hs ++ rest ≡ ks ++ more → (p : Then D R l hs a) (q : Then D' R' l ks b)
     → ((left right : List Happening) → p.front ++ left ≡ q.front ++ right → X × (p.front ≡ q.front) × (p.mid ≡ q.mid)) → (X → Alike R R') → X × (hs ≡ ks) × (a ≡ b)
-then_one D D' R R' l hs rest a ks more b e p q tells alike =
+then_one D D' R R' l hs rest a ks more b e p q notifies alike =
     let both : p.front ++ (p.back ++ rest) ≡ q.front ++ (q.back ++ more) =
     sym (append_assoc p.front p.back rest) ∙ (ap (λ (x : List Happening). x ++ rest) (sym p.whole) ∙ (e ∙ (ap (λ (x : List Happening). x ++ more) q.whole ∙ append_assoc q.front q.back more))) in
-    let first = tells (p.back ++ rest) (q.back ++ more) both in
+    let first = notifies (p.back ++ rest) (q.back ++ more) both in
     let left : p.back ++ rest ≡ q.back ++ more = append_cancel_left p.front (p.back ++ rest) (q.back ++ more) (both ∙ ap (λ (x : List Happening). x ++ (q.back ++ more)) (sym first.1)) in
     let second = (alike first.0).one p.mid p.back rest a q.back more b left p.second (subst (λ (x : Ledger). R' x q.back b) (sym first.2) q.second) in
     (first.0, p.whole ∙ (ap (λ (x : List Happening). x ++ p.back) first.1 ∙ (ap (λ (x : List Happening). q.front ++ x) second.0 ∙ sym q.whole)), second.1)

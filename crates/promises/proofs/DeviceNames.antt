@@ -6,11 +6,11 @@ use Rattle.base_types.specs.declared.report.Report.TheVariants as report
 use Rattle.events.specs.declared.event.Event.TheVariants as Is
 use Rattle.dispatcher.specs.Notes.{Note}
 use Rattle.connections.specs.Steps.{silent}
-use Rattle.connections.specs.Entry.{PeerRecord, Http, Queue, Link, Entry, device_of, given_up, unnamed}
+use Rattle.connections.specs.Entry.{PeerRecord, Http, Queue, Link, Entry, device_of, superseded_entry, unnamed}
 use Rattle.server.specs.Polls.{Happening}
 use Rattle.server.specs.Ledger.{Ledger, at_key, with_entry}
 use Rattle.server.specs.Enqueuing.{IsDevice}
-use Rattle.server.specs.Greeting.{IsAlone, GivesWayAt, Greets}
+use Rattle.server.specs.Hello.{IsAlone, IsSupersededAt, HandlesHello}
 use Rattle.promises.specs.Orders.{IsAt, run_notes}
 use Rattle.promises.specs.Answers.{ClientTalk}
 use Rattle.promises.proofs.Lowest.{as_device}
@@ -43,7 +43,7 @@ awaits moment device key e new l hs l' good silent named fresh due alone = recor
   good = record { one = λ d k o p q. one d k o p q (alone.each k) (alone.each o); fresh = λ k. fresh_at k (alone.each k) };
   run = alone.core;
   timed = All-nil (IsAt true moment);
-  told = silent;
+  notified = silent;
   only = λ other is. only other is (alone.each other);
   due = λ counts. due_here (alone.each key);
   lost_due = λ lost. due_here (alone.each key);
@@ -119,15 +119,15 @@ alone_now device key new l l' after alone = record {
     by k (inl (same, is)) = inl (same, here k ∙ is)
     by k (inr (apart, is)) = inr (apart, subst (λ (o : Option Entry). Ordered (λ d. []) (l.entries k) o) (sym (here k ∙ is)) (ordered_still (l.entries k)), alone k apart)
 
--- the device's other connection gives way
-pub alone_then : (device key old : ℕ) (new other : Entry) (l mid l' : Ledger) → Good l → mid ≡ with_entry key new l → old ≢ key → mid.entries old ≡ Some other → IsDevice device (mid.entries old) → l' ≡ with_entry old (given_up other) mid → Alone device key new l l'
+-- the device's other connection is superseded
+pub alone_then : (device key old : ℕ) (new other : Entry) (l mid l' : Ledger) → Good l → mid ≡ with_entry key new l → old ≢ key → mid.entries old ≡ Some other → IsDevice device (mid.entries old) → l' ≡ with_entry old (superseded_entry other) mid → Alone device key new l l'
 alone_then device key old new other l mid l' good begun apart there is after = record {
   core = ap (λ (x : Ledger). x.core) after ∙ ap (λ (x : Ledger). x.core) begun;
   closed = ap (λ (x : Ledger). x.closed) after ∙ ap (λ (x : Ledger). x.closed) begun;
-  each = λ k. by k (at_cases old (given_up other) mid.entries k) (at_cases key new l.entries k);
+  each = λ k. by k (at_cases old (superseded_entry other) mid.entries k) (at_cases key new l.entries k);
 }
   where
-    here : (k : ℕ) → l'.entries k ≡ at_key old (Some (given_up other)) mid.entries k
+    here : (k : ℕ) → l'.entries k ≡ at_key old (Some (superseded_entry other)) mid.entries k
     here k = ap (λ (x : Ledger). x.entries k) after
 
     before : (k : ℕ) → mid.entries k ≡ at_key key (Some new) l.entries k
@@ -140,7 +140,7 @@ alone_then device key old new other l mid l' good begun apart there is after = r
     stood : l.entries old ≡ Some other
     stood = was (at_cases key new l.entries old)
 
-    by : (k : ℕ) → ((k ≡ old) × (at_key old (Some (given_up other)) mid.entries k ≡ Some (given_up other))) ⊎ ((k ≢ old) × (at_key old (Some (given_up other)) mid.entries k ≡ mid.entries k))
+    by : (k : ℕ) → ((k ≡ old) × (at_key old (Some (superseded_entry other)) mid.entries k ≡ Some (superseded_entry other))) ⊎ ((k ≢ old) × (at_key old (Some (superseded_entry other)) mid.entries k ≡ mid.entries k))
         → ((k ≡ key) × (at_key key (Some new) l.entries k ≡ Some new)) ⊎ ((k ≢ key) × (at_key key (Some new) l.entries k ≡ l.entries k)) → ((k ≡ key) × (l'.entries k ≡ Some new)) ⊎ ((k ≢ key) × Ordered (λ d. []) (l.entries k) (l'.entries k) × (IsDevice device (l'.entries k) → ⊥))
     by k (inl (same, its)) (inl (one, two)) = absurd (apart (sym same ∙ one))
     by k (inl (same, its)) (inr (aside, two)) =
@@ -158,9 +158,9 @@ alone_then device key old new other l mid l' good begun apart there is after = r
           λ named. apart_old (good.one device k old (subst (λ (o : Option Entry). IsDevice device o) same named) (subst (λ (o : Option Entry). IsDevice device o) (there ∙ sym stood) is)),
         )
 
-pub gives_way_at : (key : ℕ) (o : Option Entry) (e : Entry) (l : Ledger) (hs : List Happening) (l' : Ledger) → o ≡ Some e → GivesWayAt key o l hs l' → (hs ≡ []) × (l' ≡ with_entry key (given_up e) l)
+pub gives_way_at : (key : ℕ) (o : Option Entry) (e : Entry) (l : Ledger) (hs : List Happening) (l' : Ledger) → o ≡ Some e → IsSupersededAt key o l hs l' → (hs ≡ []) × (l' ≡ with_entry key (superseded_entry e) l)
 gives_way_at key None e l hs l' is it = cc
-gives_way_at key (Some d) e l hs l' is it = let same : d ≡ e = cc in (it.0, it.1 ∙ ap (λ (x : Entry). with_entry key (given_up x) l) same)
+gives_way_at key (Some d) e l hs l' is it = let same : d ≡ e = cc in (it.0, it.1 ∙ ap (λ (x : Entry). with_entry key (superseded_entry x) l) same)
 
 pub device_there : (device : ℕ) (o : Option Entry) → IsDevice device o → (e : Entry) × (o ≡ Some e)
 device_there device None is = absurd is
@@ -178,7 +178,7 @@ pub record Just (key device : ℕ) (name : List ℕ) (e new : Entry) (l : Ledger
   pub link : ClientTalk e.progress → ⊥
 
 pub greets : (moment key id device : ℕ) (name : List ℕ) (e new : Entry) (l : Ledger) (front : List Happening) (mid : Ledger) (back : List Happening) (l' : Ledger) (hs : List Happening) → hs ≡ front ++ back
-    → Just key device name e new l front mid → Greets moment key id device name mid back l' → Goes true moment l hs l'
+    → Just key device name e new l front mid → HandlesHello moment key id device name mid back l' → Goes true moment l hs l'
 greets moment key id device name e new l front mid back l' hs whole just (inl (alone, (outcome, it))) =
     let waits = awaits moment device key e new l front mid just.good just.silent just.named just.fresh just.due (alone_now device key new l mid just.after alone) in
     awaits_named moment device key name outcome l front mid back l' hs whole waits (happened moment (Is.Report device (report.Hello name)) outcome mid back l' waits.good it)
@@ -202,22 +202,22 @@ greets moment key id device name e new l front mid back l' hs whole just (inr (i
 greets moment key id device name e new l front mid back l' hs whole just (inr (inr (old, has, it))) =
     let here : mid.entries key ≡ Some new = ap (λ (x : Ledger). x.entries key) just.after ∙ at_here key new l.entries in
     let way = gives_way_at key (mid.entries key) new mid it.front it.mid here it.first in
-    let ended : l' ≡ with_entry key (given_up new) mid = it.second.1 ∙ way.1 in
+    let ended : l' ≡ with_entry key (superseded_entry new) mid = it.second.1 ∙ way.1 in
     let quiet : run_notes back ≡ [] = ap run_notes it.whole ∙ (notes_append it.front it.back ∙ (ap (λ (ns : List Note). ns ++ run_notes it.back) (ap run_notes way.0) ∙ ap run_notes it.second.0)) in
     let silent_all : run_notes hs ≡ [] = ap run_notes whole ∙ (notes_append front back ∙ (ap (λ (ns : List Note). ns ++ run_notes back) just.silent ∙ quiet)) in
     goes_calm true moment l hs l' just.good (record {
       core = ap (λ (x : Ledger). x.core) ended ∙ ap (λ (x : Ledger). x.core) just.after;
       closed = ap (λ (x : Ledger). x.closed) ended ∙ ap (λ (x : Ledger). x.closed) just.after;
       notes = silent_all;
-      each = λ k. by ended k (at_cases key (given_up new) mid.entries k) (at_cases key new l.entries k);
+      each = λ k. by ended k (at_cases key (superseded_entry new) mid.entries k) (at_cases key new l.entries k);
     })
   where
-    by : l' ≡ with_entry key (given_up new) mid → (k : ℕ) → ((k ≡ key) × (at_key key (Some (given_up new)) mid.entries k ≡ Some (given_up new))) ⊎ ((k ≢ key) × (at_key key (Some (given_up new)) mid.entries k ≡ mid.entries k))
+    by : l' ≡ with_entry key (superseded_entry new) mid → (k : ℕ) → ((k ≡ key) × (at_key key (Some (superseded_entry new)) mid.entries k ≡ Some (superseded_entry new))) ⊎ ((k ≢ key) × (at_key key (Some (superseded_entry new)) mid.entries k ≡ mid.entries k))
         → ((k ≡ key) × (at_key key (Some new) l.entries k ≡ Some new)) ⊎ ((k ≢ key) × (at_key key (Some new) l.entries k ≡ l.entries k)) → Ordered (λ d. []) (l.entries k) (l'.entries k)
     by ended k (inl (same, its)) second =
         subst (λ (o : Option Entry). Ordered (λ d. []) o (l'.entries k)) (sym (ap l.entries same ∙ just.there))
         (subst (λ (o : Option Entry). Ordered (λ d. []) (Some e) o) (sym (ap (λ (x : Ledger). x.entries k) ended ∙ its))
-        (ordered_broken (λ d. []) e (given_up new) refl (λ d is. absurd (unnamed_device new.progress d is)) (λ client. absurd (just.link client)) (λ client. absurd (named_client new.progress device just.named client))))
+        (ordered_broken (λ d. []) e (superseded_entry new) refl (λ d is. absurd (unnamed_device new.progress d is)) (λ client. absurd (just.link client)) (λ client. absurd (named_client new.progress device just.named client))))
     by ended k (inr (apart, its)) (inl (same, two)) = absurd (apart same)
     by ended k (inr (apart, its)) (inr (aside, two)) =
         subst (λ (o : Option Entry). Ordered (λ d. []) (l.entries k) o) (sym (ap (λ (x : Ledger). x.entries k) ended ∙ (its ∙ (ap (λ (x : Ledger). x.entries k) just.after ∙ two)))) (ordered_still (l.entries k))

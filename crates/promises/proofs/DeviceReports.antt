@@ -1,4 +1,4 @@
--- The changes of a connection between one ledger and the next, and the reports of a device that the core was told by then.
+-- The changes of a connection between one ledger and the next, and the reports of a device that the core was notified by then.
 use Rattle.std.proofs.Common.{◌≡◌, ◌≢◌, ℕ, Bool, true, false, List, [], ◌∷◌, ◌++◌, map, filter, cond, refl, sym, ◌∙◌, ap, subst, append_assoc, append-nil, Option, Some, None, ◌⊎◌, inl, inr, All}
 use Rattle.std.specs.Prelude.{◌==◌, if◌then◌else◌}
 use Rattle.std.specs.List.{flat_map}
@@ -10,7 +10,7 @@ use Rattle.device_link.specs.Stream.{ParsesFirst}
 use Rattle.connections.specs.Entry.{PeerRecord, Http, Queue, Link, Entry, device_of, reading, unnamed}
 use Rattle.server.specs.Ledger.{Ledger, Fate, at_key, without}
 use Rattle.server.specs.Enqueuing.{IsDevice}
-use Rattle.server.specs.Greeting.{IsAlone}
+use Rattle.server.specs.Hello.{IsAlone}
 use Rattle.promises.specs.Orders.{names}
 use Rattle.promises.specs.Heard.{said_on, life_of, is_of, progress_of, HasBroken, IsGivenUp, IsNow, IsReported, IsGreeted, IsRead}
 use Rattle.promises.proofs.SentToDevices.{same_key, other_key, is_key, not_key, one_entry, no_true}
@@ -215,27 +215,27 @@ given_passes device past l l' closed passes all =
 closed_same : (device : ℕ) (past : List PeerRecord) (l l' : Ledger) → l'.closed ≡ l.closed → filter (is_of device) past ≡ filter (is_of device) (map progress_of l.closed) → filter (is_of device) past ≡ filter (is_of device) (map progress_of l'.closed)
 closed_same device past l l' same is = is ∙ ap (λ (closed : List (Entry × Fate)). filter (is_of device) (map progress_of closed)) (sym same)
 
-pub reported_keeps : (device : ℕ) (told : List ReportRecord) (l l' : Ledger) → l'.closed ≡ l.closed → ((k : ℕ) → Keeps device (l.entries k) (l'.entries k)) → IsReported device told l → IsReported device told l'
-reported_keeps device told l l' closed keeps r = record {
+pub reported_keeps : (device : ℕ) (notified : List ReportRecord) (l l' : Ledger) → l'.closed ≡ l.closed → ((k : ℕ) → Keeps device (l.entries k) (l'.entries k)) → IsReported device notified l → IsReported device notified l'
+reported_keeps device notified l l' closed keeps r = record {
   past = r.past;
   now = r.now;
   whole = r.whole;
   closed = closed_same device r.past l l' closed r.closed;
-  given_up = given_passes device r.past l l' closed (λ k. (keeps k).passes) r.given_up;
+  superseded_entry = given_passes device r.past l l' closed (λ k. (keeps k).passes) r.superseded_entry;
   is_now = now_keeps device r.now l l' keeps r.is_now;
 }
 
-pub reported_kept : (device : ℕ) (told : List ReportRecord) (l l' : Ledger) → KeptAll l l' → IsReported device told l → IsReported device told l'
-reported_kept device told l l' kept r = reported_keeps device told l l' kept.closed (λ k. kept_keeps device (l.entries k) (l'.entries k) (kept.each k)) r
+pub reported_kept : (device : ℕ) (notified : List ReportRecord) (l l' : Ledger) → KeptAll l l' → IsReported device notified l → IsReported device notified l'
+reported_kept device notified l l' kept r = reported_keeps device notified l l' kept.closed (λ k. kept_keeps device (l.entries k) (l'.entries k) (kept.each k)) r
 
-pub reported_as : (device : ℕ) (told other : List ReportRecord) (l : Ledger) → told ≡ other → IsReported device told l → IsReported device other l
-reported_as device told other l same r = subst (λ (reports : List ReportRecord). IsReported device reports l) same r
+pub reported_as : (device : ℕ) (notified other : List ReportRecord) (l : Ledger) → notified ≡ other → IsReported device notified l → IsReported device other l
+reported_as device notified other l same r = subst (λ (reports : List ReportRecord). IsReported device reports l) same r
 
 -- ---- a connection's end
 
 -- a connection ended on which this was said
-past_more : (past : List PeerRecord) (progress : PeerRecord) (now told : List ReportRecord) → told ≡ flat_map life_of past ++ now → said_on progress ≡ now → told ++ SaysGone ∷ [] ≡ flat_map life_of (past ++ progress ∷ []) ++ []
-past_more past progress now told whole said =
+past_more : (past : List PeerRecord) (progress : PeerRecord) (now notified : List ReportRecord) → notified ≡ flat_map life_of past ++ now → said_on progress ≡ now → notified ++ SaysGone ∷ [] ≡ flat_map life_of (past ++ progress ∷ []) ++ []
+past_more past progress now notified whole said =
     ap (λ (reports : List ReportRecord). reports ++ SaysGone ∷ []) whole
     ∙ (append_assoc (flat_map life_of past) now (SaysGone ∷ [])
     ∙ (ap (λ (reports : List ReportRecord). flat_map life_of past ++ (reports ++ SaysGone ∷ [])) (sym said)
@@ -260,10 +260,10 @@ given_left device key e fate past l there all =
     All-weaker (λ (progress : PeerRecord). is_of device progress ≡ false → IsGivenUp progress l) (λ (progress : PeerRecord). is_of device progress ≡ false → IsGivenUp progress (without key e fate l))
     (λ progress up isnt. let it = up isnt in (it.0, broken_left progress key e fate l there it.1)) past all
 
--- the reports that the core is told as a connection ends
-abbrev pub gone_told : ℕ → Option ℕ → List ReportRecord
-gone_told device None = []
-gone_told device (Some other) = if other == device then SaysGone ∷ [] else []
+-- the reports that the core is notified as a connection ends
+abbrev pub gone_notified : ℕ → Option ℕ → List ReportRecord
+gone_notified device None = []
+gone_notified device (Some other) = if other == device then SaysGone ∷ [] else []
 
 -- the one open connection that bears a device's name
 pub record OneOf (device : ℕ) (now : List ReportRecord) (key : ℕ) (e : Entry) (l : Ledger) : Type 0 where
@@ -283,13 +283,13 @@ only_one device now key e l there named (inr (k, d, at, progress, alone)) = by_k
     other : key ≢ k → OneOf device now key e l
     other apart = absurd (alone key apart (subst (IsDevice device) (sym there) named))
 
-left_named : (device key : ℕ) (e : Entry) (fate : Fate) (told : List ReportRecord) (l : Ledger) → l.entries key ≡ Some e → device_of e.progress ≡ Some device → IsReported device told l → IsReported device (told ++ SaysGone ∷ []) (without key e fate l)
-left_named device key e fate told l there named r = record {
+left_named : (device key : ℕ) (e : Entry) (fate : Fate) (notified : List ReportRecord) (l : Ledger) → l.entries key ≡ Some e → device_of e.progress ≡ Some device → IsReported device notified l → IsReported device (notified ++ SaysGone ∷ []) (without key e fate l)
+left_named device key e fate notified l there named r = record {
   past = r.past ++ e.progress ∷ [];
   now = [];
-  whole = past_more r.past e.progress r.now told r.whole (ap said_on one.progress);
+  whole = past_more r.past e.progress r.now notified r.whole (ap said_on one.progress);
   closed = filter-append (is_of device) r.past (e.progress ∷ []) ∙ (ap (λ (progresses : List PeerRecord). progresses ++ filter (is_of device) (e.progress ∷ [])) r.closed ∙ sym (closed_more device l.closed (e, fate)));
-  given_up = All-append (λ (progress : PeerRecord). is_of device progress ≡ false → IsGivenUp progress (without key e fate l)) r.past (e.progress ∷ []) (given_left device key e fate r.past l there r.given_up)
+  superseded_entry = All-append (λ (progress : PeerRecord). is_of device progress ≡ false → IsGivenUp progress (without key e fate l)) r.past (e.progress ∷ []) (given_left device key e fate r.past l there r.superseded_entry)
       (All-cons (λ (progress : PeerRecord). is_of device progress ≡ false → IsGivenUp progress (without key e fate l)) e.progress [] (λ isnt. absurd (no_true (is_of device e.progress) this isnt)) (All-nil (λ (progress : PeerRecord). is_of device progress ≡ false → IsGivenUp progress (without key e fate l))));
   is_now = inl (λ k is. by_key k key (λ same. subst (IsDevice device) (here key None l.entries k same) is) (λ apart. one.alone k apart (subst (IsDevice device) (aside key None l.entries k apart) is)), refl);
 }
@@ -300,13 +300,13 @@ left_named device key e fate told l there named r = record {
     this : is_of device e.progress ≡ true
     this = ap (names device) named ∙ is_key device
 
-left_other : (device key : ℕ) (e : Entry) (fate : Fate) (told : List ReportRecord) (l : Ledger) → l.entries key ≡ Some e → is_of device e.progress ≡ false → IsReported device told l → IsReported device told (without key e fate l)
-left_other device key e fate told l there isnt r = record {
+left_other : (device key : ℕ) (e : Entry) (fate : Fate) (notified : List ReportRecord) (l : Ledger) → l.entries key ≡ Some e → is_of device e.progress ≡ false → IsReported device notified l → IsReported device notified (without key e fate l)
+left_other device key e fate notified l there isnt r = record {
   past = r.past;
   now = r.now;
   whole = r.whole;
   closed = r.closed ∙ (sym (append-nil (filter (is_of device) (map progress_of l.closed))) ∙ (ap (λ (progresses : List PeerRecord). filter (is_of device) (map progress_of l.closed) ++ progresses) (sym none) ∙ sym (closed_more device l.closed (e, fate))));
-  given_up = given_left device key e fate r.past l there r.given_up;
+  superseded_entry = given_left device key e fate r.past l there r.superseded_entry;
   is_now = by r.is_now;
 }
   where
@@ -324,29 +324,29 @@ left_other device key e fate told l there isnt r = record {
     by (inr (k, d, at, progress, alone)) =
         inr (k, d, aside key None l.entries k (λ same. never (ap (λ (x : Entry). device_of x.progress) (one_entry e d (sym there ∙ (ap l.entries (sym same) ∙ at))) ∙ ap device_of progress)) ∙ at, progress, λ j apart is. alone j apart (was j is))
 
-pub reported_left : (device key : ℕ) (o : Option ℕ) (e : Entry) (fate : Fate) (told : List ReportRecord) (l : Ledger) → l.entries key ≡ Some e → device_of e.progress ≡ o → IsReported device told l → IsReported device (told ++ gone_told device o) (without key e fate l)
-reported_left device key None e fate told l there is r =
-    reported_as device told (told ++ []) (without key e fate l) (sym (append-nil told)) (left_other device key e fate told l there (ap (names device) is) r)
-reported_left device key (Some other) e fate told l there is r = by (other == device) refl
+pub reported_left : (device key : ℕ) (o : Option ℕ) (e : Entry) (fate : Fate) (notified : List ReportRecord) (l : Ledger) → l.entries key ≡ Some e → device_of e.progress ≡ o → IsReported device notified l → IsReported device (notified ++ gone_notified device o) (without key e fate l)
+reported_left device key None e fate notified l there is r =
+    reported_as device notified (notified ++ []) (without key e fate l) (sym (append-nil notified)) (left_other device key e fate notified l there (ap (names device) is) r)
+reported_left device key (Some other) e fate notified l there is r = by (other == device) refl
   where
-    by : (t : Bool) → (other == device) ≡ t → IsReported device (told ++ (if t then SaysGone ∷ [] else [])) (without key e fate l)
-    by true same = left_named device key e fate told l there (is ∙ ap (λ (d : ℕ). Some d) (same_key other device same)) r
-    by false apart = reported_as device told (told ++ []) (without key e fate l) (sym (append-nil told)) (left_other device key e fate told l there (ap (names device) is ∙ apart) r)
+    by : (t : Bool) → (other == device) ≡ t → IsReported device (notified ++ (if t then SaysGone ∷ [] else [])) (without key e fate l)
+    by true same = left_named device key e fate notified l there (is ∙ ap (λ (d : ℕ). Some d) (same_key other device same)) r
+    by false apart = reported_as device notified (notified ++ []) (without key e fate l) (sym (append-nil notified)) (left_other device key e fate notified l there (ap (names device) is ∙ apart) r)
 
 -- the connection is closed, and then no report of a device changes any more
-pub reported_closed : (device key : ℕ) (e : Entry) (fate : Fate) (told : List ReportRecord) (l m l' : Ledger) → l.entries key ≡ Some e → m ≡ without key e fate l → KeptAll m l' → IsReported device told l → IsReported device (told ++ gone_told device (device_of e.progress)) l'
-reported_closed device key e fate told l m l' there after kept r =
-    reported_kept device (told ++ gone_told device (device_of e.progress)) m l' kept
-    (subst (λ (x : Ledger). IsReported device (told ++ gone_told device (device_of e.progress)) x) (sym after) (reported_left device key (device_of e.progress) e fate told l there refl r))
+pub reported_closed : (device key : ℕ) (e : Entry) (fate : Fate) (notified : List ReportRecord) (l m l' : Ledger) → l.entries key ≡ Some e → m ≡ without key e fate l → KeptAll m l' → IsReported device notified l → IsReported device (notified ++ gone_notified device (device_of e.progress)) l'
+reported_closed device key e fate notified l m l' there after kept r =
+    reported_kept device (notified ++ gone_notified device (device_of e.progress)) m l' kept
+    (subst (λ (x : Ledger). IsReported device (notified ++ gone_notified device (device_of e.progress)) x) (sym after) (reported_left device key (device_of e.progress) e fate notified l there refl r))
 
 -- ---- a device says more
 
 -- of a device, where it is this one
-abbrev pub told_if : ℕ → ℕ → List ReportRecord → List ReportRecord
-told_if device dev reports = if dev == device then reports else []
+abbrev pub notified_if : ℕ → ℕ → List ReportRecord → List ReportRecord
+notified_if device dev reports = if dev == device then reports else []
 
-more_told : (past : List PeerRecord) (now told : List ReportRecord) (said : ReportRecord) → told ≡ flat_map life_of past ++ now → told ++ said ∷ [] ≡ flat_map life_of past ++ (now ++ said ∷ [])
-more_told past now told said whole = ap (λ (reports : List ReportRecord). reports ++ said ∷ []) whole ∙ append_assoc (flat_map life_of past) now (said ∷ [])
+more_notified : (past : List PeerRecord) (now notified : List ReportRecord) (said : ReportRecord) → notified ≡ flat_map life_of past ++ now → notified ++ said ∷ [] ≡ flat_map life_of past ++ (now ++ said ∷ [])
+more_notified past now notified said whole = ap (λ (reports : List ReportRecord). reports ++ said ∷ []) whole ∙ append_assoc (flat_map life_of past) now (said ∷ [])
 
 -- the other device's
 other_device : (device dev : ℕ) → (dev == device) ≡ false → (o : Option Entry) (e : Entry) → o ≡ Some e → device_of e.progress ≡ Some dev → IsDevice device o → ⊥
@@ -373,22 +373,22 @@ pub record More (dev key : ℕ) (said : ReportRecord) (l l' : Ledger) : Type 0 w
   pub others : (k : ℕ) → k ≢ key → Kept (l.entries k) (l'.entries k)
   pub closed : l'.closed ≡ l.closed
 
-pub reported_more : (device dev key : ℕ) (said : ReportRecord) (told : List ReportRecord) (l l' : Ledger) → More dev key said l l' → IsReported device told l → IsReported device (told ++ told_if device dev (said ∷ [])) l'
-reported_more device dev key said told l l' m r = by (dev == device) refl
+pub reported_more : (device dev key : ℕ) (said : ReportRecord) (notified : List ReportRecord) (l l' : Ledger) → More dev key said l l' → IsReported device notified l → IsReported device (notified ++ notified_if device dev (said ∷ [])) l'
+reported_more device dev key said notified l l' m r = by (dev == device) refl
   where
     passes : (k : ℕ) → Passes (l.entries k) (l'.entries k)
     passes k = by_key k key (λ same. passes_named dev m.d (l.entries k) (l'.entries k) (ap l.entries same ∙ m.there) (ap device_of m.progress)) (λ apart. kept_passes (l.entries k) (l'.entries k) (m.others k apart))
 
-    this : dev ≡ device → IsReported device (told ++ said ∷ []) l'
+    this : dev ≡ device → IsReported device (notified ++ said ∷ []) l'
     this same =
         let one = only_one device r.now key m.d l m.there (ap device_of m.progress ∙ ap (λ (x : ℕ). Some x) same) r.is_now in
         let are : m.reports ≡ r.now = same_reports m.reports r.now dev device (sym m.progress ∙ one.progress) in
         record {
           past = r.past;
           now = r.now ++ said ∷ [];
-          whole = more_told r.past r.now told said r.whole;
+          whole = more_notified r.past r.now notified said r.whole;
           closed = closed_same device r.past l l' m.closed r.closed;
-          given_up = given_passes device r.past l l' m.closed passes r.given_up;
+          superseded_entry = given_passes device r.past l l' m.closed passes r.superseded_entry;
           is_now = inr (
             key,
             m.f,
@@ -398,11 +398,11 @@ reported_more device dev key said told l l' m r = by (dev == device) refl
           );
         }
 
-    by : (t : Bool) → (dev == device) ≡ t → IsReported device (told ++ (if t then said ∷ [] else [])) l'
+    by : (t : Bool) → (dev == device) ≡ t → IsReported device (notified ++ (if t then said ∷ [] else [])) l'
     by true same = this (same_key dev device same)
     by false apart =
-        reported_as device told (told ++ []) l' (sym (append-nil told))
-        (reported_keeps device told l l' m.closed
+        reported_as device notified (notified ++ []) l' (sym (append-nil notified))
+        (reported_keeps device notified l l' m.closed
         (λ k.
         by_key k key
         (λ same.
@@ -423,9 +423,9 @@ pub record Named (dev key : ℕ) (name : List ℕ) (l l' : Ledger) : Type 0 wher
   pub closed : l'.closed ≡ l.closed
 
 -- on the first connection that it has
-pub reported_named : (device dev key : ℕ) (name : List ℕ) (told : List ReportRecord) (l l' : Ledger) → Named dev key name l l' → IsAlone dev key l → ((k : ℕ) → k ≢ key → Kept (l.entries k) (l'.entries k)) → IsReported device told l
-    → IsReported device (told ++ told_if device dev (SaysHello name ∷ [])) l'
-reported_named device dev key name told l l' m alone others r = by (dev == device) refl
+pub reported_named : (device dev key : ℕ) (name : List ℕ) (notified : List ReportRecord) (l l' : Ledger) → Named dev key name l l' → IsAlone dev key l → ((k : ℕ) → k ≢ key → Kept (l.entries k) (l'.entries k)) → IsReported device notified l
+    → IsReported device (notified ++ notified_if device dev (SaysHello name ∷ [])) l'
+reported_named device dev key name notified l l' m alone others r = by (dev == device) refl
   where
     passes : (k : ℕ) → Passes (l.entries k) (l'.entries k)
     passes k = by_key k key (λ same. passes_sound m.d (l.entries k) (l'.entries k) (ap l.entries same ∙ m.there) m.sound) (λ apart. kept_passes (l.entries k) (l'.entries k) (others k apart))
@@ -436,13 +436,13 @@ reported_named device dev key name told l l' m alone others r = by (dev == devic
         let is : IsDevice device (l.entries k) = subst (IsDevice device) (sym at) (ap device_of progress) in
         by_key k key (λ here. absurd (nameless_none device (l.entries k) m.d (ap l.entries here ∙ m.there) m.nameless is)) (λ apart. absurd (alone k apart (subst (λ (x : ℕ). IsDevice x (l.entries k)) (sym same) is)))
 
-    this : dev ≡ device → IsReported device (told ++ SaysHello name ∷ []) l'
+    this : dev ≡ device → IsReported device (notified ++ SaysHello name ∷ []) l'
     this same = record {
       past = r.past;
       now = SaysHello name ∷ [];
-      whole = more_told r.past r.now told (SaysHello name) r.whole ∙ ap (λ (reports : List ReportRecord). flat_map life_of r.past ++ (reports ++ SaysHello name ∷ [])) (none same r.is_now);
+      whole = more_notified r.past r.now notified (SaysHello name) r.whole ∙ ap (λ (reports : List ReportRecord). flat_map life_of r.past ++ (reports ++ SaysHello name ∷ [])) (none same r.is_now);
       closed = closed_same device r.past l l' m.closed r.closed;
-      given_up = given_passes device r.past l l' m.closed passes r.given_up;
+      superseded_entry = given_passes device r.past l l' m.closed passes r.superseded_entry;
       is_now = inr (
         key,
         m.f,
@@ -452,11 +452,11 @@ reported_named device dev key name told l l' m alone others r = by (dev == devic
       );
     }
 
-    by : (t : Bool) → (dev == device) ≡ t → IsReported device (told ++ (if t then SaysHello name ∷ [] else [])) l'
+    by : (t : Bool) → (dev == device) ≡ t → IsReported device (notified ++ (if t then SaysHello name ∷ [] else [])) l'
     by true same = this (same_key dev device same)
     by false apart =
-        reported_as device told (told ++ []) l' (sym (append-nil told))
-        (reported_keeps device told l l' m.closed
+        reported_as device notified (notified ++ []) l' (sym (append-nil notified))
+        (reported_keeps device notified l l' m.closed
         (λ k.
         by_key k key
         (λ same.
@@ -481,8 +481,8 @@ unnamed_nameless (Http said closes body) = refl
 unnamed_nameless (Queue items session) = refl
 unnamed_nameless (Link reports device) = refl
 
-pub reported_over : (device dev key other : ℕ) (name : List ℕ) (told : List ReportRecord) (l l' : Ledger) → Named dev key name l l' → Over dev key other l l' → IsReported device told l → IsReported device (told ++ told_if device dev (SaysGone ∷ SaysHello name ∷ [])) l'
-reported_over device dev key other name told l l' m v r = by (dev == device) refl
+pub reported_over : (device dev key other : ℕ) (name : List ℕ) (notified : List ReportRecord) (l l' : Ledger) → Named dev key name l l' → Over dev key other l l' → IsReported device notified l → IsReported device (notified ++ notified_if device dev (SaysGone ∷ SaysHello name ∷ [])) l'
+reported_over device dev key other name notified l l' m v r = by (dev == device) refl
   where
     nameless : device_of v.g.progress ≡ None
     nameless = ap device_of v.after ∙ unnamed_nameless v.o.progress
@@ -492,17 +492,17 @@ reported_over device dev key other name told l l' m v r = by (dev == device) ref
         by_key k key (λ same. passes_sound m.d (l.entries k) (l'.entries k) (ap l.entries same ∙ m.there) m.sound)
         (λ apart. by_key k other (λ same. passes_named dev v.o (l.entries k) (l'.entries k) (ap l.entries same ∙ v.there) v.named) (λ away. kept_passes (l.entries k) (l'.entries k) (v.others k apart away)))
 
-    this : dev ≡ device → IsReported device (told ++ SaysGone ∷ SaysHello name ∷ []) l'
+    this : dev ≡ device → IsReported device (notified ++ SaysGone ∷ SaysHello name ∷ []) l'
     this same =
         let one = only_one device r.now other v.o l v.there (v.named ∙ ap (λ (x : ℕ). Some x) same) r.is_now in
         let progress : v.g.progress ≡ Link r.now None = v.after ∙ ap unnamed one.progress in
         record {
           past = r.past ++ Link r.now None ∷ [];
           now = SaysHello name ∷ [];
-          whole = sym (append_assoc told (SaysGone ∷ []) (SaysHello name ∷ []))
-              ∙ ap (λ (reports : List ReportRecord). reports ++ SaysHello name ∷ []) (past_more r.past (Link r.now None) r.now told r.whole refl ∙ append-nil (flat_map life_of (r.past ++ Link r.now None ∷ [])));
+          whole = sym (append_assoc notified (SaysGone ∷ []) (SaysHello name ∷ []))
+              ∙ ap (λ (reports : List ReportRecord). reports ++ SaysHello name ∷ []) (past_more r.past (Link r.now None) r.now notified r.whole refl ∙ append-nil (flat_map life_of (r.past ++ Link r.now None ∷ [])));
           closed = filter-append (is_of device) r.past (Link r.now None ∷ []) ∙ (append-nil (filter (is_of device) r.past) ∙ closed_same device r.past l l' m.closed r.closed);
-          given_up = All-append (λ (it : PeerRecord). is_of device it ≡ false → IsGivenUp it l') r.past (Link r.now None ∷ []) (given_passes device r.past l l' m.closed passes r.given_up)
+          superseded_entry = All-append (λ (it : PeerRecord). is_of device it ≡ false → IsGivenUp it l') r.past (Link r.now None ∷ []) (given_passes device r.past l l' m.closed passes r.superseded_entry)
               (All-cons (λ (it : PeerRecord). is_of device it ≡ false → IsGivenUp it l') (Link r.now None) [] (λ isnt. (refl, inl (other, v.g, v.now, progress, v.broke))) (All-nil (λ (it : PeerRecord). is_of device it ≡ false → IsGivenUp it l')));
           is_now = inr (
             key,
@@ -514,11 +514,11 @@ reported_over device dev key other name told l l' m v r = by (dev == device) ref
           );
         }
 
-    by : (t : Bool) → (dev == device) ≡ t → IsReported device (told ++ (if t then SaysGone ∷ SaysHello name ∷ [] else [])) l'
+    by : (t : Bool) → (dev == device) ≡ t → IsReported device (notified ++ (if t then SaysGone ∷ SaysHello name ∷ [] else [])) l'
     by true same = this (same_key dev device same)
     by false apart =
-        reported_as device told (told ++ []) l' (sym (append-nil told))
-        (reported_keeps device told l l' m.closed
+        reported_as device notified (notified ++ []) l' (sym (append-nil notified))
+        (reported_keeps device notified l l' m.closed
         (λ k.
         by_key k key
         (λ same.

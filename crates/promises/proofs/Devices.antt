@@ -12,7 +12,7 @@ use Rattle.settings_file.specs.Settings.{ServerSettings, DeviceEntry, device_nam
 use Rattle.device_link.specs.Stream.{ParsesFirst}
 use Rattle.connections.specs.declared.ask.Ask.{Ask}
 use Rattle.connections.specs.declared.ask.Ask.TheVariants as ask
-use Rattle.connections.specs.declared.ask.Growth.TheVariants as growth
+use Rattle.connections.specs.declared.ask.AllocFailure.TheVariants as growth
 use Rattle.connections.specs.declared.step.Step.{Step}
 use Rattle.connections.specs.declared.step.Step.TheVariants as step
 use Rattle.connections.specs.Entry.{PeerRecord, Http, Queue, Link, Entry, device_of, with_progress, finishing, broken}
@@ -36,7 +36,7 @@ IsFine (ask.Unread request) = Unit {0}
 IsFine (ask.Lost part) = Unit {0}
 IsFine (ask.Hello device name) = ⊥
 IsFine (ask.Report device report) = ⊥
-IsFine (ask.Stranger name) = Unit {0}
+IsFine (ask.UnknownDevice name) = Unit {0}
 IsFine (ask.Fault device) = Unit {0}
 
 -- ---- steps of a client
@@ -49,7 +49,7 @@ client_fine (ask.Unread request) is = tt
 client_fine (ask.Lost part) is = tt
 client_fine (ask.Hello device name) is = absurd is
 client_fine (ask.Report device it) is = absurd is
-client_fine (ask.Stranger name) is = absurd is
+client_fine (ask.UnknownDevice name) is = absurd is
 client_fine (ask.Fault device) is = absurd is
 
 pub step_fine : (comes : Step) (mid : Entry) (what : Ask) (new : Entry) → IsClientStep comes → StepsTo comes mid what new → IsFine what
@@ -124,7 +124,7 @@ breaks_grows e mid new after same = grows_as e new (ap (λ (x : Entry). x.progre
     whole : new ≡ broken e
     whole = after ∙ ap broken same
 
--- a stranger's connection breaks
+-- a unknown_device's connection breaks
 pub stranger_grows : (e new : Entry) (reports more : List ReportRecord) → e.progress ≡ Link reports None → e.broken ≡ false → ParsesFirst e.read more → new ≡ broken (with_progress (Link more None) e) → Grows e new
 stranger_grows e new reports more progress sound says whole = record {
   progress = inr (record { sound = sound; before = ap device_of progress; after = ap (λ (x : Entry). device_of x.progress) whole; fresh = λ its is unbroken. absurd (no_true new.broken (ap (λ (x : Entry). x.broken) whole) unbroken) });
@@ -135,7 +135,7 @@ stranger_grows e new reports more progress sound says whole = record {
 pub named_step : (settings : ServerSettings) (name : List ℕ) (place device_after : Option ℕ) (reports : List ReportRecord) (e : Entry) (comes : Step) (mid : Entry) (what : Ask) (new : Entry) → device_named settings name ≡ place → e.progress ≡ Link reports None → e.broken ≡ false → ParsesFirst e.read (reports ++ SaysHello name ∷ [])
     → StepsHello name place comes device_after → mid ≡ with_progress (Link (reports ++ SaysHello name ∷ []) device_after) e → StepsTo comes mid what new → DeviceStep settings what e new
 named_step settings name None device_after reports e comes mid what new placed progress sound says is after steps =
-    let breaks : (what ≡ ask.Stranger name) × (new ≡ broken mid) = subst (λ (s : Step). StepsTo s mid what new) is.0 steps in
+    let breaks : (what ≡ ask.UnknownDevice name) × (new ≡ broken mid) = subst (λ (s : Step). StepsTo s mid what new) is.0 steps in
     let whole : new ≡ broken (with_progress (Link (reports ++ SaysHello name ∷ []) None) e) = breaks.1 ∙ ap broken (after ∙ ap (λ (d : Option ℕ). with_progress (Link (reports ++ SaysHello name ∷ []) d) e) is.1) in
     inl (subst IsFine (sym breaks.0) tt, stranger_grows e new reports (reports ++ SaysHello name ∷ []) progress sound says whole)
 named_step settings name (Some device) device_after reports e comes mid what new placed progress sound says is after steps =

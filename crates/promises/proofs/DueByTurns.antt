@@ -11,7 +11,7 @@ use Rattle.base_types.specs.declared.report.Report.TheVariants as report
 use Rattle.events.specs.declared.event.Event.{Event}
 use Rattle.events.specs.declared.event.Event.TheVariants as Is
 use Rattle.events.specs.declared.effects.Effects.{Effects}
-use Rattle.dispatcher.specs.declared.listener.AllocationSite.TheVariants as At
+use Rattle.dispatcher.specs.declared.observer.AllocationSite.TheVariants as At
 use Rattle.dispatcher.specs.Notes.{Note}
 use Rattle.dispatcher.specs.Run.{reply_of}
 use Rattle.ipp_operations.specs.declared.parsed_request.ParsedRequest.{ParsedRequest}
@@ -29,7 +29,7 @@ use Rattle.server.specs.Ledger.{Ledger, Fate, Drained, opening_ledger}
 use Rattle.server.specs.Rel.{Rel, Nothing, Polls, Chooses, Then, If, Each}
 use Rattle.server.specs.Enqueuing.{Sets, Breaks, Drops}
 use Rattle.server.specs.Happening.{now_at, Happens, Unanswered}
-use Rattle.server.specs.Closing.{ClosesAs, Settles}
+use Rattle.server.specs.Closing.{ClosesAs, ClosesBroken}
 use Rattle.server.specs.Polling.{Opens, AcceptsAs, AcceptsOne, AcceptsAt, FedWhole, FeedsAt, FeedsOne, Fails, ReadsAs, ReadsOpen, ReadsAt, is_read, ReadsOne, WritesAs, WritesOpen, WritesAt, WritesOne, is_done, EndsAt, EndsOne}
 use Rattle.server.specs.Turn as Between
 use Rattle.server.specs.Turn.{Ticks, Notes, is_tick_due, TicksIfDue, Covers, Round, Turn, BodyAsks, BodyComes, Action, Turned, Served_body, Reported, Ticked, Trace, DoesAction, Runs}
@@ -74,7 +74,7 @@ pub moves_feeds : (moment key : ℕ) (bytes : List ℕ) → Moves true moment (F
 moves_feeds moment key bytes l hs l' good it = feeds_at moment key bytes (l.entries key) l hs l' good refl it
 
 pub moves_fails : (moment key : ℕ) → Moves true moment (Fails moment key)
-moves_fails moment key = moves_then true moment (Breaks key) (Settles moment) (moves_calm true moment (Breaks key) (calms_breaks key)) (moves_settles moment)
+moves_fails moment key = moves_then true moment (Breaks key) (ClosesBroken moment) (moves_calm true moment (Breaks key) (calms_breaks key)) (moves_settles moment)
 
 pub calms_poll : (R : Rel) → ((l : Ledger) (hs : List Happening) (l' : Ledger) → R l hs l' → (run_notes hs ≡ []) × (l' ≡ l)) → Calms R
 calms_poll R is l hs l' it = let same = is l hs l' it in calm_still l hs l' same.0 same.1
@@ -126,7 +126,7 @@ writes_at moment key (Some e) l hs l' good there it = writes_if (nat_lt 0 (lengt
 pub moves_writes : (moment key : ℕ) → Moves true moment (WritesOne moment key)
 moves_writes moment key l hs l' good it = writes_at moment key (l.entries key) l hs l' good refl it
 
-pub ends_if : (t : Bool) (moment key : ℕ) (e : Entry) (l : Ledger) (hs : List Happening) (l' : Ledger) → Good l → l.entries key ≡ Some e → If t (Then (ClosesAs moment Drained key e) (Settles moment)) Nothing l hs l' → Goes true moment l hs l'
+pub ends_if : (t : Bool) (moment key : ℕ) (e : Entry) (l : Ledger) (hs : List Happening) (l' : Ledger) → Good l → l.entries key ≡ Some e → If t (Then (ClosesAs moment Drained key e) (ClosesBroken moment)) Nothing l hs l' → Goes true moment l hs l'
 ends_if true moment key e l hs l' good there it =
     let first = closes_at moment Drained key e l it.front it.mid good there it.first in
     goes_then true moment l it.front it.mid it.back l' hs it.whole first (moves_settles moment it.mid it.back l' first.good it.second)
@@ -199,7 +199,7 @@ moves_ticks turn moment l hs l' good it = moves_then turn moment (Notes (now_at 
 
 pub moves_tick : (moment : ℕ) → Moves true moment (TicksIfDue moment)
 moves_tick moment l hs l' good it =
-    moves_if true moment (is_tick_due moment l) (Then (Ticks moment) (Settles moment)) Nothing (moves_then true moment (Ticks moment) (Settles moment) (moves_ticks true moment) (moves_settles moment)) (moves_calm true moment Nothing calms_nothing) l hs l' good it
+    moves_if true moment (is_tick_due moment l) (Then (Ticks moment) (ClosesBroken moment)) Nothing (moves_then true moment (Ticks moment) (ClosesBroken moment) (moves_ticks true moment) (moves_settles moment)) (moves_calm true moment Nothing calms_nothing) l hs l' good it
 
 pub covers_calm : (n : ℕ) → Calms (Covers n)
 covers_calm n l hs l' it = calms_chooses (Looked n) l hs l' it.1
@@ -212,7 +212,7 @@ moves_round moment l hs l' good (n, it) =
 
 pub moves_turn : (moment : ℕ) → Moves true moment (Turn moment)
 moves_turn moment =
-    moves_then true moment (Settles moment) (Then (TicksIfDue moment) (Then (AcceptsAt Ipp) (Then (AcceptsAt Lpd) (Then (AcceptsAt Devices) (Round moment))))) (moves_settles moment)
+    moves_then true moment (ClosesBroken moment) (Then (TicksIfDue moment) (Then (AcceptsAt Ipp) (Then (AcceptsAt Lpd) (Then (AcceptsAt Devices) (Round moment))))) (moves_settles moment)
     (moves_then true moment (TicksIfDue moment) (Then (AcceptsAt Ipp) (Then (AcceptsAt Lpd) (Then (AcceptsAt Devices) (Round moment)))) (moves_tick moment)
     (moves_then true moment (AcceptsAt Ipp) (Then (AcceptsAt Lpd) (Then (AcceptsAt Devices) (Round moment))) (moves_accepts moment Ipp)
     (moves_then true moment (AcceptsAt Lpd) (Then (AcceptsAt Devices) (Round moment)) (moves_accepts moment Lpd) (moves_then true moment (AcceptsAt Devices) (Round moment) (moves_accepts moment Devices) (moves_round moment)))))
@@ -256,7 +256,7 @@ pub record GoesOn_in (trace : Trace) (l l' : Ledger) : Type 0 where
   pub good : Good l'
   pub timed : AreOf trace handled
   pub run : AreHandled l.core handled l'.core
-  pub told : run_notes (happenings_in trace) ≡ flat_map (λ (it : Handled). it.notes) handled
+  pub notified : run_notes (happenings_in trace) ≡ flat_map (λ (it : Handled). it.notes) handled
   pub came : (key device : ℕ) → Counts device (l'.entries key) → CameAs device handled (l.entries key) (l'.entries key)
   pub lost : (key device : ℕ) → IsLost device (l'.entries key) → LostAs device handled (l.entries key) (l'.entries key)
   pub progresses : (key : ℕ) (e : Entry) → l'.entries key ≡ Some e → ClientTalk e.progress → e.broken ≡ false → TalkedAs l.core key handled (l.entries key) e
@@ -269,7 +269,7 @@ goes_on [] l l' good same = record {
   good = subst Good (sym same) good;
   timed = refl;
   run = ap (λ (x : Ledger). x.core) same;
-  told = refl;
+  notified = refl;
   came = λ key device counts. inl (subst (λ (x : Ledger). Counts device (x.entries key)) same counts, ap (λ (x : Ledger). due_at (x.entries key)) same);
   lost = λ key device is. inl (subst (λ (x : Ledger). IsLost device (x.entries key)) same is, ap (λ (x : Ledger). due_at (x.entries key)) same);
   progresses = λ key. progressed_still l.core key [] (l.entries key) (l'.entries key) (λ f is of. (f, subst (λ (x : Ledger). x.entries key ≡ Some f) same is, refl, λ sound. sound, refl, reads_same f)) refl;
@@ -282,10 +282,10 @@ goes_on (action ∷ actions) l l' good (mid, does, runs) =
     record {
       handled = first.handled ++ later.handled;
       good = later.good;
-      timed = (first.handled, later.handled, refl, first.timed, first.told, later.timed);
+      timed = (first.handled, later.handled, refl, first.timed, first.notified, later.timed);
       run = handled_append l.core mid.core l'.core first.handled later.handled first.run later.run;
-      told = notes_append (happenings_of action) (happenings_in actions)
-          ∙ (ap (λ (ns : List Note). ns ++ run_notes (happenings_in actions)) first.told ∙ (ap (λ (ns : List Note). flat_map (λ (it : Handled). it.notes) first.handled ++ ns) later.told ∙ sym (flat_map-append (λ (it : Handled). it.notes) first.handled later.handled)));
+      notified = notes_append (happenings_of action) (happenings_in actions)
+          ∙ (ap (λ (ns : List Note). ns ++ run_notes (happenings_in actions)) first.notified ∙ (ap (λ (ns : List Note). flat_map (λ (it : Handled). it.notes) first.handled ++ ns) later.notified ∙ sym (flat_map-append (λ (it : Handled). it.notes) first.handled later.handled)));
       came = λ key device counts. came_then device first.handled later.handled (l.entries key) (mid.entries key) (l'.entries key) (later.came key device counts) (first.came key device);
       lost = λ key device is. lost_then device first.handled later.handled (l.entries key) (mid.entries key) (l'.entries key) (later.lost key device is) (first.lost key device) (first.came key device);
       progresses = λ key e is of sound. progressed_then l.core mid.core key first.handled later.handled (l.entries key) (mid.entries key) e first.run (later.progresses key e is of sound) (λ d there client unbroken. first.progresses key d there client unbroken);
@@ -335,7 +335,7 @@ module _ (opening : State) (trace : Trace) (l : Ledger) (runs : Runs trace (open
     handled = all.handled;
     timed = all.timed;
     run = all.run;
-    told = all.told;
+    notified = all.notified;
     due = λ key e device there named sound.
         sym (ap due_at there) ∙ due_since None (l.entries key) all.handled device refl (all.came key device (subst (λ (o : Option Entry). Counts device o) (sym there) (named, sound)));
     closed = subst (λ (closed : List (Entry × Fate)). All (λ (it : Entry × Fate). WasSent all.handled it.0) closed) (sym all.closed.closed)
@@ -354,7 +354,7 @@ module _ (opening : State) (trace : Trace) (l : Ledger) (runs : Runs trace (open
     handled = all.handled;
     timed = all.timed;
     run = all.run;
-    told = all.told;
+    notified = all.notified;
     answered = λ key e there client sound. answered_since None key all.handled e refl (all.progresses key e there client sound);
     first = first;
     closed_first = gone;

@@ -9,8 +9,8 @@ use Rattle.events.specs.declared.effects.LpdResponse.TheVariants as shown
 use Rattle.events.specs.declared.effects.Effects.{Effects}
 use Rattle.events.specs.declared.status.Status.{Status}
 use Rattle.events.specs.declared.status.Status.TheVariants.{TemporaryError}
-use Rattle.dispatcher.specs.declared.listener.AllocationSite.{AllocationSite}
-use Rattle.dispatcher.specs.declared.listener.AllocationSite.TheVariants as At
+use Rattle.dispatcher.specs.declared.observer.AllocationSite.{AllocationSite}
+use Rattle.dispatcher.specs.declared.observer.AllocationSite.TheVariants as At
 use Rattle.dispatcher.specs.Notes.{Note, Refused}
 use Rattle.ipp_operations.specs.Reply.{IsReply}
 use Rattle.ipp_operations.specs.QueueText.{ack_of, text_of}
@@ -19,9 +19,9 @@ use Rattle.connections.specs.declared.ask.Client.{Client}
 use Rattle.connections.specs.declared.ask.Client.TheVariants as client
 use Rattle.connections.specs.Steps.{http_status, silent}
 use Rattle.connections.specs.Entry.{Entry, closes_of, broken, owing, needs_memory}
-use Rattle.server.specs.Polls.{Happening, Told, Choice, Found}
+use Rattle.server.specs.Polls.{Happening, Notified, Choice, Found}
 use Rattle.server.specs.Ledger.{Ledger, at_key, with_entry}
-use Rattle.server.specs.Rel.{Rel, Nothing, Tells, Chooses, Then, If}
+use Rattle.server.specs.Rel.{Rel, Nothing, Notifies, Chooses, Then, If}
 use Rattle.server.specs.Enqueuing.{BreaksAt, Breaks, EnqueuesOpen, EnqueuesAt, Enqueues, EnqueuesReplyAt, EnqueuesResponse, EnqueuesStatus}
 use Rattle.server.specs.Answering as Ans
 use Rattle.promises.proofs.AnswerKinds.{IsTyped, IsTypedReply}
@@ -44,7 +44,7 @@ calms_chooses choice l hs l' it = calm_still l hs l' (ap run_notes it.0) it.1
 pub calms_then : (R S : Rel) → Calms R → Calms S → Calms (Then R S)
 calms_then R S r s l hs l' it = sent_then (λ device. []) (λ device. []) l it.front it.mid it.back l' hs it.whole (r l it.front it.mid it.first) (s it.mid it.back l' it.second)
 
-pub calms_refusal : (place : AllocationSite) (id : Option ℕ) → run_notes (Told (Refused place id) ∷ []) ≡ [] → Calms (Tells (Refused place id))
+pub calms_refusal : (place : AllocationSite) (id : Option ℕ) → run_notes (Notified (Refused place id) ∷ []) ≡ [] → Calms (Notifies (Refused place id))
 calms_refusal place id silent l hs l' it = calm_still l hs l' (ap run_notes it.0 ∙ silent) it.1
 
 pub breaks_at : (key : ℕ) (o : Option Entry) (l : Ledger) (hs : List Happening) (l' : Ledger) → l.entries key ≡ o → BreaksAt key o l hs l' → Calm l hs l'
@@ -56,11 +56,11 @@ calms_breaks key l hs l' it = breaks_at key (l.entries key) l hs l' refl it
 
 -- ---- at a client's connection
 
--- The listener is told this, and bytes become due on the connection under a key, as the test has it, where it isn't broken then; of all others nothing is sent.
-pub record Gave (told : List Note) (key : ℕ) (Q : Bool → List ℕ → Type 0) (l : Ledger) (hs : List Happening) (l' : Ledger) : Type 0 where
+-- The observer is notified this, and bytes become due on the connection under a key, as the test has it, where it isn't broken then; of all others nothing is sent.
+pub record Gave (notified : List Note) (key : ℕ) (Q : Bool → List ℕ → Type 0) (l : Ledger) (hs : List Happening) (l' : Ledger) : Type 0 where
   pub core : l'.core ≡ l.core
   pub closed : l'.closed ≡ l.closed
-  pub notes : run_notes hs ≡ told
+  pub notes : run_notes hs ≡ notified
   pub others : (k : ℕ) → k ≢ key → Ordered (λ device. []) (l.entries k) (l'.entries k)
   pub client : IsClient (l.entries key) → IsClient (l'.entries key)
   pub here : (e : Entry) → l'.entries key ≡ Some e → ClientTalk e.progress → e.broken ≡ false → (d : Entry) × (l.entries key ≡ Some d) × (d.progress ≡ e.progress) × (d.broken ≡ false) × ((bytes : List ℕ) × Q (closes_of d.progress) bytes × (e.due ≡ d.due ++ bytes)) × ReadsOn d e
@@ -112,19 +112,19 @@ gave_sets key Q d new l hs l' there progress reads gives breaks silent after = r
     set = ap (λ (x : Ledger). x.entries key) after ∙ at_here key new l.entries
 
 -- first a part after which each connection is as it was
-pub gave_behind : (told : List Note) (key : ℕ) (Q : Bool → List ℕ → Type 0) (R S : Rel) → ((l : Ledger) (hs : List Happening) (l' : Ledger) → R l hs l' → (run_notes hs ≡ told) × (l' ≡ l)) → Gives key Q S → (l : Ledger) (hs : List Happening) (l' : Ledger) → Then R S l hs l' → Gave told key Q l hs l'
-gave_behind told key Q R S still gives l hs l' it =
+pub gave_behind : (notified : List Note) (key : ℕ) (Q : Bool → List ℕ → Type 0) (R S : Rel) → ((l : Ledger) (hs : List Happening) (l' : Ledger) → R l hs l' → (run_notes hs ≡ notified) × (l' ≡ l)) → Gives key Q S → (l : Ledger) (hs : List Happening) (l' : Ledger) → Then R S l hs l' → Gave notified key Q l hs l'
+gave_behind notified key Q R S still gives l hs l' it =
     let first = still l it.front it.mid it.first in
     let g = gives it.mid it.back l' it.second in
-    let says : run_notes hs ≡ told = ap run_notes it.whole ∙ (notes_append it.front it.back ∙ (ap (λ (ns : List Note). run_notes it.front ++ ns) g.notes ∙ (append-nil (run_notes it.front) ∙ first.0))) in
-    let all : Gave told key Q it.mid hs l' = record { core = g.core; closed = g.closed; notes = says; others = g.others; client = g.client; here = g.here; halts = g.halts } in
-    subst (λ (x : Ledger). Gave told key Q x hs l') first.1 all
+    let says : run_notes hs ≡ notified = ap run_notes it.whole ∙ (notes_append it.front it.back ∙ (ap (λ (ns : List Note). run_notes it.front ++ ns) g.notes ∙ (append-nil (run_notes it.front) ∙ first.0))) in
+    let all : Gave notified key Q it.mid hs l' = record { core = g.core; closed = g.closed; notes = says; others = g.others; client = g.client; here = g.here; halts = g.halts } in
+    subst (λ (x : Ledger). Gave notified key Q x hs l') first.1 all
 
 pub gave_after : (key : ℕ) (Q : Bool → List ℕ → Type 0) (R S : Rel) → ((l : Ledger) (hs : List Happening) (l' : Ledger) → R l hs l' → (run_notes hs ≡ []) × (l' ≡ l)) → Gives key Q S → Gives key Q (Then R S)
 gave_after key Q R S still gives l hs l' it = gave_behind [] key Q R S still gives l hs l' it
 
-pub gave_as : (told : List Note) (key : ℕ) (Q R : Bool → List ℕ → Type 0) (l : Ledger) (hs : List Happening) (l' : Ledger) → ((d : Entry) (bytes : List ℕ) → l.entries key ≡ Some d → Q (closes_of d.progress) bytes → R (closes_of d.progress) bytes) → Gave told key Q l hs l' → Gave told key R l hs l'
-gave_as told key Q R l hs l' weaker g = record {
+pub gave_as : (notified : List Note) (key : ℕ) (Q R : Bool → List ℕ → Type 0) (l : Ledger) (hs : List Happening) (l' : Ledger) → ((d : Entry) (bytes : List ℕ) → l.entries key ≡ Some d → Q (closes_of d.progress) bytes → R (closes_of d.progress) bytes) → Gave notified key Q l hs l' → Gave notified key R l hs l'
+gave_as notified key Q R l hs l' weaker g = record {
   core = g.core;
   closed = g.closed;
   notes = g.notes;
@@ -134,8 +134,8 @@ gave_as told key Q R l hs l' weaker g = record {
   halts = g.halts;
 }
 
-pub still_tells : (place : AllocationSite) (id : ℕ) → run_notes (Told (Refused place (Some id)) ∷ []) ≡ Refused place (Some id) ∷ [] → (l : Ledger) (hs : List Happening) (l' : Ledger) → Tells (Refused place (Some id)) l hs l' → (run_notes hs ≡ Refused place (Some id) ∷ []) × (l' ≡ l)
-still_tells place id tells l hs l' it = (ap run_notes it.0 ∙ tells, it.1)
+pub still_notifies : (place : AllocationSite) (id : ℕ) → run_notes (Notified (Refused place (Some id)) ∷ []) ≡ Refused place (Some id) ∷ [] → (l : Ledger) (hs : List Happening) (l' : Ledger) → Notifies (Refused place (Some id)) l hs l' → (run_notes hs ≡ Refused place (Some id) ∷ []) × (l' ≡ l)
+still_notifies place id notifies l hs l' it = (ap run_notes it.0 ∙ notifies, it.1)
 
 pub still_found : (l : Ledger) (hs : List Happening) (l' : Ledger) → Chooses Found l hs l' → (run_notes hs ≡ []) × (l' ≡ l)
 still_found l hs l' it = (ap run_notes it.0, it.1)
@@ -208,10 +208,10 @@ gives_status key status request l hs l' it = gives_reply_at (λ closes. http_sta
 
 -- ---- answers
 
--- the place at which memory was refused for an answer, and the listener's note of it
-abbrev pub told_of : ℕ → Option AllocationSite → List Note
-told_of id None = []
-told_of id (Some place) = Refused place (Some id) ∷ []
+-- the place at which memory was refused for an answer, and the observer's note of it
+abbrev pub notified_of : ℕ → Option AllocationSite → List Note
+notified_of id None = []
+notified_of id (Some place) = Refused place (Some id) ∷ []
 
 -- the bytes that become due by an answer of any kind, where memory was refused so
 abbrev pub LooseIpp : Bool → ℕ → Bool → Response → Option AllocationSite → List ℕ → Type 0
@@ -279,16 +279,16 @@ given moment id key state closes client.LpdJob query None lost bytes of it = (on
 given moment id key state closes client.LpdCommand query (Some reply) lost bytes of it = (no_refusal moment id key state lost it.0, given_command reply.answer bytes of it.1)
 given moment id key state closes client.LpdCommand query None lost bytes of it = it
 
--- the listener is told that memory was refused, or nothing, and bytes become due as the test has it for that
+-- the observer is notified that memory was refused, or nothing, and bytes become due as the test has it for that
 abbrev pub GivesSome : ℕ → ℕ → (Option AllocationSite → Bool → List ℕ → Type 0) → Rel → Type 0
-GivesSome id key Q R = (l : Ledger) (hs : List Happening) (l' : Ledger) → R l hs l' → (lost : Option AllocationSite) × Gave (told_of id lost) key (Q lost) l hs l'
+GivesSome id key Q R = (l : Ledger) (hs : List Happening) (l' : Ledger) → R l hs l' → (lost : Option AllocationSite) × Gave (notified_of id lost) key (Q lost) l hs l'
 
 -- the status that memory was refused
 abbrev pub No_memory : ℕ → Bool → List ℕ → Type 0
 No_memory request closes given = given ≡ http_status closes TemporaryError request
 
 pub gives_dropped : (key id request : ℕ) (l : Ledger) (hs : List Happening) (l' : Ledger) → Ans.Drops key id request l hs l' → Gave (Refused At.Event (Some id) ∷ []) key (No_memory request) l hs l'
-gives_dropped key id request = gave_behind (Refused At.Event (Some id) ∷ []) key (No_memory request) (Tells (Refused At.Event (Some id))) (EnqueuesStatus key TemporaryError request) (still_tells At.Event id refl) (gives_status key TemporaryError request)
+gives_dropped key id request = gave_behind (Refused At.Event (Some id) ∷ []) key (No_memory request) (Notifies (Refused At.Event (Some id))) (EnqueuesStatus key TemporaryError request) (still_notifies At.Event id refl) (gives_status key TemporaryError request)
 
 -- the status is given only if the event is a query
 abbrev pub Lost_memory : ℕ → Bool → Bool → List ℕ → Type 0
@@ -301,7 +301,7 @@ gives_by false query key request is l hs l' it = gives_breaks key (Lost_memory r
 
 pub gives_lost : (key id request : ℕ) (query : Bool) (l : Ledger) (hs : List Happening) (l' : Ledger) → Ans.LosesReply key id request query l hs l' → Gave (Refused At.Reply (Some id) ∷ []) key (Lost_memory request query) l hs l'
 gives_lost key id request query =
-    gave_behind (Refused At.Reply (Some id) ∷ []) key (Lost_memory request query) (Tells (Refused At.Reply (Some id))) (If query (EnqueuesStatus key TemporaryError request) (Breaks key)) (still_tells At.Reply id refl)
+    gave_behind (Refused At.Reply (Some id) ∷ []) key (Lost_memory request query) (Notifies (Refused At.Reply (Some id))) (If query (EnqueuesStatus key TemporaryError request) (Breaks key)) (still_notifies At.Reply id refl)
     (gives_by query query key request refl)
 
 pub gives_replies_with : (key id request : ℕ) (query : Bool) (answer : Response) → GivesSome id key (λ lost closes bytes. LooseIpp closes request query answer lost bytes) (Ans.RepliesWith key id request query answer)
@@ -317,8 +317,8 @@ gives_replies_with key id request query (answered.Ipp answer) l hs l' (inr it) =
 gives_replies_with key id request query (answered.Lpd answer) l hs l' it = (None, gives_nothing key (λ closes bytes. LooseIpp closes request query (answered.Lpd answer) None bytes) (λ closes. refl) l hs l' it)
 gives_replies_with key id request query answered.Nothing l hs l' it = (None, gives_nothing key (λ closes bytes. LooseIpp closes request query answered.Nothing None bytes) (λ closes. refl) l hs l' it)
 
-pub gives_declines : (place : AllocationSite) (key id : ℕ) → run_notes (Told (Refused place (Some id)) ∷ []) ≡ Refused place (Some id) ∷ [] → (l : Ledger) (hs : List Happening) (l' : Ledger) → Ans.Declines place key id l hs l' → Gave (Refused place (Some id) ∷ []) key (Just_these (1 ∷ [])) l hs l'
-gives_declines place key id tells = gave_behind (Refused place (Some id) ∷ []) key (Just_these (1 ∷ [])) (Tells (Refused place (Some id))) (Enqueues key (1 ∷ [])) (still_tells place id tells) (gives_enqueues key (1 ∷ []))
+pub gives_declines : (place : AllocationSite) (key id : ℕ) → run_notes (Notified (Refused place (Some id)) ∷ []) ≡ Refused place (Some id) ∷ [] → (l : Ledger) (hs : List Happening) (l' : Ledger) → Ans.Declines place key id l hs l' → Gave (Refused place (Some id) ∷ []) key (Just_these (1 ∷ [])) l hs l'
+gives_declines place key id notifies = gave_behind (Refused place (Some id) ∷ []) key (Just_these (1 ∷ [])) (Notifies (Refused place (Some id))) (Enqueues key (1 ∷ [])) (still_notifies place id notifies) (gives_enqueues key (1 ∷ []))
 
 -- memory wasn't refused
 abbrev pub Kept : (List ℕ → Type 0) → Option AllocationSite → Bool → List ℕ → Type 0
@@ -331,19 +331,19 @@ gives_shows key id text l hs l' (inl it) = (
 )
 gives_shows key id text l hs l' (inr it) = (
   Some At.Reply,
-  gave_behind (Refused At.Reply (Some id) ∷ []) key (Kept (λ bytes. bytes ≡ text) (Some At.Reply)) (Tells (Refused At.Reply (Some id))) (Breaks key) (still_tells At.Reply id refl) (gives_breaks key (Kept (λ bytes. bytes ≡ text) (Some At.Reply))) l hs l' it,
+  gave_behind (Refused At.Reply (Some id) ∷ []) key (Kept (λ bytes. bytes ≡ text) (Some At.Reply)) (Notifies (Refused At.Reply (Some id))) (Breaks key) (still_notifies At.Reply id refl) (gives_breaks key (Kept (λ bytes. bytes ≡ text) (Some At.Reply))) l hs l' it,
 )
 
-pub gives_told : (key id : ℕ) (answer : LpdResponse) → GivesSome id key (Kept (LooseText answer)) (Ans.IsTold key id answer)
-gives_told key id (shown.Taken taken) l hs l' it = (
+pub gives_notified : (key id : ℕ) (answer : LpdResponse) → GivesSome id key (Kept (LooseText answer)) (Ans.SendsLpd key id answer)
+gives_notified key id (shown.Taken taken) l hs l' it = (
   None,
   gave_as [] key (Just_these (ack_of (shown.Taken taken) ∷ [])) (Kept (LooseText (shown.Taken taken)) None) l hs l' (λ d bytes there these. (refl, these)) (gives_enqueues key (ack_of (shown.Taken taken) ∷ []) l hs l' it),
 )
-gives_told key id (shown.Queue listing) l hs l' it = gives_shows key id (text_of (shown.Queue listing)) l hs l' it
-gives_told key id shown.NoQueue l hs l' it = gives_shows key id (text_of shown.NoQueue) l hs l' it
+gives_notified key id (shown.Queue listing) l hs l' it = gives_shows key id (text_of (shown.Queue listing)) l hs l' it
+gives_notified key id shown.NoQueue l hs l' it = gives_shows key id (text_of shown.NoQueue) l hs l' it
 
 pub gives_shown : (key id : ℕ) (answer : Response) → GivesSome id key (Kept (LooseLpd answer)) (Ans.IsShown key id answer)
-gives_shown key id (answered.Lpd answer) l hs l' it = gives_told key id answer l hs l' it
+gives_shown key id (answered.Lpd answer) l hs l' it = gives_notified key id answer l hs l' it
 gives_shown key id (answered.Ipp answer) l hs l' it = (None, gives_nothing key (Kept (LooseLpd (answered.Ipp answer)) None) (λ closes. (refl, refl)) l hs l' it)
 gives_shown key id answered.Nothing l hs l' it = (None, gives_nothing key (Kept (LooseLpd answered.Nothing) None) (λ closes. (refl, refl)) l hs l' it)
 
@@ -361,6 +361,6 @@ gives_answers key id client.LpdJob query None l hs l' it = (
 gives_answers key id client.LpdCommand query (Some reply) l hs l' it = gives_shown key id reply.answer l hs l' it
 gives_answers key id client.LpdCommand query None l hs l' it = (
   Some At.Event,
-  gave_behind (Refused At.Event (Some id) ∷ []) key (λ closes bytes. Loose closes client.LpdCommand query None (Some At.Event) bytes) (Tells (Refused At.Event (Some id))) (Breaks key) (still_tells At.Event id refl)
+  gave_behind (Refused At.Event (Some id) ∷ []) key (λ closes bytes. Loose closes client.LpdCommand query None (Some At.Event) bytes) (Notifies (Refused At.Event (Some id))) (Breaks key) (still_notifies At.Event id refl)
       (gives_breaks key (λ closes bytes. Loose closes client.LpdCommand query None (Some At.Event) bytes)) l hs l' it,
 )

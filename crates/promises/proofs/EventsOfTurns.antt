@@ -10,7 +10,7 @@ use Rattle.server.specs.Polls.{Happening}
 use Rattle.server.specs.Ledger.{Ledger, Fate, Broken}
 use Rattle.server.specs.Rel.{Rel, Nothing, Then, If, Or, Times, Many, Each}
 use Rattle.server.specs.Happening.{Happens, Unanswered}
-use Rattle.server.specs.Closing.{Leaves, IsGone, ClosesAs, ClosesFirst, Settles}
+use Rattle.server.specs.Closing.{Leaves, IsGone, ClosesAs, ClosesFirst, ClosesBroken}
 use Rattle.promises.specs.Orders.{named_by, run_notes}
 use Rattle.promises.proofs.SentToDevices.{Counts, due_at, Good, IsLost, reads_same}
 use Rattle.promises.proofs.HandledEvents.{goes_plain, happened, Goes, goes_then, goes_calm, goes_event, progressed_still, ClosedAs, stops_still}
@@ -83,5 +83,5 @@ closes_at moment fate key e l hs l' good there it =
     let first = leaves_at moment fate key e l it.front it.mid good there it.first in
     goes_then true moment l it.front it.mid it.back l' hs it.whole first (moves_gone moment (device_of e.progress) it.mid it.back l' first.good it.second)
 
-pub moves_settles : (moment : ℕ) → Moves true moment (Settles moment)
+pub moves_settles : (moment : ℕ) → Moves true moment (ClosesBroken moment)
 moves_settles moment l hs l' good it = moves_many true moment (ClosesFirst moment) (λ a ks b fine first. closes_at moment Broken first.key first.entry a ks b fine first.there first.closes) l hs l' good it.0

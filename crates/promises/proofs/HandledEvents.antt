@@ -21,24 +21,24 @@ use Rattle.events.specs.declared.event.Event.TheVariants as Is
 use Rattle.events.specs.declared.effects.Cancel.{Cancel}
 use Rattle.dispatcher.specs.declared.outcome.Outcome.{Outcome}
 use Rattle.dispatcher.specs.declared.outcome.Outcome.TheVariants.{Dropped, Queried, Undispatched, Idle, Dispatched}
-use Rattle.dispatcher.specs.declared.listener.AllocationSite.{AllocationSite}
+use Rattle.dispatcher.specs.declared.observer.AllocationSite.{AllocationSite}
 use Rattle.dispatcher.specs.Notes.{Note, Refused}
 use Rattle.dispatcher.specs.Run.{Handles}
 use Rattle.connections.specs.Entry.{PeerRecord, Entry, opening_peer, device_of}
-use Rattle.server.specs.Polls.{Happening, Told}
+use Rattle.server.specs.Polls.{Happening, Notified}
 use Rattle.server.specs.Ledger.{Ledger, at_key, job_bytes, Fate}
-use Rattle.server.specs.Rel.{Tells}
+use Rattle.server.specs.Rel.{Notifies}
 use Rattle.server.specs.Enqueuing.{IsDevice}
 use Rattle.server.specs.Happening.{Happens, found_by}
 use Rattle.promises.specs.Answers.{Act, ClientTalk, drains, drained, AreActs, IsFrontOf, IsStateOf, is_asked, asked_by, IsAnswered, IsLast, BrokeAfter, IsCutOff}
 use Rattle.promises.specs.Orders.{EventComes, MemoryRefused, Handled, AreHandled, named_by, IsAt, AreAt, run_note, run_notes, cancel_for, start_for, orders_of, names, due_by}
-use Rattle.promises.proofs.EventNotes.{told_all}
+use Rattle.promises.proofs.EventNotes.{notified_all}
 use Rattle.promises.proofs.SentToDevices.{Counts, due_at, IsFresh, counts_device, same_key, not_key, Ordered, Calm, Good, good_sent, notes_append, sent_by, orders, Stays, IsLost, BreaksAs, lost_device, ReadsOn, reads_same, reads_then}
 
 -- ---- the notes of an event
 
-told_notes : (moment : ℕ) (event : Event) (old : State) (outcome : Outcome) (notes : List Note) (new : State) → Handles moment event old outcome notes new → run_notes (map Told notes) ≡ notes
-told_notes moment event old outcome notes new it = told_all run_note (λ cancel. refl) (λ plan started. refl) refl moment event old outcome notes new it
+notified_notes : (moment : ℕ) (event : Event) (old : State) (outcome : Outcome) (notes : List Note) (new : State) → Handles moment event old outcome notes new → run_notes (map Notified notes) ≡ notes
+notified_notes moment event old outcome notes new it = notified_all run_note (λ cancel. refl) (λ plan started. refl) refl moment event old outcome notes new it
 
 found_silent : (outcome : Outcome) → run_notes (found_by outcome) ≡ []
 found_silent Dropped = refl
@@ -62,9 +62,9 @@ happened moment event outcome l hs l' good it =
     let core : it.mid.core ≡ d.state = ap (λ (x : Ledger). x.core) d.after in
     let good_mid : Good it.mid = subst Good (sym d.after) (record { one = good.one; fresh = good.fresh }) in
     let s = orders outcome it.mid it.back l' good_mid it.second in
-    let told : run_notes it.front ≡ d.notes =
-    ap run_notes d.told ∙ (notes_append (found_by outcome) (map Told d.notes) ∙ (ap (λ (ns : List Note). ns ++ run_notes (map Told d.notes)) (found_silent outcome) ∙ told_notes moment event l.core outcome d.notes d.state d.handles)) in
-    let all : run_notes hs ≡ d.notes = ap run_notes it.whole ∙ (notes_append it.front it.back ∙ (ap (λ (ns : List Note). run_notes it.front ++ ns) s.notes ∙ (append-nil (run_notes it.front) ∙ told))) in
+    let notified : run_notes it.front ≡ d.notes =
+    ap run_notes d.notified ∙ (notes_append (found_by outcome) (map Notified d.notes) ∙ (ap (λ (ns : List Note). ns ++ run_notes (map Notified d.notes)) (found_silent outcome) ∙ notified_notes moment event l.core outcome d.notes d.state d.handles)) in
+    let all : run_notes hs ≡ d.notes = ap run_notes it.whole ∙ (notes_append it.front it.back ∙ (ap (λ (ns : List Note). run_notes it.front ++ ns) s.notes ∙ (append-nil (run_notes it.front) ∙ notified))) in
     record {
       handles = subst (λ (c : State). Handles moment event l.core outcome (run_notes hs) c) (sym (s.core ∙ core)) (subst (λ (ns : List Note). Handles moment event l.core outcome ns d.state) (sym all) d.handles);
       each = λ key.
@@ -456,7 +456,7 @@ pub record Goes (turn : Bool) (moment : ℕ) (l : Ledger) (hs : List Happening) 
   pub good : Good l'
   pub run : AreHandled l.core handled l'.core
   pub timed : AreAt turn moment handled
-  pub told : run_notes hs ≡ flat_map (λ (it : Handled). it.notes) handled
+  pub notified : run_notes hs ≡ flat_map (λ (it : Handled). it.notes) handled
   pub came : (key device : ℕ) → Counts device (l'.entries key) → CameAs device handled (l.entries key) (l'.entries key)
   pub lost : (key device : ℕ) → IsLost device (l'.entries key) → LostAs device handled (l.entries key) (l'.entries key)
   pub progresses : (key : ℕ) (e : Entry) → l'.entries key ≡ Some e → ClientTalk e.progress → e.broken ≡ false → TalkedAs l.core key handled (l.entries key) e
@@ -567,7 +567,7 @@ goes_then turn moment l front mid back l' hs whole p q = record {
   good = q.good;
   run = handled_append l.core mid.core l'.core p.handled q.handled p.run q.run;
   timed = All-append (IsAt turn moment) p.handled q.handled p.timed q.timed;
-  told = ap run_notes whole ∙ (notes_append front back ∙ (ap (λ (ns : List Note). ns ++ run_notes back) p.told ∙ (ap (λ (ns : List Note). flat_map (λ (it : Handled). it.notes) p.handled ++ ns) q.told ∙ sym (flat_map-append (λ (it : Handled). it.notes) p.handled q.handled))));
+  notified = ap run_notes whole ∙ (notes_append front back ∙ (ap (λ (ns : List Note). ns ++ run_notes back) p.notified ∙ (ap (λ (ns : List Note). flat_map (λ (it : Handled). it.notes) p.handled ++ ns) q.notified ∙ sym (flat_map-append (λ (it : Handled). it.notes) p.handled q.handled))));
   came = λ key device counts. came_then device p.handled q.handled (l.entries key) (mid.entries key) (l'.entries key) (q.came key device counts) (p.came key device);
   lost = λ key device is. lost_then device p.handled q.handled (l.entries key) (mid.entries key) (l'.entries key) (q.lost key device is) (p.lost key device) (p.came key device);
   progresses = λ key e is client sound. progressed_then l.core mid.core key p.handled q.handled (l.entries key) (mid.entries key) e p.run (q.progresses key e is client sound) (λ d there of unbroken. p.progresses key d there of unbroken);
@@ -581,7 +581,7 @@ goes_calm turn moment l hs l' good calm = record {
   good = good_sent (λ device. []) l hs l' calm good;
   run = calm.core;
   timed = All-nil (IsAt turn moment);
-  told = calm.notes;
+  notified = calm.notes;
   came = λ key device counts. let it = (calm.each key).counts device counts in inl (it.0, it.1 ∙ append-nil (due_at (l.entries key)));
   lost = λ key device is. lost_by device [] (λ d. []) (l.entries key) (l'.entries key) (sym (append-nil (due_at (l.entries key)))) ((calm.each key).breaks device is);
   progresses = λ key. progressed_still l.core key [] (l.entries key) (l'.entries key) (calm.each key).stays refl;
@@ -615,7 +615,7 @@ goes_plain turn moment key o l hs l' good silent core after here progresses unbr
   };
   run = core;
   timed = All-nil (IsAt turn moment);
-  told = silent;
+  notified = silent;
   came = λ k device counts. inl ((each k).counts device counts);
   lost = λ k device is. inl ((each k).lost device is);
   progresses = λ k e is. progressed k e (k == key) refl (subst (λ (entries : ℕ → Option Entry). entries k ≡ Some e) after is);
@@ -650,7 +650,7 @@ goes_event turn moment event outcome l hs l' good nameless it = record {
   good = good_one moment event outcome l hs l' good it;
   run = (it.handles, refl);
   timed = All-cons (IsAt turn moment) (one_handled moment event outcome hs l' None None) [] (refl, nameless) (All-nil (IsAt turn moment));
-  told = sym (append-nil (run_notes hs));
+  notified = sym (append-nil (run_notes hs));
   came = λ key device counts. inl ((it.each key).counts device counts);
   lost = λ key device is. lost_by device (one_handled moment event outcome hs l' None None ∷ []) (sent_by outcome l'.core) (l.entries key) (l'.entries key) refl ((it.each key).breaks device is);
   progresses = λ key. progressed_still l.core key (one_handled moment event outcome hs l' None None ∷ []) (l.entries key) (l'.entries key) (it.each key).stays refl;
@@ -658,14 +658,14 @@ goes_event turn moment event outcome l hs l' good nameless it = record {
   closed = none_closed l (one_handled moment event outcome hs l' None None ∷ []) l' it.closed;
 }
 
--- memory is refused, and the listener is told so
-pub goes_refused : (turn : Bool) (moment : ℕ) (place : AllocationSite) (id : Option ℕ) (l : Ledger) (hs : List Happening) (l' : Ledger) → Good l → run_notes (Told (Refused place id) ∷ []) ≡ Refused place id ∷ [] → Tells (Refused place id) l hs l' → Goes turn moment l hs l'
-goes_refused turn moment place id l hs l' good tells it = subst (λ (x : Ledger). Goes turn moment l hs x) (sym it.1) (record {
+-- memory is refused, and the observer is notified so
+pub goes_refused : (turn : Bool) (moment : ℕ) (place : AllocationSite) (id : Option ℕ) (l : Ledger) (hs : List Happening) (l' : Ledger) → Good l → run_notes (Notified (Refused place id) ∷ []) ≡ Refused place id ∷ [] → Notifies (Refused place id) l hs l' → Goes turn moment l hs l'
+goes_refused turn moment place id l hs l' good notifies it = subst (λ (x : Ledger). Goes turn moment l hs x) (sym it.1) (record {
   handled = one ∷ [];
   good = good;
   run = ((refl, refl), refl);
   timed = All-cons (IsAt turn moment) one [] (refl, refl) (All-nil (IsAt turn moment));
-  told = ap run_notes it.0 ∙ tells;
+  notified = ap run_notes it.0 ∙ notifies;
   came = λ key device counts. inl (counts, sym (append-nil (due_at (l.entries key))));
   lost = λ key device is. inl (is, refl);
   progresses = λ key. progressed_still l.core key (one ∷ []) (l.entries key) (l.entries key) (λ f there of. (f, there, refl, λ still. still, refl, reads_same f)) refl;
@@ -684,7 +684,7 @@ pub record Awaits (moment device key : ℕ) (l : Ledger) (hs : List Happening) (
   pub good : Good l'
   pub run : AreHandled l.core handled l'.core
   pub timed : AreAt true moment handled
-  pub told : run_notes hs ≡ flat_map (λ (it : Handled). it.notes) handled
+  pub notified : run_notes hs ≡ flat_map (λ (it : Handled). it.notes) handled
   pub only : (other : ℕ) → IsDevice device (l'.entries other) → other ≡ key
   pub due : Counts device (l'.entries key) → due_at (l'.entries key) ≡ []
   pub lost_due : IsLost device (l'.entries key) → due_at (l'.entries key) ≡ []
@@ -713,7 +713,7 @@ awaits_event moment device key event outcome l front mid back l' hs whole p it n
       good = q.good;
       run = handled_append l.core mid.core l'.core p.handled q.handled p.run q.run;
       timed = All-append (IsAt true moment) p.handled q.handled p.timed q.timed;
-      told = ap run_notes whole ∙ (notes_append front back ∙ (ap (λ (ns : List Note). ns ++ run_notes back) p.told ∙ (ap (λ (ns : List Note). flat_map (λ (h : Handled). h.notes) p.handled ++ ns) q.told ∙ sym (flat_map-append (λ (h : Handled). h.notes) p.handled q.handled))));
+      notified = ap run_notes whole ∙ (notes_append front back ∙ (ap (λ (ns : List Note). ns ++ run_notes back) p.notified ∙ (ap (λ (ns : List Note). flat_map (λ (h : Handled). h.notes) p.handled ++ ns) q.notified ∙ sym (flat_map-append (λ (h : Handled). h.notes) p.handled q.handled))));
       only = λ other is. p.only other ((it.each other).device device is);
       due = λ counts.
           let was = (it.each key).counts device counts in
@@ -734,7 +734,7 @@ awaits_named moment device key name outcome l front mid back l' hs whole p it = 
   good = good_one moment (Is.Report device (report.Hello name)) outcome mid back l' p.good it;
   run = handled_append l.core mid.core l'.core p.handled (last ∷ []) p.run (it.handles, refl);
   timed = All-append (IsAt true moment) p.handled (last ∷ []) p.timed (All-cons (IsAt true moment) last [] (refl, refl) (All-nil (IsAt true moment)));
-  told = ap run_notes whole ∙ (notes_append front back ∙ (ap (λ (ns : List Note). ns ++ run_notes back) p.told ∙ (ap (λ (ns : List Note). flat_map (λ (h : Handled). h.notes) p.handled ++ ns) (sym (append-nil (run_notes back))) ∙ sym (flat_map-append (λ (h : Handled). h.notes) p.handled (last ∷ [])))));
+  notified = ap run_notes whole ∙ (notes_append front back ∙ (ap (λ (ns : List Note). ns ++ run_notes back) p.notified ∙ (ap (λ (ns : List Note). flat_map (λ (h : Handled). h.notes) p.handled ++ ns) (sym (append-nil (run_notes back))) ∙ sym (flat_map-append (λ (h : Handled). h.notes) p.handled (last ∷ [])))));
   came = λ other of counts. by other of counts (device == of) refl;
   lost = λ other of is. lost_at other of (device == of) refl ((it.each other).breaks of is);
   progresses = λ other e is client sound.

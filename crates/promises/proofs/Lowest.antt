@@ -4,7 +4,7 @@ use Rattle.std.proofs.lemmas.Bool.{cases_lt}
 use Rattle.connections.specs.Entry.{Entry}
 use Rattle.server.specs.Ledger.{Ledger}
 use Rattle.server.specs.Enqueuing.{IsDevice, IsLowest}
-use Rattle.server.specs.Greeting.{IsDeviceAs, HasOther}
+use Rattle.server.specs.Hello.{IsDeviceAs, HasOther}
 
 least_one : (P : ℕ → Type 0) (x y : ℕ) → P x → ((z : ℕ) → z < x → P z → ⊥) → P y → ((z : ℕ) → z < y → P z → ⊥) → x ≡ y
 least_one P x y is none its nothing =

@@ -1,4 +1,4 @@
--- The listener has notes of each event of a trace, also of a dropped event.
+-- The observer has notes of each event of a trace, also of a dropped event.
 use Rattle.std.proofs.Common.{◌≡◌, ℕ, Bool, true, false, List, [], ◌∷◌, ◌++◌, map, refl, sym, ◌∙◌, ap, subst, Option, Some, None, inl, inr}
 use Rattle.std.specs.Prelude.{◌||◌, All, nat_lt, length, take}
 use Rattle.std.proofs.lemmas.List.{append-nil, append_assoc, map-append}
@@ -23,13 +23,13 @@ use Rattle.events.specs.declared.status.Status.TheVariants.{TemporaryError}
 use Rattle.events.specs.Event.{is_query}
 use Rattle.dispatcher.specs.declared.outcome.Outcome.{Outcome}
 use Rattle.dispatcher.specs.declared.outcome.Outcome.TheVariants.{Dropped, Queried, Undispatched, Idle, Dispatched}
-use Rattle.dispatcher.specs.declared.listener.DeviceRefusal.{DeviceRefusal}
-use Rattle.dispatcher.specs.declared.listener.DeviceRefusal.TheVariants as why
-use Rattle.dispatcher.specs.declared.listener.AllocationSite.{AllocationSite}
-use Rattle.dispatcher.specs.declared.listener.AllocationSite.TheVariants as At
+use Rattle.dispatcher.specs.declared.observer.DeviceRefusal.{DeviceRefusal}
+use Rattle.dispatcher.specs.declared.observer.DeviceRefusal.TheVariants as why
+use Rattle.dispatcher.specs.declared.observer.AllocationSite.{AllocationSite}
+use Rattle.dispatcher.specs.declared.observer.AllocationSite.TheVariants as At
 use Rattle.dispatcher.specs.declared.run.Timed.{Timed}
-use Rattle.dispatcher.specs.Notes.{Note, Planned, Canceled, DeviceRefused, Refused, Tells as Leads}
-use Rattle.dispatcher.specs.Run.{reply_of, cancels_told, Handles, Run}
+use Rattle.dispatcher.specs.Notes.{Note, Planned, Canceled, DeviceRefused, Refused, Notifies as Leads}
+use Rattle.dispatcher.specs.Run.{reply_of, cancel_notes, Handles, Run}
 use Rattle.dispatcher.specs.Step.{TakesNoMemory}
 use Rattle.ipp_operations.specs.declared.parsed_request.ParsedRequest.{ParsedRequest}
 use Rattle.ipp_operations.specs.declared.parsed_request.ParsedRequest.TheVariants as asks
@@ -44,22 +44,22 @@ use Rattle.connections.specs.declared.ask.Ask.{Ask}
 use Rattle.connections.specs.declared.ask.Ask.TheVariants as ask
 use Rattle.connections.specs.declared.ask.Client.{Client}
 use Rattle.connections.specs.declared.ask.Client.TheVariants as client
-use Rattle.connections.specs.declared.ask.Growth.{Growth}
-use Rattle.connections.specs.declared.ask.Growth.TheVariants as growth
+use Rattle.connections.specs.declared.ask.AllocFailure.{AllocFailure}
+use Rattle.connections.specs.declared.ask.AllocFailure.TheVariants as growth
 use Rattle.connections.specs.declared.ask.Part.{Part}
 use Rattle.connections.specs.declared.ask.Part.TheVariants as part
-use Rattle.connections.specs.Entry.{Entry, device_of, closes_of, given_up, broken, owing, needs_memory, reading, waiting}
+use Rattle.connections.specs.Entry.{Entry, device_of, closes_of, superseded_entry, broken, owing, needs_memory, reading, waiting}
 use Rattle.connections.specs.Steps.{http_status}
 use Rattle.connections.specs.Choice.{part_of, lost_of}
-use Rattle.server.specs.Polls.{Happening, Polled, Told, Choice, Found, Asked, Rested, Looked, Chosen}
+use Rattle.server.specs.Polls.{Happening, Polled, Notified, Choice, Found, Asked, Rested, Looked, Chosen}
 use Rattle.server.specs.Ledger.{Ledger, Fate, Drained, Broken, with_entry, job_bytes}
-use Rattle.server.specs.Rel.{Rel, Nothing, Polls, Tells, Chooses, Then, If, Or, Many, Each, EachOf}
+use Rattle.server.specs.Rel.{Rel, Nothing, Polls, Notifies, Chooses, Then, If, Or, Many, Each, EachOf}
 use Rattle.server.specs.Enqueuing.{Sets, BreaksAt, Breaks, Drops, EnqueuesOpen, EnqueuesAt, EnqueuesWhere, Enqueues, EnqueuesOn, EnqueuesReplyAt, EnqueuesResponse, EnqueuesStatus}
 use Rattle.server.specs.Happening.{found_by, Sends, SendsAll, Starts, StartsAll, Orders, Happens, Unanswered}
 use Rattle.server.specs.Closing as Closing
-use Rattle.server.specs.Closing.{Leaves, ClosesAs, ClosesFirst, Settles}
+use Rattle.server.specs.Closing.{Leaves, ClosesAs, ClosesFirst, ClosesBroken}
 use Rattle.server.specs.Answering as Answering
-use Rattle.server.specs.Greeting as Greeting
+use Rattle.server.specs.Hello as Hello
 use Rattle.server.specs.Acting as Acting
 use Rattle.server.specs.Polling.{Opens, AcceptsAs, AcceptsOne, AcceptsAt, Acts, Serves, FedWhole, FedOpen, FeedsAt, FeedsOne, Fails, ReadsAs, ReadsOpen, ReadsAt, is_read, ReadsOne, WritesAs, WritesOpen, WritesAt, WritesOne, is_done, EndsAt, EndsOne}
 use Rattle.server.specs.Turn as Between
@@ -68,7 +68,7 @@ use Rattle.server.specs.Law.{core_note, core_notes, Collects, moment_of, happeni
 use Rattle.server.proofs.Steps.{refusals_append}
 use Rattle.server.proofs.Happening.{refused_of}
 use Rattle.server.proofs.LaterNotes.{notes_append, never, none_before, none_after}
-use Rattle.promises.specs.Dropped.{brings_event, event_note, event_notes, begins_event, events_told, IsToldOf, AreToldOf, TellsDropped}
+use Rattle.promises.specs.Dropped.{brings_event, event_note, event_notes, begins_event, events_notified, IsNotifiedOf, AreNotifiedOf, NotifiesDropped}
 use Rattle.promises.proofs.CombinedParts.{or_within, if_within, many_within, each_within}
 
 -- ---- the notes of events
@@ -124,8 +124,8 @@ quiet_if : (test : Bool) (R S : Rel) → Quietly R → Quietly S → Quietly (If
 quiet_if true R S f g l hs l' it = f l hs l' it
 quiet_if false R S f g l hs l' it = g l hs l' it
 
-quiet_tells : (note : Note) → Silent (Told note ∷ []) → Quietly (Tells note)
-quiet_tells note silent l hs l' it = quiet_by (Told note ∷ []) l l hs l' silent refl it
+quiet_notifies : (note : Note) → Silent (Notified note ∷ []) → Quietly (Notifies note)
+quiet_notifies note silent l hs l' it = quiet_by (Notified note ∷ []) l l hs l' silent refl it
 
 quiet_polls : (poll : Poll) → Quietly (Polls poll)
 quiet_polls poll l hs l' it = quiet_by (Polled poll ∷ []) l l hs l' (λ came. refl) refl it
@@ -136,8 +136,8 @@ quiet_choice choice l hs l' it = quiet_by (Chosen choice ∷ []) l l hs l' (λ c
 quiet_sets : (key : ℕ) (e : Entry) → Quietly (Sets key e)
 quiet_sets key e l hs l' it = quiet_by [] (with_entry key e l) l hs l' (λ came. refl) refl it
 
-quiet_drops : (place : AllocationSite) (key : ℕ) (e : Entry) → Silent (Told (Refused place (Some e.id)) ∷ []) → Quietly (Drops place key e)
-quiet_drops place key e silent l hs l' it = quiet_by (Told (Refused place (Some e.id)) ∷ []) (with_entry key (broken e) l) l hs l' silent refl it
+quiet_drops : (place : AllocationSite) (key : ℕ) (e : Entry) → Silent (Notified (Refused place (Some e.id)) ∷ []) → Quietly (Drops place key e)
+quiet_drops place key e silent l hs l' it = quiet_by (Notified (Refused place (Some e.id)) ∷ []) (with_entry key (broken e) l) l hs l' silent refl it
 
 breaks_at : (key : ℕ) (o : Option Entry) → Quietly (BreaksAt key o)
 breaks_at key None = quiet_nothing
@@ -202,7 +202,7 @@ quiet_orders (Dispatched reply) = quiet_then {R = SendsAll reply} {S = StartsAll
 
 loses_reply : (key id request : ℕ) (query : Bool) → Quietly (Answering.LosesReply key id request query)
 loses_reply key id request query =
-    quiet_then (quiet_tells (Refused At.Reply (Some id)) (λ came. refl)) (quiet_if query (EnqueuesStatus key TemporaryError request) (Breaks key) (quiet_status key TemporaryError request) (quiet_breaks key))
+    quiet_then (quiet_notifies (Refused At.Reply (Some id)) (λ came. refl)) (quiet_if query (EnqueuesStatus key TemporaryError request) (Breaks key) (quiet_status key TemporaryError request) (quiet_breaks key))
 
 replies_with : (key id request : ℕ) (query : Bool) (answer : Response) → Quietly (Answering.RepliesWith key id request query answer)
 replies_with key id request query (answered.Ipp answer) l hs l' (inl (bytes, are, it)) = quiet_then (quiet_choice Found) (quiet_reply key bytes) l hs l' it
@@ -211,38 +211,38 @@ replies_with key id request query (answered.Lpd answer) l hs l' it = quiet_nothi
 replies_with key id request query answered.Nothing l hs l' it = quiet_nothing l hs l' it
 
 quiet_shows : (key id : ℕ) (text : List ℕ) → Quietly (Answering.Shows key id text)
-quiet_shows key id text = quiet_or (quiet_then (quiet_choice Found) (quiet_enqueues key text)) (quiet_then (quiet_tells (Refused At.Reply (Some id)) (λ came. refl)) (quiet_breaks key))
+quiet_shows key id text = quiet_or (quiet_then (quiet_choice Found) (quiet_enqueues key text)) (quiet_then (quiet_notifies (Refused At.Reply (Some id)) (λ came. refl)) (quiet_breaks key))
 
-is_told : (key id : ℕ) (answer : LpdResponse) → Quietly (Answering.IsTold key id answer)
-is_told key id (shown.Taken taken) = quiet_enqueues key (ack_of (shown.Taken taken) ∷ [])
-is_told key id (shown.Queue listing) = quiet_shows key id (text_of (shown.Queue listing))
-is_told key id shown.NoQueue = quiet_shows key id (text_of shown.NoQueue)
+is_notified : (key id : ℕ) (answer : LpdResponse) → Quietly (Answering.SendsLpd key id answer)
+is_notified key id (shown.Taken taken) = quiet_enqueues key (ack_of (shown.Taken taken) ∷ [])
+is_notified key id (shown.Queue listing) = quiet_shows key id (text_of (shown.Queue listing))
+is_notified key id shown.NoQueue = quiet_shows key id (text_of shown.NoQueue)
 
 is_shown : (key id : ℕ) (answer : Response) → Quietly (Answering.IsShown key id answer)
-is_shown key id (answered.Lpd answer) = is_told key id answer
+is_shown key id (answered.Lpd answer) = is_notified key id answer
 is_shown key id (answered.Ipp answer) = quiet_nothing
 is_shown key id answered.Nothing = quiet_nothing
 
-client_told : (key id : ℕ) (who : Client) (query : Bool) (reply : Effects) → Quietly (Answering.Answers key id who query (Some reply))
-client_told key id (client.Ipp request) query reply = replies_with key id request query reply.answer
-client_told key id client.LpdJob query reply = is_shown key id reply.answer
-client_told key id client.LpdCommand query reply = is_shown key id reply.answer
+client_notified : (key id : ℕ) (who : Client) (query : Bool) (reply : Effects) → Quietly (Answering.Answers key id who query (Some reply))
+client_notified key id (client.Ipp request) query reply = replies_with key id request query reply.answer
+client_notified key id client.LpdJob query reply = is_shown key id reply.answer
+client_notified key id client.LpdCommand query reply = is_shown key id reply.answer
 
-body_told : (request : ℕ) (bytes : List ℕ) (reply : Effects) → Quietly (Between.Answers request (Some reply) bytes)
-body_told request bytes reply l hs l' (inl (are, it)) = quiet_choice Found l hs l' it
-body_told request bytes reply l hs l' (inr it) = quiet_tells (Refused At.Reply None) (λ came. refl) l hs l' it
+body_notified : (request : ℕ) (bytes : List ℕ) (reply : Effects) → Quietly (Between.Answers request (Some reply) bytes)
+body_notified request bytes reply l hs l' (inl (are, it)) = quiet_choice Found l hs l' it
+body_notified request bytes reply l hs l' (inr it) = quiet_notifies (Refused At.Reply None) (λ came. refl) l hs l' it
 
 -- ---- memory for an event is refused
 
--- the refusal is told first, and no further note of events
+-- the refusal is notified first, and no further note of events
 record Refuses (l : Ledger) (hs : List Happening) (l' : Ledger) : Type 0 where
   core : l'.core ≡ l.core
   id : Option ℕ
   later : List Happening
-  whole : hs ≡ Told (Refused At.Event id) ∷ later
+  whole : hs ≡ Notified (Refused At.Event id) ∷ later
   silent : Silent later
 
-refuses_then : (id : Option ℕ) (Q : Rel) → Quietly Q → (l : Ledger) (hs : List Happening) (l' : Ledger) → Then (Tells (Refused At.Event id)) Q l hs l' → Refuses l hs l'
+refuses_then : (id : Option ℕ) (Q : Rel) → Quietly Q → (l : Ledger) (hs : List Happening) (l' : Ledger) → Then (Notifies (Refused At.Event id)) Q l hs l' → Refuses l hs l'
 refuses_then id Q quiet l hs l' it =
     let rest = quiet it.mid it.back l' it.second in
     record {
@@ -253,7 +253,7 @@ refuses_then id Q quiet l hs l' it =
       silent = rest.silent;
     }
 
-refuses_alone : (id : Option ℕ) (l : Ledger) (hs : List Happening) (l' : Ledger) → Tells (Refused At.Event id) l hs l' → Refuses l hs l'
+refuses_alone : (id : Option ℕ) (l : Ledger) (hs : List Happening) (l' : Ledger) → Notifies (Refused At.Event id) l hs l' → Refuses l hs l'
 refuses_alone id l hs l' it = record { core = ap (λ (x : Ledger). x.core) it.1; id = id; later = []; whole = it.0; silent = λ came. refl }
 
 -- a client's event was dropped
@@ -265,66 +265,66 @@ client_refused key id client.LpdCommand query = refuses_then (Some id) (Breaks k
 -- ---- runs
 
 -- two runs, one after the other
-run_then : (old mid new : State) (events later : List Timed) (outcomes others : List Outcome) (told more : List Note) → AreToldOf old events outcomes told mid → AreToldOf mid later others more new → AreToldOf old (events ++ later) (outcomes ++ others) (told ++ more) new
-run_then old mid new [] later [] others told more (same, none) q =
-    subst (λ (ns : List Note). AreToldOf old later others (ns ++ more) new) (sym none) (subst (λ (s : State). AreToldOf s later others more new) same q)
-run_then old mid new (timed ∷ events) later (outcome ∷ outcomes) others told more (next, first, behind, is, comes, rest) q =
+run_then : (old mid new : State) (events later : List Timed) (outcomes others : List Outcome) (notified more : List Note) → AreNotifiedOf old events outcomes notified mid → AreNotifiedOf mid later others more new → AreNotifiedOf old (events ++ later) (outcomes ++ others) (notified ++ more) new
+run_then old mid new [] later [] others notified more (same, none) q =
+    subst (λ (ns : List Note). AreNotifiedOf old later others (ns ++ more) new) (sym none) (subst (λ (s : State). AreNotifiedOf s later others more new) same q)
+run_then old mid new (timed ∷ events) later (outcome ∷ outcomes) others notified more (next, first, behind, is, comes, rest) q =
     (next, first, behind ++ more, ap (λ (ns : List Note). ns ++ more) is ∙ append_assoc first behind more, comes, run_then next mid new events later outcomes others behind more rest q)
-run_then old mid new [] later (outcome ∷ outcomes) others told more none q = absurd none
-run_then old mid new (timed ∷ events) later [] others told more none q = absurd none
+run_then old mid new [] later (outcome ∷ outcomes) others notified more none q = absurd none
+run_then old mid new (timed ∷ events) later [] others notified more none q = absurd none
 
-one_told : (timed : Timed) (outcome : Outcome) (told : List Note) (old new : State) → IsToldOf timed old outcome told new → AreToldOf old (timed ∷ []) (outcome ∷ []) told new
-one_told timed outcome told old new it = (new, told, [], sym (append-nil told), it, (refl, refl))
+one_notified : (timed : Timed) (outcome : Outcome) (notified : List Note) (old new : State) → IsNotifiedOf timed old outcome notified new → AreNotifiedOf old (timed ∷ []) (outcome ∷ []) notified new
+one_notified timed outcome notified old new it = (new, notified, [], sym (append-nil notified), it, (refl, refl))
 
 -- the happenings are a run of events at one moment, with these notes; `came` says whether an event came before
-record ToldFrom (came : Bool) (moment : ℕ) (l : Ledger) (hs : List Happening) (l' : Ledger) : Type 0 where
+record NotifiedFrom (came : Bool) (moment : ℕ) (l : Ledger) (hs : List Happening) (l' : Ledger) : Type 0 where
   events : List Timed
   outcomes : List Outcome
   timed : AreAt moment events
-  told : AreToldOf l.core events outcomes (event_notes came hs) l'.core
+  notified : AreNotifiedOf l.core events outcomes (event_notes came hs) l'.core
 
-no_event : (came : Bool) (moment : ℕ) (l : Ledger) (hs : List Happening) (l' : Ledger) → l'.core ≡ l.core → event_notes came hs ≡ [] → ToldFrom came moment l hs l'
-no_event came moment l hs l' same none = record { events = []; outcomes = []; timed = All-nil (λ (timed : Timed). timed.moment ≡ moment); told = (same, none) }
+no_event : (came : Bool) (moment : ℕ) (l : Ledger) (hs : List Happening) (l' : Ledger) → l'.core ≡ l.core → event_notes came hs ≡ [] → NotifiedFrom came moment l hs l'
+no_event came moment l hs l' same none = record { events = []; outcomes = []; timed = All-nil (λ (timed : Timed). timed.moment ≡ moment); notified = (same, none) }
 
 one_event : (came : Bool) (moment : ℕ) (event : Event) (outcome : Outcome) (l : Ledger) (hs : List Happening) (l' : Ledger)
-    → (told : List Note) → event_notes came hs ≡ told → IsToldOf (record { event = event; moment = moment }) l.core outcome told l'.core → ToldFrom came moment l hs l'
-one_event came moment event outcome l hs l' told is it =
+    → (notified : List Note) → event_notes came hs ≡ notified → IsNotifiedOf (record { event = event; moment = moment }) l.core outcome notified l'.core → NotifiedFrom came moment l hs l'
+one_event came moment event outcome l hs l' notified is it =
     let timed : Timed = record { event = event; moment = moment } in
     record {
       events = timed ∷ [];
       outcomes = outcome ∷ [];
       timed = All-cons (λ (t : Timed). t.moment ≡ moment) timed [] refl (All-nil (λ (t : Timed). t.moment ≡ moment));
-      told = subst (λ (ns : List Note). AreToldOf l.core (timed ∷ []) (outcome ∷ []) ns l'.core) (sym is) (one_told timed outcome told l.core l'.core it);
+      notified = subst (λ (ns : List Note). AreNotifiedOf l.core (timed ∷ []) (outcome ∷ []) ns l'.core) (sym is) (one_notified timed outcome notified l.core l'.core it);
     }
 
-from_then : (came : Bool) (moment : ℕ) (l : Ledger) (front : List Happening) (mid : Ledger) (back : List Happening) (l' : Ledger) → ToldFrom came moment l front mid → ToldFrom (after came front) moment mid back l' → ToldFrom came moment l (front ++ back) l'
+from_then : (came : Bool) (moment : ℕ) (l : Ledger) (front : List Happening) (mid : Ledger) (back : List Happening) (l' : Ledger) → NotifiedFrom came moment l front mid → NotifiedFrom (after came front) moment mid back l' → NotifiedFrom came moment l (front ++ back) l'
 from_then came moment l front mid back l' p q = record {
   events = p.events ++ q.events;
   outcomes = p.outcomes ++ q.outcomes;
   timed = All-append (λ (timed : Timed). timed.moment ≡ moment) p.events q.events p.timed q.timed;
-  told = subst (λ (ns : List Note). AreToldOf l.core (p.events ++ q.events) (p.outcomes ++ q.outcomes) ns l'.core) (sym (notes_then came front back))
-      (run_then l.core mid.core l'.core p.events q.events p.outcomes q.outcomes (event_notes came front) (event_notes (after came front) back) p.told q.told);
+  notified = subst (λ (ns : List Note). AreNotifiedOf l.core (p.events ++ q.events) (p.outcomes ++ q.outcomes) ns l'.core) (sym (notes_then came front back))
+      (run_then l.core mid.core l'.core p.events q.events p.outcomes q.outcomes (event_notes came front) (event_notes (after came front) back) p.notified q.notified);
 }
 
 -- ---- an event
 
 abbrev IsRead : List Note → Type 0
-IsRead notes = (came : Bool) → event_notes came (map Told notes) ≡ notes
+IsRead notes = (came : Bool) → event_notes came (map Notified notes) ≡ notes
 
-told_last : (cancels : List Cancel) (last : List Note) → IsRead last → IsRead (map Canceled cancels ++ last)
-told_last [] last is came = is came
-told_last (cancel ∷ cancels) last is came = ap (λ (ns : List Note). Canceled cancel ∷ ns) (told_last cancels last is true)
+notified_last : (cancels : List Cancel) (last : List Note) → IsRead last → IsRead (map Canceled cancels ++ last)
+notified_last [] last is came = is came
+notified_last (cancel ∷ cancels) last is came = ap (λ (ns : List Note). Canceled cancel ∷ ns) (notified_last cancels last is true)
 
-told_by : (notes : List Note) (reply : Effects) (last : List Note) → notes ≡ cancels_told reply ++ last → IsRead last → IsRead notes
-told_by notes reply last is told = subst IsRead (sym is) (told_last reply.cancels.items last told)
+notified_by : (notes : List Note) (reply : Effects) (last : List Note) → notes ≡ cancel_notes reply ++ last → IsRead last → IsRead notes
+notified_by notes reply last is notified = subst IsRead (sym is) (notified_last reply.cancels.items last notified)
 
 -- all notes of the core are notes of its event
-told_back : (moment : ℕ) (event : Event) (old : State) (outcome : Outcome) (notes : List Note) (new : State) → Handles moment event old outcome notes new → IsRead notes
-told_back moment event old Dropped notes new (same, none, heavy) = subst IsRead (sym none) (λ came. refl)
-told_back moment event old (Queried reply) notes new (query, step, is) = told_by notes reply [] (is ∙ sym (append-nil (cancels_told reply))) (λ came. refl)
-told_back moment event old (Undispatched reply) notes new (query, step, ready, is) = told_by notes reply (Refused At.Dispatch None ∷ []) is (λ came. refl)
-told_back moment event old (Idle reply) notes new (query, mid, step, made, is) = told_by notes reply (Planned None [] ∷ []) is (λ came. refl)
-told_back moment event old (Dispatched reply) notes new (query, mid, step, plan, made, is) = told_by notes reply (Planned (Some plan) new.begun ∷ []) is (λ came. refl)
+notified_back : (moment : ℕ) (event : Event) (old : State) (outcome : Outcome) (notes : List Note) (new : State) → Handles moment event old outcome notes new → IsRead notes
+notified_back moment event old Dropped notes new (same, none, heavy) = subst IsRead (sym none) (λ came. refl)
+notified_back moment event old (Queried reply) notes new (query, step, is) = notified_by notes reply [] (is ∙ sym (append-nil (cancel_notes reply))) (λ came. refl)
+notified_back moment event old (Undispatched reply) notes new (query, step, ready, is) = notified_by notes reply (Refused At.Dispatch None ∷ []) is (λ came. refl)
+notified_back moment event old (Idle reply) notes new (query, mid, step, made, is) = notified_by notes reply (Planned None [] ∷ []) is (λ came. refl)
+notified_back moment event old (Dispatched reply) notes new (query, mid, step, plan, made, is) = notified_by notes reply (Planned (Some plan) new.begun ∷ []) is (λ came. refl)
 
 -- the event wasn't dropped
 abbrev IsKept : Outcome → Type 0
@@ -334,56 +334,56 @@ IsKept (Undispatched reply) = Unit {0}
 IsKept (Idle reply) = Unit {0}
 IsKept (Dispatched reply) = Unit {0}
 
-found_notes : (outcome : Outcome) (came : Bool) (notes : List Note) → IsKept outcome → IsRead notes → event_notes came (found_by outcome ++ map Told notes) ≡ notes
+found_notes : (outcome : Outcome) (came : Bool) (notes : List Note) → IsKept outcome → IsRead notes → event_notes came (found_by outcome ++ map Notified notes) ≡ notes
 found_notes Dropped came notes kept is = absurd kept
 found_notes (Queried reply) came notes kept is = is true
 found_notes (Undispatched reply) came notes kept is = is true
 found_notes (Idle reply) came notes kept is = is true
 found_notes (Dispatched reply) came notes kept is = is true
 
-kept_told : (timed : Timed) (old : State) (outcome : Outcome) (notes : List Note) (new : State) → IsKept outcome → Handles timed.moment timed.event old outcome notes new → IsToldOf timed old outcome notes new
-kept_told timed old Dropped notes new kept it = absurd kept
-kept_told timed old (Queried reply) notes new kept it = it
-kept_told timed old (Undispatched reply) notes new kept it = it
-kept_told timed old (Idle reply) notes new kept it = it
-kept_told timed old (Dispatched reply) notes new kept it = it
+kept_notified : (timed : Timed) (old : State) (outcome : Outcome) (notes : List Note) (new : State) → IsKept outcome → Handles timed.moment timed.event old outcome notes new → IsNotifiedOf timed old outcome notes new
+kept_notified timed old Dropped notes new kept it = absurd kept
+kept_notified timed old (Queried reply) notes new kept it = it
+kept_notified timed old (Undispatched reply) notes new kept it = it
+kept_notified timed old (Idle reply) notes new kept it = it
+kept_notified timed old (Dispatched reply) notes new kept it = it
 
 -- an event that wasn't dropped, and the part after it
-kept_then : (came : Bool) (moment : ℕ) (event : Event) (outcome : Outcome) (Q : Rel) → IsKept outcome → Quietly Q → (l : Ledger) (hs : List Happening) (l' : Ledger) → Then (Happens moment event outcome) Q l hs l' → ToldFrom came moment l hs l'
+kept_then : (came : Bool) (moment : ℕ) (event : Event) (outcome : Outcome) (Q : Rel) → IsKept outcome → Quietly Q → (l : Ledger) (hs : List Happening) (l' : Ledger) → Then (Happens moment event outcome) Q l hs l' → NotifiedFrom came moment l hs l'
 kept_then came moment event outcome Q kept quiet l hs l' it =
     let made = it.first.first in
     let sent = quiet_orders outcome it.first.mid it.first.back it.mid it.first.second in
     let rest = quiet it.mid it.back l' it.second in
     let core : l'.core ≡ made.state = rest.core ∙ (sent.core ∙ ap (λ (x : Ledger). x.core) made.after) in
     let first : event_notes came it.first.front ≡ made.notes =
-    ap (event_notes came) made.told ∙ found_notes outcome came made.notes kept (told_back moment event l.core outcome made.notes made.state made.handles) in
+    ap (event_notes came) made.notified ∙ found_notes outcome came made.notes kept (notified_back moment event l.core outcome made.notes made.state made.handles) in
     let happened : event_notes came it.front ≡ made.notes = ap (event_notes came) it.first.whole ∙ notes_before came it.first.front it.first.back made.notes first sent.silent in
     one_event came moment event outcome l hs l' made.notes
     (ap (event_notes came) it.whole ∙ notes_before came it.front it.back made.notes happened rest.silent)
-    (kept_told (record { event = event; moment = moment }) l.core outcome made.notes l'.core kept
+    (kept_notified (record { event = event; moment = moment }) l.core outcome made.notes l'.core kept
     (subst (λ (s : State). Handles moment event l.core outcome made.notes s) (sym core) made.handles))
 
 -- a dropped event changes nothing
 dropped_nothing : (moment : ℕ) (event : Event) (l : Ledger) (hs : List Happening) (l' : Ledger) → Happens moment event Dropped l hs l' → (hs ≡ []) × (l'.core ≡ l.core)
 dropped_nothing moment event l hs l' it =
-    let none : it.front ≡ [] = it.first.told ∙ ap (λ (ns : List Note). map Told ns) it.first.handles.1 in (
+    let none : it.front ≡ [] = it.first.notified ∙ ap (λ (ns : List Note). map Notified ns) it.first.handles.1 in (
       it.whole ∙ (ap (λ (ks : List Happening). ks ++ it.back) none ∙ it.second.0),
       ap (λ (x : Ledger). x.core) it.second.1 ∙ (ap (λ (x : Ledger). x.core) it.first.after ∙ it.first.handles.0),
     )
 
--- the refusal of a dropped event is told after it
+-- the refusal of a dropped event is notified after it
 dropped_then : (moment : ℕ) (event : Event) (Q : Rel) → ((l : Ledger) (hs : List Happening) (l' : Ledger) → Q l hs l' → Refuses l hs l')
-    → (l : Ledger) (hs : List Happening) (l' : Ledger) → Then (Happens moment event Dropped) Q l hs l' → ToldFrom true moment l hs l'
+    → (l : Ledger) (hs : List Happening) (l' : Ledger) → Then (Happens moment event Dropped) Q l hs l' → NotifiedFrom true moment l hs l'
 dropped_then moment event Q refuses l hs l' it =
     let none = dropped_nothing moment event l it.front it.mid it.first in
     let rest = refuses it.mid it.back l' it.second in
-    let whole : hs ≡ Told (Refused At.Event rest.id) ∷ rest.later = it.whole ∙ (ap (λ (ks : List Happening). ks ++ it.back) none.0 ∙ rest.whole) in
+    let whole : hs ≡ Notified (Refused At.Event rest.id) ∷ rest.later = it.whole ∙ (ap (λ (ks : List Happening). ks ++ it.back) none.0 ∙ rest.whole) in
     one_event true moment event Dropped l hs l' (Refused At.Event rest.id ∷ [])
     (ap (event_notes true) whole ∙ ap (λ (ns : List Note). Refused At.Event rest.id ∷ ns) (rest.silent true))
     (rest.id, refl, (rest.core ∙ none.1, refl, it.first.first.handles.2))
 
 answered_then : (moment : ℕ) (event : Event) (Q : Option Effects → Rel) → ((reply : Effects) → Quietly (Q (Some reply))) → ((l : Ledger) (hs : List Happening) (l' : Ledger) → Q None l hs l' → Refuses l hs l')
-    → (outcome : Outcome) (l : Ledger) (hs : List Happening) (l' : Ledger) → Then (Happens moment event outcome) (Q (reply_of outcome)) l hs l' → ToldFrom true moment l hs l'
+    → (outcome : Outcome) (l : Ledger) (hs : List Happening) (l' : Ledger) → Then (Happens moment event outcome) (Q (reply_of outcome)) l hs l' → NotifiedFrom true moment l hs l'
 answered_then moment event Q quiet refuses Dropped l hs l' it = dropped_then moment event (Q None) refuses l hs l' it
 answered_then moment event Q quiet refuses (Queried reply) l hs l' it = kept_then true moment event (Queried reply) (Q (Some reply)) tt (quiet reply) l hs l' it
 answered_then moment event Q quiet refuses (Undispatched reply) l hs l' it = kept_then true moment event (Undispatched reply) (Q (Some reply)) tt (quiet reply) l hs l' it
@@ -401,7 +401,7 @@ light_kept moment event (Dispatched reply) l hs l' light it = tt
 nothing_behind : (R : Rel) (l : Ledger) (hs : List Happening) (l' : Ledger) → R l hs l' → Then R Nothing l hs l'
 nothing_behind R l hs l' it = record { mid = l'; front = hs; back = []; whole = sym (append-nil hs); first = it; second = (refl, refl) }
 
-light_from : (came : Bool) (moment : ℕ) (event : Event) → ((s : State) → TakesNoMemory event moment s) → (l : Ledger) (hs : List Happening) (l' : Ledger) → Unanswered moment event l hs l' → ToldFrom came moment l hs l'
+light_from : (came : Bool) (moment : ℕ) (event : Event) → ((s : State) → TakesNoMemory event moment s) → (l : Ledger) (hs : List Happening) (l' : Ledger) → Unanswered moment event l hs l' → NotifiedFrom came moment l hs l'
 light_from came moment event light l hs l' (outcome, it) =
     kept_then came moment event outcome Nothing (light_kept moment event outcome l hs l' (light l.core) it) quiet_nothing l hs l' (nothing_behind (Happens moment event outcome) l hs l' it)
 
@@ -410,17 +410,17 @@ light_from came moment event light l hs l' (outcome, it) =
 module _ (moment : ℕ) where
   -- whatever came before
   abbrev Within : Rel → Type 0
-  Within R = (l : Ledger) (hs : List Happening) (l' : Ledger) → R l hs l' → (came : Bool) → ToldFrom came moment l hs l'
+  Within R = (l : Ledger) (hs : List Happening) (l' : Ledger) → R l hs l' → (came : Bool) → NotifiedFrom came moment l hs l'
 
   quietly_in : {R : Rel} → Quietly R → Within R
   quietly_in quiet l hs l' it came = let stays = quiet l hs l' it in no_event came moment l hs l' stays.core (stays.silent came)
 
   then_in : {R S : Rel} → Within R → Within S → Within (Then R S)
   then_in f g l hs l' it came =
-      subst (λ (ks : List Happening). ToldFrom came moment l ks l') (sym it.whole) (from_then came moment l it.front it.mid it.back l' (f l it.front it.mid it.first came) (g it.mid it.back l' it.second (after came it.front)))
+      subst (λ (ks : List Happening). NotifiedFrom came moment l ks l') (sym it.whole) (from_then came moment l it.front it.mid it.back l' (f l it.front it.mid it.first came) (g it.mid it.back l' it.second (after came it.front)))
 
   abbrev IsSaid : Ledger → List Happening → Ledger → Type 0
-  IsSaid l hs l' = (came : Bool) → ToldFrom came moment l hs l'
+  IsSaid l hs l' = (came : Bool) → NotifiedFrom came moment l hs l'
 
   or_in : {R S : Rel} → Within R → Within S → Within (Or R S)
   or_in {R} {S} = or_within IsSaid R S
@@ -478,7 +478,7 @@ module _ (moment : ℕ) where
   closes_first_in : Within (ClosesFirst moment)
   closes_first_in l hs l' it = closes_in Broken it.key it.entry l hs l' it.closes
 
-  settles_in : Within (Settles moment)
+  settles_in : Within (ClosesBroken moment)
   settles_in l hs l' it = many_in (ClosesFirst moment) closes_first_in l hs l' it.0
 
   fails_in : (key : ℕ) → Within (Fails moment key)
@@ -486,43 +486,43 @@ module _ (moment : ℕ) where
 
   -- ---- devices that say their names
 
-  tells_in : (device : ℕ) (said : ReportRecord) → Within (Greeting.Tells moment device said)
-  tells_in device said l hs l' (report, is, it) = reported_in device report l hs l' it
+  notifies_in : (device : ℕ) (said : ReportRecord) → Within (Hello.ReportComes moment device said)
+  notifies_in device said l hs l' (report, is, it) = reported_in device report l hs l' it
 
-  gives_way_at_in : (key : ℕ) (o : Option Entry) → Within (Greeting.GivesWayAt key o)
+  gives_way_at_in : (key : ℕ) (o : Option Entry) → Within (Hello.IsSupersededAt key o)
   gives_way_at_in key None = nothing_in
-  gives_way_at_in key (Some e) = sets_in key (given_up e)
+  gives_way_at_in key (Some e) = sets_in key (superseded_entry e)
 
-  gives_way_in : (key : ℕ) → Within (Greeting.GivesWay key)
+  gives_way_in : (key : ℕ) → Within (Hello.IsSuperseded key)
   gives_way_in key l hs l' it = gives_way_at_in key (l.entries key) l hs l' it
 
-  turned_away_in : (id : ℕ) (reason : DeviceRefusal) → Within (Tells (DeviceRefused id reason))
-  turned_away_in id reason = quietly_in (quiet_tells (DeviceRefused id reason) (λ came. refl))
+  turned_away_in : (id : ℕ) (reason : DeviceRefusal) → Within (Notifies (DeviceRefused id reason))
+  turned_away_in id reason = quietly_in (quiet_notifies (DeviceRefused id reason) (λ came. refl))
 
-  greets_in : (key id device : ℕ) (name : List ℕ) → Within (Greeting.Greets moment key id device name)
+  greets_in : (key id device : ℕ) (name : List ℕ) → Within (Hello.HandlesHello moment key id device name)
   greets_in key id device name l hs l' (inl (absent, it)) = reported_in device (reported.Hello name) l hs l' it
   greets_in key id device name l hs l' (inr (inl (other, ended, it))) = then_in (gives_way_in other) (then_in (gone_in (Some device)) (reported_in device (reported.Hello name))) l hs l' it
   greets_in key id device name l hs l' (inr (inr (other, is, it))) = then_in (gives_way_in key) (turned_away_in id (why.Connected device)) l hs l' it
 
   -- ---- the asks of a connection
 
-  -- a request that could not be read is no event, though its refusal is told as an event's refusal is
-  unread_from : (l : Ledger) (hs : List Happening) (l' : Ledger) → Refuses l hs l' → ToldFrom false moment l hs l'
+  -- a request that could not be read is no event, though its refusal is notified as an event's refusal is
+  unread_from : (l : Ledger) (hs : List Happening) (l' : Ledger) → Refuses l hs l' → NotifiedFrom false moment l hs l'
   unread_from l hs l' it = no_event false moment l hs l' it.core (ap (event_notes false) it.whole ∙ it.silent true)
 
-  lost_from : (part : Part) (key id : ℕ) (taken : Option ℕ) (l : Ledger) (hs : List Happening) (l' : Ledger) → Answering.Declines (Acting.place_of_part part) key id l hs l' → ToldFrom (brings_event (Chosen (Asked taken (lost_of (ask.Lost part))))) moment l hs l'
-  lost_from part.File key id taken l hs l' it = quietly_in (quiet_then (quiet_tells (Refused At.File (Some id)) (λ came. refl)) (quiet_enqueues key (1 ∷ []))) l hs l' it true
+  lost_from : (part : Part) (key id : ℕ) (taken : Option ℕ) (l : Ledger) (hs : List Happening) (l' : Ledger) → Answering.Declines (Acting.place_of_part part) key id l hs l' → NotifiedFrom (brings_event (Chosen (Asked taken (lost_of (ask.Lost part))))) moment l hs l'
+  lost_from part.File key id taken l hs l' it = quietly_in (quiet_then (quiet_notifies (Refused At.File (Some id)) (λ came. refl)) (quiet_enqueues key (1 ∷ []))) l hs l' it true
   lost_from part.Job key id taken l hs l' it = unread_from l hs l' (refuses_then (Some id) (Enqueues key (1 ∷ [])) (quiet_enqueues key (1 ∷ [])) l hs l' it)
 
-  broke_in : (growth : Growth) (id : ℕ) → Within (Tells (Refused (Acting.place_of growth) (Some id)))
-  broke_in growth.Input id = quietly_in (quiet_tells (Refused At.Feed (Some id)) (λ came. refl))
-  broke_in growth.Output id = quietly_in (quiet_tells (Refused At.Enqueue (Some id)) (λ came. refl))
+  broke_in : (growth : AllocFailure) (id : ℕ) → Within (Notifies (Refused (Acting.place_of growth) (Some id)))
+  broke_in growth.Input id = quietly_in (quiet_notifies (Refused At.Feed (Some id)) (λ came. refl))
+  broke_in growth.Output id = quietly_in (quiet_notifies (Refused At.Enqueue (Some id)) (λ came. refl))
 
-  client_from : (key id : ℕ) (who : Client) (event : Event) (l : Ledger) (hs : List Happening) (l' : Ledger) → Answering.IsAnswered moment key id who event l hs l' → ToldFrom true moment l hs l'
-  client_from key id who event l hs l' (outcome, it) = answered_then moment event (Answering.Answers key id who (is_query event)) (client_told key id who (is_query event)) (client_refused key id who (is_query event)) outcome l hs l' it
+  client_from : (key id : ℕ) (who : Client) (event : Event) (l : Ledger) (hs : List Happening) (l' : Ledger) → Answering.IsAnswered moment key id who event l hs l' → NotifiedFrom true moment l hs l'
+  client_from key id who event l hs l' (outcome, it) = answered_then moment event (Answering.Answers key id who (is_query event)) (client_notified key id who (is_query event)) (client_refused key id who (is_query event)) outcome l hs l' it
 
   -- the mark of an ask says whether an event may come of it
-  acts_from : (key id : ℕ) (what : Ask) (taken : Option ℕ) (l : Ledger) (hs : List Happening) (l' : Ledger) → Acting.ActsOn moment key id what l hs l' → ToldFrom (brings_event (Chosen (Asked taken (lost_of what)))) moment l hs l'
+  acts_from : (key id : ℕ) (what : Ask) (taken : Option ℕ) (l : Ledger) (hs : List Happening) (l' : Ledger) → Acting.ActsOn moment key id what l hs l' → NotifiedFrom (brings_event (Chosen (Asked taken (lost_of what)))) moment l hs l'
   acts_from key id ask.Nothing taken l hs l' it = nothing_in l hs l' it true
   acts_from key id (ask.Broke growth) taken l hs l' it = broke_in growth id l hs l' it true
   acts_from key id (ask.Event who event) taken l hs l' it = client_from key id who event l hs l' it
@@ -530,15 +530,15 @@ module _ (moment : ℕ) where
   acts_from key id (ask.Lost part) taken l hs l' it = lost_from part key id taken l hs l' it
   acts_from key id (ask.Hello device name) taken l hs l' it = greets_in key id device name l hs l' it true
   acts_from key id (ask.Report device report) taken l hs l' it = reported_in device report l hs l' it true
-  acts_from key id (ask.Stranger name) taken l hs l' it = turned_away_in id (why.UnknownName name) l hs l' it true
+  acts_from key id (ask.UnknownDevice name) taken l hs l' it = turned_away_in id (why.UnknownName name) l hs l' it true
   acts_from key id (ask.Fault device) taken l hs l' it = turned_away_in id (why.Fault device) l hs l' it true
 
   acts_next_in : (key : ℕ) → Within (Acting.ActsNext moment key)
   acts_next_in key l hs l' (id, what, it) came =
       let mark : Happening = Chosen (Asked (part_of it.first.asks) (lost_of what)) in
       let whole : hs ≡ (mark ∷ []) ++ it.back = it.whole ∙ ap (λ (ks : List Happening). ks ++ it.back) it.first.chosen in
-      let asked : ToldFrom came moment l (mark ∷ []) it.mid = no_event came moment l (mark ∷ []) it.mid (ap (λ (x : Ledger). x.core) it.first.after) refl in
-      subst (λ (ks : List Happening). ToldFrom came moment l ks l') (sym whole)
+      let asked : NotifiedFrom came moment l (mark ∷ []) it.mid = no_event came moment l (mark ∷ []) it.mid (ap (λ (x : Ledger). x.core) it.first.after) refl in
+      subst (λ (ks : List Happening). NotifiedFrom came moment l ks l') (sym whole)
       (from_then came moment l (mark ∷ []) it.mid it.back l' asked (acts_from key id what (part_of it.first.asks) it.mid it.back l' it.second))
 
   -- ---- reads
@@ -591,7 +591,7 @@ module _ (moment : ℕ) where
 
   ends_at_in : (key : ℕ) (o : Option Entry) → Within (EndsAt moment key o)
   ends_at_in key None = nothing_in
-  ends_at_in key (Some e) = if_in (is_done e) (Then (ClosesAs moment Drained key e) (Settles moment)) Nothing (then_in (closes_in Drained key e) settles_in) nothing_in
+  ends_at_in key (Some e) = if_in (is_done e) (Then (ClosesAs moment Drained key e) (ClosesBroken moment)) Nothing (then_in (closes_in Drained key e) settles_in) nothing_in
 
   ends_one_in : (key : ℕ) → Within (EndsOne moment key)
   ends_one_in key l hs l' it = ends_at_in key (l.entries key) l hs l' it
@@ -610,7 +610,7 @@ module _ (moment : ℕ) where
   accepts_in door l hs l' it = if_in (nat_lt l.count CONNECTIONS) (AcceptsOne door) Nothing (λ a ks b (answer, is). accepts_as_in door answer a ks b is) nothing_in l hs l' it
 
   tick_due_in : Within (TicksIfDue moment)
-  tick_due_in l hs l' it = if_in (is_tick_due moment l) (Then (Ticks moment) (Settles moment)) Nothing (then_in ticks_in settles_in) nothing_in l hs l' it
+  tick_due_in l hs l' it = if_in (is_tick_due moment l) (Then (Ticks moment) (ClosesBroken moment)) Nothing (then_in ticks_in settles_in) nothing_in l hs l' it
 
   round_in : Within (Round moment)
   round_in l hs l' (n, it) =
@@ -623,176 +623,176 @@ module _ (moment : ℕ) where
 
   -- ---- calls between turns
 
-  body_from : (asked : ParsedRequest) (served : Between.Outcome) (l : Ledger) (hs : List Happening) (l' : Ledger) → Between.BodyAsks moment asked served l hs l' → ToldFrom true moment l hs l'
+  body_from : (asked : ParsedRequest) (served : Between.Outcome) (l : Ledger) (hs : List Happening) (l' : Ledger) → Between.BodyAsks moment asked served l hs l' → NotifiedFrom true moment l hs l'
   body_from asks.TooShort served l hs l' (is, it) = nothing_in l hs l' it true
-  body_from (asks.Refused status request) served l hs l' (is, it) = or_in (chooses_in Found) (quietly_in (quiet_tells (Refused At.Reply None) (λ came. refl))) l hs l' it true
+  body_from (asks.Refused status request) served l hs l' (is, it) = or_in (chooses_in Found) (quietly_in (quiet_notifies (Refused At.Reply None) (λ came. refl))) l hs l' it true
   body_from (asks.Event request event) served l hs l' (bytes, is, (outcome, it)) =
-      answered_then moment event (λ reply. Between.Answers request reply bytes) (body_told request bytes) (λ a ks b told. refuses_alone None a ks b told) outcome l hs l' it
+      answered_then moment event (λ reply. Between.Answers request reply bytes) (body_notified request bytes) (λ a ks b notified. refuses_alone None a ks b notified) outcome l hs l' it
 
-  body_comes : (body : List ℕ) (served : Between.Outcome) (l : Ledger) (hs : List Happening) (l' : Ledger) → Between.BodyComes moment body served l hs l' → ToldFrom false moment l hs l'
+  body_comes : (body : List ℕ) (served : Between.Outcome) (l : Ledger) (hs : List Happening) (l' : Ledger) → Between.BodyComes moment body served l hs l' → NotifiedFrom false moment l hs l'
   body_comes body served l hs l' (inl (asked, is, it)) =
       let mark : Happening = Chosen Found in
       let whole : hs ≡ (mark ∷ []) ++ it.back = it.whole ∙ ap (λ (ks : List Happening). ks ++ it.back) it.first.0 in
-      let found : ToldFrom false moment l (mark ∷ []) it.mid = no_event false moment l (mark ∷ []) it.mid (ap (λ (x : Ledger). x.core) it.first.1) refl in
-      subst (λ (ks : List Happening). ToldFrom false moment l ks l') (sym whole)
+      let found : NotifiedFrom false moment l (mark ∷ []) it.mid = no_event false moment l (mark ∷ []) it.mid (ap (λ (x : Ledger). x.core) it.first.1) refl in
+      subst (λ (ks : List Happening). NotifiedFrom false moment l ks l') (sym whole)
       (from_then false moment l (mark ∷ []) it.mid it.back l' found (body_from asked served it.mid it.back l' it.second))
   body_comes body served l hs l' (inr it) = unread_from l hs l' (refuses_alone None l hs l' it)
 
--- an action is a run of events, of which it tells
-action_told : (action : Action) (l l' : Ledger) → DoesAction action l l' → ToldFrom (begins_event action) (moment_of action) l (happenings_of action) l'
-action_told (Turned moment hs) l l' it = turn_in moment l hs l' it true
-action_told (Served_body moment body answer hs) l l' (served, is, it) = body_comes moment body served l hs l' it
-action_told (Reported moment device said hs) l l' it = tells_in moment device said l hs l' it true
-action_told (Ticked moment hs) l l' it = ticks_in moment l hs l' it true
+-- an action is a run of events, of which it notifies
+action_notified : (action : Action) (l l' : Ledger) → DoesAction action l l' → NotifiedFrom (begins_event action) (moment_of action) l (happenings_of action) l'
+action_notified (Turned moment hs) l l' it = turn_in moment l hs l' it true
+action_notified (Served_body moment body answer hs) l l' (served, is, it) = body_comes moment body served l hs l' it
+action_notified (Reported moment device said hs) l l' it = notifies_in moment device said l hs l' it true
+action_notified (Ticked moment hs) l l' it = ticks_in moment l hs l' it true
 
 -- ---- a trace
 
-record TraceTold (trace : Trace) (old new : State) : Type 0 where
+record TraceNotified (trace : Trace) (old new : State) : Type 0 where
   events : List Timed
   outcomes : List Outcome
   timed : AreEventsOf trace events
-  told : AreToldOf old events outcomes (events_told trace) new
+  notified : AreNotifiedOf old events outcomes (events_notified trace) new
 
-trace_told : (trace : Trace) (old new : Ledger) → Runs trace old new → TraceTold trace old.core new.core
-trace_told [] old new same = record { events = []; outcomes = []; timed = refl; told = (ap (λ (x : Ledger). x.core) same, refl) }
-trace_told (action ∷ actions) old new (mid, does, runs) =
-    let first = action_told action old mid does in
-    let later = trace_told actions mid new runs in
+trace_notified : (trace : Trace) (old new : Ledger) → Runs trace old new → TraceNotified trace old.core new.core
+trace_notified [] old new same = record { events = []; outcomes = []; timed = refl; notified = (ap (λ (x : Ledger). x.core) same, refl) }
+trace_notified (action ∷ actions) old new (mid, does, runs) =
+    let first = action_notified action old mid does in
+    let later = trace_notified actions mid new runs in
     record {
       events = first.events ++ later.events;
       outcomes = first.outcomes ++ later.outcomes;
       timed = (first.events, later.events, refl, first.timed, later.timed);
-      told = run_then old.core mid.core new.core first.events later.events first.outcomes later.outcomes (event_notes (begins_event action) (happenings_of action)) (events_told actions) first.told later.told;
+      notified = run_then old.core mid.core new.core first.events later.events first.outcomes later.outcomes (event_notes (begins_event action) (happenings_of action)) (events_notified actions) first.notified later.notified;
     }
 
 -- ---- that is the one run of the core
 
 -- the core's note of a happening is a note of an event
-note_core : (came : Bool) (h : Happening) → core_notes (map Told (event_note came h)) ≡ core_note h
-note_core came (Told (Planned plan started)) = refl
-note_core came (Told (Canceled cancel)) = refl
-note_core came (Told (DeviceRefused id reason)) = refl
-note_core true (Told (Refused At.Event id)) = refl
-note_core false (Told (Refused At.Event id)) = refl
-note_core came (Told (Refused At.Accept id)) = refl
-note_core came (Told (Refused At.Feed id)) = refl
-note_core came (Told (Refused At.File id)) = refl
-note_core came (Told (Refused At.Dispatch id)) = refl
-note_core came (Told (Refused At.Reply id)) = refl
-note_core came (Told (Refused At.Enqueue id)) = refl
+note_core : (came : Bool) (h : Happening) → core_notes (map Notified (event_note came h)) ≡ core_note h
+note_core came (Notified (Planned plan started)) = refl
+note_core came (Notified (Canceled cancel)) = refl
+note_core came (Notified (DeviceRefused id reason)) = refl
+note_core true (Notified (Refused At.Event id)) = refl
+note_core false (Notified (Refused At.Event id)) = refl
+note_core came (Notified (Refused At.Accept id)) = refl
+note_core came (Notified (Refused At.Feed id)) = refl
+note_core came (Notified (Refused At.File id)) = refl
+note_core came (Notified (Refused At.Dispatch id)) = refl
+note_core came (Notified (Refused At.Reply id)) = refl
+note_core came (Notified (Refused At.Enqueue id)) = refl
 note_core came (Polled poll) = refl
 note_core came (Chosen choice) = refl
 
-told_append : (ms ns : List Note) → core_notes (map Told (ms ++ ns)) ≡ core_notes (map Told ms) ++ core_notes (map Told ns)
-told_append ms ns = ap core_notes (map-append Told ms ns) ∙ notes_append (map Told ms) (map Told ns)
+notified_append : (ms ns : List Note) → core_notes (map Notified (ms ++ ns)) ≡ core_notes (map Notified ms) ++ core_notes (map Notified ns)
+notified_append ms ns = ap core_notes (map-append Notified ms ns) ∙ notes_append (map Notified ms) (map Notified ns)
 
 both_parts : (a b c d : List Note) → a ≡ c → b ≡ d → a ++ b ≡ c ++ d
 both_parts a b c d p q = ap (λ (ns : List Note). ns ++ b) p ∙ ap (λ (ns : List Note). c ++ ns) q
 
-notes_core : (came : Bool) (hs : List Happening) → core_notes (map Told (event_notes came hs)) ≡ core_notes hs
+notes_core : (came : Bool) (hs : List Happening) → core_notes (map Notified (event_notes came hs)) ≡ core_notes hs
 notes_core came [] = refl
 notes_core came (h ∷ hs) =
-    told_append (event_note came h) (event_notes (brings_event h) hs)
-    ∙ both_parts (core_notes (map Told (event_note came h))) (core_notes (map Told (event_notes (brings_event h) hs))) (core_note h) (core_notes hs) (note_core came h) (notes_core (brings_event h) hs)
+    notified_append (event_note came h) (event_notes (brings_event h) hs)
+    ∙ both_parts (core_notes (map Notified (event_note came h))) (core_notes (map Notified (event_notes (brings_event h) hs))) (core_note h) (core_notes hs) (note_core came h) (notes_core (brings_event h) hs)
 
-trace_core : (trace : Trace) → core_notes (map Told (events_told trace)) ≡ core_notes (happenings_in trace)
+trace_core : (trace : Trace) → core_notes (map Notified (events_notified trace)) ≡ core_notes (happenings_in trace)
 trace_core [] = refl
 trace_core (action ∷ actions) =
-    told_append (event_notes (begins_event action) (happenings_of action)) (events_told actions)
-    ∙ (both_parts (core_notes (map Told (event_notes (begins_event action) (happenings_of action)))) (core_notes (map Told (events_told actions))) (core_notes (happenings_of action)) (core_notes (happenings_in actions)) (notes_core (begins_event action) (happenings_of action)) (trace_core actions)
+    notified_append (event_notes (begins_event action) (happenings_of action)) (events_notified actions)
+    ∙ (both_parts (core_notes (map Notified (event_notes (begins_event action) (happenings_of action)))) (core_notes (map Notified (events_notified actions))) (core_notes (happenings_of action)) (core_notes (happenings_in actions)) (notes_core (begins_event action) (happenings_of action)) (trace_core actions)
     ∙ sym (notes_append (happenings_of action) (happenings_in actions)))
 
 -- of one event
-core_last : (cancels : List Cancel) (last : List Note) → core_notes (map Told last) ≡ last → core_notes (map Told (map Canceled cancels ++ last)) ≡ map Canceled cancels ++ last
+core_last : (cancels : List Cancel) (last : List Note) → core_notes (map Notified last) ≡ last → core_notes (map Notified (map Canceled cancels ++ last)) ≡ map Canceled cancels ++ last
 core_last [] last is = is
 core_last (cancel ∷ cancels) last is = ap (λ (ns : List Note). Canceled cancel ∷ ns) (core_last cancels last is)
 
-core_by : (notes : List Note) (reply : Effects) (last : List Note) → notes ≡ cancels_told reply ++ last → core_notes (map Told last) ≡ last → core_notes (map Told notes) ≡ notes
-core_by notes reply last is told = subst (λ (ns : List Note). core_notes (map Told ns) ≡ ns) (sym is) (core_last reply.cancels.items last told)
+core_by : (notes : List Note) (reply : Effects) (last : List Note) → notes ≡ cancel_notes reply ++ last → core_notes (map Notified last) ≡ last → core_notes (map Notified notes) ≡ notes
+core_by notes reply last is notified = subst (λ (ns : List Note). core_notes (map Notified ns) ≡ ns) (sym is) (core_last reply.cancels.items last notified)
 
-handled_core : (timed : Timed) (old : State) (outcome : Outcome) (told : List Note) (new : State) → IsToldOf timed old outcome told new → Handles timed.moment timed.event old outcome (core_notes (map Told told)) new
-handled_core timed old Dropped told new (id, is, it) = subst (λ (ns : List Note). Handles timed.moment timed.event old Dropped ns new) (sym (ap (λ (ns : List Note). core_notes (map Told ns)) is)) it
-handled_core timed old (Queried reply) told new it =
-    subst (λ (ns : List Note). Handles timed.moment timed.event old (Queried reply) ns new) (sym (core_by told reply [] (it.2 ∙ sym (append-nil (cancels_told reply))) refl)) it
-handled_core timed old (Undispatched reply) told new it =
-    subst (λ (ns : List Note). Handles timed.moment timed.event old (Undispatched reply) ns new) (sym (core_by told reply (Refused At.Dispatch None ∷ []) it.3 refl)) it
-handled_core timed old (Idle reply) told new it =
-    subst (λ (ns : List Note). Handles timed.moment timed.event old (Idle reply) ns new) (sym (core_by told reply (Planned None [] ∷ []) it.4 refl)) it
-handled_core timed old (Dispatched reply) told new it =
-    subst (λ (ns : List Note). Handles timed.moment timed.event old (Dispatched reply) ns new) (sym (core_by told reply (Planned (Some it.3) new.begun ∷ []) it.5 refl)) it
+handled_core : (timed : Timed) (old : State) (outcome : Outcome) (notified : List Note) (new : State) → IsNotifiedOf timed old outcome notified new → Handles timed.moment timed.event old outcome (core_notes (map Notified notified)) new
+handled_core timed old Dropped notified new (id, is, it) = subst (λ (ns : List Note). Handles timed.moment timed.event old Dropped ns new) (sym (ap (λ (ns : List Note). core_notes (map Notified ns)) is)) it
+handled_core timed old (Queried reply) notified new it =
+    subst (λ (ns : List Note). Handles timed.moment timed.event old (Queried reply) ns new) (sym (core_by notified reply [] (it.2 ∙ sym (append-nil (cancel_notes reply))) refl)) it
+handled_core timed old (Undispatched reply) notified new it =
+    subst (λ (ns : List Note). Handles timed.moment timed.event old (Undispatched reply) ns new) (sym (core_by notified reply (Refused At.Dispatch None ∷ []) it.3 refl)) it
+handled_core timed old (Idle reply) notified new it =
+    subst (λ (ns : List Note). Handles timed.moment timed.event old (Idle reply) ns new) (sym (core_by notified reply (Planned None [] ∷ []) it.4 refl)) it
+handled_core timed old (Dispatched reply) notified new it =
+    subst (λ (ns : List Note). Handles timed.moment timed.event old (Dispatched reply) ns new) (sym (core_by notified reply (Planned (Some it.3) new.begun ∷ []) it.5 refl)) it
 
 collected : (before notes : List Note) → Leads Collects before notes (before ++ notes)
 collected before [] = append-nil before
 collected before (note ∷ notes) = (before ++ note ∷ [], refl, subst (λ (ns : List Note). Leads Collects (before ++ note ∷ []) notes ns) (append_assoc before (note ∷ []) notes) (collected (before ++ note ∷ []) notes))
 
-runs_core : (before : List Note) (old : State) (events : List Timed) (outcomes : List Outcome) (told : List Note) (new : State) → AreToldOf old events outcomes told new → Run Collects old before events outcomes new (before ++ core_notes (map Told told))
-runs_core before old [] [] told new (same, none) = (same, ap (λ (ns : List Note). before ++ core_notes (map Told ns)) none ∙ append-nil before)
-runs_core before old (timed ∷ events) (outcome ∷ outcomes) told new (mid, first, later, is, comes, rest) =
-    let here : List Note = core_notes (map Told first) in
-    let there : List Note = core_notes (map Told later) in
-    let whole : (before ++ here) ++ there ≡ before ++ core_notes (map Told told) =
-    append_assoc before here there ∙ ap (λ (ns : List Note). before ++ ns) (sym (ap (λ (ns : List Note). core_notes (map Told ns)) is ∙ told_append first later)) in (
+runs_core : (before : List Note) (old : State) (events : List Timed) (outcomes : List Outcome) (notified : List Note) (new : State) → AreNotifiedOf old events outcomes notified new → Run Collects old before events outcomes new (before ++ core_notes (map Notified notified))
+runs_core before old [] [] notified new (same, none) = (same, ap (λ (ns : List Note). before ++ core_notes (map Notified ns)) none ∙ append-nil before)
+runs_core before old (timed ∷ events) (outcome ∷ outcomes) notified new (mid, first, later, is, comes, rest) =
+    let here : List Note = core_notes (map Notified first) in
+    let there : List Note = core_notes (map Notified later) in
+    let whole : (before ++ here) ++ there ≡ before ++ core_notes (map Notified notified) =
+    append_assoc before here there ∙ ap (λ (ns : List Note). before ++ ns) (sym (ap (λ (ns : List Note). core_notes (map Notified ns)) is ∙ notified_append first later)) in (
       mid,
       before ++ here,
       (here, handled_core timed old outcome first mid comes, collected before here),
       subst (λ (ns : List Note). Run Collects mid (before ++ here) events outcomes new ns) whole (runs_core (before ++ here) mid events outcomes later new rest),
     )
-runs_core before old [] (outcome ∷ outcomes) told new none = absurd none
-runs_core before old (timed ∷ events) [] told new none = absurd none
+runs_core before old [] (outcome ∷ outcomes) notified new none = absurd none
+runs_core before old (timed ∷ events) [] notified new none = absurd none
 
 -- ---- where no growth was refused
 
-one_refusal : (came : Bool) (h : Happening) (hs : List Happening) (rest : List Note) → has_refusal (h ∷ hs) ≡ false → has_refusal (map Told rest) ≡ false → has_refusal (map Told (event_note came h ++ rest)) ≡ false
-one_refusal came (Told (Planned plan started)) hs rest none is = is
-one_refusal came (Told (Canceled cancel)) hs rest none is = is
-one_refusal came (Told (DeviceRefused id reason)) hs rest none is = is
-one_refusal came (Told (Refused place id)) hs rest none is = let both : true ≡ false = none in absurd (cc)
+one_refusal : (came : Bool) (h : Happening) (hs : List Happening) (rest : List Note) → has_refusal (h ∷ hs) ≡ false → has_refusal (map Notified rest) ≡ false → has_refusal (map Notified (event_note came h ++ rest)) ≡ false
+one_refusal came (Notified (Planned plan started)) hs rest none is = is
+one_refusal came (Notified (Canceled cancel)) hs rest none is = is
+one_refusal came (Notified (DeviceRefused id reason)) hs rest none is = is
+one_refusal came (Notified (Refused place id)) hs rest none is = let both : true ≡ false = none in absurd (cc)
 one_refusal came (Polled poll) hs rest none is = is
 one_refusal came (Chosen choice) hs rest none is = is
 
-notes_free : (came : Bool) (hs : List Happening) → has_refusal hs ≡ false → has_refusal (map Told (event_notes came hs)) ≡ false
+notes_free : (came : Bool) (hs : List Happening) → has_refusal hs ≡ false → has_refusal (map Notified (event_notes came hs)) ≡ false
 notes_free came [] none = refl
 notes_free came (h ∷ hs) none = one_refusal came h hs (event_notes (brings_event h) hs) none (notes_free (brings_event h) hs (none_after (h ∷ hs) (h ∷ []) hs refl none))
 
-free_append : (ms ns : List Note) → has_refusal (map Told ms) ≡ false → has_refusal (map Told ns) ≡ false → has_refusal (map Told (ms ++ ns)) ≡ false
+free_append : (ms ns : List Note) → has_refusal (map Notified ms) ≡ false → has_refusal (map Notified ns) ≡ false → has_refusal (map Notified (ms ++ ns)) ≡ false
 free_append ms ns p q =
-    ap has_refusal (map-append Told ms ns) ∙ (refusals_append (map Told ms) (map Told ns) ∙ (ap (λ (t : Bool). t || has_refusal (map Told ns)) p ∙ q))
+    ap has_refusal (map-append Notified ms ns) ∙ (refusals_append (map Notified ms) (map Notified ns) ∙ (ap (λ (t : Bool). t || has_refusal (map Notified ns)) p ∙ q))
 
-trace_free : (trace : Trace) → has_refusal (happenings_in trace) ≡ false → has_refusal (map Told (events_told trace)) ≡ false
+trace_free : (trace : Trace) → has_refusal (happenings_in trace) ≡ false → has_refusal (map Notified (events_notified trace)) ≡ false
 trace_free [] none = refl
 trace_free (action ∷ actions) none =
-    free_append (event_notes (begins_event action) (happenings_of action)) (events_told actions)
+    free_append (event_notes (begins_event action) (happenings_of action)) (events_notified actions)
     (notes_free (begins_event action) (happenings_of action) (none_before (happenings_of action ++ happenings_in actions) (happenings_of action) (happenings_in actions) refl none))
     (trace_free actions (none_after (happenings_of action ++ happenings_in actions) (happenings_of action) (happenings_in actions) refl none))
 
-event_whole : (timed : Timed) (old : State) (outcome : Outcome) (told : List Note) (new : State) → IsToldOf timed old outcome told new → has_refusal (map Told told) ≡ false → IsWhole outcome
-event_whole timed old Dropped told new (id, is, it) none = never (has_refusal (map Told told)) (ap (λ (ns : List Note). has_refusal (map Told ns)) is) none
-event_whole timed old (Queried reply) told new it none = tt
-event_whole timed old (Undispatched reply) told new it none = never (has_refusal (map Told told)) (refused_of timed.moment timed.event old (Undispatched reply) told new it) none
-event_whole timed old (Idle reply) told new it none = tt
-event_whole timed old (Dispatched reply) told new it none = tt
+event_whole : (timed : Timed) (old : State) (outcome : Outcome) (notified : List Note) (new : State) → IsNotifiedOf timed old outcome notified new → has_refusal (map Notified notified) ≡ false → IsWhole outcome
+event_whole timed old Dropped notified new (id, is, it) none = never (has_refusal (map Notified notified)) (ap (λ (ns : List Note). has_refusal (map Notified ns)) is) none
+event_whole timed old (Queried reply) notified new it none = tt
+event_whole timed old (Undispatched reply) notified new it none = never (has_refusal (map Notified notified)) (refused_of timed.moment timed.event old (Undispatched reply) notified new it) none
+event_whole timed old (Idle reply) notified new it none = tt
+event_whole timed old (Dispatched reply) notified new it none = tt
 
-runs_whole : (old : State) (events : List Timed) (outcomes : List Outcome) (told : List Note) (new : State) → AreToldOf old events outcomes told new → has_refusal (map Told told) ≡ false → All IsWhole outcomes
-runs_whole old [] [] told new it none = All-nil IsWhole
-runs_whole old (timed ∷ events) (outcome ∷ outcomes) told new (mid, first, later, is, comes, rest) none =
-    let whole : map Told told ≡ map Told first ++ map Told later = ap (λ (ns : List Note). map Told ns) is ∙ map-append Told first later in
-    All-cons IsWhole outcome outcomes (event_whole timed old outcome first mid comes (none_before (map Told told) (map Told first) (map Told later) whole none))
-    (runs_whole mid events outcomes later new rest (none_after (map Told told) (map Told first) (map Told later) whole none))
-runs_whole old [] (outcome ∷ outcomes) told new it none = absurd it
-runs_whole old (timed ∷ events) [] told new it none = absurd it
+runs_whole : (old : State) (events : List Timed) (outcomes : List Outcome) (notified : List Note) (new : State) → AreNotifiedOf old events outcomes notified new → has_refusal (map Notified notified) ≡ false → All IsWhole outcomes
+runs_whole old [] [] notified new it none = All-nil IsWhole
+runs_whole old (timed ∷ events) (outcome ∷ outcomes) notified new (mid, first, later, is, comes, rest) none =
+    let whole : map Notified notified ≡ map Notified first ++ map Notified later = ap (λ (ns : List Note). map Notified ns) is ∙ map-append Notified first later in
+    All-cons IsWhole outcome outcomes (event_whole timed old outcome first mid comes (none_before (map Notified notified) (map Notified first) (map Notified later) whole none))
+    (runs_whole mid events outcomes later new rest (none_after (map Notified notified) (map Notified first) (map Notified later) whole none))
+runs_whole old [] (outcome ∷ outcomes) notified new it none = absurd it
+runs_whole old (timed ∷ events) [] notified new it none = absurd it
 
 -- ---- the law
 
-pub tells_dropped : (trace : Trace) (old new : Ledger) → Runs trace old new → TellsDropped trace old.core new.core
-tells_dropped trace old new runs =
-    let it = trace_told trace old new runs in
+pub notifies_dropped : (trace : Trace) (old new : Ledger) → Runs trace old new → NotifiesDropped trace old.core new.core
+notifies_dropped trace old new runs =
+    let it = trace_notified trace old new runs in
     record {
       one = record {
         events = it.events;
         outcomes = it.outcomes;
         timed = it.timed;
-        run = subst (λ (ns : List Note). Run Collects old.core [] it.events it.outcomes new.core ns) (trace_core trace) (runs_core [] old.core it.events it.outcomes (events_told trace) new.core it.told);
-        whole = λ none. runs_whole old.core it.events it.outcomes (events_told trace) new.core it.told (trace_free trace none);
+        run = subst (λ (ns : List Note). Run Collects old.core [] it.events it.outcomes new.core ns) (trace_core trace) (runs_core [] old.core it.events it.outcomes (events_notified trace) new.core it.notified);
+        whole = λ none. runs_whole old.core it.events it.outcomes (events_notified trace) new.core it.notified (trace_free trace none);
       };
-      told = it.told;
+      notified = it.notified;
     }

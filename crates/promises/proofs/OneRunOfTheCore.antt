@@ -1,4 +1,4 @@
--- A trace is one run of the core, and tells it the reports of each device on its connections, and the end of each connection.
+-- A trace is one run of the core, and notifies it the reports of each device on its connections, and the end of each connection.
 use Rattle.std.proofs.Common.{◌≡◌, ◌≢◌, ℕ, Bool, true, false, List, [], ◌∷◌, ◌++◌, length, take, refl, sym, ◌∙◌, ap, subst, append_assoc, append-nil, Option, Some, None, inl, inr, All}
 use Rattle.std.specs.Prelude.{◌==◌, if◌then◌else◌, nat_lt, slice_get}
 use Rattle.std.specs.List.{flat_map}
@@ -14,8 +14,8 @@ use Rattle.events.specs.declared.event.Event.{Event}
 use Rattle.events.specs.declared.event.Event.TheVariants as Is
 use Rattle.events.specs.Event.{is_query}
 use Rattle.dispatcher.specs.declared.outcome.Outcome.{Outcome}
-use Rattle.dispatcher.specs.declared.listener.DeviceRefusal.TheVariants as why
-use Rattle.dispatcher.specs.declared.listener.AllocationSite.TheVariants as At
+use Rattle.dispatcher.specs.declared.observer.DeviceRefusal.TheVariants as why
+use Rattle.dispatcher.specs.declared.observer.AllocationSite.TheVariants as At
 use Rattle.dispatcher.specs.Notes.{Note, DeviceRefused, Refused}
 use Rattle.dispatcher.specs.Run.{reply_of, Handles}
 use Rattle.ipp_operations.specs.declared.parsed_request.ParsedRequest.{ParsedRequest}
@@ -29,16 +29,16 @@ use Rattle.connections.specs.declared.ask.Ask.{Ask}
 use Rattle.connections.specs.declared.ask.Ask.TheVariants as ask
 use Rattle.connections.specs.declared.ask.Client.{Client}
 use Rattle.connections.specs.declared.ask.Client.TheVariants as client
-use Rattle.connections.specs.Entry.{PeerRecord, Http, Queue, Link, Entry, opening_entry, device_of, given_up, broken, reading, unnamed, waiting}
+use Rattle.connections.specs.Entry.{PeerRecord, Http, Queue, Link, Entry, opening_entry, device_of, superseded_entry, broken, reading, unnamed, waiting}
 use Rattle.connections.specs.Asking.{ItemComes, IsHeard}
 use Rattle.server.specs.Polls.{Happening, Choice, Found, Rested, Looked}
 use Rattle.server.specs.Ledger.{Ledger, Fate, Drained, Broken, opening_ledger, at_key, with_entry, without}
-use Rattle.server.specs.Rel.{Rel, Nothing, Polls, Tells, Chooses, Then, If, Or, Many, Each}
+use Rattle.server.specs.Rel.{Rel, Nothing, Polls, Notifies, Chooses, Then, If, Or, Many, Each}
 use Rattle.server.specs.Enqueuing.{Sets, IsDevice}
 use Rattle.server.specs.Happening.{Happens, Unanswered}
-use Rattle.server.specs.Closing.{IsGone, ClosesAs, ClosesFirst, Settles}
+use Rattle.server.specs.Closing.{IsGone, ClosesAs, ClosesFirst, ClosesBroken}
 use Rattle.server.specs.Answering as Ans
-use Rattle.server.specs.Greeting.{IsDeviceAs, IsAlone, HasOther, GivesWayAt, GivesWay, SaysName, TakesOver, Greets}
+use Rattle.server.specs.Hello.{IsDeviceAs, IsAlone, HasOther, IsSupersededAt, IsSuperseded, SaysName, TakesOver, HandlesHello}
 use Rattle.server.specs.Acting.{place_of, place_of_part, Asks, ActsOn, ActsNext}
 use Rattle.server.specs.Polling.{Opens, AcceptsAs, AcceptsOne, AcceptsAt, Acts, Serves, FedWhole, FeedsAt, FeedsOne, Fails, ReadsAs, ReadsOpen, ReadsAt, is_read, ReadsOne, WritesAs, WritesOpen, WritesAt, WritesOne, is_done, EndsAt, EndsOne}
 use Rattle.server.specs.Turn as Between
@@ -51,14 +51,14 @@ use Rattle.promises.proofs.AnswerKinds.{EventOf}
 use Rattle.promises.proofs.SentToDevices.{no_true, one_entry}
 use Rattle.promises.proofs.StreamSteps.{silent_growth, silent_part, client_hears}
 use Rattle.promises.proofs.ConnectionAsks.{not_broken}
-use Rattle.promises.proofs.DeviceReports.{FreshOf, Grows, no_both, read_as, grows_as, grows_reading, broken_stays, named_stays, IsNew, Kept, kept_same, kept_open, here, aside, by_key, KeptAll, reported_kept, reported_as, gone_told, reported_left, told_if, More, reported_more, reported_named, reported_over, unnamed_nameless, SoundAt, kept_sound, Sound, sound_by, sound_kept, sound_left, none_read, AllGreeted, greeted_but, greeted_on, greeted_kept, greeted_left, greeted_first, greeted_more, greeted_nameless}
-use Rattle.promises.proofs.CalmParts.{notes_append, Calm, Calms, kept_still, kept_next, no_notes, calm_still, calm_sets, calms_nothing, calms_tells, calms_polls, calms_choice, grows_broken, calms_breaks, calms_dropped, calms_declines, calms_answers, body_answers, OneEvent, happened, handles_behind}
+use Rattle.promises.proofs.DeviceReports.{FreshOf, Grows, no_both, read_as, grows_as, grows_reading, broken_stays, named_stays, IsNew, Kept, kept_same, kept_open, here, aside, by_key, KeptAll, reported_kept, reported_as, gone_notified, reported_left, notified_if, More, reported_more, reported_named, reported_over, unnamed_nameless, SoundAt, kept_sound, Sound, sound_by, sound_kept, sound_left, none_read, AllGreeted, greeted_but, greeted_on, greeted_kept, greeted_left, greeted_first, greeted_more, greeted_nameless}
+use Rattle.promises.proofs.CalmParts.{notes_append, Calm, Calms, kept_still, kept_next, no_notes, calm_still, calm_sets, calms_nothing, calms_notifies, calms_polls, calms_choice, grows_broken, calms_breaks, calms_dropped, calms_declines, calms_answers, body_answers, OneEvent, happened, handles_behind}
 use Rattle.promises.proofs.Devices.{IsFine, step_fine, step_progress, client_grows, ReportsIt, DeviceStep, device_step}
 use Rattle.promises.proofs.CombinedParts.{or_within, if_within, many_within, each_within}
 
 -- ---- from one ledger to the next
 
--- the core handled these events, which told it the reports of devices on their connections
+-- the core handled these events, which notified it the reports of devices on their connections
 -- in each state of a run these names are the devices' by its settings
 abbrev AreNames : (List ℕ → ℕ → Type 0) → State → List Came → Type 0
 AreNames Name opening came = (state : State) (name : List ℕ) (device : ℕ) → IsStateIn state opening came → slice_get (device_names state.settings) device ≡ Some name → Name name device
@@ -77,7 +77,7 @@ record Goes (turn : Bool) (moment : ℕ) (l : Ledger) (hs : List Happening) (l' 
   came : List Came
   timed : ComeAt turn moment came
   run : AreRun l.core came l'.core
-  told : core_notes hs ≡ flat_map (λ (it : Came). it.notes) came
+  notified : core_notes hs ≡ flat_map (λ (it : Came). it.notes) came
   sound : Sound l → Sound l'
   reported : Sound l → (device : ℕ) (before : List ReportRecord) → IsReported device before l → IsReported device (before ++ reports_by device came) l'
   greeted : (Name : List ℕ → ℕ → Type 0) → AreNames Name l.core came → Sound l → AllGreeted Name l → AllGreeted Name l'
@@ -86,8 +86,8 @@ pub run_then : (old mid new : State) (first later : List Came) → AreRun old fi
 run_then old mid new [] later same rest = subst (λ (s : State). AreRun s later new) same rest
 run_then old mid new (it ∷ first) later (handles, more) rest = (handles, run_then it.state mid new first later more rest)
 
-pub told_then : (hs front back : List Happening) (first later : List Came) → hs ≡ front ++ back → core_notes front ≡ flat_map (λ (it : Came). it.notes) first → core_notes back ≡ flat_map (λ (it : Came). it.notes) later → core_notes hs ≡ flat_map (λ (it : Came). it.notes) (first ++ later)
-told_then hs front back first later whole p q =
+pub notified_then : (hs front back : List Happening) (first later : List Came) → hs ≡ front ++ back → core_notes front ≡ flat_map (λ (it : Came). it.notes) first → core_notes back ≡ flat_map (λ (it : Came). it.notes) later → core_notes hs ≡ flat_map (λ (it : Came). it.notes) (first ++ later)
+notified_then hs front back first later whole p q =
     ap core_notes whole ∙ (notes_append front back ∙ (ap (λ (ns : List Note). ns ++ core_notes back) p ∙ (ap (λ (ns : List Note). flat_map (λ (it : Came). it.notes) first ++ ns) q ∙ sym (flat_map-append (λ (it : Came). it.notes) first later))))
 
 reports_then : (device : ℕ) (before : List ReportRecord) (first later : List Came) → (before ++ reports_by device first) ++ reports_by device later ≡ before ++ reports_by device (first ++ later)
@@ -99,7 +99,7 @@ goes_then turn moment l front m back l' hs whole p q = record {
   came = p.came ++ q.came;
   timed = All-append (λ (it : Came). (it.moment ≡ moment) × (it.in_turn ≡ turn)) p.came q.came p.timed q.timed;
   run = run_then l.core m.core l'.core p.came q.came p.run q.run;
-  told = told_then hs front back p.came q.came whole p.told q.told;
+  notified = notified_then hs front back p.came q.came whole p.notified q.notified;
   sound = λ s. q.sound (p.sound s);
   reported = λ s device before r.
       reported_as device ((before ++ reports_by device p.came) ++ reports_by device q.came) (before ++ reports_by device (p.came ++ q.came)) l' (reports_then device before p.came q.came)
@@ -115,7 +115,7 @@ goes_none turn moment l hs l' core silent sound reported greeted = record {
   came = [];
   timed = All-nil (λ (it : Came). (it.moment ≡ moment) × (it.in_turn ≡ turn));
   run = core;
-  told = silent;
+  notified = silent;
   sound = sound;
   reported = λ s device before r. reported_as device before (before ++ []) l' (sym (append-nil before)) (reported s device before r);
   greeted = λ Name names s all. greeted Name all;
@@ -131,7 +131,7 @@ goes_one turn moment event outcome l hs l' handles sound reported greeted = reco
   came = it ∷ [];
   timed = All-cons (λ (x : Came). (x.moment ≡ moment) × (x.in_turn ≡ turn)) it [] (refl, refl) (All-nil (λ (x : Came). (x.moment ≡ moment) × (x.in_turn ≡ turn)));
   run = (handles, refl);
-  told = sym (append-nil (core_notes hs));
+  notified = sym (append-nil (core_notes hs));
   sound = sound;
   reported = λ s device before r.
       reported_as device (before ++ (if turn then report_in device event else [])) (before ++ reports_by device (it ∷ [])) l' (ap (λ (reports : List ReportRecord). before ++ reports) (sym (append-nil (if turn then report_in device event else []))))
@@ -216,8 +216,8 @@ gone_event moment device key fate e l front m back l' hs whole silent there name
     (handles_behind moment (Is.Report device report.Gone) outcome l.core m.core l'.core (core_notes hs) (core_notes back) (ap (λ (x : Ledger). x.core) after) (no_notes hs front back whole silent) one.handles)
     (λ s. sound_kept m l' one.kept (subst Sound (sym after) (sound_left key e fate l there s)))
     (λ s of before r.
-    reported_kept of (before ++ gone_told of (Some device)) m l' one.kept
-    (subst (λ (x : Ledger). IsReported of (before ++ gone_told of (Some device)) x) (sym after) (reported_left of key (Some device) e fate before l there named r)))
+    reported_kept of (before ++ gone_notified of (Some device)) m l' one.kept
+    (subst (λ (x : Ledger). IsReported of (before ++ gone_notified of (Some device)) x) (sym after) (reported_left of key (Some device) e fate before l there named r)))
     (λ Name names s all. greeted_kept Name m l' one.kept (subst (AllGreeted Name) (sym after) (greeted_left Name key e fate l there all)))
 
 closes_at : (moment : ℕ) (fate : Fate) (key : ℕ) (e : Entry) (l : Ledger) (hs : List Happening) (l' : Ledger) → l.entries key ≡ Some e → ClosesAs moment fate key e l hs l' → Goes true moment l hs l'
@@ -241,7 +241,7 @@ closes_at moment fate key e l hs l' there it = by (device_of e.progress) refl it
 closes_first : (moment : ℕ) → Within true moment (ClosesFirst moment)
 closes_first moment l hs l' it = closes_at moment Broken it.key it.entry l hs l' it.there it.closes
 
-settles_in : (moment : ℕ) → Within true moment (Settles moment)
+settles_in : (moment : ℕ) → Within true moment (ClosesBroken moment)
 settles_in moment l hs l' it = many_in true moment (ClosesFirst moment) (closes_first moment) l hs l' it.0
 
 -- ---- the asks of a connection
@@ -277,14 +277,14 @@ client_event moment key id who event own l hs l' (outcome, it) =
 
 fine_does : (moment key id : ℕ) (what : Ask) → IsFine what → Within true moment (ActsOn moment key id what)
 fine_does moment key id ask.Nothing fine = nothing_in true moment
-fine_does moment key id (ask.Broke growth) fine = calmly_in true moment (calms_tells (Refused (place_of growth) (Some id)) (silent_growth growth id))
+fine_does moment key id (ask.Broke growth) fine = calmly_in true moment (calms_notifies (Refused (place_of growth) (Some id)) (silent_growth growth id))
 fine_does moment key id (ask.Event who event) fine = client_event moment key id who event fine
 fine_does moment key id (ask.Unread request) fine = calmly_in true moment (calms_dropped key id request)
 fine_does moment key id (ask.Lost part) fine = calmly_in true moment (calms_declines (place_of_part part) key id (silent_part part id))
 fine_does moment key id (ask.Hello device name) fine = absurd fine
 fine_does moment key id (ask.Report device it) fine = absurd fine
-fine_does moment key id (ask.Stranger name) fine = calmly_in true moment (calms_tells (DeviceRefused id (why.UnknownName name)) refl)
-fine_does moment key id (ask.Fault device) fine = calmly_in true moment (calms_tells (DeviceRefused id (why.Fault device)) refl)
+fine_does moment key id (ask.UnknownDevice name) fine = calmly_in true moment (calms_notifies (DeviceRefused id (why.UnknownName name)) refl)
+fine_does moment key id (ask.Fault device) fine = calmly_in true moment (calms_notifies (DeviceRefused id (why.Fault device)) refl)
 
 -- ---- a device reports
 
@@ -379,8 +379,8 @@ open_as : (ended : Bool) (device : ℕ) (o : Option Entry) → IsDeviceAs ended 
 open_as ended device None is = absurd is
 open_as ended device (Some e) is = (e, refl, is.0)
 
-gives_way_at : (key : ℕ) (e : Entry) (o : Option Entry) (l : Ledger) (hs : List Happening) (l' : Ledger) → o ≡ Some e → GivesWayAt key o l hs l' → (hs ≡ []) × (l' ≡ with_entry key (given_up e) l)
-gives_way_at key e o l hs l' there it = subst (λ (x : Option Entry). GivesWayAt key x l hs l') there it
+gives_way_at : (key : ℕ) (e : Entry) (o : Option Entry) (l : Ledger) (hs : List Happening) (l' : Ledger) → o ≡ Some e → IsSupersededAt key o l hs l' → (hs ≡ []) × (l' ≡ with_entry key (superseded_entry e) l)
+gives_way_at key e o l hs l' there it = subst (λ (x : Option Entry). IsSupersededAt key x l hs l') there it
 
 unnamed_said : (progress : PeerRecord) → said_on (unnamed progress) ≡ said_on progress
 unnamed_said (Http said closes body) = refl
@@ -389,56 +389,56 @@ unnamed_said (Link reports device) = refl
 
 -- the connection is turned away: the device has another connection
 says_again : (moment device : ℕ) (name : List ℕ) (key id : ℕ) (d n : Entry) (l : Ledger) (front : List Happening) (m : Ledger) (back : List Happening) (l' : Ledger) (hs : List Happening) → hs ≡ front ++ back → core_notes front ≡ [] → Saying device name key d n l m
-    → Then (GivesWay key) (Tells (DeviceRefused id (why.Connected device))) m back l' → Goes true moment l hs l'
+    → Then (IsSuperseded key) (Notifies (DeviceRefused id (why.Connected device))) m back l' → Goes true moment l hs l'
 says_again moment device name key id d n l front m back l' hs whole silent s it =
     goes_calm true moment l hs l' (record {
-      core = ap (λ (x : Ledger). x.core) (after ∙ ap (λ (x : Ledger). with_entry key (given_up n) x) s.after);
+      core = ap (λ (x : Ledger). x.core) (after ∙ ap (λ (x : Ledger). with_entry key (superseded_entry n) x) s.after);
       notes = no_notes hs front back whole silent ∙ (no_notes back it.front it.back it.whole (ap core_notes way.0) ∙ ap core_notes it.second.0);
-      kept = record { closed = ap (λ (x : Ledger). x.closed) (after ∙ ap (λ (x : Ledger). with_entry key (given_up n) x) s.after); each = each };
+      kept = record { closed = ap (λ (x : Ledger). x.closed) (after ∙ ap (λ (x : Ledger). with_entry key (superseded_entry n) x) s.after); each = each };
     })
   where
-    way : (it.front ≡ []) × (it.mid ≡ with_entry key (given_up n) m)
+    way : (it.front ≡ []) × (it.mid ≡ with_entry key (superseded_entry n) m)
     way = gives_way_at key n (m.entries key) m it.front it.mid (set_here key n l m s.after) it.first
 
-    after : l' ≡ with_entry key (given_up n) m
+    after : l' ≡ with_entry key (superseded_entry n) m
     after = it.second.1 ∙ way.1
 
-    grows : Grows d (given_up n)
+    grows : Grows d (superseded_entry n)
     grows = record {
       progress = inr (record { sound = s.sound; before = ap device_of s.before; after = unnamed_nameless n.progress; fresh = λ reports is unbroken. absurd (no_true true refl unbroken) });
       broken = λ is. refl;
-      reads = λ is. read_as n (given_up n) (unnamed_said n.progress) refl s.read;
+      reads = λ is. read_as n (superseded_entry n) (unnamed_said n.progress) refl s.read;
     }
 
     each : (k : ℕ) → Kept (l.entries k) (l'.entries k)
     each k =
         by_key k key
         (λ same.
-        subst (λ (o : Option Entry). Kept (l.entries k) o) (sym (ap l'.entries same ∙ set_here key (given_up n) m l' after))
-        (subst (λ (o : Option Entry). Kept o (Some (given_up n))) (sym (ap l.entries same ∙ s.there)) (given_up n, refl, grows)))
-        (λ apart. subst (λ (o : Option Entry). Kept (l.entries k) o) (sym (set_aside key (given_up n) m l' after k apart ∙ set_aside key n l m s.after k apart)) (kept_same (l.entries k)))
+        subst (λ (o : Option Entry). Kept (l.entries k) o) (sym (ap l'.entries same ∙ set_here key (superseded_entry n) m l' after))
+        (subst (λ (o : Option Entry). Kept o (Some (superseded_entry n))) (sym (ap l.entries same ∙ s.there)) (superseded_entry n, refl, grows)))
+        (λ apart. subst (λ (o : Option Entry). Kept (l.entries k) o) (sym (set_aside key (superseded_entry n) m l' after k apart ∙ set_aside key n l m s.after k apart)) (kept_same (l.entries k)))
 
 -- both reports at once, or one after the other
-both_told : (t : Bool) (one other : ReportRecord) → (if t then one ∷ other ∷ [] else []) ≡ (if t then one ∷ [] else []) ++ ((if t then other ∷ [] else []) ++ [])
-both_told true one other = refl
-both_told false one other = refl
+both_notified : (t : Bool) (one other : ReportRecord) → (if t then one ∷ other ∷ [] else []) ≡ (if t then one ∷ [] else []) ++ ((if t then other ∷ [] else []) ++ [])
+both_notified true one other = refl
+both_notified false one other = refl
 
--- the device's old connection gives way: the core is told its end, and then the name on the new connection
+-- the device's old connection is superseded: the core is notified its end, and then the name on the new connection
 says_over : (moment device : ℕ) (name : List ℕ) (key other : ℕ) (d n : Entry) (l : Ledger) (front : List Happening) (m : Ledger) (back : List Happening) (l' : Ledger) (hs : List Happening) → hs ≡ front ++ back → core_notes front ≡ [] → Saying device name key d n l m → HasOther true device key other m
     → TakesOver moment other device name m back l' → Goes true moment l hs l'
 says_over moment device name key other d n l front m back l' hs whole silent s has it = record {
   came = one ∷ two ∷ [];
   timed = All-cons (λ (x : Came). (x.moment ≡ moment) × (x.in_turn ≡ true)) one (two ∷ []) (refl, refl) (All-cons (λ (x : Came). (x.moment ≡ moment) × (x.in_turn ≡ true)) two [] (refl, refl) (All-nil (λ (x : Came). (x.moment ≡ moment) × (x.in_turn ≡ true))));
   run = (subst (λ (c : State). Handles moment (Is.Report device report.Gone) c gone.0 (core_notes last.front) last.mid.core) core first.handles, (second.handles, refl));
-  told = no_notes hs front back whole silent
+  notified = no_notes hs front back whole silent
       ∙ (no_notes back it.front it.back it.whole (ap core_notes way.0)
       ∙ (ap core_notes last.whole ∙ (notes_append last.front last.back ∙ ap (λ (ns : List Note). core_notes last.front ++ ns) (sym (append-nil (core_notes last.back))))));
   sound = λ sound. sound_by l l' closed sound (sounds sound);
   reported = λ sound of before r.
-      reported_as of (before ++ told_if of device (SaysGone ∷ SaysHello name ∷ [])) (before ++ reports_by of (one ∷ two ∷ [])) l' (ap (λ (reports : List ReportRecord). before ++ reports) (both_told (device == of) SaysGone (SaysHello name)))
+      reported_as of (before ++ notified_if of device (SaysGone ∷ SaysHello name ∷ [])) (before ++ reports_by of (one ∷ two ∷ [])) l' (ap (λ (reports : List ReportRecord). before ++ reports) (both_notified (device == of) SaysGone (SaysHello name)))
       (reported_over of device key other name before l l'
       (record { d = d; f = now.0; there = s.there; nameless = ap device_of s.before; sound = s.sound; now = now.1; after = progress ∙ first_said device name key d n l m s sound; closed = closed })
-      (record { o = old.0; g = up.0; apart = has.0; there = there; named = old.2; now = up.1; after = broken_stays (given_up old.0) up.0 refl up.2; broke = up.2.broken refl; others = others }) r);
+      (record { o = old.0; g = up.0; apart = has.0; there = there; named = old.2; now = up.1; after = broken_stays (superseded_entry old.0) up.0 refl up.2; broke = up.2.broken refl; others = others }) r);
   greeted = λ Name names sound all.
       greeted_but Name key now.0 l l' closed
       (λ k apart e at.
@@ -460,10 +460,10 @@ says_over moment device name key other d n l front m back l' hs whole silent s h
     old : (e : Entry) × (m.entries other ≡ Some e) × (device_of e.progress ≡ Some device)
     old = open_as true device (m.entries other) has.1
 
-    way : (it.front ≡ []) × (it.mid ≡ with_entry other (given_up old.0) m)
+    way : (it.front ≡ []) × (it.mid ≡ with_entry other (superseded_entry old.0) m)
     way = gives_way_at other old.0 (m.entries other) m it.front it.mid old.1 it.first
 
-    given : it.mid ≡ with_entry other (given_up old.0) m
+    given : it.mid ≡ with_entry other (superseded_entry old.0) m
     given = way.1
 
     core : it.mid.core ≡ l.core
@@ -491,20 +491,20 @@ says_over moment device name key other d n l front m back l' hs whole silent s h
     there = sym (set_aside key n l m s.after other has.0) ∙ old.1
 
     now : Kept (Some n) (l'.entries key)
-    now = kept_open n (it.mid.entries key) (l'.entries key) (set_aside other (given_up old.0) m it.mid given key (λ same. has.0 (sym same)) ∙ set_here key n l m s.after) (kept.each key)
+    now = kept_open n (it.mid.entries key) (l'.entries key) (set_aside other (superseded_entry old.0) m it.mid given key (λ same. has.0 (sym same)) ∙ set_here key n l m s.after) (kept.each key)
 
     progress : now.0.progress ≡ n.progress
     progress = named_stays device n now.0 (ap device_of s.progress) now.2
 
-    up : Kept (Some (given_up old.0)) (l'.entries other)
-    up = kept_open (given_up old.0) (it.mid.entries other) (l'.entries other) (set_here other (given_up old.0) m it.mid given) (kept.each other)
+    up : Kept (Some (superseded_entry old.0)) (l'.entries other)
+    up = kept_open (superseded_entry old.0) (it.mid.entries other) (l'.entries other) (set_here other (superseded_entry old.0) m it.mid given) (kept.each other)
 
     others : (k : ℕ) → k ≢ key → k ≢ other → Kept (l.entries k) (l'.entries k)
-    others k apart away = subst (λ (o : Option Entry). Kept o (l'.entries k)) (set_aside other (given_up old.0) m it.mid given k away ∙ set_aside key n l m s.after k apart) (kept.each k)
+    others k apart away = subst (λ (o : Option Entry). Kept o (l'.entries k)) (set_aside other (superseded_entry old.0) m it.mid given k away ∙ set_aside key n l m s.after k apart) (kept.each k)
 
     greeted_at_given : (Name : List ℕ → ℕ → Type 0) (e : Entry) → l'.entries other ≡ Some e → IsGreeted Name e
     greeted_at_given Name e at =
-        subst (λ (z : Entry). IsGreeted Name z) (one_entry up.0 e (sym up.1 ∙ at)) (greeted_nameless Name up.0 (ap device_of (broken_stays (given_up old.0) up.0 refl up.2) ∙ unnamed_nameless old.0.progress))
+        subst (λ (z : Entry). IsGreeted Name z) (one_entry up.0 e (sym up.1 ∙ at)) (greeted_nameless Name up.0 (ap device_of (broken_stays (superseded_entry old.0) up.0 refl up.2) ∙ unnamed_nameless old.0.progress))
 
     sounds : Sound l → (k : ℕ) → SoundAt (l'.entries k)
     sounds sound k =
@@ -513,10 +513,10 @@ says_over moment device name key other d n l front m back l' hs whole silent s h
         by_key k other
         (λ at.
         subst SoundAt (sym (ap l'.entries at))
-        (kept_sound (Some (given_up old.0)) (l'.entries other) up ((λ reports is unbroken. absurd (no_true true refl unbroken)), read_as old.0 (given_up old.0) (unnamed_said old.0.progress) refl (subst SoundAt there (sound.each other)).1)))
+        (kept_sound (Some (superseded_entry old.0)) (l'.entries other) up ((λ reports is unbroken. absurd (no_true true refl unbroken)), read_as old.0 (superseded_entry old.0) (unnamed_said old.0.progress) refl (subst SoundAt there (sound.each other)).1)))
         (λ away. kept_sound (l.entries k) (l'.entries k) (others k apart away) (sound.each k)))
 
-greets_on : (moment device : ℕ) (name : List ℕ) (key id : ℕ) (d n : Entry) (l : Ledger) (front : List Happening) (m : Ledger) (back : List Happening) (l' : Ledger) (hs : List Happening) → hs ≡ front ++ back → core_notes front ≡ [] → Saying device name key d n l m → Greets moment key id device name m back l' → Goes true moment l hs l'
+greets_on : (moment device : ℕ) (name : List ℕ) (key id : ℕ) (d n : Entry) (l : Ledger) (front : List Happening) (m : Ledger) (back : List Happening) (l' : Ledger) (hs : List Happening) → hs ≡ front ++ back → core_notes front ≡ [] → Saying device name key d n l m → HandlesHello moment key id device name m back l' → Goes true moment l hs l'
 greets_on moment device name key id d n l front m back l' hs whole silent s (inl (alone, it)) = says_alone moment device name key d n l front m back l' hs whole silent s alone it
 greets_on moment device name key id d n l front m back l' hs whole silent s (inr (inl (other, has, it))) = says_over moment device name key other d n l front m back l' hs whole silent s has it
 greets_on moment device name key id d n l front m back l' hs whole silent s (inr (inr (other, has, it))) = says_again moment device name key id d n l front m back l' hs whole silent s it
@@ -621,7 +621,7 @@ module _ (moment : ℕ) where
   writes_in : (key : ℕ) → Within true moment (WritesOne moment key)
   writes_in key l hs l' it = writes_at key (l.entries key) l hs l' refl it
 
-  ends_if : (t : Bool) (key : ℕ) (e : Entry) (l : Ledger) (hs : List Happening) (l' : Ledger) → l.entries key ≡ Some e → If t (Then (ClosesAs moment Drained key e) (Settles moment)) Nothing l hs l' → Goes true moment l hs l'
+  ends_if : (t : Bool) (key : ℕ) (e : Entry) (l : Ledger) (hs : List Happening) (l' : Ledger) → l.entries key ≡ Some e → If t (Then (ClosesAs moment Drained key e) (ClosesBroken moment)) Nothing l hs l' → Goes true moment l hs l'
   ends_if true key e l hs l' there it = goes_then true moment l it.front it.mid it.back l' hs it.whole (closes_at moment Drained key e l it.front it.mid there it.first) (settles_in moment it.mid it.back l' it.second)
   ends_if false key e l hs l' there it = nothing_in true moment l hs l' it
 
@@ -667,7 +667,7 @@ module _ (moment : ℕ) where
   accepts_in door l hs l' it = if_in true moment (nat_lt l.count CONNECTIONS) (AcceptsOne door) Nothing (λ a ks b (answer, is). accepts_as door answer a ks b is) (nothing_in true moment) l hs l' it
 
   tick_due_in : Within true moment (TicksIfDue moment)
-  tick_due_in l hs l' it = if_in true moment (is_tick_due moment l) (Then (Ticks moment) (Settles moment)) Nothing (then_in true moment (ticks_in true moment) (settles_in moment)) (nothing_in true moment) l hs l' it
+  tick_due_in l hs l' it = if_in true moment (is_tick_due moment l) (Then (Ticks moment) (ClosesBroken moment)) Nothing (then_in true moment (ticks_in true moment) (settles_in moment)) (nothing_in true moment) l hs l' it
 
   round_in : Within true moment (Round moment)
   round_in l hs l' (n, it) =
@@ -682,13 +682,13 @@ module _ (moment : ℕ) where
 
   body_in : (it : ParsedRequest) (served : Between.Outcome) → Within false moment (BodyAsks moment it served)
   body_in asked.TooShort served l hs l' (is, it) = nothing_in false moment l hs l' it
-  body_in (asked.Refused status request) served l hs l' (is, it) = or_in false moment (chooses_in false moment Found) (calmly_in false moment (calms_tells (Refused At.Reply None) refl)) l hs l' it
+  body_in (asked.Refused status request) served l hs l' (is, it) = or_in false moment (chooses_in false moment Found) (calmly_in false moment (calms_notifies (Refused At.Reply None) refl)) l hs l' it
   body_in (asked.Event request event) served l hs l' (bytes, is, (outcome, it)) =
       then_in false moment {R = Happens moment event outcome} (goes_event false moment event outcome (λ device. refl)) (calmly_in false moment (body_answers request (reply_of outcome) bytes)) l hs l' it
 
   body_comes_in : (body : List ℕ) (served : Between.Outcome) → Within false moment (BodyComes moment body served)
   body_comes_in body served l hs l' (inl (it, asks, comes)) = then_in false moment (chooses_in false moment Found) (body_in it served) l hs l' comes
-  body_comes_in body served l hs l' (inr it) = calmly_in false moment (calms_tells (Refused At.Event None) refl) l hs l' it
+  body_comes_in body served l hs l' (inr it) = calmly_in false moment (calms_notifies (Refused At.Event None) refl) l hs l' it
 
 goes_action : (action : Action) (l l' : Ledger) → DoesAction action l l' → Goes (is_turn action) (moment_of action) l (happenings_of action) l'
 goes_action (Turned moment hs) l l' it = turn_in moment l hs l' it
@@ -702,7 +702,7 @@ record GoesOn (trace : Trace) (l l' : Ledger) : Type 1 where
   came : List Came
   timed : ComeOf trace came
   run : AreRun l.core came l'.core
-  told : core_notes (happenings_in trace) ≡ flat_map (λ (it : Came). it.notes) came
+  notified : core_notes (happenings_in trace) ≡ flat_map (λ (it : Came). it.notes) came
   sound : Sound l → Sound l'
   reported : Sound l → (device : ℕ) (before : List ReportRecord) → IsReported device before l → IsReported device (before ++ reports_by device came) l'
   greeted : (Name : List ℕ → ℕ → Type 0) → AreNames Name l.core came → Sound l → AllGreeted Name l → AllGreeted Name l'
@@ -712,7 +712,7 @@ goes_on [] l l' same = record {
   came = [];
   timed = refl;
   run = ap (λ (x : Ledger). x.core) same;
-  told = refl;
+  notified = refl;
   sound = λ s. subst Sound (sym same) s;
   reported = λ s device before r. reported_as device before (before ++ []) l' (sym (append-nil before)) (subst (λ (x : Ledger). IsReported device before x) (sym same) r);
   greeted = λ Name names s all. subst (AllGreeted Name) (sym same) all;
@@ -724,7 +724,7 @@ goes_on (action ∷ actions) l l' (mid, does, runs) =
       came = first.came ++ later.came;
       timed = (first.came, later.came, refl, first.timed, later.timed);
       run = run_then l.core mid.core l'.core first.came later.came first.run later.run;
-      told = told_then (happenings_of action ++ happenings_in actions) (happenings_of action) (happenings_in actions) first.came later.came refl first.told later.told;
+      notified = notified_then (happenings_of action ++ happenings_in actions) (happenings_of action) (happenings_in actions) first.came later.came refl first.notified later.notified;
       sound = λ s. later.sound (first.sound s);
       reported = λ s device before r.
           reported_as device ((before ++ reports_by device first.came) ++ reports_by device later.came) (before ++ reports_by device (first.came ++ later.came)) l' (reports_then device before first.came later.came)
@@ -739,8 +739,8 @@ goes_on (action ∷ actions) l l' (mid, does, runs) =
 opening_sound : (opening : State) → Sound (opening_ledger opening)
 opening_sound opening = record { each = λ key. tt; closed = All-nil (λ (it : Entry × Fate). IsRead it.0) }
 
-nothing_told : (device : ℕ) (opening : State) → IsReported device [] (opening_ledger opening)
-nothing_told device opening = record { past = []; now = []; whole = refl; closed = refl; given_up = All-nil _; is_now = inl (λ key is. is, refl) }
+nothing_notified : (device : ℕ) (opening : State) → IsReported device [] (opening_ledger opening)
+nothing_notified device opening = record { past = []; now = []; whole = refl; closed = refl; superseded_entry = All-nil _; is_now = inl (λ key is. is, refl) }
 
 pub are_heard : (opening : State) (trace : Trace) (l : Ledger) → Runs trace (opening_ledger opening) l → ((key : ℕ) (e : Entry) → l.entries key ≡ Some e → IsHeard e) → All (λ (it : Entry × Fate). IsHeard it.0) l.closed → AreHeard opening trace l
 are_heard opening trace l runs heard ended =
@@ -751,8 +751,8 @@ are_heard opening trace l runs heard ended =
       came = all.came;
       timed = all.timed;
       run = all.run;
-      told = all.told;
-      reported = λ device. all.reported (opening_sound opening) device [] (nothing_told device opening);
+      notified = all.notified;
+      reported = λ device. all.reported (opening_sound opening) device [] (nothing_notified device opening);
       greeted = names.each;
       closed_greeted = names.closed;
       read = λ key e there. (subst SoundAt there (sound.each key)).1;

@@ -21,9 +21,9 @@ use Rattle.events.specs.declared.status.Status.TheVariants.{TemporaryError}
 use Rattle.events.specs.Event.{is_query}
 use Rattle.dispatcher.specs.declared.outcome.Outcome.{Outcome}
 use Rattle.dispatcher.specs.declared.outcome.Outcome.TheVariants.{Dropped, Queried, Undispatched, Idle, Dispatched}
-use Rattle.dispatcher.specs.declared.listener.DeviceRefusal.TheVariants as why
-use Rattle.dispatcher.specs.declared.listener.AllocationSite.{AllocationSite}
-use Rattle.dispatcher.specs.declared.listener.AllocationSite.TheVariants as At
+use Rattle.dispatcher.specs.declared.observer.DeviceRefusal.TheVariants as why
+use Rattle.dispatcher.specs.declared.observer.AllocationSite.{AllocationSite}
+use Rattle.dispatcher.specs.declared.observer.AllocationSite.TheVariants as At
 use Rattle.dispatcher.specs.Notes.{Note, DeviceRefused, Refused}
 use Rattle.dispatcher.specs.Run.{reply_of}
 use Rattle.ipp_operations.specs.QueueText.{ack_of, text_of}
@@ -33,20 +33,20 @@ use Rattle.wires.specs.declared.wire.Progress.{Progress as WireAnswer}
 use Rattle.wires.specs.declared.wire.Progress.TheVariants as wire
 use Rattle.connections.specs.declared.ask.Ask.{Ask}
 use Rattle.connections.specs.declared.ask.Ask.TheVariants as ask
-use Rattle.connections.specs.declared.ask.Growth.TheVariants as growth
+use Rattle.connections.specs.declared.ask.AllocFailure.TheVariants as growth
 use Rattle.connections.specs.declared.ask.Part.TheVariants as part
 use Rattle.connections.specs.declared.ask.Client.{Client}
 use Rattle.connections.specs.declared.ask.Client.TheVariants as client
 use Rattle.connections.specs.Steps.{http_status}
-use Rattle.connections.specs.Entry.{Entry, device_of, closes_of, broken, owing, given_up, reading, waiting, needs_memory}
-use Rattle.server.specs.Polls.{Happening, Told, Choice, Found, Rested}
+use Rattle.connections.specs.Entry.{Entry, device_of, closes_of, broken, owing, superseded_entry, reading, waiting, needs_memory}
+use Rattle.server.specs.Polls.{Happening, Notified, Choice, Found, Rested}
 use Rattle.server.specs.Ledger.{Ledger, Drained, at_key, with_entry, job_bytes}
-use Rattle.server.specs.Rel.{Rel, Nothing, Polls, Tells, Chooses, Then, If, Or, Times, Many, EachOf}
+use Rattle.server.specs.Rel.{Rel, Nothing, Polls, Notifies, Chooses, Then, If, Or, Times, Many, EachOf}
 use Rattle.server.specs.Enqueuing.{Sets, BreaksAt, Breaks, Drops, EnqueuesOpen, EnqueuesAt, Enqueues, EnqueuesReplyAt, EnqueuesResponse, EnqueuesStatus, IsDevice, EnqueuesOn}
 use Rattle.server.specs.Happening.{Sends, Starts, Orders, Happens, Unanswered}
-use Rattle.server.specs.Closing.{Leaves, IsGone, ClosesAs, IsBroken, ClosesFirst, NoneBroken, Settles}
+use Rattle.server.specs.Closing.{Leaves, IsGone, ClosesAs, IsBroken, ClosesFirst, NoneBroken, ClosesBroken}
 use Rattle.server.specs.Answering as Ans
-use Rattle.server.specs.Greeting.{IsDeviceAs, GivesWayAt, GivesWay, TakesOver, Greets}
+use Rattle.server.specs.Hello.{IsDeviceAs, IsSupersededAt, IsSuperseded, TakesOver, HandlesHello}
 use Rattle.server.specs.Acting.{Asks, ActsOn, ActsNext}
 use Rattle.server.specs.Polling.{Acts, Serves, FedWhole, FeedsAt, FeedsOne, Fails, ReadsAs, ReadsOpen, ReadsAt, is_read, ReadsOne, WritesAs, WritesOpen, WritesAt, WritesOne, is_done, EndsAt, EndsOne}
 use Rattle.server.specs.Law.{core_notes}
@@ -62,8 +62,8 @@ use Rattle.connections.specs.Asking.{AsksNext, ItemComes}
 use Rattle.connections.specs.Entry.{PeerRecord, Http, Queue, Link}
 use Rattle.settings_file.specs.Settings.{ServerSettings}
 use Rattle.server.specs.Acting.{place_of, place_of_part}
-use Rattle.promises.proofs.CalmParts.{kept_next, calms_nothing, calms_tells, calms_dropped, calms_declines, calms_answers, no_notes, enqueues_on, each_sent, calms_orders, happened}
-use Rattle.promises.proofs.OneRunOfTheCore.{run_then, told_then}
+use Rattle.promises.proofs.CalmParts.{kept_next, calms_nothing, calms_notifies, calms_dropped, calms_declines, calms_answers, no_notes, enqueues_on, each_sent, calms_orders, happened}
+use Rattle.promises.proofs.OneRunOfTheCore.{run_then, notified_then}
 
 -- ---- one connection
 
@@ -184,7 +184,7 @@ module _ (O : ℕ → List ℕ → Type 0) (C : ℕ → ℕ → Bool → Type 0)
 
 -- ---- parts that bring no event, and concern one connection
 
--- the core stays and tells nothing, and every other connection is as it was
+-- the core stays and notifies nothing, and every other connection is as it was
 record Aside (key : ℕ) (l : Ledger) (hs : List Happening) (l' : Ledger) : Type 0 where
   core : l'.core ≡ l.core
   notes : core_notes hs ≡ []
@@ -228,8 +228,8 @@ module _ (key : ℕ) where
   aside_chooses : (choice : Choice) → Asides (Chooses choice)
   aside_chooses choice l hs l' it = aside_same l hs l' (ap core_notes it.0) it.1
 
-  aside_tells : (note : Note) → core_notes (Told note ∷ []) ≡ [] → Asides (Tells note)
-  aside_tells note silent l hs l' it = aside_same l hs l' (ap core_notes it.0 ∙ silent) it.1
+  aside_notifies : (note : Note) → core_notes (Notified note ∷ []) ≡ [] → Asides (Notifies note)
+  aside_notifies note silent l hs l' it = aside_same l hs l' (ap core_notes it.0 ∙ silent) it.1
 
   aside_polls : (poll : Poll) → Asides (Polls poll)
   aside_polls poll l hs l' it = aside_same l hs l' (ap core_notes it.0) it.1
@@ -237,7 +237,7 @@ module _ (key : ℕ) where
   aside_sets : (e : Entry) → Asides (Sets key e)
   aside_sets e l hs l' it = aside_with (Some e) l hs l' (ap core_notes it.0) (ap (λ (x : Ledger). x.core) it.1) (ap (λ (x : Ledger). x.entries) it.1)
 
-  aside_drops : (place : AllocationSite) (e : Entry) → core_notes (Told (Refused place (Some e.id)) ∷ []) ≡ [] → Asides (Drops place key e)
+  aside_drops : (place : AllocationSite) (e : Entry) → core_notes (Notified (Refused place (Some e.id)) ∷ []) ≡ [] → Asides (Drops place key e)
   aside_drops place e silent l hs l' it = aside_with (Some (broken e)) l hs l' (ap core_notes it.0 ∙ silent) (ap (λ (x : Ledger). x.core) it.1) (ap (λ (x : Ledger). x.entries) it.1)
 
   breaks_at : (o : Option Entry) → Asides (BreaksAt key o)
@@ -247,11 +247,11 @@ module _ (key : ℕ) where
   aside_breaks : Asides (Breaks key)
   aside_breaks l hs l' it = breaks_at (l.entries key) l hs l' it
 
-  gives_way_at : (o : Option Entry) → Asides (GivesWayAt key o)
+  gives_way_at : (o : Option Entry) → Asides (IsSupersededAt key o)
   gives_way_at None = aside_nothing
-  gives_way_at (Some e) = aside_sets (given_up e)
+  gives_way_at (Some e) = aside_sets (superseded_entry e)
 
-  aside_gives_way : Asides (GivesWay key)
+  aside_gives_way : Asides (IsSuperseded key)
   aside_gives_way l hs l' it = gives_way_at (l.entries key) l hs l' it
 
   enqueues_at : (refusable : Entry → Bool) (bytes : List ℕ) (o : Option Entry) → Asides (EnqueuesAt refusable key bytes o)
@@ -277,11 +277,11 @@ module _ (key : ℕ) where
   -- ---- answers
 
   aside_dropped : (id request : ℕ) → Asides (Ans.Drops key id request)
-  aside_dropped id request = aside_then (Tells (Refused At.Event (Some id))) (EnqueuesStatus key TemporaryError request) (aside_tells (Refused At.Event (Some id)) refl) (aside_status TemporaryError request)
+  aside_dropped id request = aside_then (Notifies (Refused At.Event (Some id))) (EnqueuesStatus key TemporaryError request) (aside_notifies (Refused At.Event (Some id)) refl) (aside_status TemporaryError request)
 
   aside_lost : (id request : ℕ) (query : Bool) → Asides (Ans.LosesReply key id request query)
   aside_lost id request query =
-      aside_then (Tells (Refused At.Reply (Some id))) (If query (EnqueuesStatus key TemporaryError request) (Breaks key)) (aside_tells (Refused At.Reply (Some id)) refl)
+      aside_then (Notifies (Refused At.Reply (Some id))) (If query (EnqueuesStatus key TemporaryError request) (Breaks key)) (aside_notifies (Refused At.Reply (Some id)) refl)
       (aside_if query (EnqueuesStatus key TemporaryError request) (Breaks key) (aside_status TemporaryError request) aside_breaks)
 
   aside_replies_with : (id request : ℕ) (query : Bool) (answer : Response) → Asides (Ans.RepliesWith key id request query answer)
@@ -294,21 +294,21 @@ module _ (key : ℕ) where
   aside_replies id request query (Some reply) = aside_replies_with id request query reply.answer
   aside_replies id request query None = aside_dropped id request
 
-  aside_declines : (place : AllocationSite) (id : ℕ) → core_notes (Told (Refused place (Some id)) ∷ []) ≡ [] → Asides (Ans.Declines place key id)
-  aside_declines place id silent = aside_then (Tells (Refused place (Some id))) (Enqueues key (1 ∷ [])) (aside_tells (Refused place (Some id)) silent) (aside_enqueues (1 ∷ []))
+  aside_declines : (place : AllocationSite) (id : ℕ) → core_notes (Notified (Refused place (Some id)) ∷ []) ≡ [] → Asides (Ans.Declines place key id)
+  aside_declines place id silent = aside_then (Notifies (Refused place (Some id))) (Enqueues key (1 ∷ [])) (aside_notifies (Refused place (Some id)) silent) (aside_enqueues (1 ∷ []))
 
   aside_shows : (id : ℕ) (text : List ℕ) → Asides (Ans.Shows key id text)
   aside_shows id text =
-      aside_or (Then (Chooses Found) (Enqueues key text)) (Then (Tells (Refused At.Reply (Some id))) (Breaks key)) (aside_then (Chooses Found) (Enqueues key text) (aside_chooses Found) (aside_enqueues text))
-      (aside_then (Tells (Refused At.Reply (Some id))) (Breaks key) (aside_tells (Refused At.Reply (Some id)) refl) aside_breaks)
+      aside_or (Then (Chooses Found) (Enqueues key text)) (Then (Notifies (Refused At.Reply (Some id))) (Breaks key)) (aside_then (Chooses Found) (Enqueues key text) (aside_chooses Found) (aside_enqueues text))
+      (aside_then (Notifies (Refused At.Reply (Some id))) (Breaks key) (aside_notifies (Refused At.Reply (Some id)) refl) aside_breaks)
 
-  aside_told : (id : ℕ) (answer : LpdResponse) → Asides (Ans.IsTold key id answer)
-  aside_told id (shown.Taken taken) = aside_enqueues (ack_of (shown.Taken taken) ∷ [])
-  aside_told id (shown.Queue listing) = aside_shows id (text_of (shown.Queue listing))
-  aside_told id shown.NoQueue = aside_shows id (text_of shown.NoQueue)
+  aside_notified : (id : ℕ) (answer : LpdResponse) → Asides (Ans.SendsLpd key id answer)
+  aside_notified id (shown.Taken taken) = aside_enqueues (ack_of (shown.Taken taken) ∷ [])
+  aside_notified id (shown.Queue listing) = aside_shows id (text_of (shown.Queue listing))
+  aside_notified id shown.NoQueue = aside_shows id (text_of shown.NoQueue)
 
   aside_shown : (id : ℕ) (answer : Response) → Asides (Ans.IsShown key id answer)
-  aside_shown id (answered.Lpd answer) = aside_told id answer
+  aside_shown id (answered.Lpd answer) = aside_notified id answer
   aside_shown id (answered.Ipp answer) = aside_nothing
   aside_shown id answered.Nothing = aside_nothing
 
@@ -317,25 +317,25 @@ module _ (key : ℕ) where
   aside_answers id client.LpdJob query (Some reply) = aside_shown id reply.answer
   aside_answers id client.LpdJob query None = aside_declines At.Event id refl
   aside_answers id client.LpdCommand query (Some reply) = aside_shown id reply.answer
-  aside_answers id client.LpdCommand query None = aside_then (Tells (Refused At.Event (Some id))) (Breaks key) (aside_tells (Refused At.Event (Some id)) refl) aside_breaks
+  aside_answers id client.LpdCommand query None = aside_then (Notifies (Refused At.Event (Some id))) (Breaks key) (aside_notifies (Refused At.Event (Some id)) refl) aside_breaks
 
 -- ---- the orders of an event
 
--- the listener was told that memory for bytes on the connection of this number was refused
+-- the observer was notified that memory for bytes on the connection of this number was refused
 abbrev IsRefused : List Happening → ℕ → ℕ → Bool → Type 0
-IsRefused hs device id ended = Contains hs (Told (Refused At.Enqueue (Some id)))
+IsRefused hs device id ended = Contains hs (Notified (Refused At.Enqueue (Some id)))
 
 refused_front : (hs front back : List Happening) → hs ≡ front ++ back → (device id : ℕ) (ended : Bool) → IsRefused front device id ended → IsRefused hs device id ended
-refused_front hs front back whole device id ended is = subst (λ (xs : List Happening). Contains xs (Told (Refused At.Enqueue (Some id)))) (sym whole) (Contains-append_left front back (Told (Refused At.Enqueue (Some id))) is)
+refused_front hs front back whole device id ended is = subst (λ (xs : List Happening). Contains xs (Notified (Refused At.Enqueue (Some id)))) (sym whole) (Contains-append_left front back (Notified (Refused At.Enqueue (Some id))) is)
 
 refused_back : (hs front back : List Happening) → hs ≡ front ++ back → (device id : ℕ) (ended : Bool) → IsRefused back device id ended → IsRefused hs device id ended
-refused_back hs front back whole device id ended is = subst (λ (xs : List Happening). Contains xs (Told (Refused At.Enqueue (Some id)))) (sym whole) (Contains-append_right front back (Told (Refused At.Enqueue (Some id))) is)
+refused_back hs front back whole device id ended is = subst (λ (xs : List Happening). Contains xs (Notified (Refused At.Enqueue (Some id)))) (sym whole) (Contains-append_right front back (Notified (Refused At.Enqueue (Some id))) is)
 
 contains_first : {A : Type 0} (x : A) (xs : List A) → Contains (x ∷ xs) x
 contains_first x xs = (0, omega arith, refl)
 
-just_told : (hs : List Happening) (device id : ℕ) (ended : Bool) → hs ≡ Told (Refused At.Enqueue (Some id)) ∷ [] → IsRefused hs device id ended
-just_told hs device id ended is = subst (λ (xs : List Happening). Contains xs (Told (Refused At.Enqueue (Some id)))) (sym is) (contains_first (Told (Refused At.Enqueue (Some id))) [])
+just_notified : (hs : List Happening) (device id : ℕ) (ended : Bool) → hs ≡ Notified (Refused At.Enqueue (Some id)) ∷ [] → IsRefused hs device id ended
+just_notified hs device id ended is = subst (λ (xs : List Happening). Contains xs (Notified (Refused At.Enqueue (Some id)))) (sym is) (contains_first (Notified (Refused At.Enqueue (Some id))) [])
 
 -- and there was an order for the device
 abbrev Denied : (ℕ → List ℕ → Type 0) → List Happening → ℕ → ℕ → Bool → Type 0
@@ -363,7 +363,7 @@ module _ (O : ℕ → List ℕ → Type 0) (other : ℕ) where
       (λ same. subst (λ (o : Option Entry). Left O (Denied O hs) o (Some (owing bytes e))) (sym (ap l.entries same ∙ there)) (left_owing O (Denied O hs) e device bytes named sound order))
   enqueues_open true key device bytes e l hs l' order there named sound (inr it) =
       left_at O (Denied O hs) other key (Some (broken e)) l l' (ap (λ (x : Ledger). x.entries) it.1)
-      (λ same. subst (λ (o : Option Entry). Left O (Denied O hs) o (Some (broken e))) (sym (ap l.entries same ∙ there)) (left_out O (Denied O hs) e device (Some (broken e)) named (inr (broken e, refl, refl)) (just_told hs device e.id e.ended it.0, (bytes, order))))
+      (λ same. subst (λ (o : Option Entry). Left O (Denied O hs) o (Some (broken e))) (sym (ap l.entries same ∙ there)) (left_out O (Denied O hs) e device (Some (broken e)) named (inr (broken e, refl, refl)) (just_notified hs device e.id e.ended it.0, (bytes, order))))
 
   enqueues_if : (t grows : Bool) (key device : ℕ) (bytes : List ℕ) (e : Entry) (l : Ledger) (hs : List Happening) (l' : Ledger) → O device bytes → e.broken ≡ t → l.entries key ≡ Some e → device_of e.progress ≡ Some device → If t Nothing (EnqueuesOpen grows key bytes e) l hs l' → Leaves_it l hs l'
   enqueues_if true grows key device bytes e l hs l' order is there named it = leaves_same l hs l' it.1
@@ -411,7 +411,7 @@ pub record Spared (F : ℕ → Type 0) (moment key : ℕ) (l : Ledger) (hs : Lis
   pub came : List Came
   pub timed : ComeAt true moment came
   pub run : AreRun l.core came l'.core
-  pub told : core_notes hs ≡ flat_map (λ (it : Came). it.notes) came
+  pub notified : core_notes hs ≡ flat_map (λ (it : Came). it.notes) came
   pub each : (other : ℕ) → other ≢ key → Left (IsOrder came) (IsCause F came hs) (l.entries other) (l'.entries other)
 
 -- more events, and more happenings
@@ -423,11 +423,11 @@ module _ (first later : List Came) (front back : List Happening) where
   order_right device bytes (it, has, is) = (it, Contains-append_right first later it has, is)
 
   cause_left : (F : ℕ → Type 0) (hs : List Happening) → hs ≡ front ++ back → (device id : ℕ) (ended : Bool) → IsCause F first front device id ended → IsCause F (first ++ later) hs device id ended
-  cause_left F hs whole device id ended (inl (told, (bytes, is))) = inl (refused_front hs front back whole device id ended told, (bytes, order_left device bytes is))
+  cause_left F hs whole device id ended (inl (notified, (bytes, is))) = inl (refused_front hs front back whole device id ended notified, (bytes, order_left device bytes is))
   cause_left F hs whole device id ended (inr (is, (it, has, name, named), f)) = inr (is, (it, Contains-append_left first later it has, name, named), f)
 
   cause_right : (F : ℕ → Type 0) (hs : List Happening) → hs ≡ front ++ back → (device id : ℕ) (ended : Bool) → IsCause F later back device id ended → IsCause F (first ++ later) hs device id ended
-  cause_right F hs whole device id ended (inl (told, (bytes, is))) = inl (refused_back hs front back whole device id ended told, (bytes, order_right device bytes is))
+  cause_right F hs whole device id ended (inl (notified, (bytes, is))) = inl (refused_back hs front back whole device id ended notified, (bytes, order_right device bytes is))
   cause_right F hs whole device id ended (inr (is, (it, has, name, named), f)) = inr (is, (it, Contains-append_right first later it has, name, named), f)
 
 abbrev IsInTurn : ℕ → Came → Type 0
@@ -438,7 +438,7 @@ spared_then F moment key l front mid back l' hs whole p q = record {
   came = p.came ++ q.came;
   timed = All-append (IsInTurn moment) p.came q.came p.timed q.timed;
   run = run_then l.core mid.core l'.core p.came q.came p.run q.run;
-  told = told_then hs front back p.came q.came whole p.told q.told;
+  notified = notified_then hs front back p.came q.came whole p.notified q.notified;
   each = λ other apart.
       left_then (IsOrder (p.came ++ q.came)) (IsCause F (p.came ++ q.came) hs) (l.entries other) (mid.entries other) (l'.entries other)
       (left_weaker (IsOrder p.came) (IsOrder (p.came ++ q.came)) (IsCause F p.came front) (IsCause F (p.came ++ q.came) hs) (l.entries other) (mid.entries other) (order_left p.came q.came front back) (cause_left p.came q.came front back F hs whole) (p.each other apart))
@@ -447,7 +447,7 @@ spared_then F moment key l front mid back l' hs whole p q = record {
 
 -- no event
 spared_none : (F : ℕ → Type 0) (moment key : ℕ) (l : Ledger) (hs : List Happening) (l' : Ledger) → l'.core ≡ l.core → core_notes hs ≡ [] → ((other : ℕ) → other ≢ key → Left (IsOrder []) (IsCause F [] hs) (l.entries other) (l'.entries other)) → Spared F moment key l hs l'
-spared_none F moment key l hs l' core silent each = record { came = []; timed = All-nil (IsInTurn moment); run = core; told = silent; each = each }
+spared_none F moment key l hs l' core silent each = record { came = []; timed = All-nil (IsInTurn moment); run = core; notified = silent; each = each }
 
 spared_aside : (F : ℕ → Type 0) (moment key : ℕ) (l : Ledger) (hs : List Happening) (l' : Ledger) → Aside key l hs l' → Spared F moment key l hs l'
 spared_aside F moment key l hs l' p = spared_none F moment key l hs l' p.core p.notes (λ other apart. left_same (IsOrder []) (IsCause F [] hs) (l.entries other) (l'.entries other) (p.others other apart))
@@ -485,7 +485,7 @@ brings F moment key event outcome l hs l' happens = record { spared = one; it = 
       came = it ∷ [];
       timed = All-cons (IsInTurn moment) it [] (refl, refl) (All-nil (IsInTurn moment));
       run = ((happened moment event outcome l hs l' happens).handles, refl);
-      told = sym (append-nil (core_notes hs));
+      notified = sym (append-nil (core_notes hs));
       each = λ other apart. each other;
     }
 
@@ -545,19 +545,19 @@ module _ (moment key : ℕ) where
   times_fit device zero l hs l' bears it = subst (λ (x : Ledger). Bears key x device) (sym it.1) bears
   times_fit device (suc n) l hs l' bears it = first_fit device it.mid it.back l' (times_fit device n l it.front it.mid bears it.first) it.second
 
-  settles_fit : (device : ℕ) (l : Ledger) (hs : List Happening) (l' : Ledger) → Bears key l device → Settles moment l hs l' → Bears key l' device
+  settles_fit : (device : ℕ) (l : Ledger) (hs : List Happening) (l' : Ledger) → Bears key l device → ClosesBroken moment l hs l' → Bears key l' device
   settles_fit device l hs l' bears it = times_fit device it.0.0 l hs l' bears it.0.1
 
   kept_fine : (id : ℕ) (what : Ask) → IsFine what → (l : Ledger) (hs : List Happening) (l' : Ledger) → ActsOn moment key id what l hs l' → KeptAll l l'
   kept_fine id ask.Nothing fine l hs l' it = (calms_nothing l hs l' it).kept
-  kept_fine id (ask.Broke growth) fine l hs l' it = (calms_tells (Refused (place_of growth) (Some id)) (silent_growth growth id) l hs l' it).kept
+  kept_fine id (ask.Broke growth) fine l hs l' it = (calms_notifies (Refused (place_of growth) (Some id)) (silent_growth growth id) l hs l' it).kept
   kept_fine id (ask.Event who event) fine l hs l' (outcome, it) = kept_next l it.mid l' (happened moment event outcome l it.front it.mid it.first).kept (calms_answers key id who (is_query event) (reply_of outcome) it.mid it.back l' it.second).kept
   kept_fine id (ask.Unread request) fine l hs l' it = (calms_dropped key id request l hs l' it).kept
   kept_fine id (ask.Lost part) fine l hs l' it = (calms_declines (place_of_part part) key id (silent_part part id) l hs l' it).kept
   kept_fine id (ask.Hello device name) fine l hs l' it = absurd fine
   kept_fine id (ask.Report device it) fine l hs l' does = absurd fine
-  kept_fine id (ask.Stranger name) fine l hs l' it = (calms_tells (DeviceRefused id (why.UnknownName name)) refl l hs l' it).kept
-  kept_fine id (ask.Fault device) fine l hs l' it = (calms_tells (DeviceRefused id (why.Fault device)) refl l hs l' it).kept
+  kept_fine id (ask.UnknownDevice name) fine l hs l' it = (calms_notifies (DeviceRefused id (why.UnknownName name)) refl l hs l' it).kept
+  kept_fine id (ask.Fault device) fine l hs l' it = (calms_notifies (DeviceRefused id (why.Fault device)) refl l hs l' it).kept
 
   acts_by : (device id : ℕ) (what : Ask) (l : Ledger) (front : List Happening) (m : Ledger) (back : List Happening) (l' : Ledger) (a : Asks key id what l front m) → device_of a.entry.progress ≡ Some device → ActsOn moment key id what m back l' → (progress : PeerRecord) → a.entry.progress ≡ progress → Bears key l' device
   acts_by device id what l front m back l' a named does (Http said closes body) is = let never : None ≡ Some device = sym (ap device_of is) ∙ named in cc
@@ -625,7 +625,7 @@ module _ (F : ℕ → Type 0) (moment key : ℕ) where
       closed : Spared F moment key l it.closes.front it.closes.mid
       closed = spared_none F moment key l it.closes.front it.closes.mid (ap (λ (x : Ledger). x.core) it.closes.first.2) (ap core_notes it.closes.first.0) (λ other apart. gone other)
 
-  pub spares_settles : Spares_in (Settles moment)
+  pub spares_settles : Spares_in (ClosesBroken moment)
   spares_settles l hs l' it = many_in (ClosesFirst moment) closes_first l hs l' it.0
 
   -- ---- the asks of a connection
@@ -634,16 +634,16 @@ module _ (F : ℕ → Type 0) (moment key : ℕ) where
   as_device device None e there is = absurd is
   as_device device (Some d) e there is = let same : d ≡ e = cc in subst (λ (x : Entry). (device_of x.progress ≡ Some device) × (x.ended ≡ true)) same is
 
-  -- the old connection of a device that comes again gives way
-  gives_way : (came : List Came) (hs : List Happening) (old device other : ℕ) (o : Option Entry) (l : Ledger) (ks : List Happening) (l' : Ledger) → l.entries old ≡ o → IsDeviceAs true device o → ComesAgain device came × F device → GivesWayAt old o l ks l' → Left (IsOrder came) (IsCause F came hs) (l.entries other) (l'.entries other)
-  gives_way came hs old device other None l ks l' there is again it = absurd is
-  gives_way came hs old device other (Some e) l ks l' there is again it =
-      left_at (IsOrder came) (IsCause F came hs) other old (Some (given_up e)) l l' (ap (λ (x : Ledger). x.entries) it.1)
+  -- the old connection of a device that comes again is superseded
+  superseded : (came : List Came) (hs : List Happening) (old device other : ℕ) (o : Option Entry) (l : Ledger) (ks : List Happening) (l' : Ledger) → l.entries old ≡ o → IsDeviceAs true device o → ComesAgain device came × F device → IsSupersededAt old o l ks l' → Left (IsOrder came) (IsCause F came hs) (l.entries other) (l'.entries other)
+  superseded came hs old device other None l ks l' there is again it = absurd is
+  superseded came hs old device other (Some e) l ks l' there is again it =
+      left_at (IsOrder came) (IsCause F came hs) other old (Some (superseded_entry e)) l l' (ap (λ (x : Ledger). x.entries) it.1)
       (λ same.
-      subst (λ (o : Option Entry). Left (IsOrder came) (IsCause F came hs) o (Some (given_up e))) (sym (ap l.entries same ∙ there))
-      (left_out (IsOrder came) (IsCause F came hs) e device (Some (given_up e)) is.0 (inr (given_up e, refl, refl)) (inr (is.1, again.0, again.1))))
+      subst (λ (o : Option Entry). Left (IsOrder came) (IsCause F came hs) o (Some (superseded_entry e))) (sym (ap l.entries same ∙ there))
+      (left_out (IsOrder came) (IsCause F came hs) e device (Some (superseded_entry e)) is.0 (inr (superseded_entry e, refl, refl)) (inr (is.1, again.0, again.1))))
 
-  way_core : (old : ℕ) (o : Option Entry) (l : Ledger) (hs : List Happening) (l' : Ledger) → GivesWayAt old o l hs l' → (l'.core ≡ l.core) × (core_notes hs ≡ [])
+  way_core : (old : ℕ) (o : Option Entry) (l : Ledger) (hs : List Happening) (l' : Ledger) → IsSupersededAt old o l hs l' → (l'.core ≡ l.core) × (core_notes hs ≡ [])
   way_core old None l hs l' it = (ap (λ (x : Ledger). x.core) it.1, ap core_notes it.0)
   way_core old (Some e) l hs l' it = (ap (λ (x : Ledger). x.core) it.1, ap core_notes it.0)
 
@@ -653,9 +653,9 @@ module _ (F : ℕ → Type 0) (moment key : ℕ) where
     came = later.came;
     timed = later.timed;
     run = subst (λ (c : State). AreRun c later.came l'.core) way.0 later.run;
-    told = no_notes hs it.front it.back it.whole way.1 ∙ later.told;
+    notified = no_notes hs it.front it.back it.whole way.1 ∙ later.notified;
     each = λ other apart.
-        left_then (IsOrder later.came) (IsCause F later.came hs) (l.entries other) (it.mid.entries other) (l'.entries other) (gives_way later.came hs old device other (l.entries old) l it.front it.mid refl is (again, fits now) it.first)
+        left_then (IsOrder later.came) (IsCause F later.came hs) (l.entries other) (it.mid.entries other) (l'.entries other) (superseded later.came hs old device other (l.entries old) l it.front it.mid refl is (again, fits now) it.first)
         (left_weaker (IsOrder later.came) (IsOrder later.came) (IsCause F later.came it.back) (IsCause F later.came hs) (it.mid.entries other) (l'.entries other) (λ of bytes order. order) behind (later.each other apart));
   }
     where
@@ -684,19 +684,19 @@ module _ (F : ℕ → Type 0) (moment key : ℕ) where
       again = (named.it, Contains-append_right gone.came named.spared.came named.it named.has, name, named.is)
 
       behind : (of id : ℕ) (ended : Bool) → IsCause F later.came it.back of id ended → IsCause F later.came hs of id ended
-      behind of id ended (inl (told, more)) = inl (refused_back hs it.front it.back it.whole of id ended told, more)
+      behind of id ended (inl (notified, more)) = inl (refused_back hs it.front it.back it.whole of id ended notified, more)
       behind of id ended (inr more) = inr more
 
-  spares_greets : (id device : ℕ) (name : List ℕ) (n : Entry) (l : Ledger) (hs : List Happening) (l' : Ledger) → l.entries key ≡ Some n → device_of n.progress ≡ Some device → (Bears key l' device → F device) → Greets moment key id device name l hs l' → Spared F moment key l hs l'
+  spares_greets : (id device : ℕ) (name : List ℕ) (n : Entry) (l : Ledger) (hs : List Happening) (l' : Ledger) → l.entries key ≡ Some n → device_of n.progress ≡ Some device → (Bears key l' device → F device) → HandlesHello moment key id device name l hs l' → Spared F moment key l hs l'
   spares_greets id device name n l hs l' there bears fits (inl (alone, it)) = spares_unanswered (Is.Report device (report.Hello name)) l hs l' it
   spares_greets id device name n l hs l' there bears fits (inr (inl (old, has, it))) = takes_over old device name n l hs l' there bears has.0 fits has.1 it
   spares_greets id device name n l hs l' there bears fits (inr (inr (old, has, it))) =
-      aside_in {R = Then (GivesWay key) (Tells (DeviceRefused id (why.Connected device)))} (aside_then key (GivesWay key) (Tells (DeviceRefused id (why.Connected device))) (aside_gives_way key) (aside_tells key (DeviceRefused id (why.Connected device)) refl)) l hs l' it
+      aside_in {R = Then (IsSuperseded key) (Notifies (DeviceRefused id (why.Connected device)))} (aside_then key (IsSuperseded key) (Notifies (DeviceRefused id (why.Connected device))) (aside_gives_way key) (aside_notifies key (DeviceRefused id (why.Connected device)) refl)) l hs l' it
 
   spares_does : (id : ℕ) (what : Ask) → NoHello what → Spares_in (ActsOn moment key id what)
   spares_does id ask.Nothing isnt = aside_in (aside_nothing key)
-  spares_does id (ask.Broke growth.Input) isnt = aside_in (aside_tells key (Refused At.Feed (Some id)) refl)
-  spares_does id (ask.Broke growth.Output) isnt = aside_in (aside_tells key (Refused At.Enqueue (Some id)) refl)
+  spares_does id (ask.Broke growth.Input) isnt = aside_in (aside_notifies key (Refused At.Feed (Some id)) refl)
+  spares_does id (ask.Broke growth.Output) isnt = aside_in (aside_notifies key (Refused At.Enqueue (Some id)) refl)
   spares_does id (ask.Event who event) isnt =
       λ l hs l' it.
       joins (Happens moment event it.0) (Ans.Answers key id who (is_query event) (reply_of it.0)) (λ a ks b one. (brings F moment key event it.0 a ks b one).spared) (aside_in (aside_answers key id who (is_query event) (reply_of it.0))) l hs l' it.1
@@ -705,8 +705,8 @@ module _ (F : ℕ → Type 0) (moment key : ℕ) where
   spares_does id (ask.Lost part.Job) isnt = aside_in (aside_declines key At.Event id refl)
   spares_does id (ask.Hello device name) isnt = absurd isnt
   spares_does id (ask.Report device report) isnt = spares_unanswered (Is.Report device report)
-  spares_does id (ask.Stranger name) isnt = aside_in (aside_tells key (DeviceRefused id (why.UnknownName name)) refl)
-  spares_does id (ask.Fault device) isnt = aside_in (aside_tells key (DeviceRefused id (why.Fault device)) refl)
+  spares_does id (ask.UnknownDevice name) isnt = aside_in (aside_notifies key (DeviceRefused id (why.UnknownName name)) refl)
+  spares_does id (ask.Fault device) isnt = aside_in (aside_notifies key (DeviceRefused id (why.Fault device)) refl)
 
   aside_asks : (id : ℕ) (what : Ask) → Asides key (Asks key id what)
   aside_asks id what l hs l' asks = aside_with key (Some asks.new) l hs l' (ap core_notes asks.chosen) (ap (λ (x : Ledger). x.core) asks.after) (ap (λ (x : Ledger). x.entries) asks.after)
@@ -727,7 +727,7 @@ module _ (F : ℕ → Type 0) (moment key : ℕ) where
       spared_then F moment key l it.front it.mid it.back l' hs it.whole (spared_aside F moment key l it.front it.mid (aside_asks id (ask.Hello device name) l it.front it.mid it.first))
       (spares_greets id device name it.first.new it.mid it.back l' (asked_here key id (ask.Hello device name) l it.front it.mid it.first) (hello_bears l.core.settings device name it.first.entry it.first.new it.first.asks) (fits device) it.second)
   acts_as id (ask.Report device report) l hs l' fits it = plain id (ask.Report device report) tt l hs l' it
-  acts_as id (ask.Stranger name) l hs l' fits it = plain id (ask.Stranger name) tt l hs l' it
+  acts_as id (ask.UnknownDevice name) l hs l' fits it = plain id (ask.UnknownDevice name) tt l hs l' it
   acts_as id (ask.Fault device) l hs l' fits it = plain id (ask.Fault device) tt l hs l' it
 
   spares_acts_next : Ends_in (ActsNext moment key)
@@ -747,14 +747,14 @@ module _ (F : ℕ → Type 0) (moment key : ℕ) where
   -- ---- reads, writes and closings that are not at once
 
   spares_fails : Spares_in (Fails moment key)
-  spares_fails = joins (Breaks key) (Settles moment) (aside_in (aside_breaks key)) spares_settles
+  spares_fails = joins (Breaks key) (ClosesBroken moment) (aside_in (aside_breaks key)) spares_settles
 
   last : (R S : Rel) → Spares_in R → Ends_in S → Ends_in (Then R S)
   last R S r q l hs l' fits it = spared_then F moment key l it.front it.mid it.back l' hs it.whole (r l it.front it.mid it.first) (q it.mid it.back l' fits it.second)
 
   spares_fed : (e : Entry) (bytes : List ℕ) → Ends_in (FedWhole moment key e bytes)
   spares_fed e bytes l hs l' fits (inl it) = last (Sets key (reading bytes e)) (Serves moment key) (aside_in (aside_sets key (reading bytes e))) spares_serves l hs l' fits it
-  spares_fed e bytes l hs l' fits (inr it) = joins (Drops At.Feed key e) (Settles moment) (aside_in (aside_drops key At.Feed e refl)) spares_settles l hs l' it
+  spares_fed e bytes l hs l' fits (inr it) = joins (Drops At.Feed key e) (ClosesBroken moment) (aside_in (aside_drops key At.Feed e refl)) spares_settles l hs l' it
 
   ends_if : (t : Bool) (R S : Rel) → Ends_in R → Ends_in S → Ends_in (If t R S)
   ends_if true R S r q l hs l' fits it = r l hs l' fits it
@@ -806,7 +806,7 @@ module _ (F : ℕ → Type 0) (moment key : ℕ) where
 
   ends_at : (o : Option Entry) → Spares_in (EndsAt moment key o)
   ends_at None = aside_in (aside_nothing key)
-  ends_at (Some e) = if_in (is_done e) (Then (ClosesAs moment Drained key e) (Settles moment)) Nothing (joins (ClosesAs moment Drained key e) (Settles moment) (closes_as e) spares_settles) (aside_in (aside_nothing key))
+  ends_at (Some e) = if_in (is_done e) (Then (ClosesAs moment Drained key e) (ClosesBroken moment)) Nothing (joins (ClosesAs moment Drained key e) (ClosesBroken moment) (closes_as e) spares_settles) (aside_in (aside_nothing key))
 
   pub spares_ends : Spares_in (EndsOne moment key)
   spares_ends l hs l' it = ends_at (l.entries key) l hs l' it
@@ -822,7 +822,7 @@ settled_same l l' same none key is = none key (subst (λ (entries : ℕ → Opti
 pub settled_nothing : Settled Nothing
 settled_nothing l hs l' none it = settled_same l l' (ap (λ (x : Ledger). x.entries) it.1) none
 
-pub settled_last : (R : Rel) (moment : ℕ) → Settled (Then R (Settles moment))
+pub settled_last : (R : Rel) (moment : ℕ) → Settled (Then R (ClosesBroken moment))
 settled_last R moment l hs l' none it = it.second.1
 
 pub settled_then : (R S : Rel) → Settled R → Settled S → Settled (Then R S)
@@ -911,7 +911,7 @@ settled_writes moment key l hs l' none it = settled_writes_at moment key (l.entr
 
 settled_ends_at : (moment key : ℕ) (o : Option Entry) → Settled (EndsAt moment key o)
 settled_ends_at moment key None = settled_nothing
-settled_ends_at moment key (Some e) = settled_if (is_done e) (Then (ClosesAs moment Drained key e) (Settles moment)) Nothing (settled_last (ClosesAs moment Drained key e) moment) settled_nothing
+settled_ends_at moment key (Some e) = settled_if (is_done e) (Then (ClosesAs moment Drained key e) (ClosesBroken moment)) Nothing (settled_last (ClosesAs moment Drained key e) moment) settled_nothing
 
 pub settled_ends : (moment key : ℕ) → Settled (EndsOne moment key)
 settled_ends moment key l hs l' none it = settled_ends_at moment key (l.entries key) l hs l' none it
@@ -947,7 +947,7 @@ spares moment key l hs l' none after it = record {
   came = it.came;
   timed = it.timed;
   run = it.run;
-  told = it.told;
+  notified = it.notified;
   each = λ other apart. spared (Bears key l') it.came hs (l.entries other) (l'.entries other) (none other) (after other) (it.each other apart);
 }
 

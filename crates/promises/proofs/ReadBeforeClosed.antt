@@ -9,8 +9,8 @@ use Rattle.events.specs.declared.event.Event.{Event}
 use Rattle.events.specs.declared.event.Event.TheVariants as Is
 use Rattle.events.specs.Event.{is_query}
 use Rattle.dispatcher.specs.declared.outcome.Outcome.{Outcome}
-use Rattle.dispatcher.specs.declared.listener.DeviceRefusal.TheVariants as why
-use Rattle.dispatcher.specs.declared.listener.AllocationSite.TheVariants as At
+use Rattle.dispatcher.specs.declared.observer.DeviceRefusal.TheVariants as why
+use Rattle.dispatcher.specs.declared.observer.AllocationSite.TheVariants as At
 use Rattle.dispatcher.specs.Notes.{DeviceRefused, Refused}
 use Rattle.dispatcher.specs.Run.{reply_of}
 use Rattle.ipp_operations.specs.declared.parsed_request.ParsedRequest.{ParsedRequest}
@@ -22,21 +22,21 @@ use Rattle.wires.specs.declared.wire.Door.{Door}
 use Rattle.wires.specs.declared.wire.Door.TheVariants.{Ipp, Lpd, Devices}
 use Rattle.connections.specs.declared.ask.Ask.{Ask}
 use Rattle.connections.specs.declared.ask.Ask.TheVariants as ask
-use Rattle.connections.specs.Entry.{Entry, device_of, given_up, reading, waiting}
+use Rattle.connections.specs.Entry.{Entry, device_of, superseded_entry, reading, waiting}
 use Rattle.connections.specs.Asking.{IsHeard}
 use Rattle.server.specs.Polls.{Happening, Found, Rested}
 use Rattle.server.specs.Ledger.{Ledger, Fate, Drained, Broken, opening_ledger}
 use Rattle.server.specs.Rel.{Rel, Nothing, Then, If, Times, Many, Each}
 use Rattle.server.specs.Enqueuing.{Sets, Drops}
 use Rattle.server.specs.Happening.{Happens, Unanswered}
-use Rattle.server.specs.Closing.{Leaves, IsGone, ClosesAs, ClosesFirst, Settles}
-use Rattle.server.specs.Greeting.{GivesWayAt, GivesWay, Greets}
+use Rattle.server.specs.Closing.{Leaves, IsGone, ClosesAs, ClosesFirst, ClosesBroken}
+use Rattle.server.specs.Hello.{IsSupersededAt, IsSuperseded, HandlesHello}
 use Rattle.server.specs.Acting.{place_of, place_of_part, ActsOn, ActsNext}
 use Rattle.server.specs.Polling.{Opens, AcceptsAs, AcceptsOne, AcceptsAt, Acts, Serves, FedWhole, FeedsAt, FeedsOne, Fails, ReadsAs, ReadsOpen, ReadsAt, is_read, ReadsOne, WritesAs, WritesOpen, WritesAt, WritesOne, is_done, EndsAt, EndsOne}
 use Rattle.server.specs.Turn as Between
 use Rattle.server.specs.Turn.{Ticks, is_tick_due, TicksIfDue, Round, Turn, BodyAsks, BodyComes, Action, Turned, Served_body, Reported, Ticked, Trace, DoesAction, Runs}
 use Rattle.promises.proofs.StreamSteps.{silent_growth, silent_part}
-use Rattle.promises.proofs.CalmParts.{Calms, calms_nothing, calms_tells, calms_choice, calms_polls, calms_breaks, calms_dropped, calms_declines, calms_answers, body_answers, happened}
+use Rattle.promises.proofs.CalmParts.{Calms, calms_nothing, calms_notifies, calms_choice, calms_polls, calms_breaks, calms_dropped, calms_declines, calms_answers, body_answers, happened}
 use Rattle.promises.proofs.ReadIsActedOn.{AllHeard, broken_heard, there, hears_same, hears_settles, hears_each, hears_reads, hears_writes, hears_ends, hears_tick, hears_accepts, hears_action}
 
 -- of each closed connection
@@ -97,34 +97,34 @@ module _ (moment : ℕ) where
   ends_closes : (fate : Fate) (key : ℕ) (e : Entry) → IsHeard e → Ends (ClosesAs moment fate key e)
   ends_closes fate key e heard = ends_then (ends_leaves fate key e heard) (ends_gone (device_of e.progress))
 
-  ends_settles : Ends (Settles moment)
+  ends_settles : Ends (ClosesBroken moment)
   ends_settles l hs l' it = ends_many (ClosesFirst moment) (λ a ks b first. ends_closes Broken first.key first.entry (broken_heard first.entry first.is_broken) a ks b first.closes) l hs l' it.0
 
   -- ---- the asks of a connection
 
-  way_at : (key : ℕ) (o : Option Entry) → Ends (GivesWayAt key o)
+  way_at : (key : ℕ) (o : Option Entry) → Ends (IsSupersededAt key o)
   way_at key None = calmly calms_nothing
-  way_at key (Some e) = ends_sets key (given_up e)
+  way_at key (Some e) = ends_sets key (superseded_entry e)
 
-  ends_way : (key : ℕ) → Ends (GivesWay key)
+  ends_way : (key : ℕ) → Ends (IsSuperseded key)
   ends_way key l hs l' it = way_at key (l.entries key) l hs l' it
 
-  ends_greets : (key id device : ℕ) (name : List ℕ) → Ends (Greets moment key id device name)
+  ends_greets : (key id device : ℕ) (name : List ℕ) → Ends (HandlesHello moment key id device name)
   ends_greets key id device name l hs l' (inl (alone, it)) = ends_unanswered (Is.Report device (report.Hello name)) l hs l' it
   ends_greets key id device name l hs l' (inr (inl (other, has, it))) =
       ends_then (ends_way other) (ends_then (ends_gone (Some device)) (ends_unanswered (Is.Report device (report.Hello name)))) l hs l' it
-  ends_greets key id device name l hs l' (inr (inr (other, has, it))) = ends_then (ends_way key) (calmly (calms_tells (DeviceRefused id (why.Connected device)) refl)) l hs l' it
+  ends_greets key id device name l hs l' (inr (inr (other, has, it))) = ends_then (ends_way key) (calmly (calms_notifies (DeviceRefused id (why.Connected device)) refl)) l hs l' it
 
   ends_acts_on : (key id : ℕ) (what : Ask) → Ends (ActsOn moment key id what)
   ends_acts_on key id ask.Nothing = calmly calms_nothing
-  ends_acts_on key id (ask.Broke growth) = calmly (calms_tells (Refused (place_of growth) (Some id)) (silent_growth growth id))
+  ends_acts_on key id (ask.Broke growth) = calmly (calms_notifies (Refused (place_of growth) (Some id)) (silent_growth growth id))
   ends_acts_on key id (ask.Event who event) = λ l hs l' (outcome, it). ends_then {R = Happens moment event outcome} (ends_happens event outcome) (calmly (calms_answers key id who (is_query event) (reply_of outcome))) l hs l' it
   ends_acts_on key id (ask.Unread request) = calmly (calms_dropped key id request)
   ends_acts_on key id (ask.Lost part) = calmly (calms_declines (place_of_part part) key id (silent_part part id))
   ends_acts_on key id (ask.Hello device name) = ends_greets key id device name
   ends_acts_on key id (ask.Report device it) = ends_unanswered (Is.Report device it)
-  ends_acts_on key id (ask.Stranger name) = calmly (calms_tells (DeviceRefused id (why.UnknownName name)) refl)
-  ends_acts_on key id (ask.Fault device) = calmly (calms_tells (DeviceRefused id (why.Fault device)) refl)
+  ends_acts_on key id (ask.UnknownDevice name) = calmly (calms_notifies (DeviceRefused id (why.UnknownName name)) refl)
+  ends_acts_on key id (ask.Fault device) = calmly (calms_notifies (DeviceRefused id (why.Fault device)) refl)
 
   ends_acts_next : (key : ℕ) → Ends (ActsNext moment key)
   ends_acts_next key l hs l' (id, what, it) ended = ends_acts_on key id what it.mid it.back l' it.second (ends_same l it.mid (ap (λ (x : Ledger). x.closed) it.first.after) ended)
@@ -178,7 +178,7 @@ module _ (moment : ℕ) where
   done_at : (key : ℕ) (o : Option Entry) (l : Ledger) (hs : List Happening) (l' : Ledger) → l.entries key ≡ o → AllHeard l → EndsAt moment key o l hs l' → EndHeard l → EndHeard l'
   done_at key None l hs l' open_there heard it = calmly calms_nothing l hs l' it
   done_at key (Some e) l hs l' open_there heard it =
-      ends_if (is_done e) (Then (ClosesAs moment Drained key e) (Settles moment)) Nothing (ends_then (ends_closes Drained key e (there l key e heard open_there)) ends_settles) (calmly calms_nothing) l hs l' it
+      ends_if (is_done e) (Then (ClosesAs moment Drained key e) (ClosesBroken moment)) Nothing (ends_then (ends_closes Drained key e (there l key e heard open_there)) ends_settles) (calmly calms_nothing) l hs l' it
 
   ends_done : (n : ℕ) (l : Ledger) (hs : List Happening) (l' : Ledger) → AllHeard l → Each n (EndsOne moment) l hs l' → EndHeard l → EndHeard l'
   ends_done zero l hs l' heard it ended = calmly calms_nothing l hs l' it ended
@@ -191,7 +191,7 @@ module _ (moment : ℕ) where
   ends_ticks l hs l' it ended = ends_unanswered Is.Tick it.mid it.back l' it.second (ends_same l it.mid (ap (λ (x : Ledger). x.closed) it.first.1) ended)
 
   ends_tick_due : Ends (TicksIfDue moment)
-  ends_tick_due l hs l' it = ends_if (is_tick_due moment l) (Then (Ticks moment) (Settles moment)) Nothing (ends_then ends_ticks ends_settles) (calmly calms_nothing) l hs l' it
+  ends_tick_due l hs l' it = ends_if (is_tick_due moment l) (Then (Ticks moment) (ClosesBroken moment)) Nothing (ends_then ends_ticks ends_settles) (calmly calms_nothing) l hs l' it
 
   ends_opens : (door : Door) (id : ℕ) → Ends (Opens door id)
   ends_opens door id l hs l' (inl (key, free, is, after)) = ends_same l l' (ap (λ (x : Ledger). x.closed) after)
@@ -236,12 +236,12 @@ module _ (moment : ℕ) where
   ends_body : (it : ParsedRequest) (served : Between.Outcome) → Ends (BodyAsks moment it served)
   ends_body asked.TooShort served l hs l' (is, it) = calmly calms_nothing l hs l' it
   ends_body (asked.Refused status request) served l hs l' (is, inl it) = calmly (calms_choice Found) l hs l' it
-  ends_body (asked.Refused status request) served l hs l' (is, inr it) = calmly (calms_tells (Refused At.Reply None) refl) l hs l' it
+  ends_body (asked.Refused status request) served l hs l' (is, inr it) = calmly (calms_notifies (Refused At.Reply None) refl) l hs l' it
   ends_body (asked.Event request event) served l hs l' (bytes, is, (outcome, it)) = ends_then {R = Happens moment event outcome} (ends_happens event outcome) (calmly (body_answers request (reply_of outcome) bytes)) l hs l' it
 
   ends_comes : (body : List ℕ) (served : Between.Outcome) → Ends (BodyComes moment body served)
   ends_comes body served l hs l' (inl (it, asks, comes)) = ends_then (calmly (calms_choice Found)) (ends_body it served) l hs l' comes
-  ends_comes body served l hs l' (inr it) = calmly (calms_tells (Refused At.Event None) refl) l hs l' it
+  ends_comes body served l hs l' (inr it) = calmly (calms_notifies (Refused At.Event None) refl) l hs l' it
 
 ends_action : (action : Action) (l l' : Ledger) → AllHeard l → DoesAction action l l' → EndHeard l → EndHeard l'
 ends_action (Turned moment hs) l l' heard it = ends_turn moment l hs l' heard it

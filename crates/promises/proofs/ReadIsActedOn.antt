@@ -23,7 +23,7 @@ use Rattle.server.specs.Ledger.{Ledger, Drained, at_key, opening_ledger}
 use Rattle.server.specs.Rel.{Rel, Nothing, Polls, Chooses, Then, If, Each}
 use Rattle.server.specs.Enqueuing.{Sets, BreaksAt, Breaks}
 use Rattle.server.specs.Happening.{now_at, Happens, Unanswered}
-use Rattle.server.specs.Closing.{Leaves, IsGone, ClosesAs, Settles}
+use Rattle.server.specs.Closing.{Leaves, IsGone, ClosesAs, ClosesBroken}
 use Rattle.server.specs.Polling.{Opens, AcceptsAs, AcceptsOne, AcceptsAt, IsHeardAt, FedWhole, FeedsAt, Fails, ReadsAs, ReadsOpen, ReadsAt, is_read, ReadsOne, WritesAs, WritesOpen, WritesAt, WritesOne, is_done, EndsAt, EndsOne}
 use Rattle.server.specs.Turn as Between
 use Rattle.server.specs.Turn.{Ticks, Notes, is_tick_due, TicksIfDue, Covers, Round, Turn, BodyAsks, BodyComes, Action, Turned, Served_body, Reported, Ticked, Trace, DoesAction, Runs}
@@ -91,8 +91,8 @@ pub hears_each : (n : ℕ) (R : ℕ → Rel) → ((key : ℕ) → Hears (R key))
 hears_each zero R r = hears_nothing
 hears_each (suc n) R r = hears_then (Each n R) (R n) (hears_each n R r) (r n)
 
-pub hears_settles : (moment : ℕ) → Hears (Settles moment)
-hears_settles moment = hears_left moment (Settles moment) (spares_settles Any moment)
+pub hears_settles : (moment : ℕ) → Hears (ClosesBroken moment)
+hears_settles moment = hears_left moment (ClosesBroken moment) (spares_settles Any moment)
 
 at_if : (t : Bool) (x y : Option Entry) → (t ≡ true → IsHeardAt x) → (t ≡ false → IsHeardAt y) → IsHeardAt (if t then x else y)
 at_if true x y p q = p refl
@@ -126,7 +126,7 @@ breaks_all key l hs l' heard it = by (l.entries key) it
     by (Some e) is = hears_sets key (broken e) l hs l' heard (broken_heard (broken e) refl) is
 
 hears_fails : (moment key : ℕ) → Hears (Fails moment key)
-hears_fails moment key = hears_then (Breaks key) (Settles moment) (breaks_all key) (hears_settles moment)
+hears_fails moment key = hears_then (Breaks key) (ClosesBroken moment) (breaks_all key) (hears_settles moment)
 
 own_fed : (moment key : ℕ) (e : Entry) (bytes : List ℕ) (l : Ledger) (hs : List Happening) (l' : Ledger) → AllHeard l → FedWhole moment key e bytes l hs l' → IsHeardAt (l'.entries key)
 own_fed moment key e bytes l hs l' heard (inl it) = it.second.1
@@ -191,7 +191,7 @@ hears_closes moment key e =
 
 ends_at : (moment key : ℕ) (o : Option Entry) → Hears (EndsAt moment key o)
 ends_at moment key None = hears_nothing
-ends_at moment key (Some e) = hears_if (is_done e) (Then (ClosesAs moment Drained key e) (Settles moment)) Nothing (hears_then (ClosesAs moment Drained key e) (Settles moment) (hears_closes moment key e) (hears_settles moment)) hears_nothing
+ends_at moment key (Some e) = hears_if (is_done e) (Then (ClosesAs moment Drained key e) (ClosesBroken moment)) Nothing (hears_then (ClosesAs moment Drained key e) (ClosesBroken moment) (hears_closes moment key e) (hears_settles moment)) hears_nothing
 
 pub hears_ends : (moment key : ℕ) → Hears (EndsOne moment key)
 hears_ends moment key l hs l' heard it = ends_at moment key (l.entries key) l hs l' heard it
@@ -227,7 +227,7 @@ hears_ticks moment l hs l' heard it =
 
 pub hears_tick : (moment : ℕ) → Hears (TicksIfDue moment)
 hears_tick moment l hs l' heard it =
-    hears_if (is_tick_due moment l) (Then (Ticks moment) (Settles moment)) Nothing (hears_then (Ticks moment) (Settles moment) (hears_ticks moment) (hears_settles moment)) hears_nothing l hs l' heard it
+    hears_if (is_tick_due moment l) (Then (Ticks moment) (ClosesBroken moment)) Nothing (hears_then (Ticks moment) (ClosesBroken moment) (hears_ticks moment) (hears_settles moment)) hears_nothing l hs l' heard it
 
 hears_round : (moment : ℕ) → Hears (Round moment)
 hears_round moment l hs l' heard (n, it) =
@@ -237,7 +237,7 @@ hears_round moment l hs l' heard (n, it) =
 
 hears_turn : (moment : ℕ) → Hears (Turn moment)
 hears_turn moment =
-    hears_then (Settles moment) (Then (TicksIfDue moment) (Then (AcceptsAt Ipp) (Then (AcceptsAt Lpd) (Then (AcceptsAt Devices) (Round moment))))) (hears_settles moment)
+    hears_then (ClosesBroken moment) (Then (TicksIfDue moment) (Then (AcceptsAt Ipp) (Then (AcceptsAt Lpd) (Then (AcceptsAt Devices) (Round moment))))) (hears_settles moment)
     (hears_then (TicksIfDue moment) (Then (AcceptsAt Ipp) (Then (AcceptsAt Lpd) (Then (AcceptsAt Devices) (Round moment)))) (hears_tick moment)
     (hears_then (AcceptsAt Ipp) (Then (AcceptsAt Lpd) (Then (AcceptsAt Devices) (Round moment))) (hears_accepts Ipp)
     (hears_then (AcceptsAt Lpd) (Then (AcceptsAt Devices) (Round moment)) (hears_accepts Lpd) (hears_then (AcceptsAt Devices) (Round moment) (hears_accepts Devices) (hears_round moment)))))

@@ -6,26 +6,26 @@ use Rattle.base_types.specs.Report.{ReportRecord, report_of}
 use Rattle.events.specs.declared.event.Event.{Event}
 use Rattle.events.specs.declared.event.Event.TheVariants as Is
 use Rattle.events.specs.SameEvent.{SameEvent}
-use Rattle.dispatcher.specs.declared.listener.AllocationSite.TheVariants as At
-use Rattle.dispatcher.specs.declared.listener.DeviceRefusal.TheVariants as why
+use Rattle.dispatcher.specs.declared.observer.AllocationSite.TheVariants as At
+use Rattle.dispatcher.specs.declared.observer.DeviceRefusal.TheVariants as why
 use Rattle.dispatcher.specs.Notes.{DeviceRefused, Refused}
 use Rattle.events.specs.declared.status.Status.TheVariants.{TemporaryError}
 use Rattle.connections.specs.declared.ask.Ask.{Ask}
 use Rattle.connections.specs.declared.ask.Ask.TheVariants as ask
 use Rattle.connections.specs.declared.ask.Client.{Client}
 use Rattle.connections.specs.Choice.{SameAsk}
-use Rattle.connections.specs.Entry.{Entry, device_of, given_up}
+use Rattle.connections.specs.Entry.{Entry, device_of, superseded_entry}
 use Rattle.server.specs.Polls.{Happening}
 use Rattle.server.specs.Ledger.{Ledger, Fate, Broken}
-use Rattle.server.specs.Rel.{Tells as Informs, Then}
+use Rattle.server.specs.Rel.{Notifies, Then}
 use Rattle.server.specs.Happening.{Unanswered}
-use Rattle.server.specs.Closing.{Leaves, IsGone, ClosesAs, ClosesFirst, NoneBroken, Settles}
-use Rattle.server.specs.Greeting.{Tells, IsAlone, HasOther, GivesWayAt, GivesWay, TakesOver, Greets}
+use Rattle.server.specs.Closing.{Leaves, IsGone, ClosesAs, ClosesFirst, NoneBroken, ClosesBroken}
+use Rattle.server.specs.Hello.{ReportComes, IsAlone, HasOther, IsSupersededAt, IsSuperseded, TakesOver, HandlesHello}
 use Rattle.server.specs.Acting.{place_of, place_of_part, ActsOn}
 use Rattle.promises.specs.Keyed.{keyed}
 use Rattle.promises.specs.OneLedger.{StepsOnce, SameQueries}
 use Rattle.promises.proofs.Lowest.{as_device, other_one, one_ending}
-use Rattle.promises.proofs.SeenAlike.{Calm, Same, One, same_nothing, same_tells, same_then, same_until}
+use Rattle.promises.proofs.SeenAlike.{Calm, Same, One, same_nothing, same_notifies, same_then, same_until}
 use Rattle.promises.proofs.SameEvents.{same_sets, same_status, same_enqueues, unanswered_same, one_report, same_answered}
 use Rattle.promises.proofs.UniqueActs.{same_entry, same_number, broken_there, same_self}
 
@@ -50,28 +50,28 @@ module _ (steps : StepsOnce) (queries : SameQueries) where
   pub none_closes : (moment : ℕ) (l : Ledger) (hs : List Happening) (a : Ledger) → NoneBroken l → ClosesFirst moment l hs a → ⊥
   none_closes moment l hs a none it = none it.key (broken_there l it.key it.entry it.there it.is_broken)
 
-  pub same_settles : (moment : ℕ) → One (Settles moment)
+  pub same_settles : (moment : ℕ) → One (ClosesBroken moment)
   same_settles moment = same_until (ClosesFirst moment) NoneBroken (record { one = closes_first moment }) (none_closes moment)
 
   -- ---- devices that give their names
 
-  gives_way_at : (key : ℕ) (o : Option Entry) → One (GivesWayAt key o)
+  gives_way_at : (key : ℕ) (o : Option Entry) → One (IsSupersededAt key o)
   gives_way_at key None = same_nothing
-  gives_way_at key (Some e) = same_sets key (given_up e)
+  gives_way_at key (Some e) = same_sets key (superseded_entry e)
 
-  same_gives_way : (key : ℕ) → One (GivesWay key)
+  same_gives_way : (key : ℕ) → One (IsSuperseded key)
   same_gives_way key = record { one = λ l hs rest a ks more b e c d p q. (gives_way_at key (l.entries key)).one l hs rest a ks more b e c d p q }
 
   same_takes_over : (moment old device : ℕ) (name : List ℕ) → One (TakesOver moment old device name)
   same_takes_over moment old device name = same_then (same_gives_way old) (same_then (same_gone moment (Some device)) (one_report steps moment device (report.Hello name)))
 
-  turned_away : (key id device : ℕ) → One (Then (GivesWay key) (Informs (DeviceRefused id (why.Connected device))))
-  turned_away key id device = same_then (same_gives_way key) (same_tells (DeviceRefused id (why.Connected device)))
+  turned_away : (key id device : ℕ) → One (Then (IsSuperseded key) (Notifies (DeviceRefused id (why.Connected device))))
+  turned_away key id device = same_then (same_gives_way key) (same_notifies (DeviceRefused id (why.Connected device)))
 
   not_alone : {A : Type 0} → (ended : Bool) (device key other : ℕ) (l : Ledger) → IsAlone device key l → HasOther ended device key other l → A
   not_alone ended device key other l alone it = absurd (alone other it.0 (as_device ended device (l.entries other) it.1))
 
-  greets : (moment key id device : ℕ) (name : List ℕ) (l : Ledger) (hs rest : List Happening) (a : Ledger) (ks more : List Happening) (b : Ledger) → keyed hs ++ rest ≡ keyed ks ++ more → Calm hs → Calm ks → Greets moment key id device name l hs a → Greets moment key id device name l ks b → (keyed hs ≡ keyed ks) × (a ≡ b)
+  greets : (moment key id device : ℕ) (name : List ℕ) (l : Ledger) (hs rest : List Happening) (a : Ledger) (ks more : List Happening) (b : Ledger) → keyed hs ++ rest ≡ keyed ks ++ more → Calm hs → Calm ks → HandlesHello moment key id device name l hs a → HandlesHello moment key id device name l ks b → (keyed hs ≡ keyed ks) × (a ≡ b)
   greets moment key id device name l hs rest a ks more b e c d (inl (alone, p)) (inl (lone, q)) = (one_report steps moment device (report.Hello name)).one l hs rest a ks more b e c d p q
   greets moment key id device name l hs rest a ks more b e c d (inl (alone, p)) (inr (inl (other, is, q))) = not_alone true device key other l alone is
   greets moment key id device name l hs rest a ks more b e c d (inl (alone, p)) (inr (inr (other, is, q))) = not_alone false device key other l alone is
@@ -87,7 +87,7 @@ module _ (steps : StepsOnce) (queries : SameQueries) where
   same_report : (moment device other : ℕ) (one said : Report) → device ≡ other → report_of one ≡ report_of said → Same (Unanswered moment (Is.Report device one)) (Unanswered moment (Is.Report other said))
   same_report moment device other one said same says = unanswered_same steps moment (Is.Report device one) (Is.Report other said) (same, says) refl (λ s. tt) (λ s. tt)
 
-  pub same_reports : (moment device : ℕ) (said : ReportRecord) → One (Tells moment device said)
+  pub same_reports : (moment device : ℕ) (said : ReportRecord) → One (ReportComes moment device said)
   same_reports moment device said = record { one = λ l hs rest a ks more b e c d (one, is, p) (other, its, q). (same_report moment device device one other refl (is ∙ sym its)).one l hs rest a ks more b e c d p q }
 
   -- ---- what a connection asks
@@ -98,14 +98,14 @@ module _ (steps : StepsOnce) (queries : SameQueries) where
 
   does_one : (moment key id : ℕ) (what : Ask) → One (ActsOn moment key id what)
   does_one moment key id ask.Nothing = same_nothing
-  does_one moment key id (ask.Broke growth) = same_tells (Refused (place_of growth) (Some id))
+  does_one moment key id (ask.Broke growth) = same_notifies (Refused (place_of growth) (Some id))
   does_one moment key id (ask.Event who event) = same_events moment key id who who event event refl (same_self event)
-  does_one moment key id (ask.Unread request) = same_then (same_tells (Refused At.Event (Some id))) (same_status key TemporaryError request)
-  does_one moment key id (ask.Lost which) = same_then (same_tells (Refused (place_of_part which) (Some id))) (same_enqueues key (1 ∷ []))
+  does_one moment key id (ask.Unread request) = same_then (same_notifies (Refused At.Event (Some id))) (same_status key TemporaryError request)
+  does_one moment key id (ask.Lost which) = same_then (same_notifies (Refused (place_of_part which) (Some id))) (same_enqueues key (1 ∷ []))
   does_one moment key id (ask.Hello device name) = record { one = greets moment key id device name }
   does_one moment key id (ask.Report device said) = one_report steps moment device said
-  does_one moment key id (ask.Stranger name) = same_tells (DeviceRefused id (why.UnknownName name))
-  does_one moment key id (ask.Fault device) = same_tells (DeviceRefused id (why.Fault device))
+  does_one moment key id (ask.UnknownDevice name) = same_notifies (DeviceRefused id (why.UnknownName name))
+  does_one moment key id (ask.Fault device) = same_notifies (DeviceRefused id (why.Fault device))
 
   as_one : (moment key id : ℕ) (what said : Ask) → what ≡ said → Same (ActsOn moment key id what) (ActsOn moment key id said)
   as_one moment key id what said same = subst (λ (x : Ask). Same (ActsOn moment key id what) (ActsOn moment key id x)) same (does_one moment key id what)

@@ -20,8 +20,8 @@ use Rattle.events.specs.SameEvent.{SameEvent}
 use Rattle.send_queues.specs.Reply.{http_reply}
 use Rattle.dispatcher.specs.declared.outcome.Outcome.{Outcome}
 use Rattle.dispatcher.specs.declared.outcome.Outcome.TheVariants.{Dropped, Queried, Undispatched, Idle, Dispatched}
-use Rattle.dispatcher.specs.declared.listener.AllocationSite.{AllocationSite}
-use Rattle.dispatcher.specs.declared.listener.AllocationSite.TheVariants as At
+use Rattle.dispatcher.specs.declared.observer.AllocationSite.{AllocationSite}
+use Rattle.dispatcher.specs.declared.observer.AllocationSite.TheVariants as At
 use Rattle.dispatcher.specs.Notes.{Note, Refused}
 use Rattle.dispatcher.specs.OneStep.{SameReply, SameIppAnswer, SameLpdAnswer, SameAnswer}
 use Rattle.dispatcher.specs.Run.{reply_of}
@@ -31,9 +31,9 @@ use Rattle.connections.specs.declared.ask.Client.{Client}
 use Rattle.connections.specs.declared.ask.Client.TheVariants as client
 use Rattle.connections.specs.Entry.{Entry, closes_of, broken, owing, needs_memory}
 use Rattle.connections.specs.Steps.{http_status}
-use Rattle.server.specs.Polls.{Happening, Told, Found}
+use Rattle.server.specs.Polls.{Happening, Notified, Found}
 use Rattle.server.specs.Ledger.{Ledger, with_entry, job_bytes}
-use Rattle.server.specs.Rel.{Rel, Tells, Chooses, Then, If, EachOf}
+use Rattle.server.specs.Rel.{Rel, Notifies, Chooses, Then, If, EachOf}
 use Rattle.server.specs.Enqueuing.{Sets, BreaksAt, Breaks, Drops, EnqueuesOpen, EnqueuesAt, EnqueuesWhere, Enqueues, EnqueuesReplyAt, EnqueuesResponse, EnqueuesStatus, EnqueuesOn}
 use Rattle.server.specs.Happening.{found_by, undispatched_after, Decides, Sends, SendsAll, Starts, StartsAll, Orders, Happens, Unanswered}
 use Rattle.server.specs.Answering as Ans
@@ -51,10 +51,10 @@ pub same_sets : (key : ℕ) (e : Entry) → One (Sets key e)
 same_sets key e = same_just (λ l. []) (λ l. with_entry key e l)
 
 pub refuses_drops : (place : AllocationSite) (key : ℕ) (e : Entry) → Refuses (Drops place key e)
-refuses_drops place key e = refuses_just (Drops place key e) (Told (Refused place (Some e.id))) refl (λ l hs a it. it.0)
+refuses_drops place key e = refuses_just (Drops place key e) (Notified (Refused place (Some e.id))) refl (λ l hs a it. it.0)
 
-pub refuses_tells : (place : AllocationSite) (id : Option ℕ) → Refuses (Tells (Refused place id))
-refuses_tells place id = refuses_just (Tells (Refused place id)) (Told (Refused place id)) refl (λ l hs a it. it.0)
+pub refuses_notifies : (place : AllocationSite) (id : Option ℕ) → Refuses (Notifies (Refused place id))
+refuses_notifies place id = refuses_just (Notifies (Refused place id)) (Notified (Refused place id)) refl (λ l hs a it. it.0)
 
 breaks_at : (key : ℕ) (o : Option Entry) → One (BreaksAt key o)
 breaks_at key None = same_nothing
@@ -111,9 +111,9 @@ same_starts_all = record { one = λ l hs rest a ks more b e c d p q. (same_each_
 
 -- ---- events
 
-told_keyed : (notes : List Note) → keyed (map Told notes) ≡ map Told notes
-told_keyed [] = refl
-told_keyed (note ∷ notes) = ap (λ (hs : List Happening). Told note ∷ hs) (told_keyed notes)
+notified_keyed : (notes : List Note) → keyed (map Notified notes) ≡ map Notified notes
+notified_keyed [] = refl
+notified_keyed (note ∷ notes) = ap (λ (hs : List Happening). Notified note ∷ hs) (notified_keyed notes)
 
 found_keyed : (outcome : Outcome) → keyed (found_by outcome) ≡ []
 found_keyed Dropped = refl
@@ -122,8 +122,8 @@ found_keyed (Undispatched reply) = refl
 found_keyed (Idle reply) = refl
 found_keyed (Dispatched reply) = refl
 
-decides_keyed : (outcome : Outcome) (hs : List Happening) (notes : List Note) → hs ≡ found_by outcome ++ map Told notes → keyed hs ≡ map Told notes
-decides_keyed outcome hs notes told = ap keyed told ∙ (keyed_append (found_by outcome) (map Told notes) ∙ (ap (λ (xs : List Happening). xs ++ keyed (map Told notes)) (found_keyed outcome) ∙ told_keyed notes))
+decides_keyed : (outcome : Outcome) (hs : List Happening) (notes : List Note) → hs ≡ found_by outcome ++ map Notified notes → keyed hs ≡ map Notified notes
+decides_keyed outcome hs notes notified = ap keyed notified ∙ (keyed_append (found_by outcome) (map Notified notes) ∙ (ap (λ (xs : List Happening). xs ++ keyed (map Notified notes)) (found_keyed outcome) ∙ notified_keyed notes))
 
 module _ (steps : StepsOnce) where
   all_sent : (one other : Effects) → SameReply one other → Same (SendsAll one) (SendsAll other)
@@ -140,12 +140,12 @@ module _ (steps : StepsOnce) where
   decided_same : (moment : ℕ) (event other : Event) (outcome said : Outcome) (l : Ledger) (hs rest : List Happening) (a : Ledger) (ks more : List Happening) (b : Ledger) → SameEvent event other → is_query event ≡ is_query other → IsKept outcome → IsKept said
       → keyed hs ++ rest ≡ keyed ks ++ more → Decides moment event outcome l hs a → Decides moment other said l ks b → SameOutcome outcome said × (keyed hs ≡ keyed ks) × (a ≡ b)
   decided_same moment event other outcome said l hs rest a ks more b same query kept enqueues e p q =
-      let left : keyed hs ≡ map Told p.notes = decides_keyed outcome hs p.notes p.told in
-      let right : keyed ks ≡ map Told q.notes = decides_keyed said ks q.notes q.told in
-      let both : map Told p.notes ++ rest ≡ map Told q.notes ++ more = sym (ap (λ (xs : List Happening). xs ++ rest) left) ∙ (e ∙ ap (λ (xs : List Happening). xs ++ more) right) in
+      let left : keyed hs ≡ map Notified p.notes = decides_keyed outcome hs p.notes p.notified in
+      let right : keyed ks ≡ map Notified q.notes = decides_keyed said ks q.notes q.notified in
+      let both : map Notified p.notes ++ rest ≡ map Notified q.notes ++ more = sym (ap (λ (xs : List Happening). xs ++ rest) left) ∙ (e ∙ ap (λ (xs : List Happening). xs ++ more) right) in
       let way = handled_one steps moment event other l.core outcome said p.notes q.notes p.state q.state rest more same query kept enqueues both p.handles q.handles in (
         way.outcome,
-        left ∙ (ap (λ (ns : List Note). map Told ns) way.notes_are ∙ sym right),
+        left ∙ (ap (λ (ns : List Note). map Notified ns) way.notes_are ∙ sym right),
         p.after ∙ (ap (λ (s : State). record l { core = s; undispatched = undispatched_after outcome l.undispatched }) way.state
             ∙ (ap (λ (t : Bool). record l { core = q.state; undispatched = t }) (same_undispatched steps outcome said l.undispatched way.outcome) ∙ sym q.after)),
       )
@@ -201,8 +201,8 @@ module _ (steps : StepsOnce) where
 replies_one : (key id request : ℕ) (query : Bool) (one other : IppResponse) → SameIppAnswer one other → (l : Ledger) (hs rest : List Happening) (a : Ledger) (ks more : List Happening) (b : Ledger) → keyed hs ++ rest ≡ keyed ks ++ more → Calm hs → Calm ks → Ans.RepliesWith key id request query (responds.Ipp one) l hs a → Ans.RepliesWith key id request query (responds.Ipp other) l ks b → (keyed hs ≡ keyed ks) × (a ≡ b)
 replies_one key id request query one other same l hs rest a ks more b e c d (inl (bytes, is, p)) (inl (said, its, q)) =
     (same_then (same_chooses Found) (same_reply key bytes)).one l hs rest a ks more b e c d p (subst (λ (x : List ℕ). Then (Chooses Found) (EnqueuesResponse key x) l ks b) (sym (same_bytes one other request bytes said same is its)) q)
-replies_one key id request query one other same l hs rest a ks more b e c d (inr p) q = absurd ((refuses_then (Tells (Refused At.Reply (Some id))) (If query (EnqueuesStatus key TemporaryError request) (Breaks key)) (refuses_tells At.Reply (Some id))).never l hs a p c)
-replies_one key id request query one other same l hs rest a ks more b e c d (inl p) (inr q) = absurd ((refuses_then (Tells (Refused At.Reply (Some id))) (If query (EnqueuesStatus key TemporaryError request) (Breaks key)) (refuses_tells At.Reply (Some id))).never l ks b q d)
+replies_one key id request query one other same l hs rest a ks more b e c d (inr p) q = absurd ((refuses_then (Notifies (Refused At.Reply (Some id))) (If query (EnqueuesStatus key TemporaryError request) (Breaks key)) (refuses_notifies At.Reply (Some id))).never l hs a p c)
+replies_one key id request query one other same l hs rest a ks more b e c d (inl p) (inr q) = absurd ((refuses_then (Notifies (Refused At.Reply (Some id))) (If query (EnqueuesStatus key TemporaryError request) (Breaks key)) (refuses_notifies At.Reply (Some id))).never l ks b q d)
 
 same_replies : (key id request : ℕ) (query : Bool) (one other : Response) → SameAnswer one other → Same (Ans.RepliesWith key id request query one) (Ans.RepliesWith key id request query other)
 same_replies key id request query (responds.Ipp one) (responds.Ipp other) same = record { one = replies_one key id request query one other same }
@@ -211,23 +211,23 @@ same_replies key id request query responds.Nothing responds.Nothing same = recor
 same_replies key id request query one other same = absurd same
 
 pub refuses_dropped : (key id request : ℕ) → Refuses (Ans.Drops key id request)
-refuses_dropped key id request = refuses_then (Tells (Refused At.Event (Some id))) (EnqueuesStatus key TemporaryError request) (refuses_tells At.Event (Some id))
+refuses_dropped key id request = refuses_then (Notifies (Refused At.Event (Some id))) (EnqueuesStatus key TemporaryError request) (refuses_notifies At.Event (Some id))
 
 pub refuses_declines : (place : AllocationSite) (key id : ℕ) → Refuses (Ans.Declines place key id)
-refuses_declines place key id = refuses_then (Tells (Refused place (Some id))) (Enqueues key (1 ∷ [])) (refuses_tells place (Some id))
+refuses_declines place key id = refuses_then (Notifies (Refused place (Some id))) (Enqueues key (1 ∷ [])) (refuses_notifies place (Some id))
 
 same_shows : (key id : ℕ) (text : List ℕ) → One (Ans.Shows key id text)
 same_shows key id text =
-    let refuses = refuses_then (Tells (Refused At.Reply (Some id))) (Breaks key) (refuses_tells At.Reply (Some id)) in same_or refuses refuses (same_then (same_chooses Found) (same_enqueues key text))
+    let refuses = refuses_then (Notifies (Refused At.Reply (Some id))) (Breaks key) (refuses_notifies At.Reply (Some id)) in same_or refuses refuses (same_then (same_chooses Found) (same_enqueues key text))
 
-same_told : (key id : ℕ) (one other : LpdResponse) → SameLpdAnswer one other → Same (Ans.IsTold key id one) (Ans.IsTold key id other)
-same_told key id (Shown.Taken one) (Shown.Taken other) same = subst (λ (taken : Bool). Same (Ans.IsTold key id (Shown.Taken one)) (Ans.IsTold key id (Shown.Taken taken))) same (same_enqueues key (ack_of (Shown.Taken one) ∷ []))
-same_told key id (Shown.Queue one) (Shown.Queue other) same = subst (λ (text : List ℕ). Same (Ans.Shows key id (queue_text one)) (Ans.Shows key id text)) (same_text one other same) (same_shows key id (queue_text one))
-same_told key id Shown.NoQueue Shown.NoQueue same = same_shows key id (text_of Shown.NoQueue)
-same_told key id one other same = absurd same
+same_notified : (key id : ℕ) (one other : LpdResponse) → SameLpdAnswer one other → Same (Ans.SendsLpd key id one) (Ans.SendsLpd key id other)
+same_notified key id (Shown.Taken one) (Shown.Taken other) same = subst (λ (taken : Bool). Same (Ans.SendsLpd key id (Shown.Taken one)) (Ans.SendsLpd key id (Shown.Taken taken))) same (same_enqueues key (ack_of (Shown.Taken one) ∷ []))
+same_notified key id (Shown.Queue one) (Shown.Queue other) same = subst (λ (text : List ℕ). Same (Ans.Shows key id (queue_text one)) (Ans.Shows key id text)) (same_text one other same) (same_shows key id (queue_text one))
+same_notified key id Shown.NoQueue Shown.NoQueue same = same_shows key id (text_of Shown.NoQueue)
+same_notified key id one other same = absurd same
 
 same_shown : (key id : ℕ) (one other : Response) → SameAnswer one other → Same (Ans.IsShown key id one) (Ans.IsShown key id other)
-same_shown key id (responds.Lpd one) (responds.Lpd other) same = same_told key id one other same
+same_shown key id (responds.Lpd one) (responds.Lpd other) same = same_notified key id one other same
 same_shown key id (responds.Ipp one) (responds.Ipp other) same = same_nothing
 same_shown key id responds.Nothing responds.Nothing same = same_nothing
 same_shown key id one other same = absurd same
@@ -240,7 +240,7 @@ same_answers key id client.LpdCommand query one other same = same_shown key id o
 refuses_none : (key id : ℕ) (who : Client) (query : Bool) → Refuses (Ans.Answers key id who query None)
 refuses_none key id (client.Ipp request) query = refuses_dropped key id request
 refuses_none key id client.LpdJob query = refuses_declines At.Event key id
-refuses_none key id client.LpdCommand query = refuses_then (Tells (Refused At.Event (Some id))) (Breaks key) (refuses_tells At.Event (Some id))
+refuses_none key id client.LpdCommand query = refuses_then (Notifies (Refused At.Event (Some id))) (Breaks key) (refuses_notifies At.Event (Some id))
 
 pub same_answered : (steps : StepsOnce) (moment key id : ℕ) (who : Client) (event other : Event) → SameEvent event other → is_query event ≡ is_query other → Same (Ans.IsAnswered moment key id who event) (Ans.IsAnswered moment key id who other)
 same_answered steps moment key id who event other same query =
@@ -251,12 +251,12 @@ same_answered steps moment key id who event other same query =
 
 answers_one : (request : ℕ) (one other : Effects) (bytes said : List ℕ) (l : Ledger) (hs rest : List Happening) (a : Ledger) (ks more : List Happening) (b : Ledger) → keyed hs ++ rest ≡ keyed ks ++ more → Calm hs → Calm ks → Between.Answers request (Some one) bytes l hs a → Between.Answers request (Some other) said l ks b → (keyed hs ≡ keyed ks) × (a ≡ b)
 answers_one request one other bytes said l hs rest a ks more b e c d (inl (are, p)) (inl (were, q)) = (same_chooses Found).one l hs rest a ks more b e c d p q
-answers_one request one other bytes said l hs rest a ks more b e c d (inr p) q = absurd ((refuses_tells At.Reply None).never l hs a p c)
-answers_one request one other bytes said l hs rest a ks more b e c d (inl p) (inr q) = absurd ((refuses_tells At.Reply None).never l ks b q d)
+answers_one request one other bytes said l hs rest a ks more b e c d (inr p) q = absurd ((refuses_notifies At.Reply None).never l hs a p c)
+answers_one request one other bytes said l hs rest a ks more b e c d (inl p) (inr q) = absurd ((refuses_notifies At.Reply None).never l ks b q d)
 
 pub same_body : (steps : StepsOnce) (moment request : ℕ) (event : Event) (bytes said : List ℕ) → SameEvent event event → Same (Between.IsAnswered moment request event bytes) (Between.IsAnswered moment request event said)
 same_body steps moment request event bytes said same =
     answered_same steps moment event event (λ reply. Between.Answers request reply bytes) (λ reply. Between.Answers request reply said) same refl (refuses_between bytes) (refuses_between said) (λ one two says. record { one = answers_one request one two bytes said })
   where
     refuses_between : (text : List ℕ) → Refuses (Between.Answers request None text)
-    refuses_between text = refuses_just (Between.Answers request None text) (Told (Refused At.Event None)) refl (λ l hs a it. it.0)
+    refuses_between text = refuses_just (Between.Answers request None text) (Notified (Refused At.Event None)) refl (λ l hs a it. it.0)

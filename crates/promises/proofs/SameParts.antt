@@ -11,7 +11,7 @@ use Rattle.device_link.specs.Stream.{device_reports, ParsedLines, NoneFollows as
 use Rattle.device_link.specs.Stream as Link
 use Rattle.connections.specs.declared.ask.Ask.{Ask}
 use Rattle.connections.specs.declared.ask.Ask.TheVariants as ask
-use Rattle.connections.specs.declared.ask.Growth.TheVariants as growth
+use Rattle.connections.specs.declared.ask.AllocFailure.TheVariants as growth
 use Rattle.connections.specs.declared.step.Step.{Step}
 use Rattle.connections.specs.Steps.{StepsIpp, closes_after, body_after, grown, silent, no_memory}
 use Rattle.connections.specs.Entry.{PeerRecord, Http, Queue, Link as OfDevice, Entry, with_progress, finishing, owing, broken}
@@ -20,7 +20,7 @@ use Rattle.connections.specs.Choice.{Loss, part_taken, part_heard, part_of, lost
 use Rattle.server.specs.Polls.{Happening, Rested, Chosen}
 use Rattle.server.specs.Ledger.{Ledger, at_key, with_entry}
 use Rattle.server.specs.Rel.{Then, Times}
-use Rattle.server.specs.Closing.{IsBroken, ClosesFirst, NoneBroken, Settles}
+use Rattle.server.specs.Closing.{IsBroken, ClosesFirst, NoneBroken, ClosesBroken}
 use Rattle.server.specs.Acting.{Asks, ActsOn, ActsNext}
 use Rattle.server.specs.Polling.{Acts, IsHeardAt, Serves}
 use Rattle.promises.specs.Keyed.{keyed}
@@ -28,7 +28,7 @@ use Rattle.promises.specs.OneLedger.{StepsOnce, SameQueries}
 use Rattle.promises.proofs.Determined.{times_cons}
 use Rattle.promises.proofs.UniqueActs.{same_entry}
 use Rattle.promises.proofs.SeenAlike.{Calm, Same, keyed_append, keyed_parts, calm_first, calm_last, same_then_by}
-use Rattle.promises.proofs.SameEvents.{refuses_tells, refuses_dropped, refuses_declines}
+use Rattle.promises.proofs.SameEvents.{refuses_notifies, refuses_dropped, refuses_declines}
 use Rattle.promises.proofs.SameActs.{none_closes, same_settles, same_does}
 use Rattle.promises.proofs.SentToDevices.{same_key, is_key}
 use Rattle.server.specs.Acting.{place_of, place_of_part}
@@ -258,13 +258,13 @@ module _ (some : SomeParse) (stays : FirstStays) (no_item : NoItemFollows) (one_
 
   unlost : (moment key id : ℕ) (what : Ask) (l : Ledger) (hs : List Happening) (a : Ledger) → ActsOn moment key id what l hs a → Calm hs → lost_of what ≡ None
   unlost moment key id ask.Nothing l hs a it calm = refl
-  unlost moment key id (ask.Broke which) l hs a it calm = absurd ((refuses_tells (place_of which) (Some id)).never l hs a it calm)
+  unlost moment key id (ask.Broke which) l hs a it calm = absurd ((refuses_notifies (place_of which) (Some id)).never l hs a it calm)
   unlost moment key id (ask.Event who event) l hs a it calm = refl
   unlost moment key id (ask.Unread request) l hs a it calm = absurd ((refuses_dropped key id request).never l hs a it calm)
   unlost moment key id (ask.Lost which) l hs a it calm = absurd ((refuses_declines (place_of_part which) key id).never l hs a it calm)
   unlost moment key id (ask.Hello device name) l hs a it calm = refl
   unlost moment key id (ask.Report device report) l hs a it calm = refl
-  unlost moment key id (ask.Stranger name) l hs a it calm = refl
+  unlost moment key id (ask.UnknownDevice name) l hs a it calm = refl
   unlost moment key id (ask.Fault device) l hs a it calm = refl
 
   -- the connection asked nothing but a part of a body
@@ -359,12 +359,12 @@ module _ (some : SomeParse) (stays : FirstStays) (no_item : NoItemFollows) (one_
 
     acts_same : (l : Ledger) (hs rest : List Happening) (a : Ledger) (ks more : List Happening) (b : Ledger) → keyed hs ++ rest ≡ keyed ks ++ more → Calm hs → Calm ks → (p : Acts moment key l hs a) (q : Acts moment key l ks b) → AsksElse moment key l p.front p.mid p.first → AsksElse moment key l q.front q.mid q.first → (keyed hs ≡ keyed ks) × (a ≡ b)
     acts_same l hs rest a ks more b e c d p q x y =
-        let it = same_then_by {X = Unit {0}} (ActsNext moment key) (ActsNext moment key) (Settles moment) (Settles moment) l hs rest a ks more b e c d p q
+        let it = same_then_by {X = Unit {0}} (ActsNext moment key) (ActsNext moment key) (ClosesBroken moment) (ClosesBroken moment) l hs rest a ks more b e c d p q
         (λ left right both calm still. let first = next_same l p.front left p.mid q.front right q.mid both calm still p.first q.first x y in (tt, first.0, first.1)) (λ u. same_settles steps queries moment) in
         (it.1, it.2)
 
     -- where none is broken, nothing is closed
-    settled : (l : Ledger) (hs : List Happening) (a : Ledger) → NoneBroken l → Settles moment l hs a → (hs ≡ []) × (a ≡ l)
+    settled : (l : Ledger) (hs : List Happening) (a : Ledger) → NoneBroken l → ClosesBroken moment l hs a → (hs ≡ []) × (a ≡ l)
     settled l hs a none it = by it.0.0 it.0.1
       where
         by : (n : ℕ) → Times n (ClosesFirst moment) l hs a → (hs ≡ []) × (a ≡ l)

@@ -7,7 +7,7 @@ use Rattle.lpd.specs.Stream.{NoneFollows as NoItemFollows, OneParse as OneLpdPar
 use Rattle.device_link.specs.Stream.{NoneFollows as NoReportFollows}
 use Rattle.base_types.specs.Report.{ReportRecord}
 use Rattle.events.specs.declared.event.Event.TheVariants as Is
-use Rattle.dispatcher.specs.declared.listener.AllocationSite.TheVariants as At
+use Rattle.dispatcher.specs.declared.observer.AllocationSite.TheVariants as At
 use Rattle.dispatcher.specs.Notes.{Refused}
 use Rattle.ipp_operations.specs.declared.parsed_request.ParsedRequest.{ParsedRequest}
 use Rattle.ipp_operations.specs.declared.parsed_request.ParsedRequest.TheVariants as asked
@@ -18,12 +18,12 @@ use Rattle.wires.specs.declared.wire.Progress.{Progress}
 use Rattle.wires.specs.declared.wire.Progress.TheVariants as wire
 use Rattle.connections.specs.Entry.{Entry, opening_entry, reading, waiting}
 use Rattle.connections.specs.Choice.{AsksOne}
-use Rattle.server.specs.Polls.{Happening, Polled, Told, Choice, Found, Opened, Asked, Rested, Looked, Chosen}
+use Rattle.server.specs.Polls.{Happening, Polled, Notified, Choice, Found, Opened, Asked, Rested, Looked, Chosen}
 use Rattle.server.specs.Ledger.{Ledger, Drained, opening_ledger, with_new}
-use Rattle.server.specs.Rel.{Rel, Nothing, Polls, Tells, Chooses, Then, If, Or, Each}
+use Rattle.server.specs.Rel.{Rel, Nothing, Polls, Notifies, Chooses, Then, If, Or, Each}
 use Rattle.server.specs.Enqueuing.{Sets, Drops}
 use Rattle.server.specs.Happening.{now_at, Unanswered}
-use Rattle.server.specs.Closing.{IsBroken, NoneBroken, Settles}
+use Rattle.server.specs.Closing.{IsBroken, NoneBroken, ClosesBroken}
 use Rattle.server.specs.Polling.{Opens, AcceptsAs, AcceptsOne, AcceptsAt, FedWhole, FeedsAt, FeedsOne, Fails, ReadsAs, ReadsOpen, ReadsAt, is_read, ReadsOne, WritesAs, WritesOpen, WritesAt, WritesOne, is_done, EndsAt, EndsOne, Serves}
 use Rattle.server.specs.Turn as Between
 use Rattle.server.specs.Turn.{Ticks, Notes, is_tick_due, TicksIfDue, Covers, Rounds, Round, Turn, BodyAsks, BodyComes, Action, Turned, Served_body, Reported, Ticked, Trace, DoesAction, Runs, is_refusal, has_refusal}
@@ -32,7 +32,7 @@ use Rattle.promises.specs.Keyed.{key_chosen, keyed, keyed_of, keyed_in, SeenLead
 use Rattle.promises.specs.OneLedger.{StepsOnce, SameQueries, AsksOnce}
 use Rattle.promises.proofs.UniqueActs.{same_self}
 use Rattle.promises.proofs.SeenAlike.{Calm, Same, One, keyed_append, calm_front, calm_back, calm_last, same_just, same_nothing, same_polls, same_chooses, same_then_by, same_then, refuses_then, same_or, same_if, first_seen}
-use Rattle.promises.proofs.SameEvents.{same_sets, refuses_drops, refuses_tells, same_breaks, one_tick, same_body}
+use Rattle.promises.proofs.SameEvents.{same_sets, refuses_drops, refuses_notifies, same_breaks, one_tick, same_body}
 use Rattle.promises.proofs.SameActs.{same_closes_as, same_settles, same_reports}
 use Rattle.promises.proofs.SameParts.{serves_same}
 use Rattle.promises.proofs.SentToDevices.{same_key, other_key}
@@ -45,7 +45,7 @@ use Rattle.promises.proofs.OtherConnections.{spares_reads, spares_writes, spares
 same_opened : (key other : ℕ) → Chosen (Opened key) ≡ Chosen (Opened other) → key ≡ other
 same_opened key other same = cc
 
-refused_at_once : (door : Door) (id : ℕ) (l : Ledger) (hs : List Happening) → hs ≡ Told (Refused At.Accept (Some id)) ∷ Polled (Closes id) ∷ [] → Calm hs → ⊥
+refused_at_once : (door : Door) (id : ℕ) (l : Ledger) (hs : List Happening) → hs ≡ Notified (Refused At.Accept (Some id)) ∷ Polled (Closes id) ∷ [] → Calm hs → ⊥
 refused_at_once door id l hs is calm = never (subst Calm is calm)
   where
     never : true ≡ false → ⊥
@@ -164,11 +164,11 @@ settled_accepts door l hs l' none it = by (nat_lt l.count CONNECTIONS) it
 settled_ticks : (moment : ℕ) → Settled (TicksIfDue moment)
 settled_ticks moment l hs l' none it = by (is_tick_due moment l) it
   where
-    by : (t : Bool) → If t (Then (Ticks moment) (Settles moment)) Nothing l hs l' → NoneBroken l'
+    by : (t : Bool) → If t (Then (Ticks moment) (ClosesBroken moment)) Nothing l hs l' → NoneBroken l'
     by true ticks = ticks.second.1
     by false still = subst NoneBroken (sym still.1) none
 
--- ---- what is seen tells whether memory was refused
+-- ---- what is seen notifies whether memory was refused
 
 chosen_calm : (choice : Choice) (hs : List Happening) → has_refusal (key_chosen choice ++ hs) ≡ has_refusal hs
 chosen_calm Found hs = refl
@@ -180,7 +180,7 @@ chosen_calm (Looked keys) hs = refl
 refusal_seen : (hs : List Happening) → has_refusal (keyed hs) ≡ has_refusal hs
 refusal_seen [] = refl
 refusal_seen (Polled poll ∷ hs) = refusal_seen hs
-refusal_seen (Told note ∷ hs) = ap (λ (t : Bool). is_refusal (Told note) || t) (refusal_seen hs)
+refusal_seen (Notified note ∷ hs) = ap (λ (t : Bool). is_refusal (Notified note) || t) (refusal_seen hs)
 refusal_seen (Chosen choice ∷ hs) = chosen_calm choice (keyed hs) ∙ refusal_seen hs
 
 happened_seen : (action : Action) → happenings_of (keyed_of action) ≡ keyed (happenings_of action)
@@ -202,12 +202,12 @@ calm_as one other same calm = sym (trace_calm other) ∙ (sym (ap (λ (t : Trace
 module _ (steps : StepsOnce) (queries : SameQueries) (asks : AsksOne) (bodies : AsksOnce) (some : SomeParse) (stays : FirstStays) (no_item : NoItemFollows) (one_lpd : OneLpdParse) (no_report : NoReportFollows) where
   -- ---- reads
 
-  settles : (moment : ℕ) → One (Settles moment)
-  settles moment = same_settles steps queries moment
+  closes_broken : (moment : ℕ) → One (ClosesBroken moment)
+  closes_broken moment = same_settles steps queries moment
 
   fed_whole : (moment key : ℕ) (e : Entry) (bytes : List ℕ) (l : Ledger) (hs rest : List Happening) (a : Ledger) (ks more : List Happening) (b : Ledger) → NoneBroken l → l.entries key ≡ Some e → keyed hs ++ rest ≡ keyed ks ++ more → Calm hs → Calm ks → FedWhole moment key e bytes l hs a → FedWhole moment key e bytes l ks b → (keyed hs ≡ keyed ks) × (a ≡ b)
-  fed_whole moment key e bytes l hs rest a ks more b none there same c d (inr p) q = absurd ((refuses_then (Drops At.Feed key e) (Settles moment) (refuses_drops At.Feed key e)).never l hs a p c)
-  fed_whole moment key e bytes l hs rest a ks more b none there same c d (inl p) (inr q) = absurd ((refuses_then (Drops At.Feed key e) (Settles moment) (refuses_drops At.Feed key e)).never l ks b q d)
+  fed_whole moment key e bytes l hs rest a ks more b none there same c d (inr p) q = absurd ((refuses_then (Drops At.Feed key e) (ClosesBroken moment) (refuses_drops At.Feed key e)).never l hs a p c)
+  fed_whole moment key e bytes l hs rest a ks more b none there same c d (inl p) (inr q) = absurd ((refuses_then (Drops At.Feed key e) (ClosesBroken moment) (refuses_drops At.Feed key e)).never l ks b q d)
   fed_whole moment key e bytes l hs rest a ks more b none there same c d (inl p) (inl q) =
       let sound : NoneBroken p.mid = settled_sets key e (reading bytes e) l p.front p.mid none there refl p.first in
       let seen : keyed hs ≡ keyed p.back = ap keyed (p.whole ∙ ap (λ (xs : List Happening). xs ++ p.back) p.first.0) in
@@ -228,7 +228,7 @@ module _ (steps : StepsOnce) (queries : SameQueries) (asks : AsksOne) (bodies : 
   feeds moment key bytes = record { one = λ l hs rest a ks more b none e c d p q. feeds_at moment key bytes (l.entries key) l hs rest a ks more b none refl e c d p q }
 
   same_fails : (moment key : ℕ) → One (Fails moment key)
-  same_fails moment key = same_then (same_breaks key) (settles moment)
+  same_fails moment key = same_then (same_breaks key) (closes_broken moment)
 
   reads_as : (moment key : ℕ) (e : Entry) (answer : Progress (List ℕ)) → Onward (ReadsAs moment key e answer)
   reads_as moment key e (wire.Done bytes) = onward_then (Polls (Reads e.id (wire.Done bytes))) (FeedsOne moment key bytes) (settled_polls (Reads e.id (wire.Done bytes))) (onward (Polls (Reads e.id (wire.Done bytes))) (same_polls (Reads e.id (wire.Done bytes)))) (feeds moment key bytes)
@@ -294,7 +294,7 @@ module _ (steps : StepsOnce) (queries : SameQueries) (asks : AsksOne) (bodies : 
 
   ends_at : (moment key : ℕ) (o : Option Entry) → One (EndsAt moment key o)
   ends_at moment key None = same_nothing
-  ends_at moment key (Some e) = same_if (is_done e) (same_then (same_closes_as steps queries moment Drained key e) (settles moment)) same_nothing
+  ends_at moment key (Some e) = same_if (is_done e) (same_then (same_closes_as steps queries moment Drained key e) (closes_broken moment)) same_nothing
 
   ends : (moment key : ℕ) → Onward (EndsOne moment key)
   ends moment key = record { one = λ l hs rest a ks more b none e c d p q. (ends_at moment key (l.entries key)).one l hs rest a ks more b e c d p q }
@@ -308,7 +308,7 @@ module _ (steps : StepsOnce) (queries : SameQueries) (asks : AsksOne) (bodies : 
   same_ticks moment = record { one = λ l hs rest a ks more b e c d p q. (ticks_at moment (now_at moment l)).one l hs rest a ks more b e c d p q }
 
   tick_due : (moment : ℕ) → One (TicksIfDue moment)
-  tick_due moment = record { one = λ l hs rest a ks more b e c d p q. (same_if (is_tick_due moment l) (same_then (same_ticks moment) (settles moment)) same_nothing).one l hs rest a ks more b e c d p q }
+  tick_due moment = record { one = λ l hs rest a ks more b e c d p q. (same_if (is_tick_due moment l) (same_then (same_ticks moment) (closes_broken moment)) same_nothing).one l hs rest a ks more b e c d p q }
 
   -- ---- a round over keys: the keys that no connection has don't count
 
@@ -449,17 +449,17 @@ module _ (steps : StepsOnce) (queries : SameQueries) (asks : AsksOne) (bodies : 
   turn_same : (moment : ℕ) → One (Turn moment)
   turn_same moment = record {
     one = λ l hs rest a ks more b e c d p q.
-        let it = same_then_by {X = Unit {0}} (Settles moment) (Settles moment) (λ z zs w. NoneBroken z × Later moment z zs w) (λ z zs w. NoneBroken z × Later moment z zs w) l hs rest a ks more b e c d
+        let it = same_then_by {X = Unit {0}} (ClosesBroken moment) (ClosesBroken moment) (λ z zs w. NoneBroken z × Later moment z zs w) (λ z zs w. NoneBroken z × Later moment z zs w) l hs rest a ks more b e c d
         (record { mid = p.mid; front = p.front; back = p.back; whole = p.whole; first = p.first; second = (p.first.1, p.second) }) (record { mid = q.mid; front = q.front; back = q.back; whole = q.whole; first = q.first; second = (q.first.1, q.second) })
-        (λ left right both calm still. let first = (settles moment).one l p.front left p.mid q.front right q.mid both calm still p.first q.first in (tt, first.0, first.1))
+        (λ left right both calm still. let first = (closes_broken moment).one l p.front left p.mid q.front right q.mid both calm still p.first q.first in (tt, first.0, first.1))
         (λ u. record { one = λ z xs xrest w ys ymore v f g h x y. (later_same moment).one z xs xrest w ys ymore v x.0 f g h x.1 y.1 }) in
         (it.1, it.2);
   }
 
   -- ---- calls between turns
 
-  refused_between : One (Or (Chooses Found) (Tells (Refused At.Reply None)))
-  refused_between = same_or (refuses_tells At.Reply None) (refuses_tells At.Reply None) (same_chooses Found)
+  refused_between : One (Or (Chooses Found) (Notifies (Refused At.Reply None)))
+  refused_between = same_or (refuses_notifies At.Reply None) (refuses_notifies At.Reply None) (same_chooses Found)
 
   body_asks : (moment : ℕ) (it : ParsedRequest) (served other : Between.Outcome) → Same (BodyAsks moment it served) (BodyAsks moment it other)
   body_asks moment asked.TooShort served other = record { one = λ l hs rest a ks more b e c d p q. same_nothing.one l hs rest a ks more b e c d p.1 q.1 }
@@ -470,8 +470,8 @@ module _ (steps : StepsOnce) (queries : SameQueries) (asks : AsksOne) (bodies : 
   body_comes moment body served other l hs rest a ks more b e c d (inl (one, is, p)) (inl (said, its, q)) =
       let same : said ≡ one = bodies body said one its is in
       (same_then (same_chooses Found) (body_asks moment one served other)).one l hs rest a ks more b e c d p (subst (λ (x : ParsedRequest). Then (Chooses Found) (BodyAsks moment x other) l ks b) same q)
-  body_comes moment body served other l hs rest a ks more b e c d (inr p) q = absurd ((refuses_tells At.Event None).never l hs a p c)
-  body_comes moment body served other l hs rest a ks more b e c d (inl p) (inr q) = absurd ((refuses_tells At.Event None).never l ks b q d)
+  body_comes moment body served other l hs rest a ks more b e c d (inr p) q = absurd ((refuses_notifies At.Event None).never l hs a p c)
+  body_comes moment body served other l hs rest a ks more b e c d (inl p) (inr q) = absurd ((refuses_notifies At.Event None).never l ks b q d)
 
   -- ---- traces
 
@@ -487,8 +487,8 @@ module _ (steps : StepsOnce) (queries : SameQueries) (asks : AsksOne) (bodies : 
       let comes : BodyComes moment body other l ks b = subst (λ (m : ℕ). BodyComes m body other l ks b) (sym it.0) (subst (λ (x : List ℕ). BodyComes at x other l ks b) (sym it.1) q) in
       let end = body_comes moment body served other l hs [] a ks [] b (ap (λ (xs : List Happening). xs ++ []) it.2) c d p comes in
       end.1
-  action_same (Reported moment device said hs) (Reported at other told ks) l a b same c d p q =
-      let it : (moment ≡ at) × (device ≡ other) × (said ≡ told) × (keyed hs ≡ keyed ks) = (cc, cc, cc, cc) in
+  action_same (Reported moment device said hs) (Reported at other notified ks) l a b same c d p q =
+      let it : (moment ≡ at) × (device ≡ other) × (said ≡ notified) × (keyed hs ≡ keyed ks) = (cc, cc, cc, cc) in
       let reports : Between.Reports moment device said l ks b =
       subst (λ (m : ℕ). Between.Reports m device said l ks b) (sym it.0) (subst (λ (x : ℕ). Between.Reports at x said l ks b) (sym it.1) (subst (λ (x : ReportRecord). Between.Reports at other x l ks b) (sym it.2) q)) in
       all_one (Between.Reports moment device said) (same_reports steps queries moment device said) l hs ks a b it.3 c d p reports

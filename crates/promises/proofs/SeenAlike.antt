@@ -5,9 +5,9 @@ use Rattle.std.proofs.lemmas.List.{append_cancel_left}
 use Rattle.std.proofs.lemmas.Grind.{flat_map-append}
 use Rattle.wires.specs.Poll.{Poll}
 use Rattle.dispatcher.specs.Notes.{Note}
-use Rattle.server.specs.Polls.{Happening, Polled, Told, Choice, Chosen}
+use Rattle.server.specs.Polls.{Happening, Polled, Notified, Choice, Chosen}
 use Rattle.server.specs.Ledger.{Ledger}
-use Rattle.server.specs.Rel.{Rel, Nothing, Polls, Tells, Chooses, Then, If, Or, Times, Many, Each, EachOf}
+use Rattle.server.specs.Rel.{Rel, Nothing, Polls, Notifies, Chooses, Then, If, Or, Times, Many, Each, EachOf}
 use Rattle.server.specs.Turn.{is_refusal, has_refusal}
 use Rattle.promises.specs.Keyed.{keyed_one, keyed}
 use Rattle.promises.proofs.Determined.{times_cons}
@@ -69,18 +69,18 @@ same_nothing = same_just (λ l. []) (λ l. l)
 pub same_polls : (poll : Poll) → One (Polls poll)
 same_polls poll = same_just (λ l. Polled poll ∷ []) (λ l. l)
 
-pub same_tells : (note : Note) → One (Tells note)
-same_tells note = same_just (λ l. Told note ∷ []) (λ l. l)
+pub same_notifies : (note : Note) → One (Notifies note)
+same_notifies note = same_just (λ l. Notified note ∷ []) (λ l. l)
 
 pub same_chooses : (choice : Choice) → One (Chooses choice)
 same_chooses choice = same_just (λ l. Chosen choice ∷ []) (λ l. l)
 
--- one part after the other, where the first part tells how the second parts are the same
+-- one part after the other, where the first part notifies how the second parts are the same
 pub same_then_by : {X : Type 0} (D D' R R' : Rel) (l : Ledger) (hs rest : List Happening) (a : Ledger) (ks more : List Happening) (b : Ledger) → keyed hs ++ rest ≡ keyed ks ++ more → Calm hs → Calm ks → (p : Then D R l hs a) (q : Then D' R' l ks b)
     → ((left right : List Happening) → keyed p.front ++ left ≡ keyed q.front ++ right → Calm p.front → Calm q.front → X × (keyed p.front ≡ keyed q.front) × (p.mid ≡ q.mid)) → (X → Same R R') → X × (keyed hs ≡ keyed ks) × (a ≡ b)
-same_then_by D D' R R' l hs rest a ks more b e c d p q tells same =
+same_then_by D D' R R' l hs rest a ks more b e c d p q notifies same =
     let both : keyed p.front ++ (keyed p.back ++ rest) ≡ keyed q.front ++ (keyed q.back ++ more) = sym (keyed_parts hs p.front p.back rest p.whole) ∙ (e ∙ keyed_parts ks q.front q.back more q.whole) in
-    let first = tells (keyed p.back ++ rest) (keyed q.back ++ more) both (calm_first hs p.front p.back p.whole c) (calm_first ks q.front q.back q.whole d) in
+    let first = notifies (keyed p.back ++ rest) (keyed q.back ++ more) both (calm_first hs p.front p.back p.whole c) (calm_first ks q.front q.back q.whole d) in
     let left : keyed p.back ++ rest ≡ keyed q.back ++ more = append_cancel_left (keyed p.front) (keyed p.back ++ rest) (keyed q.back ++ more) (both ∙ ap (λ (x : List Happening). x ++ (keyed q.back ++ more)) (sym first.1)) in
     let second = (same first.0).one p.mid p.back rest a q.back more b left (calm_last hs p.front p.back p.whole c) (calm_last ks q.front q.back q.whole d) p.second (subst (λ (x : Ledger). R' x q.back b) (sym first.2) q.second) in (
       first.0,
@@ -124,15 +124,15 @@ same_each_of [] R each = same_nothing
 same_each_of (x ∷ xs) R each = same_then (each x) (same_each_of xs R each)
 
 -- a part that refuses memory
-refused_tells : (hs : List Happening) (h : Happening) → is_refusal h ≡ true → hs ≡ h ∷ [] → Calm hs → ⊥
-refused_tells hs h refused is calm = untrue (is_refusal h) refused (or_false_left (is_refusal h) false (subst Calm is calm))
+refused_notifies : (hs : List Happening) (h : Happening) → is_refusal h ≡ true → hs ≡ h ∷ [] → Calm hs → ⊥
+refused_notifies hs h refused is calm = untrue (is_refusal h) refused (or_false_left (is_refusal h) false (subst Calm is calm))
   where
     untrue : (t : Bool) → t ≡ true → t ≡ false → ⊥
     untrue true p q = cc
     untrue false p q = cc
 
 pub refuses_just : (R : Rel) (h : Happening) → is_refusal h ≡ true → ((l : Ledger) (hs : List Happening) (a : Ledger) → R l hs a → hs ≡ h ∷ []) → Refuses R
-refuses_just R h refused is = record { never = λ l hs a it calm. refused_tells hs h refused (is l hs a it) calm }
+refuses_just R h refused is = record { never = λ l hs a it calm. refused_notifies hs h refused (is l hs a it) calm }
 
 -- ---- until it can't be done once more
 

@@ -12,7 +12,7 @@ use Rattle.events.specs.declared.effects.Cancel.{Cancel}
 use Rattle.dispatcher.specs.declared.outcome.Outcome.{Outcome}
 use Rattle.dispatcher.specs.declared.outcome.Outcome.TheVariants.{Dropped, Queried, Undispatched, Idle, Dispatched}
 use Rattle.dispatcher.specs.Notes.{Note}
-use Rattle.connections.specs.Entry.{PeerRecord, Http, Queue, Link, Entry, device_of, broken, owing, given_up, needs_memory, unnamed}
+use Rattle.connections.specs.Entry.{PeerRecord, Http, Queue, Link, Entry, device_of, broken, owing, superseded_entry, needs_memory, unnamed}
 use Rattle.server.specs.Polls.{Happening}
 use Rattle.server.specs.Ledger.{Ledger, at_key, with_entry, job_bytes}
 use Rattle.server.specs.Rel.{Rel, Nothing, If, EachOf}
@@ -235,12 +235,12 @@ unnamed_progress (Http said closes body) client = refl
 unnamed_progress (Queue items session) client = refl
 unnamed_progress (Link reports device) client = absurd client
 
-pub ordered_given_up : (e : Entry) → Ordered (λ device. []) (Some e) (Some (given_up e))
-ordered_given_up e = ordered_broken (λ device. []) e (given_up e) refl (λ device named. (unnamed_none e.progress device named, refl)) (unnamed_client e.progress) (λ client. (unnamed_progress e.progress client, refl, reads_still e (given_up e) refl refl refl))
+pub ordered_given_up : (e : Entry) → Ordered (λ device. []) (Some e) (Some (superseded_entry e))
+ordered_given_up e = ordered_broken (λ device. []) e (superseded_entry e) refl (λ device named. (unnamed_none e.progress device named, refl)) (unnamed_client e.progress) (λ client. (unnamed_progress e.progress client, refl, reads_still e (superseded_entry e) refl refl refl))
 
 -- ---- ledgers
 
--- the core stays and tells nothing, and this was sent to each device
+-- the core stays and notifies nothing, and this was sent to each device
 pub record Sent (sent : ℕ → List ℕ) (l : Ledger) (hs : List Happening) (l' : Ledger) : Type 0 where
   pub core : l'.core ≡ l.core
   pub closed : l'.closed ≡ l.closed

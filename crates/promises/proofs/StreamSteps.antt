@@ -14,7 +14,7 @@ use Rattle.http_front.specs.declared.item.HttpItem.TheVariants as item
 use Rattle.lpd.specs.Items.{ItemRecord, HasCommand as SaysCommand, Aborts, Announces, HasFile}
 use Rattle.lpd.specs.Session.{SessionState}
 use Rattle.events.specs.declared.event.Event.TheVariants as Is
-use Rattle.dispatcher.specs.declared.listener.DeviceRefusal.TheVariants as why
+use Rattle.dispatcher.specs.declared.observer.DeviceRefusal.TheVariants as why
 use Rattle.dispatcher.specs.Notes.{Note, DeviceRefused, Refused}
 use Rattle.ipp_operations.specs.declared.parsed_request.ParsedRequest.{ParsedRequest}
 use Rattle.ipp_operations.specs.declared.parsed_request.ParsedRequest.TheVariants as asked
@@ -22,8 +22,8 @@ use Rattle.ipp_operations.specs.ParsedRequest.{Asks as AsksBody}
 use Rattle.connections.specs.declared.ask.Ask.{Ask}
 use Rattle.connections.specs.declared.ask.Ask.TheVariants as ask
 use Rattle.connections.specs.declared.ask.Client.TheVariants as client
-use Rattle.connections.specs.declared.ask.Growth.{Growth}
-use Rattle.connections.specs.declared.ask.Growth.TheVariants as growth
+use Rattle.connections.specs.declared.ask.AllocFailure.{AllocFailure}
+use Rattle.connections.specs.declared.ask.AllocFailure.TheVariants as growth
 use Rattle.connections.specs.declared.ask.Part.{Part}
 use Rattle.connections.specs.declared.ask.Part.TheVariants as part
 use Rattle.connections.specs.declared.step.Step.{Step}
@@ -32,9 +32,9 @@ use Rattle.connections.specs.Session.{Hearing, Goes as GoesOn, Stops, Submits, C
 use Rattle.connections.specs.Steps.{asked_step, EndsBody, StepsIpp, AsksAs, StepsLpd, StepsHello, StepsDevice, silent, no_memory}
 use Rattle.connections.specs.Entry.{PeerRecord, Http, Queue, Link, Entry, device_of, broken, with_progress, finishing}
 use Rattle.connections.specs.Asking.{ItemComes, StepsTo}
-use Rattle.server.specs.Polls.{Happening, Told}
+use Rattle.server.specs.Polls.{Happening, Notified}
 use Rattle.server.specs.Ledger.{Ledger}
-use Rattle.server.specs.Rel.{Tells}
+use Rattle.server.specs.Rel.{Notifies}
 use Rattle.server.specs.Acting.{place_of, place_of_part, ActsOn}
 use Rattle.server.specs.Law.{core_notes}
 use Rattle.promises.proofs.AnswerKinds.{EventOf, asks_ipp, submits_job, commands}
@@ -56,7 +56,7 @@ IsClientAsk (ask.Unread request) = Unit {0}
 IsClientAsk (ask.Lost part) = Unit {0}
 IsClientAsk (ask.Hello device name) = ⊥
 IsClientAsk (ask.Report device report) = ⊥
-IsClientAsk (ask.Stranger name) = ⊥
+IsClientAsk (ask.UnknownDevice name) = ⊥
 IsClientAsk (ask.Fault device) = ⊥
 
 -- of a device's that has said its name, or doesn't say it now
@@ -68,27 +68,27 @@ IsDeviceAsk (ask.Unread request) = ⊥
 IsDeviceAsk (ask.Lost part) = ⊥
 IsDeviceAsk (ask.Hello device name) = ⊥
 IsDeviceAsk (ask.Report device report) = None ≡ named_by true (Is.Report device report)
-IsDeviceAsk (ask.Stranger name) = Unit {0}
+IsDeviceAsk (ask.UnknownDevice name) = Unit {0}
 IsDeviceAsk (ask.Fault device) = Unit {0}
 
-pub silent_growth : (it : Growth) (id : ℕ) → core_notes (Told (Refused (place_of it) (Some id)) ∷ []) ≡ []
+pub silent_growth : (it : AllocFailure) (id : ℕ) → core_notes (Notified (Refused (place_of it) (Some id)) ∷ []) ≡ []
 silent_growth growth.Input id = refl
 silent_growth growth.Output id = refl
 
-pub silent_part : (it : Part) (id : ℕ) → core_notes (Told (Refused (place_of_part it) (Some id)) ∷ []) ≡ []
+pub silent_part : (it : Part) (id : ℕ) → core_notes (Notified (Refused (place_of_part it) (Some id)) ∷ []) ≡ []
 silent_part part.File id = refl
 silent_part part.Job id = refl
 
 -- as notes of a run
-pub silent_run : (it : Growth) (id : ℕ) → run_notes (Told (Refused (place_of it) (Some id)) ∷ []) ≡ []
+pub silent_run : (it : AllocFailure) (id : ℕ) → run_notes (Notified (Refused (place_of it) (Some id)) ∷ []) ≡ []
 silent_run growth.Input id = refl
 silent_run growth.Output id = refl
 
-pub tells_part : (it : Part) (id : ℕ) → run_notes (Told (Refused (place_of_part it) (Some id)) ∷ []) ≡ Refused (place_of_part it) (Some id) ∷ []
-tells_part part.File id = refl
-tells_part part.Job id = refl
+pub notifies_part : (it : Part) (id : ℕ) → run_notes (Notified (Refused (place_of_part it) (Some id)) ∷ []) ≡ Refused (place_of_part it) (Some id) ∷ []
+notifies_part part.File id = refl
+notifies_part part.Job id = refl
 
-pub calms_device_refused : (id : ℕ) (note : Note) → run_notes (Told note ∷ []) ≡ [] → Calms (Tells note)
+pub calms_device_refused : (id : ℕ) (note : Note) → run_notes (Notified note ∷ []) ≡ [] → Calms (Notifies note)
 calms_device_refused id note silent l hs l' it = calm_still l hs l' (ap run_notes it.0 ∙ silent) it.1
 
 pub device_does : (moment key id : ℕ) (what : Ask) (l : Ledger) (hs : List Happening) (l' : Ledger) → IsDeviceAsk what → Good l → ActsOn moment key id what l hs l' → Goes true moment l hs l'
@@ -99,7 +99,7 @@ device_does moment key id (ask.Unread request) l hs l' is good it = absurd is
 device_does moment key id (ask.Lost part) l hs l' is good it = absurd is
 device_does moment key id (ask.Hello device name) l hs l' is good it = absurd is
 device_does moment key id (ask.Report device report) l hs l' is good it = moves_unanswered true moment (Is.Report device report) is l hs l' good it
-device_does moment key id (ask.Stranger name) l hs l' is good it = goes_calm true moment l hs l' good (calms_device_refused id (DeviceRefused id (why.UnknownName name)) refl l hs l' it)
+device_does moment key id (ask.UnknownDevice name) l hs l' is good it = goes_calm true moment l hs l' good (calms_device_refused id (DeviceRefused id (why.UnknownName name)) refl l hs l' it)
 device_does moment key id (ask.Fault device) l hs l' is good it = goes_calm true moment l hs l' good (calms_device_refused id (DeviceRefused id (why.Fault device)) refl l hs l' it)
 
 -- ---- steps of a client
@@ -164,10 +164,10 @@ asks_client (GoesOn answer next) (step.Asks (ask.Report device report) last) aft
 asks_client (Stops answer) (step.Asks (ask.Report device report) last) after is = absurd is
 asks_client (Submits job next) (step.Asks (ask.Report device report) last) after is = absurd is
 asks_client (Commands command) (step.Asks (ask.Report device report) last) after is = absurd is
-asks_client (GoesOn answer next) (step.Asks (ask.Stranger name) last) after is = absurd is
-asks_client (Stops answer) (step.Asks (ask.Stranger name) last) after is = absurd is
-asks_client (Submits job next) (step.Asks (ask.Stranger name) last) after is = absurd is
-asks_client (Commands command) (step.Asks (ask.Stranger name) last) after is = absurd is
+asks_client (GoesOn answer next) (step.Asks (ask.UnknownDevice name) last) after is = absurd is
+asks_client (Stops answer) (step.Asks (ask.UnknownDevice name) last) after is = absurd is
+asks_client (Submits job next) (step.Asks (ask.UnknownDevice name) last) after is = absurd is
+asks_client (Commands command) (step.Asks (ask.UnknownDevice name) last) after is = absurd is
 asks_client (GoesOn answer next) (step.Asks (ask.Fault device) last) after is = absurd is
 asks_client (Stops answer) (step.Asks (ask.Fault device) last) after is = absurd is
 asks_client (Submits job next) (step.Asks (ask.Fault device) last) after is = absurd is
@@ -231,9 +231,9 @@ has_more (one ∷ reports) said = tt
 pub named_hears : (settings : ServerSettings) (reports : List ReportRecord) (name : List ℕ) (place : Option ℕ) (device_after : Option ℕ) (e : Entry) (comes : Step) (mid : Entry) (what : Ask) (new : Entry) → e.progress ≡ Link reports None
     → StepsHello name place comes device_after → mid ≡ with_progress (Link (reports ++ SaysHello name ∷ []) device_after) e → StepsTo comes mid what new → DeviceAsks what e new
 named_hears settings reports name None device_after e comes mid what new progress is after steps =
-    let breaks : (what ≡ ask.Stranger name) × (new ≡ broken mid) = subst (λ (s : Step). StepsTo s mid what new) is.0 steps in
+    let breaks : (what ≡ ask.UnknownDevice name) × (new ≡ broken mid) = subst (λ (s : Step). StepsTo s mid what new) is.0 steps in
     let unknown : device_of mid.progress ≡ None = ap (λ (x : Entry). device_of x.progress) after ∙ is.1 in
-    link_breaks what (ask.Stranger name) e mid new breaks.0 tt breaks.1 (ap (λ (x : Entry). x.due) after) (λ device named. cc) (λ client. absurd (not_client e.progress reports None progress client)) (λ client. not_client mid.progress (reports ++ SaysHello name ∷ []) device_after (ap (λ (x : Entry). x.progress) after) client)
+    link_breaks what (ask.UnknownDevice name) e mid new breaks.0 tt breaks.1 (ap (λ (x : Entry). x.due) after) (λ device named. cc) (λ client. absurd (not_client e.progress reports None progress client)) (λ client. not_client mid.progress (reports ++ SaysHello name ∷ []) device_after (ap (λ (x : Entry). x.progress) after) client)
 named_hears settings reports name (Some device) device_after e comes mid what new progress is after steps =
     let asks : (what ≡ ask.Hello device name) × (new ≡ finishing false mid) = subst (λ (s : Step). StepsTo s mid what new) is.0 steps in
     let whole : new ≡ finishing false (with_progress (Link (reports ++ SaysHello name ∷ []) (Some device)) e) = asks.1 ∙ ap (finishing false) (after ∙ ap (λ (d : Option ℕ). with_progress (Link (reports ++ SaysHello name ∷ []) d) e) is.1) in

@@ -6,26 +6,26 @@ use Rattle.base_types.specs.Report.{ReportRecord, report_of}
 use Rattle.settings_file.specs.Settings.{ServerSettings}
 use Rattle.events.specs.declared.event.Event.{Event}
 use Rattle.events.specs.declared.event.Event.TheVariants as Is
-use Rattle.dispatcher.specs.declared.listener.DeviceRefusal.TheVariants as why
+use Rattle.dispatcher.specs.declared.observer.DeviceRefusal.TheVariants as why
 use Rattle.dispatcher.specs.Notes.{DeviceRefused, Refused}
 use Rattle.connections.specs.declared.ask.Ask.{Ask}
 use Rattle.connections.specs.declared.ask.Ask.TheVariants as ask
 use Rattle.connections.specs.declared.ask.Client.{Client}
-use Rattle.connections.specs.Entry.{Entry, device_of, given_up}
+use Rattle.connections.specs.Entry.{Entry, device_of, superseded_entry}
 use Rattle.connections.specs.Asking.{AsksNext}
 use Rattle.events.specs.SameEvent.{SameEvent}
 use Rattle.connections.specs.Choice.{Loss, part_of, lost_of, SameAsk, AsksOne}
-use Rattle.server.specs.Polls.{Happening, Polled, Told, Choice, Rested, Chosen}
+use Rattle.server.specs.Polls.{Happening, Polled, Notified, Choice, Rested, Chosen}
 use Rattle.server.specs.Polls as As
 use Rattle.server.specs.Ledger.{Ledger, Fate, Broken, with_entry}
-use Rattle.server.specs.Rel.{Tells as Informs, Then}
+use Rattle.server.specs.Rel.{Notifies, Then}
 use Rattle.server.specs.Happening.{Unanswered}
-use Rattle.server.specs.Closing.{Leaves, IsGone, ClosesAs, IsBroken, ClosesFirst, NoneBroken, Settles}
-use Rattle.server.specs.Greeting.{Tells, IsAlone, HasOther, GivesWayAt, GivesWay, TakesOver, Greets}
+use Rattle.server.specs.Closing.{Leaves, IsGone, ClosesAs, IsBroken, ClosesFirst, NoneBroken, ClosesBroken}
+use Rattle.server.specs.Hello.{ReportComes, IsAlone, HasOther, IsSupersededAt, IsSuperseded, TakesOver, HandlesHello}
 use Rattle.server.specs.Acting.{place_of, place_of_part, Asks, ActsOn, ActsNext}
 use Rattle.promises.specs.OneLedger.{StepsOnce, SameQueries}
 use Rattle.promises.proofs.Lowest.{as_device, other_one, one_ending}
-use Rattle.promises.proofs.Determined.{Alike, Fixed, fixed_nothing, fixed_tells, alike_then, first_one, same_choice, then_one, begins_just, Begins, is_choice, fixed_until}
+use Rattle.promises.proofs.Determined.{Alike, Fixed, fixed_nothing, fixed_notifies, alike_then, first_one, same_choice, then_one, begins_just, Begins, is_choice, fixed_until}
 use Rattle.promises.proofs.UniqueDue.{fixed_sets}
 use Rattle.promises.proofs.UniqueEvents.{unanswered_alike, fixed_report}
 use Rattle.promises.proofs.UniqueAnswers.{fixed_dropped, fixed_declines, same_answered}
@@ -73,28 +73,28 @@ module _ (steps : StepsOnce) (queries : SameQueries) (asks : AsksOne) where
   none_closes : (moment : ℕ) (l : Ledger) (hs : List Happening) (a : Ledger) → NoneBroken l → ClosesFirst moment l hs a → ⊥
   none_closes moment l hs a none it = none it.key (broken_there l it.key it.entry it.there it.is_broken)
 
-  pub fixed_settles : (moment : ℕ) → Fixed (Settles moment)
+  pub fixed_settles : (moment : ℕ) → Fixed (ClosesBroken moment)
   fixed_settles moment = fixed_until (ClosesFirst moment) NoneBroken (record { one = closes_first moment }) (none_closes moment)
 
   -- ---- devices that say their names
 
-  gives_way_at : (key : ℕ) (o : Option Entry) → Fixed (GivesWayAt key o)
+  gives_way_at : (key : ℕ) (o : Option Entry) → Fixed (IsSupersededAt key o)
   gives_way_at key None = fixed_nothing
-  gives_way_at key (Some e) = fixed_sets key (given_up e)
+  gives_way_at key (Some e) = fixed_sets key (superseded_entry e)
 
-  fixed_gives_way : (key : ℕ) → Fixed (GivesWay key)
+  fixed_gives_way : (key : ℕ) → Fixed (IsSuperseded key)
   fixed_gives_way key = record { one = λ l hs rest a ks more b e p q. (gives_way_at key (l.entries key)).one l hs rest a ks more b e p q }
 
   fixed_takes_over : (moment old device : ℕ) (name : List ℕ) → Fixed (TakesOver moment old device name)
   fixed_takes_over moment old device name = alike_then (fixed_gives_way old) (alike_then (fixed_gone moment (Some device)) (fixed_report steps moment device (report.Hello name)))
 
-  turned_away : (key id device : ℕ) → Fixed (Then (GivesWay key) (Informs (DeviceRefused id (why.Connected device))))
-  turned_away key id device = alike_then (fixed_gives_way key) (fixed_tells (DeviceRefused id (why.Connected device)))
+  turned_away : (key id device : ℕ) → Fixed (Then (IsSuperseded key) (Notifies (DeviceRefused id (why.Connected device))))
+  turned_away key id device = alike_then (fixed_gives_way key) (fixed_notifies (DeviceRefused id (why.Connected device)))
 
   not_alone : {A : Type 0} → (ended : Bool) (device key other : ℕ) (l : Ledger) → IsAlone device key l → HasOther ended device key other l → A
   not_alone ended device key other l alone it = absurd (alone other it.0 (as_device ended device (l.entries other) it.1))
 
-  greets : (moment key id device : ℕ) (name : List ℕ) (l : Ledger) (hs rest : List Happening) (a : Ledger) (ks more : List Happening) (b : Ledger) → hs ++ rest ≡ ks ++ more → Greets moment key id device name l hs a → Greets moment key id device name l ks b → (hs ≡ ks) × (a ≡ b)
+  greets : (moment key id device : ℕ) (name : List ℕ) (l : Ledger) (hs rest : List Happening) (a : Ledger) (ks more : List Happening) (b : Ledger) → hs ++ rest ≡ ks ++ more → HandlesHello moment key id device name l hs a → HandlesHello moment key id device name l ks b → (hs ≡ ks) × (a ≡ b)
   greets moment key id device name l hs rest a ks more b e (inl (alone, p)) (inl (lone, q)) = (fixed_report steps moment device (report.Hello name)).one l hs rest a ks more b e p q
   greets moment key id device name l hs rest a ks more b e (inl (alone, p)) (inr (inl (other, is, q))) = not_alone true device key other l alone is
   greets moment key id device name l hs rest a ks more b e (inl (alone, p)) (inr (inr (other, is, q))) = not_alone false device key other l alone is
@@ -110,7 +110,7 @@ module _ (steps : StepsOnce) (queries : SameQueries) (asks : AsksOne) where
   pub same_report : (moment device other : ℕ) (one said : Report) → device ≡ other → report_of one ≡ report_of said → Alike (Unanswered moment (Is.Report device one)) (Unanswered moment (Is.Report other said))
   same_report moment device other one said same says = unanswered_alike steps moment (Is.Report device one) (Is.Report other said) (same, says) refl (λ s. tt) (λ s. tt)
 
-  pub fixed_reports : (moment device : ℕ) (said : ReportRecord) → Fixed (Tells moment device said)
+  pub fixed_reports : (moment device : ℕ) (said : ReportRecord) → Fixed (ReportComes moment device said)
   fixed_reports moment device said = record { one = λ l hs rest a ks more b e (one, is, p) (other, its, q). (same_report moment device device one other refl (is ∙ sym its)).one l hs rest a ks more b e p q }
 
   -- ---- the asks of a connection
@@ -121,14 +121,14 @@ module _ (steps : StepsOnce) (queries : SameQueries) (asks : AsksOne) where
 
   fixed_does : (moment key id : ℕ) (what : Ask) → Fixed (ActsOn moment key id what)
   fixed_does moment key id ask.Nothing = fixed_nothing
-  fixed_does moment key id (ask.Broke growth) = fixed_tells (Refused (place_of growth) (Some id))
+  fixed_does moment key id (ask.Broke growth) = fixed_notifies (Refused (place_of growth) (Some id))
   fixed_does moment key id (ask.Event who event) = same_events moment key id who who event event refl (same_self event)
   fixed_does moment key id (ask.Unread request) = fixed_dropped key id request
   fixed_does moment key id (ask.Lost part) = fixed_declines (place_of_part part) key id
   fixed_does moment key id (ask.Hello device name) = record { one = greets moment key id device name }
   fixed_does moment key id (ask.Report device said) = fixed_report steps moment device said
-  fixed_does moment key id (ask.Stranger name) = fixed_tells (DeviceRefused id (why.UnknownName name))
-  fixed_does moment key id (ask.Fault device) = fixed_tells (DeviceRefused id (why.Fault device))
+  fixed_does moment key id (ask.UnknownDevice name) = fixed_notifies (DeviceRefused id (why.UnknownName name))
+  fixed_does moment key id (ask.Fault device) = fixed_notifies (DeviceRefused id (why.Fault device))
 
   as_one : (moment key id : ℕ) (what said : Ask) → what ≡ said → Alike (ActsOn moment key id what) (ActsOn moment key id said)
   as_one moment key id what said same = subst (λ (x : Ask). Alike (ActsOn moment key id what) (ActsOn moment key id x)) same (fixed_does moment key id what)
@@ -141,7 +141,7 @@ module _ (steps : StepsOnce) (queries : SameQueries) (asks : AsksOne) where
   same_does moment key id (ask.Unread request) said same = as_one moment key id (ask.Unread request) said same
   same_does moment key id (ask.Lost part) said same = as_one moment key id (ask.Lost part) said same
   same_does moment key id (ask.Hello device name) said same = as_one moment key id (ask.Hello device name) said same
-  same_does moment key id (ask.Stranger name) said same = as_one moment key id (ask.Stranger name) said same
+  same_does moment key id (ask.UnknownDevice name) said same = as_one moment key id (ask.UnknownDevice name) said same
   same_does moment key id (ask.Fault device) said same = as_one moment key id (ask.Fault device) said same
   same_does moment key id (ask.Event who event) ask.Nothing same = cc
   same_does moment key id (ask.Event who event) (ask.Broke growth) same = cc
@@ -149,7 +149,7 @@ module _ (steps : StepsOnce) (queries : SameQueries) (asks : AsksOne) where
   same_does moment key id (ask.Event who event) (ask.Lost part) same = cc
   same_does moment key id (ask.Event who event) (ask.Hello device name) same = cc
   same_does moment key id (ask.Event who event) (ask.Report device heard) same = cc
-  same_does moment key id (ask.Event who event) (ask.Stranger name) same = cc
+  same_does moment key id (ask.Event who event) (ask.UnknownDevice name) same = cc
   same_does moment key id (ask.Event who event) (ask.Fault device) same = cc
   same_does moment key id (ask.Report device one) ask.Nothing same = cc
   same_does moment key id (ask.Report device one) (ask.Broke growth) same = cc
@@ -157,7 +157,7 @@ module _ (steps : StepsOnce) (queries : SameQueries) (asks : AsksOne) where
   same_does moment key id (ask.Report device one) (ask.Unread request) same = cc
   same_does moment key id (ask.Report device one) (ask.Lost part) same = cc
   same_does moment key id (ask.Report device one) (ask.Hello other name) same = cc
-  same_does moment key id (ask.Report device one) (ask.Stranger name) same = cc
+  same_does moment key id (ask.Report device one) (ask.UnknownDevice name) same = cc
   same_does moment key id (ask.Report device one) (ask.Fault other) same = cc
 
   -- two asks of one entry are the same if their choices are
@@ -208,7 +208,7 @@ asked_now (As.Looked keys) = false
 
 abbrev pub is_asked : Happening → Bool
 is_asked (Polled poll) = false
-is_asked (Told note) = false
+is_asked (Notified note) = false
 is_asked (Chosen choice) = asked_now choice
 
 pub asked_first : (moment key : ℕ) → Begins is_asked true (ActsNext moment key)

@@ -17,8 +17,8 @@ use Rattle.events.specs.declared.effects.LpdResponse.{LpdResponse}
 use Rattle.events.specs.declared.effects.LpdResponse.TheVariants as Shown
 use Rattle.events.specs.declared.effects.Effects.{Effects}
 use Rattle.events.specs.Event.{is_query}
-use Rattle.dispatcher.specs.declared.listener.AllocationSite.{AllocationSite}
-use Rattle.dispatcher.specs.declared.listener.AllocationSite.TheVariants as At
+use Rattle.dispatcher.specs.declared.observer.AllocationSite.{AllocationSite}
+use Rattle.dispatcher.specs.declared.observer.AllocationSite.TheVariants as At
 use Rattle.dispatcher.specs.Notes.{Refused}
 use Rattle.dispatcher.specs.OneStep.{SameListing, SameLpdAnswer, SameIppAnswer, SameAnswer, SameReply}
 use Rattle.ipp_operations.specs.Reply.{IsReply, reply_of, unsupported_of, message_of}
@@ -28,12 +28,12 @@ use Rattle.connections.specs.declared.ask.Client.{Client}
 use Rattle.connections.specs.declared.ask.Client.TheVariants as client
 use Rattle.server.specs.Polls.{Happening, Found}
 use Rattle.server.specs.Ledger.{Ledger}
-use Rattle.server.specs.Rel.{Tells, Chooses, Then, If}
+use Rattle.server.specs.Rel.{Notifies, Chooses, Then, If}
 use Rattle.server.specs.Enqueuing.{Breaks, Enqueues, EnqueuesResponse, EnqueuesStatus}
-use Rattle.server.specs.Answering.{Drops, LosesReply, RepliesWith, Declines, Shows, IsTold, IsShown, Answers, IsAnswered}
+use Rattle.server.specs.Answering.{Drops, LosesReply, RepliesWith, Declines, Shows, SendsLpd, IsShown, Answers, IsAnswered}
 use Rattle.server.specs.Turn as Between
 use Rattle.promises.specs.OneLedger.{StepsOnce}
-use Rattle.promises.proofs.Determined.{Alike, Fixed, fixed_nothing, fixed_tells, fixed_chooses, alike_then, apart, Begins, begins_then, begins_chooses, begins_tells, is_choice, fixed_or, alike_if}
+use Rattle.promises.proofs.Determined.{Alike, Fixed, fixed_nothing, fixed_notifies, fixed_chooses, alike_then, apart, Begins, begins_then, begins_chooses, begins_notifies, is_choice, fixed_or, alike_if}
 use Rattle.promises.proofs.UniqueDue.{fixed_breaks, fixed_enqueues, fixed_reply, fixed_status}
 use Rattle.promises.proofs.UniqueEvents.{answered_alike}
 
@@ -58,10 +58,10 @@ same_text one other same =
 -- ---- an IPP client
 
 loses_reply : (key id request : ℕ) (query : Bool) → Fixed (LosesReply key id request query)
-loses_reply key id request query = alike_then (fixed_tells (Refused At.Reply (Some id))) (alike_if query (fixed_status key TemporaryError request) (fixed_breaks key))
+loses_reply key id request query = alike_then (fixed_notifies (Refused At.Reply (Some id))) (alike_if query (fixed_status key TemporaryError request) (fixed_breaks key))
 
 loses_first : (key id request : ℕ) (query : Bool) → Begins is_choice false (LosesReply key id request query)
-loses_first key id request query = begins_then is_choice false (Tells (Refused At.Reply (Some id))) (If query (EnqueuesStatus key TemporaryError request) (Breaks key)) (begins_tells is_choice false (Refused At.Reply (Some id)) refl)
+loses_first key id request query = begins_then is_choice false (Notifies (Refused At.Reply (Some id))) (If query (EnqueuesStatus key TemporaryError request) (Breaks key)) (begins_notifies is_choice false (Refused At.Reply (Some id)) refl)
 
 found_reply : (key : ℕ) (bytes : List ℕ) → Begins is_choice true (Then (Chooses Found) (EnqueuesResponse key bytes))
 found_reply key bytes = begins_then is_choice true (Chooses Found) (EnqueuesResponse key bytes) (begins_chooses is_choice true Found refl)
@@ -85,32 +85,32 @@ same_replies key id request query responds.Nothing (responds.Ipp other) same = a
 same_replies key id request query responds.Nothing (responds.Lpd other) same = absurd same
 
 pub fixed_dropped : (key id request : ℕ) → Fixed (Drops key id request)
-fixed_dropped key id request = alike_then (fixed_tells (Refused At.Event (Some id))) (fixed_status key TemporaryError request)
+fixed_dropped key id request = alike_then (fixed_notifies (Refused At.Event (Some id))) (fixed_status key TemporaryError request)
 
 -- ---- an LPD client
 
 pub fixed_declines : (place : AllocationSite) (key id : ℕ) → Fixed (Declines place key id)
-fixed_declines place key id = alike_then (fixed_tells (Refused place (Some id))) (fixed_enqueues key (1 ∷ []))
+fixed_declines place key id = alike_then (fixed_notifies (Refused place (Some id))) (fixed_enqueues key (1 ∷ []))
 
 fixed_shows : (key id : ℕ) (text : List ℕ) → Fixed (Shows key id text)
 fixed_shows key id text =
     fixed_or is_choice (begins_then is_choice true (Chooses Found) (Enqueues key text) (begins_chooses is_choice true Found refl))
-    (begins_then is_choice false (Tells (Refused At.Reply (Some id))) (Breaks key) (begins_tells is_choice false (Refused At.Reply (Some id)) refl)) (alike_then (fixed_chooses Found) (fixed_enqueues key text))
-    (alike_then (fixed_tells (Refused At.Reply (Some id))) (fixed_breaks key))
+    (begins_then is_choice false (Notifies (Refused At.Reply (Some id))) (Breaks key) (begins_notifies is_choice false (Refused At.Reply (Some id)) refl)) (alike_then (fixed_chooses Found) (fixed_enqueues key text))
+    (alike_then (fixed_notifies (Refused At.Reply (Some id))) (fixed_breaks key))
 
-same_told : (key id : ℕ) (one other : LpdResponse) → SameLpdAnswer one other → Alike (IsTold key id one) (IsTold key id other)
-same_told key id (Shown.Taken one) (Shown.Taken other) same = subst (λ (taken : Bool). Alike (IsTold key id (Shown.Taken one)) (IsTold key id (Shown.Taken taken))) same (fixed_enqueues key (ack_of (Shown.Taken one) ∷ []))
-same_told key id (Shown.Queue one) (Shown.Queue other) same = subst (λ (text : List ℕ). Alike (Shows key id (queue_text one)) (Shows key id text)) (same_text one other same) (fixed_shows key id (queue_text one))
-same_told key id Shown.NoQueue Shown.NoQueue same = fixed_shows key id (text_of Shown.NoQueue)
-same_told key id (Shown.Taken one) (Shown.Queue other) same = absurd same
-same_told key id (Shown.Taken one) Shown.NoQueue same = absurd same
-same_told key id (Shown.Queue one) (Shown.Taken other) same = absurd same
-same_told key id (Shown.Queue one) Shown.NoQueue same = absurd same
-same_told key id Shown.NoQueue (Shown.Taken other) same = absurd same
-same_told key id Shown.NoQueue (Shown.Queue other) same = absurd same
+same_notified : (key id : ℕ) (one other : LpdResponse) → SameLpdAnswer one other → Alike (SendsLpd key id one) (SendsLpd key id other)
+same_notified key id (Shown.Taken one) (Shown.Taken other) same = subst (λ (taken : Bool). Alike (SendsLpd key id (Shown.Taken one)) (SendsLpd key id (Shown.Taken taken))) same (fixed_enqueues key (ack_of (Shown.Taken one) ∷ []))
+same_notified key id (Shown.Queue one) (Shown.Queue other) same = subst (λ (text : List ℕ). Alike (Shows key id (queue_text one)) (Shows key id text)) (same_text one other same) (fixed_shows key id (queue_text one))
+same_notified key id Shown.NoQueue Shown.NoQueue same = fixed_shows key id (text_of Shown.NoQueue)
+same_notified key id (Shown.Taken one) (Shown.Queue other) same = absurd same
+same_notified key id (Shown.Taken one) Shown.NoQueue same = absurd same
+same_notified key id (Shown.Queue one) (Shown.Taken other) same = absurd same
+same_notified key id (Shown.Queue one) Shown.NoQueue same = absurd same
+same_notified key id Shown.NoQueue (Shown.Taken other) same = absurd same
+same_notified key id Shown.NoQueue (Shown.Queue other) same = absurd same
 
 same_shown : (key id : ℕ) (one other : Response) → SameAnswer one other → Alike (IsShown key id one) (IsShown key id other)
-same_shown key id (responds.Lpd one) (responds.Lpd other) same = same_told key id one other same
+same_shown key id (responds.Lpd one) (responds.Lpd other) same = same_notified key id one other same
 same_shown key id (responds.Ipp one) (responds.Ipp other) same = fixed_nothing
 same_shown key id responds.Nothing responds.Nothing same = fixed_nothing
 same_shown key id (responds.Ipp one) (responds.Lpd other) same = absurd same
@@ -130,12 +130,12 @@ same_answers key id client.LpdCommand query one other same = same_shown key id o
 none_answered : (key id : ℕ) (who : Client) (query : Bool) → Fixed (Answers key id who query None)
 none_answered key id (client.Ipp request) query = fixed_dropped key id request
 none_answered key id client.LpdJob query = fixed_declines At.Event key id
-none_answered key id client.LpdCommand query = alike_then (fixed_tells (Refused At.Event (Some id))) (fixed_breaks key)
+none_answered key id client.LpdCommand query = alike_then (fixed_notifies (Refused At.Event (Some id))) (fixed_breaks key)
 
 none_first : (key id : ℕ) (who : Client) (query : Bool) → Begins is_choice false (Answers key id who query None)
-none_first key id (client.Ipp request) query = begins_then is_choice false (Tells (Refused At.Event (Some id))) (EnqueuesStatus key TemporaryError request) (begins_tells is_choice false (Refused At.Event (Some id)) refl)
-none_first key id client.LpdJob query = begins_then is_choice false (Tells (Refused At.Event (Some id))) (Enqueues key (1 ∷ [])) (begins_tells is_choice false (Refused At.Event (Some id)) refl)
-none_first key id client.LpdCommand query = begins_then is_choice false (Tells (Refused At.Event (Some id))) (Breaks key) (begins_tells is_choice false (Refused At.Event (Some id)) refl)
+none_first key id (client.Ipp request) query = begins_then is_choice false (Notifies (Refused At.Event (Some id))) (EnqueuesStatus key TemporaryError request) (begins_notifies is_choice false (Refused At.Event (Some id)) refl)
+none_first key id client.LpdJob query = begins_then is_choice false (Notifies (Refused At.Event (Some id))) (Enqueues key (1 ∷ [])) (begins_notifies is_choice false (Refused At.Event (Some id)) refl)
+none_first key id client.LpdCommand query = begins_then is_choice false (Notifies (Refused At.Event (Some id))) (Breaks key) (begins_notifies is_choice false (Refused At.Event (Some id)) refl)
 
 pub same_answered : (steps : StepsOnce) (moment key id : ℕ) (who : Client) (event other : Event) → SameEvent event other → is_query event ≡ is_query other → Alike (IsAnswered moment key id who event) (IsAnswered moment key id who other)
 same_answered steps moment key id who event other same query =
@@ -147,15 +147,15 @@ same_answered steps moment key id who event other same query =
 
 answers_one : (request : ℕ) (one other : Effects) (bytes said : List ℕ) (l : Ledger) (hs rest : List Happening) (a : Ledger) (ks more : List Happening) (b : Ledger) → hs ++ rest ≡ ks ++ more → Between.Answers request (Some one) bytes l hs a → Between.Answers request (Some other) said l ks b → (hs ≡ ks) × (a ≡ b)
 answers_one request one other bytes said l hs rest a ks more b e (inl (are, p)) (inl (were, q)) = (fixed_chooses Found).one l hs rest a ks more b e p q
-answers_one request one other bytes said l hs rest a ks more b e (inl (are, p)) (inr q) = apart is_choice hs rest ks more e ((begins_chooses is_choice true Found refl).begins l hs a p) ((begins_tells is_choice false (Refused At.Reply None) refl).begins l ks b q)
-answers_one request one other bytes said l hs rest a ks more b e (inr p) (inl (were, q)) = apart is_choice ks more hs rest (sym e) ((begins_chooses is_choice true Found refl).begins l ks b q) ((begins_tells is_choice false (Refused At.Reply None) refl).begins l hs a p)
-answers_one request one other bytes said l hs rest a ks more b e (inr p) (inr q) = (fixed_tells (Refused At.Reply None)).one l hs rest a ks more b e p q
+answers_one request one other bytes said l hs rest a ks more b e (inl (are, p)) (inr q) = apart is_choice hs rest ks more e ((begins_chooses is_choice true Found refl).begins l hs a p) ((begins_notifies is_choice false (Refused At.Reply None) refl).begins l ks b q)
+answers_one request one other bytes said l hs rest a ks more b e (inr p) (inl (were, q)) = apart is_choice ks more hs rest (sym e) ((begins_chooses is_choice true Found refl).begins l ks b q) ((begins_notifies is_choice false (Refused At.Reply None) refl).begins l hs a p)
+answers_one request one other bytes said l hs rest a ks more b e (inr p) (inr q) = (fixed_notifies (Refused At.Reply None)).one l hs rest a ks more b e p q
 
 none_between : (request : ℕ) (bytes said : List ℕ) → Alike (Between.Answers request None bytes) (Between.Answers request None said)
-none_between request bytes said = record { one = λ l hs rest a ks more b e p q. (fixed_tells (Refused At.Event None)).one l hs rest a ks more b e p q }
+none_between request bytes said = record { one = λ l hs rest a ks more b e p q. (fixed_notifies (Refused At.Event None)).one l hs rest a ks more b e p q }
 
 first_between : (request : ℕ) (bytes : List ℕ) → Begins is_choice false (Between.Answers request None bytes)
-first_between request bytes = record { begins = λ l hs a it. (begins_tells is_choice false (Refused At.Event None) refl).begins l hs a it }
+first_between request bytes = record { begins = λ l hs a it. (begins_notifies is_choice false (Refused At.Event None) refl).begins l hs a it }
 
 pub body_answered : (steps : StepsOnce) (moment request : ℕ) (event other : Event) (bytes said : List ℕ) → SameEvent event other → is_query event ≡ is_query other → Alike (Between.IsAnswered moment request event bytes) (Between.IsAnswered moment request other said)
 body_answered steps moment request event other bytes said same query =

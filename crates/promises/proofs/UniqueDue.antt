@@ -5,12 +5,12 @@ use Rattle.print_room.specs.declared.started.Started.{Started}
 use Rattle.events.specs.declared.status.Status.{Status}
 use Rattle.events.specs.declared.effects.Cancel.{Cancel}
 use Rattle.send_queues.specs.Reply.{http_reply}
-use Rattle.dispatcher.specs.declared.listener.AllocationSite.{AllocationSite}
-use Rattle.dispatcher.specs.declared.listener.AllocationSite.TheVariants.{Enqueue}
+use Rattle.dispatcher.specs.declared.observer.AllocationSite.{AllocationSite}
+use Rattle.dispatcher.specs.declared.observer.AllocationSite.TheVariants.{Enqueue}
 use Rattle.dispatcher.specs.Notes.{Refused}
 use Rattle.connections.specs.Entry.{Entry, closes_of, broken, owing, needs_memory}
 use Rattle.connections.specs.Steps.{http_status}
-use Rattle.server.specs.Polls.{Happening, Told, Found}
+use Rattle.server.specs.Polls.{Happening, Notified, Found}
 use Rattle.server.specs.Ledger.{Ledger, with_entry, job_bytes}
 use Rattle.server.specs.Rel.{Chooses}
 use Rattle.server.specs.Enqueuing.{Sets, BreaksAt, Breaks, Drops, EnqueuesOpen, EnqueuesAt, EnqueuesWhere, Enqueues, EnqueuesReplyAt, EnqueuesResponse, EnqueuesStatus, EnqueuesOn}
@@ -22,10 +22,10 @@ pub fixed_sets : (key : ℕ) (e : Entry) → Fixed (Sets key e)
 fixed_sets key e = fixed_just (λ l. []) (λ l. with_entry key e l)
 
 pub fixed_drops : (place : AllocationSite) (key : ℕ) (e : Entry) → Fixed (Drops place key e)
-fixed_drops place key e = fixed_just (λ l. Told (Refused place (Some e.id)) ∷ []) (λ l. with_entry key (broken e) l)
+fixed_drops place key e = fixed_just (λ l. Notified (Refused place (Some e.id)) ∷ []) (λ l. with_entry key (broken e) l)
 
-pub drops_tells : (place : AllocationSite) (key : ℕ) (e : Entry) → Begins is_choice false (Drops place key e)
-drops_tells place key e = record { begins = λ l hs a it. begins_just is_choice false (Told (Refused place (Some e.id))) [] hs refl it.0 }
+pub drops_notifies : (place : AllocationSite) (key : ℕ) (e : Entry) → Begins is_choice false (Drops place key e)
+drops_notifies place key e = record { begins = λ l hs a it. begins_just is_choice false (Notified (Refused place (Some e.id))) [] hs refl it.0 }
 
 breaks_at : (key : ℕ) (o : Option Entry) → Fixed (BreaksAt key o)
 breaks_at key None = fixed_nothing
@@ -38,7 +38,7 @@ enqueues_open : (refusable : Bool) (key : ℕ) (bytes : List ℕ) (e : Entry) �
 enqueues_open refusable key bytes e =
     let kept : Fixed (Sets key (owing bytes e)) = fixed_sets key (owing bytes e) in
     alike_if refusable
-    (fixed_or is_choice (begins_then is_choice true (Chooses Found) (Sets key (owing bytes e)) (begins_chooses is_choice true Found refl)) (drops_tells Enqueue key e) (alike_then (fixed_chooses Found) kept) (fixed_drops Enqueue key e))
+    (fixed_or is_choice (begins_then is_choice true (Chooses Found) (Sets key (owing bytes e)) (begins_chooses is_choice true Found refl)) (drops_notifies Enqueue key e) (alike_then (fixed_chooses Found) kept) (fixed_drops Enqueue key e))
     kept
 
 enqueues_at : (refusable : Entry → Bool) (key : ℕ) (bytes : List ℕ) (o : Option Entry) → Fixed (EnqueuesAt refusable key bytes o)

@@ -12,13 +12,13 @@ use Rattle.events.specs.declared.effects.Cancel.{Cancel}
 use Rattle.events.specs.Event.{is_query}
 use Rattle.dispatcher.specs.declared.outcome.Outcome.{Outcome}
 use Rattle.dispatcher.specs.declared.outcome.Outcome.TheVariants.{Dropped, Queried, Undispatched, Idle, Dispatched}
-use Rattle.dispatcher.specs.declared.listener.AllocationSite.TheVariants as At
+use Rattle.dispatcher.specs.declared.observer.AllocationSite.TheVariants as At
 use Rattle.dispatcher.specs.Notes.{Note, Planned, Canceled, Refused}
 use Rattle.dispatcher.specs.OneStep.{SameReply}
-use Rattle.dispatcher.specs.Run.{reply_of, cancels_told, Handles}
+use Rattle.dispatcher.specs.Run.{reply_of, cancel_notes, Handles}
 use Rattle.dispatcher.specs.Step.{TakesNoMemory}
 use Rattle.events.specs.SameEvent.{SameEvent}
-use Rattle.server.specs.Polls.{Happening, Told, Found, Chosen}
+use Rattle.server.specs.Polls.{Happening, Notified, Found, Chosen}
 use Rattle.server.specs.Ledger.{Ledger}
 use Rattle.server.specs.Rel.{Rel, Then, EachOf}
 use Rattle.server.specs.Happening.{found_by, undispatched_after, Decides, Sends, SendsAll, Orders, Happens, Unanswered}
@@ -58,22 +58,22 @@ pub record SameWay (one : Outcome) (notes : List Note) (new : State) (other : Ou
   pub notes_are : notes ≡ said
   pub state : new ≡ after
 
-told_same : (one other : Effects) → SameReply one other → cancels_told one ≡ cancels_told other
-told_same one other same = ap (λ (cancels : List Cancel). map Canceled cancels) same.cancels
+notified_same : (one other : Effects) → SameReply one other → cancel_notes one ≡ cancel_notes other
+notified_same one other same = ap (λ (cancels : List Cancel). map Canceled cancels) same.cancels
 
 -- the note after the same cancels is one
-last_one : (cancels : List Cancel) (x y : Note) (rest more : List Happening) → map Told (map Canceled cancels ++ x ∷ []) ++ rest ≡ map Told (map Canceled cancels ++ y ∷ []) ++ more → x ≡ y
+last_one : (cancels : List Cancel) (x y : Note) (rest more : List Happening) → map Notified (map Canceled cancels ++ x ∷ []) ++ rest ≡ map Notified (map Canceled cancels ++ y ∷ []) ++ more → x ≡ y
 last_one [] x y rest more e = cc
 last_one (cancel ∷ cancels) x y rest more e = last_one cancels x y rest more (cc)
 
 -- the last notes of two events with the same cancels
-told_last : (one other : Effects) (notes said : List Note) (x y : Note) (rest more : List Happening) → SameReply one other → notes ≡ cancels_told one ++ x ∷ [] → said ≡ cancels_told other ++ y ∷ [] → map Told notes ++ rest ≡ map Told said ++ more → x ≡ y
-told_last one other notes said x y rest more same is its e =
-    let left : notes ≡ map Canceled other.cancels.items ++ x ∷ [] = is ∙ ap (λ (ns : List Note). ns ++ x ∷ []) (told_same one other same) in
-    last_one other.cancels.items x y rest more (sym (ap (λ (ns : List Note). map Told ns ++ rest) left) ∙ (e ∙ ap (λ (ns : List Note). map Told ns ++ more) its))
+notified_last : (one other : Effects) (notes said : List Note) (x y : Note) (rest more : List Happening) → SameReply one other → notes ≡ cancel_notes one ++ x ∷ [] → said ≡ cancel_notes other ++ y ∷ [] → map Notified notes ++ rest ≡ map Notified said ++ more → x ≡ y
+notified_last one other notes said x y rest more same is its e =
+    let left : notes ≡ map Canceled other.cancels.items ++ x ∷ [] = is ∙ ap (λ (ns : List Note). ns ++ x ∷ []) (notified_same one other same) in
+    last_one other.cancels.items x y rest more (sym (ap (λ (ns : List Note). map Notified ns ++ rest) left) ∙ (e ∙ ap (λ (ns : List Note). map Notified ns ++ more) its))
 
-both_told : (one other : Effects) (notes said : List Note) (x y : Note) → SameReply one other → notes ≡ cancels_told one ++ x ∷ [] → said ≡ cancels_told other ++ y ∷ [] → x ≡ y → notes ≡ said
-both_told one other notes said x y same is its last = is ∙ (ap (λ (ns : List Note). ns ++ x ∷ []) (told_same one other same) ∙ (ap (λ (n : Note). cancels_told other ++ n ∷ []) last ∙ sym its))
+both_notified : (one other : Effects) (notes said : List Note) (x y : Note) → SameReply one other → notes ≡ cancel_notes one ++ x ∷ [] → said ≡ cancel_notes other ++ y ∷ [] → x ≡ y → notes ≡ said
+both_notified one other notes said x y same is its last = is ∙ (ap (λ (ns : List Note). ns ++ x ∷ []) (notified_same one other same) ∙ (ap (λ (n : Note). cancel_notes other ++ n ∷ []) last ∙ sym its))
 
 -- a query isn't dispatched
 not_both : {A : Type 0} → (query other : Bool) → query ≡ other → query ≡ true → other ≡ false → A
@@ -89,7 +89,7 @@ planned_state now old plan started = record (beginning_all now started (marked_s
 module _ (steps : StepsOnce) where
   -- the results of events with the same content are the same, if neither is dropped and one list of happenings follows both
   pub handled_one : (moment : ℕ) (event other : Event) (old : State) (outcome said : Outcome) (notes heard : List Note) (new after : State) (rest more : List Happening) → SameEvent event other → is_query event ≡ is_query other → IsKept outcome → IsKept said
-      → map Told notes ++ rest ≡ map Told heard ++ more → Handles moment event old outcome notes new → Handles moment other old said heard after → SameWay outcome notes new said heard after
+      → map Notified notes ++ rest ≡ map Notified heard ++ more → Handles moment event old outcome notes new → Handles moment other old said heard after → SameWay outcome notes new said heard after
   handled_one moment event other old Dropped said notes heard new after rest more same query kept enqueues e p q = absurd kept
   handled_one moment event other old (Queried reply) Dropped notes heard new after rest more same query kept enqueues e p q = absurd enqueues
   handled_one moment event other old (Undispatched reply) Dropped notes heard new after rest more same query kept enqueues e p q = absurd enqueues
@@ -97,7 +97,7 @@ module _ (steps : StepsOnce) where
   handled_one moment event other old (Dispatched reply) Dropped notes heard new after rest more same query kept enqueues e p q = absurd enqueues
   handled_one moment event other old (Queried reply) (Queried answer) notes heard new after rest more same query kept enqueues e (asks, step, is) (asked, stepped, its) =
       let end = steps old event other moment reply new answer after same step stepped in
-      record { outcome = end.reply_is; notes_are = is ∙ (told_same reply answer end.reply_is ∙ sym its); state = end.state }
+      record { outcome = end.reply_is; notes_are = is ∙ (notified_same reply answer end.reply_is ∙ sym its); state = end.state }
   handled_one moment event other old (Queried reply) (Undispatched answer) notes heard new after rest more same query kept enqueues e p q = not_both (is_query event) (is_query other) query p.0 q.0
   handled_one moment event other old (Queried reply) (Idle answer) notes heard new after rest more same query kept enqueues e p q = not_both (is_query event) (is_query other) query p.0 q.0
   handled_one moment event other old (Queried reply) (Dispatched answer) notes heard new after rest more same query kept enqueues e p q = not_both (is_query event) (is_query other) query p.0 q.0
@@ -106,43 +106,43 @@ module _ (steps : StepsOnce) where
   handled_one moment event other old (Dispatched reply) (Queried answer) notes heard new after rest more same query kept enqueues e p q = not_both (is_query other) (is_query event) (sym query) q.0 p.0
   handled_one moment event other old (Undispatched reply) (Undispatched answer) notes heard new after rest more same query kept enqueues e (asks, step, ready, is) (asked, stepped, able, its) =
       let end = steps old event other moment reply new answer after same step stepped in
-      record { outcome = end.reply_is; notes_are = both_told reply answer notes heard (Refused At.Dispatch None) (Refused At.Dispatch None) end.reply_is is its refl; state = end.state }
+      record { outcome = end.reply_is; notes_are = both_notified reply answer notes heard (Refused At.Dispatch None) (Refused At.Dispatch None) end.reply_is is its refl; state = end.state }
   handled_one moment event other old (Undispatched reply) (Idle answer) notes heard new after rest more same query kept enqueues e (asks, step, ready, is) (asked, mid, stepped, made, its) =
       let end = steps old event other moment reply new answer mid same step stepped in
-      let last : Refused At.Dispatch None ≡ Planned None [] = told_last reply answer notes heard (Refused At.Dispatch None) (Planned None []) rest more end.reply_is is its e in
+      let last : Refused At.Dispatch None ≡ Planned None [] = notified_last reply answer notes heard (Refused At.Dispatch None) (Planned None []) rest more end.reply_is is its e in
       absurd (cc)
   handled_one moment event other old (Undispatched reply) (Dispatched answer) notes heard new after rest more same query kept enqueues e (asks, step, ready, is) (asked, mid, stepped, plan, made, its) =
       let end = steps old event other moment reply new answer mid same step stepped in
-      let last : Refused At.Dispatch None ≡ Planned (Some plan) after.begun = told_last reply answer notes heard (Refused At.Dispatch None) (Planned (Some plan) after.begun) rest more end.reply_is is its e in
+      let last : Refused At.Dispatch None ≡ Planned (Some plan) after.begun = notified_last reply answer notes heard (Refused At.Dispatch None) (Planned (Some plan) after.begun) rest more end.reply_is is its e in
       absurd (cc)
   handled_one moment event other old (Idle reply) (Undispatched answer) notes heard new after rest more same query kept enqueues e (asks, mid, step, made, is) (asked, stepped, able, its) =
       let end = steps old event other moment reply mid answer after same step stepped in
-      let last : Planned None [] ≡ Refused At.Dispatch None = told_last reply answer notes heard (Planned None []) (Refused At.Dispatch None) rest more end.reply_is is its e in
+      let last : Planned None [] ≡ Refused At.Dispatch None = notified_last reply answer notes heard (Planned None []) (Refused At.Dispatch None) rest more end.reply_is is its e in
       absurd (cc)
   handled_one moment event other old (Idle reply) (Idle answer) notes heard new after rest more same query kept enqueues e (asks, mid, step, made, is) (asked, next, stepped, found, its) =
       let end = steps old event other moment reply mid answer next same step stepped in
-      record { outcome = end.reply_is; notes_are = both_told reply answer notes heard (Planned None []) (Planned None []) end.reply_is is its refl; state = made.2 ∙ (end.state ∙ sym found.2) }
+      record { outcome = end.reply_is; notes_are = both_notified reply answer notes heard (Planned None []) (Planned None []) end.reply_is is its refl; state = made.2 ∙ (end.state ∙ sym found.2) }
   handled_one moment event other old (Idle reply) (Dispatched answer) notes heard new after rest more same query kept enqueues e (asks, mid, step, made, is) (asked, next, stepped, plan, found, its) =
       let end = steps old event other moment reply mid answer next same step stepped in
-      let last : Planned None [] ≡ Planned (Some plan) after.begun = told_last reply answer notes heard (Planned None []) (Planned (Some plan) after.begun) rest more end.reply_is is its e in
+      let last : Planned None [] ≡ Planned (Some plan) after.begun = notified_last reply answer notes heard (Planned None []) (Planned (Some plan) after.begun) rest more end.reply_is is its e in
       absurd (cc)
   handled_one moment event other old (Dispatched reply) (Undispatched answer) notes heard new after rest more same query kept enqueues e (asks, mid, step, plan, made, is) (asked, stepped, able, its) =
       let end = steps old event other moment reply mid answer after same step stepped in
-      let last : Planned (Some plan) new.begun ≡ Refused At.Dispatch None = told_last reply answer notes heard (Planned (Some plan) new.begun) (Refused At.Dispatch None) rest more end.reply_is is its e in
+      let last : Planned (Some plan) new.begun ≡ Refused At.Dispatch None = notified_last reply answer notes heard (Planned (Some plan) new.begun) (Refused At.Dispatch None) rest more end.reply_is is its e in
       absurd (cc)
   handled_one moment event other old (Dispatched reply) (Idle answer) notes heard new after rest more same query kept enqueues e (asks, mid, step, plan, made, is) (asked, next, stepped, found, its) =
       let end = steps old event other moment reply mid answer next same step stepped in
-      let last : Planned (Some plan) new.begun ≡ Planned None [] = told_last reply answer notes heard (Planned (Some plan) new.begun) (Planned None []) rest more end.reply_is is its e in
+      let last : Planned (Some plan) new.begun ≡ Planned None [] = notified_last reply answer notes heard (Planned (Some plan) new.begun) (Planned None []) rest more end.reply_is is its e in
       absurd (cc)
   handled_one moment event other old (Dispatched reply) (Dispatched answer) notes heard new after rest more same query kept enqueues e (asks, mid, step, plan, made, is) (asked, next, stepped, chosen, found, its) =
       let end = steps old event other moment reply mid answer next same step stepped in
-      let last : Planned (Some plan) new.begun ≡ Planned (Some chosen) after.begun = told_last reply answer notes heard (Planned (Some plan) new.begun) (Planned (Some chosen) after.begun) rest more end.reply_is is its e in
+      let last : Planned (Some plan) new.begun ≡ Planned (Some chosen) after.begun = notified_last reply answer notes heard (Planned (Some plan) new.begun) (Planned (Some chosen) after.begun) rest more end.reply_is is its e in
       let one = same_plan plan chosen new.begun after.begun last in
       let left : new ≡ planned_state (max moment mid.last) mid plan new.begun = made.3 in
       let right : after ≡ planned_state (max moment next.last) next chosen after.begun = found.3 in
       record {
         outcome = end.reply_is;
-        notes_are = both_told reply answer notes heard (Planned (Some plan) new.begun) (Planned (Some chosen) after.begun) end.reply_is is its last;
+        notes_are = both_notified reply answer notes heard (Planned (Some plan) new.begun) (Planned (Some chosen) after.begun) end.reply_is is its last;
         state = left ∙ (ap (λ (s : State). planned_state (max moment s.last) s plan new.begun) end.state
             ∙ (ap (λ (x : PlanRecord). planned_state (max moment next.last) next x new.begun) one.0
             ∙ (ap (λ (begun : List Started). planned_state (max moment next.last) next chosen begun) one.1 ∙ sym right)));
@@ -222,12 +222,12 @@ module _ (steps : StepsOnce) where
   decided_one : (moment : ℕ) (event other : Event) (outcome said : Outcome) (l : Ledger) (hs rest : List Happening) (a : Ledger) (ks more : List Happening) (b : Ledger) → SameEvent event other → is_query event ≡ is_query other → IsKept outcome → IsKept said
       → hs ++ rest ≡ ks ++ more → Decides moment event outcome l hs a → Decides moment other said l ks b → SameOutcome outcome said × (hs ≡ ks) × (a ≡ b)
   decided_one moment event other outcome said l hs rest a ks more b same query kept enqueues e p q =
-      let left : hs ≡ Chosen Found ∷ map Told p.notes = p.told ∙ ap (λ (xs : List Happening). xs ++ map Told p.notes) (found_kept outcome kept) in
-      let right : ks ≡ Chosen Found ∷ map Told q.notes = q.told ∙ ap (λ (xs : List Happening). xs ++ map Told q.notes) (found_kept said enqueues) in
-      let both : Chosen Found ∷ (map Told p.notes ++ rest) ≡ Chosen Found ∷ (map Told q.notes ++ more) = sym (ap (λ (xs : List Happening). xs ++ rest) left) ∙ (e ∙ ap (λ (xs : List Happening). xs ++ more) right) in
-      let way = handled_one moment event other l.core outcome said p.notes q.notes p.state q.state rest more same query kept enqueues (behind_head (Chosen Found) (map Told p.notes ++ rest) (map Told q.notes ++ more) both) p.handles q.handles in (
+      let left : hs ≡ Chosen Found ∷ map Notified p.notes = p.notified ∙ ap (λ (xs : List Happening). xs ++ map Notified p.notes) (found_kept outcome kept) in
+      let right : ks ≡ Chosen Found ∷ map Notified q.notes = q.notified ∙ ap (λ (xs : List Happening). xs ++ map Notified q.notes) (found_kept said enqueues) in
+      let both : Chosen Found ∷ (map Notified p.notes ++ rest) ≡ Chosen Found ∷ (map Notified q.notes ++ more) = sym (ap (λ (xs : List Happening). xs ++ rest) left) ∙ (e ∙ ap (λ (xs : List Happening). xs ++ more) right) in
+      let way = handled_one moment event other l.core outcome said p.notes q.notes p.state q.state rest more same query kept enqueues (behind_head (Chosen Found) (map Notified p.notes ++ rest) (map Notified q.notes ++ more) both) p.handles q.handles in (
         way.outcome,
-        left ∙ (ap (λ (ns : List Note). Chosen Found ∷ map Told ns) way.notes_are ∙ sym right),
+        left ∙ (ap (λ (ns : List Note). Chosen Found ∷ map Notified ns) way.notes_are ∙ sym right),
         p.after ∙ (ap (λ (s : State). record l { core = s; undispatched = undispatched_after outcome l.undispatched }) way.state
             ∙ (ap (λ (t : Bool). record l { core = q.state; undispatched = t }) (same_undispatched outcome said l.undispatched way.outcome) ∙ sym q.after)),
       )
@@ -243,8 +243,8 @@ module _ (steps : StepsOnce) where
   -- a dropped event changes nothing
   dropped_one : (moment : ℕ) (event : Event) (l : Ledger) (hs : List Happening) (a : Ledger) → Happens moment event Dropped l hs a → (hs ≡ []) × (a ≡ l)
   dropped_one moment event l hs a it =
-      let told : it.first.notes ≡ [] = it.first.handles.1 in
-      let still : it.front ≡ [] = it.first.told ∙ ap (λ (ns : List Note). map Told ns) told in
+      let notified : it.first.notes ≡ [] = it.first.handles.1 in
+      let still : it.front ≡ [] = it.first.notified ∙ ap (λ (ns : List Note). map Notified ns) notified in
       let core : it.first.state ≡ l.core = it.first.handles.0 in (
         it.whole ∙ (ap (λ (xs : List Happening). xs ++ it.back) still ∙ it.second.0),
         it.second.1 ∙ (it.first.after ∙ ap (λ (s : State). record l { core = s }) core),
@@ -253,8 +253,8 @@ module _ (steps : StepsOnce) where
   -- the choice of an event is its first happening
   found_first : (moment : ℕ) (event : Event) (outcome : Outcome) (l : Ledger) (hs : List Happening) (a : Ledger) → IsKept outcome → Happens moment event outcome l hs a → BeginsAs is_choice true hs
   found_first moment event outcome l hs a kept it =
-      let left : it.front ≡ Chosen Found ∷ map Told it.first.notes = it.first.told ∙ ap (λ (xs : List Happening). xs ++ map Told it.first.notes) (found_kept outcome kept) in
-      begins_just is_choice true (Chosen Found) (map Told it.first.notes ++ it.back) hs refl (it.whole ∙ ap (λ (xs : List Happening). xs ++ it.back) left)
+      let left : it.front ≡ Chosen Found ∷ map Notified it.first.notes = it.first.notified ∙ ap (λ (xs : List Happening). xs ++ map Notified it.first.notes) (found_kept outcome kept) in
+      begins_just is_choice true (Chosen Found) (map Notified it.first.notes ++ it.back) hs refl (it.whole ∙ ap (λ (xs : List Happening). xs ++ it.back) left)
 
   -- ---- an event that takes no memory, and isn't dropped
 
@@ -280,11 +280,11 @@ module _ (steps : StepsOnce) where
 
   -- ---- an event with an answer
 
-  -- an event and its answer; the drop of an event is told first
+  -- an event and its answer; the drop of an event is notified first
   pub answered_alike : (moment : ℕ) (event other : Event) (Q R : Option Effects → Rel) → SameEvent event other → is_query event ≡ is_query other → Begins is_choice false (Q None) → Begins is_choice false (R None) → Alike (Q None) (R None)
       → ((one two : Effects) → SameReply one two → Alike (Q (Some one)) (R (Some two)))
       → Alike (λ l hs a. (outcome : Outcome) × Then (Happens moment event outcome) (Q (reply_of outcome)) l hs a) (λ l hs a. (outcome : Outcome) × Then (Happens moment other outcome) (R (reply_of outcome)) l hs a)
-  answered_alike moment event other Q R same query tells told dropped answered = record { one = λ l hs rest a ks more b e (outcome, p) (said, q). by_kind outcome said l hs rest a ks more b e (kept_or outcome) (kept_or said) p q }
+  answered_alike moment event other Q R same query notifies notified dropped answered = record { one = λ l hs rest a ks more b e (outcome, p) (said, q). by_kind outcome said l hs rest a ks more b e (kept_or outcome) (kept_or said) p q }
     where
       replies : (outcome said : Outcome) → SameOutcome outcome said → Alike (Q (reply_of outcome)) (R (reply_of said))
       replies Dropped Dropped way = dropped
@@ -314,8 +314,8 @@ module _ (steps : StepsOnce) where
       replies (Dispatched one) (Idle two) way = absurd way
 
       -- a dropped event, with its note
-      told_first : (x : Event) (S : Option Effects → Rel) → Begins is_choice false (S None) → (l : Ledger) (hs : List Happening) (a : Ledger) → Then (Happens moment x Dropped) (S None) l hs a → BeginsAs is_choice false hs
-      told_first x S begins l hs a it =
+      notified_first : (x : Event) (S : Option Effects → Rel) → Begins is_choice false (S None) → (l : Ledger) (hs : List Happening) (a : Ledger) → Then (Happens moment x Dropped) (S None) l hs a → BeginsAs is_choice false hs
+      notified_first x S begins l hs a it =
           let none = dropped_one moment x l it.front it.mid it.first in
           subst (BeginsAs is_choice false) (sym (it.whole ∙ ap (λ (xs : List Happening). xs ++ it.back) none.0)) (begins.begins it.mid it.back a it.second)
 
@@ -332,8 +332,8 @@ module _ (steps : StepsOnce) where
           (λ left right both. happened_one moment event other outcome said l p.front left p.mid q.front right q.mid same query kept enqueues both p.first q.first)
           (λ way. replies outcome said way) in
           (it.1, it.2)
-      by_kind outcome said l hs rest a ks more b e (inl kept) (inr is) p q = apart is_choice hs rest ks more e (chosen_first event Q outcome kept l hs a p) (told_first other R told l ks b (as_dropped other R said l ks b is q))
-      by_kind outcome said l hs rest a ks more b e (inr is) (inl enqueues) p q = apart is_choice ks more hs rest (sym e) (chosen_first other R said enqueues l ks b q) (told_first event Q tells l hs a (as_dropped event Q outcome l hs a is p))
+      by_kind outcome said l hs rest a ks more b e (inl kept) (inr is) p q = apart is_choice hs rest ks more e (chosen_first event Q outcome kept l hs a p) (notified_first other R notified l ks b (as_dropped other R said l ks b is q))
+      by_kind outcome said l hs rest a ks more b e (inr is) (inl enqueues) p q = apart is_choice ks more hs rest (sym e) (chosen_first other R said enqueues l ks b q) (notified_first event Q notifies l hs a (as_dropped event Q outcome l hs a is p))
       by_kind outcome said l hs rest a ks more b e (inr is) (inr its) p q =
           let left = as_dropped event Q outcome l hs a is p in
           let right = as_dropped other R said l ks b its q in

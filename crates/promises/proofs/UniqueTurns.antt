@@ -7,25 +7,25 @@ use Rattle.wires.specs.declared.wire.Door.{Door}
 use Rattle.wires.specs.declared.wire.Door.TheVariants.{Ipp, Lpd, Devices}
 use Rattle.wires.specs.declared.wire.Progress.{Progress}
 use Rattle.wires.specs.declared.wire.Progress.TheVariants as wire
-use Rattle.dispatcher.specs.declared.listener.AllocationSite.TheVariants as At
+use Rattle.dispatcher.specs.declared.observer.AllocationSite.TheVariants as At
 use Rattle.dispatcher.specs.Notes.{Refused}
 use Rattle.ipp_operations.specs.declared.parsed_request.ParsedRequest.{ParsedRequest}
 use Rattle.ipp_operations.specs.declared.parsed_request.ParsedRequest.TheVariants as asked
 use Rattle.connections.specs.Entry.{Entry, opening_entry, reading, waiting}
 use Rattle.connections.specs.Choice.{AsksOne}
-use Rattle.server.specs.Polls.{Happening, Polled, Told, Choice, Found, Opened, Rested, Looked, Chosen}
+use Rattle.server.specs.Polls.{Happening, Polled, Notified, Choice, Found, Opened, Rested, Looked, Chosen}
 use Rattle.server.specs.Ledger.{Ledger, Drained, with_new}
-use Rattle.server.specs.Rel.{Rel, Nothing, Polls, Tells, Chooses, Then, Or, Times, Many}
+use Rattle.server.specs.Rel.{Rel, Nothing, Polls, Notifies, Chooses, Then, Or, Times, Many}
 use Rattle.server.specs.Enqueuing.{Sets, Drops}
 use Rattle.events.specs.declared.event.Event.TheVariants as Is
 use Rattle.server.specs.Happening.{now_at, Unanswered}
-use Rattle.server.specs.Closing.{Settles}
+use Rattle.server.specs.Closing.{ClosesBroken}
 use Rattle.server.specs.Polling.{Opens, AcceptsAs, AcceptsOne, AcceptsAt, Acts, Serves, FedWhole, FeedsAt, FeedsOne, Fails, ReadsAs, is_read, ReadsOpen, ReadsAt, ReadsOne, WritesAs, WritesOpen, WritesAt, WritesOne, is_done, EndsAt, EndsOne}
 use Rattle.server.specs.Turn as Between
 use Rattle.server.specs.Turn.{Notes, Ticks, is_tick_due, TicksIfDue, Covers, Rounds, Round, Turn, BodyAsks, BodyComes, Action, Turned, Served_body, Reported, Ticked, DoesAction, Runs}
 use Rattle.promises.specs.OneLedger.{StepsOnce, SameQueries, AsksOnce, LeadsToOne}
-use Rattle.promises.proofs.Determined.{Alike, Fixed, fixed_just, fixed_nothing, fixed_polls, fixed_tells, fixed_chooses, alike_then, first_one, same_choice, apart, BeginsAs, begins_append, begins_just, Begins, begins_then, begins_chooses, begins_tells, is_choice, fixed_or, alike_if, fixed_each, times_cons, fixed_many_then}
-use Rattle.promises.proofs.UniqueDue.{fixed_sets, fixed_drops, drops_tells, fixed_breaks}
+use Rattle.promises.proofs.Determined.{Alike, Fixed, fixed_just, fixed_nothing, fixed_polls, fixed_notifies, fixed_chooses, alike_then, first_one, same_choice, apart, BeginsAs, begins_append, begins_just, Begins, begins_then, begins_chooses, begins_notifies, is_choice, fixed_or, alike_if, fixed_each, times_cons, fixed_many_then}
+use Rattle.promises.proofs.UniqueDue.{fixed_sets, fixed_drops, drops_notifies, fixed_breaks}
 use Rattle.promises.proofs.UniqueEvents.{fixed_tick}
 use Rattle.promises.proofs.UniqueAnswers.{body_answered}
 use Rattle.promises.proofs.UniqueActs.{fixed_closes_as, fixed_settles, fixed_reports, same_self, fixed_acts_next, is_asked, asked_first, chosen_first}
@@ -39,8 +39,8 @@ opens : (door : Door) (id : ℕ) (l : Ledger) (hs rest : List Happening) (a : Le
 opens door id l hs rest a ks more b e (inl (key, free, is, after)) (inl (other, none, its, new)) =
     let choice : Opened key ≡ Opened other = same_choice (Opened key) (Opened other) (first_one (Chosen (Opened key)) (Chosen (Opened other)) hs rest ks more [] [] e is its) in
     (is ∙ (ap (λ (c : Choice). Chosen c ∷ []) choice ∙ sym its), after ∙ (ap (λ (k : ℕ). with_new k (opening_entry door id) l) (same_opened key other choice) ∙ sym new))
-opens door id l hs rest a ks more b e (inl (key, free, is, after)) (inr q) = apart is_choice hs rest ks more e (begins_just is_choice true (Chosen (Opened key)) [] hs refl is) (begins_just is_choice false (Told (Refused At.Accept (Some id))) (Polled (Closes id) ∷ []) ks refl q.0)
-opens door id l hs rest a ks more b e (inr p) (inl (key, free, its, new)) = apart is_choice ks more hs rest (sym e) (begins_just is_choice true (Chosen (Opened key)) [] ks refl its) (begins_just is_choice false (Told (Refused At.Accept (Some id))) (Polled (Closes id) ∷ []) hs refl p.0)
+opens door id l hs rest a ks more b e (inl (key, free, is, after)) (inr q) = apart is_choice hs rest ks more e (begins_just is_choice true (Chosen (Opened key)) [] hs refl is) (begins_just is_choice false (Notified (Refused At.Accept (Some id))) (Polled (Closes id) ∷ []) ks refl q.0)
+opens door id l hs rest a ks more b e (inr p) (inl (key, free, its, new)) = apart is_choice ks more hs rest (sym e) (begins_just is_choice true (Chosen (Opened key)) [] ks refl its) (begins_just is_choice false (Notified (Refused At.Accept (Some id))) (Polled (Closes id) ∷ []) hs refl p.0)
 opens door id l hs rest a ks more b e (inr p) (inr q) = (p.0 ∙ sym q.0, p.1 ∙ sym q.1)
 
 accepts_as : (door : Door) (answer : Progress ℕ) → Fixed (AcceptsAs door answer)
@@ -84,7 +84,7 @@ module _ (steps : StepsOnce) (queries : SameQueries) (asks : AsksOne) (bodies : 
 
   fixed_rests : (moment key : ℕ) → Fixed (Then (Many (Acts moment key)) (Chooses Rested))
   fixed_rests moment key =
-      fixed_many_then is_asked (Acts moment key) (Chooses Rested) (begins_then is_asked true _ (Settles moment) (asked_first moment key)) (begins_chooses is_asked false Rested refl) (fixed_acts moment key) (fixed_chooses Rested)
+      fixed_many_then is_asked (Acts moment key) (Chooses Rested) (begins_then is_asked true _ (ClosesBroken moment) (asked_first moment key)) (begins_chooses is_asked false Rested refl) (fixed_acts moment key) (fixed_chooses Rested)
 
   fixed_serves : (moment key : ℕ) → Fixed (Serves moment key)
   fixed_serves moment key = record { one = λ l hs rest a ks more b e p q. (fixed_rests moment key).one l hs rest a ks more b e p.0 q.0 }
@@ -93,7 +93,7 @@ module _ (steps : StepsOnce) (queries : SameQueries) (asks : AsksOne) (bodies : 
   rests_first zero moment key l hs a it = begins_just is_choice true (Chosen Rested) [] hs refl (it.whole ∙ (ap (λ (xs : List Happening). xs ++ it.back) it.first.0 ∙ it.second.0))
   rests_first (suc n) moment key l hs a it =
       let first = times_cons n (Acts moment key) l it.front it.mid it.first in
-      let begins = (begins_then is_choice true _ (Settles moment) (chosen_first moment key)).begins l first.front first.mid first.first in
+      let begins = (begins_then is_choice true _ (ClosesBroken moment) (chosen_first moment key)).begins l first.front first.mid first.first in
       subst (BeginsAs is_choice true) (sym it.whole) (begins_append is_choice true it.front it.back (subst (BeginsAs is_choice true) (sym first.whole) (begins_append is_choice true first.front first.back begins)))
 
   serves_first : (moment key : ℕ) (l : Ledger) (hs : List Happening) (a : Ledger) → Serves moment key l hs a → BeginsAs is_choice true hs
@@ -104,7 +104,7 @@ module _ (steps : StepsOnce) (queries : SameQueries) (asks : AsksOne) (bodies : 
 
   fed_whole : (moment key : ℕ) (e : Entry) (bytes : List ℕ) → Fixed (FedWhole moment key e bytes)
   fed_whole moment key e bytes =
-      fixed_or is_choice (fed_first moment key (reading bytes e)) (begins_then is_choice false (Drops At.Feed key e) (Settles moment) (drops_tells At.Feed key e))
+      fixed_or is_choice (fed_first moment key (reading bytes e)) (begins_then is_choice false (Drops At.Feed key e) (ClosesBroken moment) (drops_notifies At.Feed key e))
       (alike_then (fixed_sets key (reading bytes e)) (fixed_serves moment key)) (alike_then (fixed_drops At.Feed key e) (fixed_settles steps queries asks moment))
 
   feeds_at : (moment key : ℕ) (bytes : List ℕ) (o : Option Entry) → Fixed (FeedsAt moment key bytes o)
@@ -212,8 +212,8 @@ module _ (steps : StepsOnce) (queries : SameQueries) (asks : AsksOne) (bodies : 
 
   -- ---- calls between turns
 
-  refused_between : Fixed (Or (Chooses Found) (Tells (Refused At.Reply None)))
-  refused_between = fixed_or is_choice (begins_chooses is_choice true Found refl) (begins_tells is_choice false (Refused At.Reply None) refl) (fixed_chooses Found) (fixed_tells (Refused At.Reply None))
+  refused_between : Fixed (Or (Chooses Found) (Notifies (Refused At.Reply None)))
+  refused_between = fixed_or is_choice (begins_chooses is_choice true Found refl) (begins_notifies is_choice false (Refused At.Reply None) refl) (fixed_chooses Found) (fixed_notifies (Refused At.Reply None))
 
   body_asks : (moment : ℕ) (it : ParsedRequest) (served other : Between.Outcome) → Alike (BodyAsks moment it served) (BodyAsks moment it other)
   body_asks moment asked.TooShort served other = record { one = λ l hs rest a ks more b e p q. fixed_nothing.one l hs rest a ks more b e p.1 q.1 }
@@ -227,10 +227,10 @@ module _ (steps : StepsOnce) (queries : SameQueries) (asks : AsksOne) (bodies : 
       let same : said ≡ one = bodies body said one its is in
       (alike_then (fixed_chooses Found) (body_asks moment one served other)).one l hs rest a ks more b e p (subst (λ (x : ParsedRequest). Then (Chooses Found) (BodyAsks moment x other) l ks b) same q)
   body_comes moment body served other l hs rest a ks more b e (inl (one, is, p)) (inr q) =
-      apart is_choice hs rest ks more e ((begins_then is_choice true (Chooses Found) (BodyAsks moment one served) (begins_chooses is_choice true Found refl)).begins l hs a p) ((begins_tells is_choice false (Refused At.Event None) refl).begins l ks b q)
+      apart is_choice hs rest ks more e ((begins_then is_choice true (Chooses Found) (BodyAsks moment one served) (begins_chooses is_choice true Found refl)).begins l hs a p) ((begins_notifies is_choice false (Refused At.Event None) refl).begins l ks b q)
   body_comes moment body served other l hs rest a ks more b e (inr p) (inl (said, its, q)) =
-      apart is_choice ks more hs rest (sym e) ((begins_then is_choice true (Chooses Found) (BodyAsks moment said other) (begins_chooses is_choice true Found refl)).begins l ks b q) ((begins_tells is_choice false (Refused At.Event None) refl).begins l hs a p)
-  body_comes moment body served other l hs rest a ks more b e (inr p) (inr q) = (fixed_tells (Refused At.Event None)).one l hs rest a ks more b e p q
+      apart is_choice ks more hs rest (sym e) ((begins_then is_choice true (Chooses Found) (BodyAsks moment said other) (begins_chooses is_choice true Found refl)).begins l ks b q) ((begins_notifies is_choice false (Refused At.Event None) refl).begins l hs a p)
+  body_comes moment body served other l hs rest a ks more b e (inr p) (inr q) = (fixed_notifies (Refused At.Event None)).one l hs rest a ks more b e p q
 
   -- ---- traces
 

@@ -19,8 +19,8 @@ use Rattle.events.specs.declared.effects.Effects.{Effects}
 use Rattle.events.specs.declared.status.Status.TheVariants.{TemporaryError}
 use Rattle.events.specs.Event.{is_query}
 use Rattle.dispatcher.specs.declared.outcome.Outcome.{Outcome}
-use Rattle.dispatcher.specs.declared.listener.AllocationSite.{AllocationSite}
-use Rattle.dispatcher.specs.declared.listener.AllocationSite.TheVariants as At
+use Rattle.dispatcher.specs.declared.observer.AllocationSite.{AllocationSite}
+use Rattle.dispatcher.specs.declared.observer.AllocationSite.TheVariants as At
 use Rattle.dispatcher.specs.Run.{reply_of}
 use Rattle.ipp_operations.specs.Reply.{IsReply}
 use Rattle.ipp_operations.specs.QueueText.{ack_of, text_of}
@@ -84,7 +84,7 @@ IsNext settings read (Link reports device) what after = ⊥
 
 -- ---- the bytes of an act
 
--- memory was refused at this place for the connection of this number, and the listener was notified
+-- memory was refused at this place for the connection of this number, and the observer was notified
 abbrev pub IsRefusal : ℕ → AllocationSite → List Handled → Type 0
 IsRefusal id place lost = (it : Handled) × (lost ≡ it ∷ []) × (it.what ≡ MemoryRefused place (Some id))
 
@@ -250,12 +250,12 @@ IsFirst read (Http said closes body) = ParsesFirst read said
 IsFirst read (Queue items session) = Lpd.ParsesFirst read items
 IsFirst read (Link reports device) = Unit {0}
 
--- The events of a trace are one run of the core, whose parts give the listener's notes. Each open connection of a client that isn't broken is answered by the run, and so was each that was closed without having broken. A broken one was answered until it broke. On each connection, open or closed, the items acted on are a prefix of those that its bytes contain. On an open connection they are all of these, unless the connection is draining or broken.
+-- The events of a trace are one run of the core, whose parts give the observer's notes. Each open connection of a client that isn't broken is answered by the run, and so was each that was closed without having broken. A broken one was answered until it broke. On each connection, open or closed, the items acted on are a prefix of those that its bytes contain. On an open connection they are all of these, unless the connection is draining or broken.
 pub record AreAnswered (opening : State) (trace : Trace) (l : Ledger) : Type 0 where
   pub handled : List Handled
   pub timed : AreOf trace handled
   pub run : AreHandled opening handled l.core
-  pub told : run_notes (happenings_in trace) ≡ flat_map (λ (it : Handled). it.notes) handled
+  pub notified : run_notes (happenings_in trace) ≡ flat_map (λ (it : Handled). it.notes) handled
   pub answered : (key : ℕ) (e : Entry) → l.entries key ≡ Some e → ClientTalk e.progress → e.broken ≡ false → IsAnswered opening key handled e
   pub first : (key : ℕ) (e : Entry) → l.entries key ≡ Some e → IsFirst e.read e.progress
   pub closed_first : All (λ (it : Entry × Fate). IsFirst it.0.read it.0.progress) l.closed

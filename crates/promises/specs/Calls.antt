@@ -19,17 +19,17 @@ pub data Call : Type 0 where
   Reports : (moment device : ℕ) (said : ReportRecord) → Call
   Ticks : (moment : ℕ) → Call
 
--- the change that the call's contract makes of a wire, a listener and an engine; a call between turns leaves the wire unchanged
+-- the change that the call's contract makes of a wire, an observer and an engine; a call between turns leaves the wire unchanged
 abbrev pub ByContract : {W N : Type 0} → (W → Poll → W → Type 0) → (N → Note → N → Type 0) → Call → W × N → EngineState → W × N → EngineState → Type 0
-ByContract polled told (TakesTurn moment) u old v new = RefinesTurn (both polled told) moment u old v new
-ByContract polled told (Serves moment body) u old v new = (answer : Outcome) × (v.0 ≡ u.0) × RefinesBody (alone told) moment body u.1 old v.1 new answer
-ByContract polled told (Reports moment device said) u old v new = (result : Result (Unit {0}) AllocError) × (v.0 ≡ u.0) × RefinesCall (alone told) (Reported moment device said) u.1 old v.1 new result
-ByContract polled told (Ticks moment) u old v new = (result : Result (Unit {0}) AllocError) × (v.0 ≡ u.0) × RefinesCall (alone told) (Ticked moment) u.1 old v.1 new result
+ByContract polled notified (TakesTurn moment) u old v new = RefinesTurn (both polled notified) moment u old v new
+ByContract polled notified (Serves moment body) u old v new = (answer : Outcome) × (v.0 ≡ u.0) × RefinesBody (alone notified) moment body u.1 old v.1 new answer
+ByContract polled notified (Reports moment device said) u old v new = (result : Result (Unit {0}) AllocError) × (v.0 ≡ u.0) × RefinesCall (alone notified) (Reported moment device said) u.1 old v.1 new result
+ByContract polled notified (Ticks moment) u old v new = (result : Result (Unit {0}) AllocError) × (v.0 ≡ u.0) × RefinesCall (alone notified) (Ticked moment) u.1 old v.1 new result
 
 -- calls, one after the other
 abbrev pub AreMade : {W N : Type 0} → (W → Poll → W → Type 0) → (N → Note → N → Type 0) → List Call → W × N → EngineState → W × N → EngineState → Type 0
-AreMade polled told [] u old v new = (v ≡ u) × (new ≡ old)
-AreMade {W} {N} polled told (call ∷ calls) u old v new = (w : W × N) × (mid : EngineState) × ByContract polled told call u old w mid × AreMade polled told calls w mid v new
+AreMade polled notified [] u old v new = (v ≡ u) × (new ≡ old)
+AreMade {W} {N} polled notified (call ∷ calls) u old v new = (w : W × N) × (mid : EngineState) × ByContract polled notified call u old w mid × AreMade polled notified calls w mid v new
 
 -- the action is of this call
 abbrev pub IsOf : Call → Action → Type 0
@@ -45,11 +45,11 @@ AreOf (call ∷ calls) (action ∷ actions) = IsOf call action × AreOf calls ac
 AreOf [] (action ∷ actions) = ⊥
 AreOf (call ∷ calls) [] = ⊥
 
--- There is a trace of exactly these calls. It leads the wire and the listener from their states before to their states after, and it leads to a ledger that represents the engine: on each open connection the bytes that the wire took and those that wait are exactly the bytes that are due.
-pub record IsAccounted {W N : Type 0} (polled : W → Poll → W → Type 0) (told : N → Note → N → Type 0) (opening : State) (calls : List Call) (u v : W × N) (engine : EngineState) : Type 0 where
+-- There is a trace of exactly these calls. It leads the wire and the observer from their states before to their states after, and it leads to a ledger that represents the engine: on each open connection the bytes that the wire took and those that wait are exactly the bytes that are due.
+pub record IsAccounted {W N : Type 0} (polled : W → Poll → W → Type 0) (notified : N → Note → N → Type 0) (opening : State) (calls : List Call) (u v : W × N) (engine : EngineState) : Type 0 where
   pub trace : Trace
   pub of_calls : AreOf calls trace
-  pub leads : Leads (both polled told) u (happenings_in trace) v
+  pub leads : Leads (both polled notified) u (happenings_in trace) v
   pub ledger : Ledger
   pub allows : Allows trace (opening_ledger opening) ledger
   pub fits : Represents ledger engine

@@ -3,7 +3,7 @@ use Rattle.std.specs.Prelude.{ℕ, ◌≡◌, ◌==◌, Bool, true, false, if◌
 use Rattle.wires.specs.Poll.{Poll, Accepts, Reads, Writes, Closes}
 use Rattle.wires.specs.declared.wire.Progress.TheVariants.{Done, Waiting, End, Fault}
 use Rattle.connections.specs.Entry.{Entry, waiting}
-use Rattle.server.specs.Polls.{Happening, Polled, Told, Chosen}
+use Rattle.server.specs.Polls.{Happening, Polled, Notified, Chosen}
 use Rattle.server.specs.Ledger.{Ledger}
 use Rattle.server.specs.Law.{happenings_in}
 use Rattle.server.specs.Turn.{Trace}
@@ -42,7 +42,7 @@ carry c (Closes id) = record c { open_now = at_number id false c.open_now }
 abbrev pub carried : Carried → List Happening → Carried
 carried c [] = c
 carried c (Polled poll ∷ hs) = carried (carry c poll) hs
-carried c (Told note ∷ hs) = carried c hs
+carried c (Notified note ∷ hs) = carried c hs
 carried c (Chosen choice ∷ hs) = carried c hs
 
 -- an accepted connection gets a number that no open connection has
@@ -53,7 +53,7 @@ IsNew c _ = Unit {0}
 abbrev pub AreNew : Carried → List Happening → Type 0
 AreNew c [] = Unit {0}
 AreNew c (Polled poll ∷ hs) = IsNew c poll × AreNew (carry c poll) hs
-AreNew c (Told note ∷ hs) = AreNew c hs
+AreNew c (Notified note ∷ hs) = AreNew c hs
 AreNew c (Chosen choice ∷ hs) = AreNew c hs
 
 -- the bytes that were carried in a trace

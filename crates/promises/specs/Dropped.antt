@@ -2,8 +2,8 @@
 use Rattle.std.specs.Prelude.{ℕ, ◌≡◌, not, Bool, true, false, List, [], ◌∷◌, ◌++◌, Option, Some}
 use Rattle.std.specs.List.{flat_map}
 use Rattle.print_room.specs.State.{State}
-use Rattle.dispatcher.specs.declared.listener.AllocationSite.{AllocationSite}
-use Rattle.dispatcher.specs.declared.listener.AllocationSite.TheVariants as At
+use Rattle.dispatcher.specs.declared.observer.AllocationSite.{AllocationSite}
+use Rattle.dispatcher.specs.declared.observer.AllocationSite.TheVariants as At
 use Rattle.dispatcher.specs.declared.outcome.Outcome.{Outcome}
 use Rattle.dispatcher.specs.declared.outcome.Outcome.TheVariants.{Dropped, Queried, Undispatched, Idle, Dispatched}
 use Rattle.dispatcher.specs.declared.run.Timed.{Timed}
@@ -11,7 +11,7 @@ use Rattle.dispatcher.specs.Notes.{Note, Refused}
 use Rattle.dispatcher.specs.Run.{Handles}
 use Rattle.connections.specs.declared.ask.Part.TheVariants.{File, Job}
 use Rattle.connections.specs.Choice.{Loss, OfGrowth, OfPart, OfBody}
-use Rattle.server.specs.Polls.{Happening, Told, Asked, Chosen}
+use Rattle.server.specs.Polls.{Happening, Notified, Asked, Chosen}
 use Rattle.server.specs.Turn.{Action, Served_body, Trace}
 use Rattle.server.specs.Law.{refusal_note, core_note, happenings_of, IsOneRun}
 
@@ -30,13 +30,13 @@ brings_event (Chosen (Asked part (Some loss))) = not (is_unmade loss)
 brings_event _ = true
 
 -- the note of a refusal, if it is that of an event, which may have come, or that of an event's dispatch
-abbrev pub refusal_told : AllocationSite → Bool → Option ℕ → List Note
-refusal_told At.Event true id = Refused At.Event id ∷ []
-refusal_told place came id = refusal_note place id
+abbrev pub refusal_notified : AllocationSite → Bool → Option ℕ → List Note
+refusal_notified At.Event true id = Refused At.Event id ∷ []
+refusal_notified place came id = refusal_note place id
 
 -- the part of a happening that is about events: all notes of the core, and that memory for an event was refused
 abbrev pub event_note : Bool → Happening → List Note
-event_note came (Told (Refused place id)) = refusal_told place came id
+event_note came (Notified (Refused place id)) = refusal_notified place came id
 event_note came h = core_note h
 
 -- all of these notes, in order; `came` indicates whether an event may have come before the first happening
@@ -50,28 +50,28 @@ begins_event (Served_body moment body answer hs) = false
 begins_event _ = true
 
 -- all of these notes of a trace, action by action
-abbrev pub events_told : Trace → List Note
-events_told trace = flat_map (λ (action : Action). event_notes (begins_event action) (happenings_of action)) trace
+abbrev pub events_notified : Trace → List Note
+events_notified trace = flat_map (λ (action : Action). event_notes (begins_event action) (happenings_of action)) trace
 
 -- ---- the law
 
--- an event, and the listener's notes of it: that memory for it was refused, or the notes of the core
-abbrev pub IsToldOf : Timed → State → Outcome → List Note → State → Type 0
-IsToldOf timed old Dropped told new = (id : Option ℕ) × (told ≡ Refused At.Event id ∷ []) × Handles timed.moment timed.event old Dropped [] new
-IsToldOf timed old (Queried reply) told new = Handles timed.moment timed.event old (Queried reply) told new
-IsToldOf timed old (Undispatched reply) told new = Handles timed.moment timed.event old (Undispatched reply) told new
-IsToldOf timed old (Idle reply) told new = Handles timed.moment timed.event old (Idle reply) told new
-IsToldOf timed old (Dispatched reply) told new = Handles timed.moment timed.event old (Dispatched reply) told new
+-- an event, and the observer's notes of it: that memory for it was refused, or the notes of the core
+abbrev pub IsNotifiedOf : Timed → State → Outcome → List Note → State → Type 0
+IsNotifiedOf timed old Dropped notified new = (id : Option ℕ) × (notified ≡ Refused At.Event id ∷ []) × Handles timed.moment timed.event old Dropped [] new
+IsNotifiedOf timed old (Queried reply) notified new = Handles timed.moment timed.event old (Queried reply) notified new
+IsNotifiedOf timed old (Undispatched reply) notified new = Handles timed.moment timed.event old (Undispatched reply) notified new
+IsNotifiedOf timed old (Idle reply) notified new = Handles timed.moment timed.event old (Idle reply) notified new
+IsNotifiedOf timed old (Dispatched reply) notified new = Handles timed.moment timed.event old (Dispatched reply) notified new
 
--- the events in order, and the listener has no other notes of events
-abbrev pub AreToldOf : State → List Timed → List Outcome → List Note → State → Type 0
-AreToldOf old [] [] told new = (new ≡ old) × (told ≡ [])
-AreToldOf old (timed ∷ events) (outcome ∷ outcomes) told new =
-    (mid : State) × (first : List Note) × (later : List Note) × (told ≡ first ++ later) × IsToldOf timed old outcome first mid × AreToldOf mid events outcomes later new
-AreToldOf old [] (outcome ∷ outcomes) told new = ⊥
-AreToldOf old (timed ∷ events) [] told new = ⊥
+-- the events in order, and the observer has no other notes of events
+abbrev pub AreNotifiedOf : State → List Timed → List Outcome → List Note → State → Type 0
+AreNotifiedOf old [] [] notified new = (new ≡ old) × (notified ≡ [])
+AreNotifiedOf old (timed ∷ events) (outcome ∷ outcomes) notified new =
+    (mid : State) × (first : List Note) × (later : List Note) × (notified ≡ first ++ later) × IsNotifiedOf timed old outcome first mid × AreNotifiedOf mid events outcomes later new
+AreNotifiedOf old [] (outcome ∷ outcomes) notified new = ⊥
+AreNotifiedOf old (timed ∷ events) [] notified new = ⊥
 
--- The happenings of a trace are one run of the core. For each event of it, in order, the listener has notes: for an event that was dropped, that memory for it was refused; for any other, its cancels and its dispatch, or that memory for the dispatch was refused. Hence the dropped events, and the dispatches that were not made, are exactly those of which the listener was notified.
-pub record TellsDropped (trace : Trace) (old new : State) : Type 0 where
+-- The happenings of a trace are one run of the core. For each event of it, in order, the observer has notes: for an event that was dropped, that memory for it was refused; for any other, its cancels and its dispatch, or that memory for the dispatch was refused. Hence the dropped events, and the dispatches that were not made, are exactly those of which the observer was notified.
+pub record NotifiesDropped (trace : Trace) (old new : State) : Type 0 where
   pub one : IsOneRun trace old new
-  pub told : AreToldOf old one.events one.outcomes (events_told trace) new
+  pub notified : AreNotifiedOf old one.events one.outcomes (events_notified trace) new

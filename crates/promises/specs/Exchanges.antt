@@ -9,7 +9,7 @@ use Rattle.http_front.specs.Reply.{continue_head}
 use Rattle.http_front.specs.Stream.{HttpElement, HasHead, Invites, HasByte, EndsBody, IsRefused, elements_of}
 use Rattle.http_front.specs.Order.{Between, in_order}
 use Rattle.events.specs.declared.status.Status.TheVariants.{TemporaryError}
-use Rattle.dispatcher.specs.declared.listener.AllocationSite.TheVariants as At
+use Rattle.dispatcher.specs.declared.observer.AllocationSite.TheVariants as At
 use Rattle.ipp_operations.specs.declared.parsed_request.ParsedRequest.{ParsedRequest}
 use Rattle.ipp_operations.specs.declared.parsed_request.ParsedRequest.TheVariants as asks
 use Rattle.ipp_operations.specs.ParsedRequest.{Asks, request_id_of}
@@ -44,13 +44,13 @@ says_begun closes invites body = HasHead closes ∷ ((if invites then Invites �
 abbrev pub says_exchange : Exchange → List HttpElement
 says_exchange x = says_begun x.closes x.invites x.body ++ EndsBody ∷ []
 
--- A body without a whole header (RFC 8010, section 3.1.1) is answered by the head of a refusal, and a refused body by its status; no event is asked. For a body with an event, the core handles exactly that event, and the answer is the reply that it gave. It is the status that memory was refused only if the listener was notified of that: memory for the event, or for the reply to a query (RFC 8011, section 4.1).
+-- A body without a whole header (RFC 8010, section 3.1.1) is answered by the head of a refusal, and a refused body by its status; no event is asked. For a body with an event, the core handles exactly that event, and the answer is the reply that it gave. It is the status that memory was refused only if the observer was notified of that: memory for the event, or for the reply to a query (RFC 8011, section 4.1).
 abbrev pub IsAnswerTo : ℕ → Bool → ParsedRequest → List Handled → List ℕ → Type 0
 IsAnswerTo id closes asks.TooShort asked answer = (asked ≡ []) × (answer ≡ refusal_head BadRequest)
 IsAnswerTo id closes (asks.Refused status request) asked answer = (asked ≡ []) × (answer ≡ http_status closes status request)
 IsAnswerTo id closes (asks.Event request event) asked answer = IsGivenTo id closes (client.Ipp request) event asked answer
 
--- if memory to read a body was refused, and the listener was notified, no event is asked, and the answer is the status TemporaryError
+-- if memory to read a body was refused, and the observer was notified, no event is asked, and the answer is the status TemporaryError
 abbrev pub IsUnread : ℕ → Bool → List ℕ → List Handled → List ℕ → Type 0
 IsUnread id closes body asked answer = (request : ℕ) × (request_id_of body ≡ Some request) × IsRefusal id At.Event asked × (answer ≡ http_status closes TemporaryError request)
 
@@ -140,12 +140,12 @@ IsByExchanges key handled progress e = Unit {0}
 abbrev pub WasByExchanges : List Handled → Entry → Type 0
 WasByExchanges handled e = (key : ℕ) × (before : List Handled) × (behind : List Handled) × (handled ≡ before ++ behind) × IsByExchanges key before e.progress e
 
--- The events of a trace are one run of the core, whose parts give the listener's notes, and by which each IPP client is answered exchange by exchange, even if its connection was closed. On each connection the exchanges are a prefix of the exchanges that its bytes contain. On an open connection they are all of these, unless the connection is draining or broken.
+-- The events of a trace are one run of the core, whose parts give the observer's notes, and by which each IPP client is answered exchange by exchange, even if its connection was closed. On each connection the exchanges are a prefix of the exchanges that its bytes contain. On an open connection they are all of these, unless the connection is draining or broken.
 pub record AreByExchanges (opening : State) (trace : Trace) (l : Ledger) : Type 0 where
   pub handled : List Handled
   pub timed : AreOf trace handled
   pub run : AreHandled opening handled l.core
-  pub told : run_notes (happenings_in trace) ≡ flat_map (λ (it : Handled). it.notes) handled
+  pub notified : run_notes (happenings_in trace) ≡ flat_map (λ (it : Handled). it.notes) handled
   pub each : (key : ℕ) (e : Entry) → l.entries key ≡ Some e → IsByExchanges key handled e.progress e
   pub closed : All (λ (it : Entry × Fate). WasByExchanges handled it.0) l.closed
   pub first : (key : ℕ) (e : Entry) → l.entries key ≡ Some e → IsFirst e.read e.progress

@@ -14,14 +14,14 @@ use Rattle.connections.specs.Entry.{PeerRecord, Http, Queue, Link, Entry, device
 use Rattle.connections.specs.Asking.{IsHeard}
 use Rattle.server.specs.Ledger.{Ledger, Fate}
 use Rattle.server.specs.Enqueuing.{IsAbsent}
-use Rattle.server.specs.Greeting.{IsAlone}
+use Rattle.server.specs.Hello.{IsAlone}
 use Rattle.server.specs.Turn.{Trace}
 use Rattle.server.specs.Law.{core_notes, moment_of, happenings_in}
 use Rattle.promises.specs.Orders.{is_turn, names}
 
 -- ---- the run
 
--- An event that the core handled: its outcome, the listener's notes, and the state after it. It came in a turn, or by a call between turns.
+-- An event that the core handled: its outcome, the observer's notes, and the state after it. It came in a turn, or by a call between turns.
 pub record Came : Type 0 where
   pub moment : ℕ
   pub event : Event
@@ -96,12 +96,12 @@ IsNow device now l =
 -- ---- the law
 
 -- The reports of a device to the core, connection by connection: the reports of each ended connection, the device's name first, and then that the device is gone; and at last the reports of the open connection. The ended connections are exactly the closed connections of the device, in the order of their ends, and between them the connections that the device gave up by another connection.
-pub record IsReported (device : ℕ) (told : List ReportRecord) (l : Ledger) : Type 0 where
+pub record IsReported (device : ℕ) (notified : List ReportRecord) (l : Ledger) : Type 0 where
   pub past : List PeerRecord
   pub now : List ReportRecord
-  pub whole : told ≡ flat_map life_of past ++ now
+  pub whole : notified ≡ flat_map life_of past ++ now
   pub closed : filter (is_of device) past ≡ filter (is_of device) (map progress_of l.closed)
-  pub given_up : All (λ (progress : PeerRecord). is_of device progress ≡ false → IsGivenUp progress l) past
+  pub superseded_entry : All (λ (progress : PeerRecord). is_of device progress ≡ false → IsGivenUp progress l) past
   pub is_now : IsNow device now l
 
 -- the reports acted on are the first reports of a prefix of the bytes read
@@ -121,12 +121,12 @@ IsNameIn opening came name device = (state : State) × IsStateIn state opening c
 abbrev pub IsGreeted : (List ℕ → ℕ → Type 0) → Entry → Type 0
 IsGreeted Name e = (device : ℕ) (reports : List ReportRecord) → e.progress ≡ Link reports (Some device) → (name : List ℕ) × (rest : List ReportRecord) × (reports ≡ SaysHello name ∷ rest) × Name name device
 
--- The events of a trace are one run of the core, which gives the listener's notes. For each device the reports among the events that came in turns are those on its connections, and the end of each connection. The settings have the name that the device gave. The reports of a connection are a prefix of those that its bytes contain. On each connection, open or closed, they are all that its bytes contain, unless it is draining or broken.
+-- The events of a trace are one run of the core, which gives the observer's notes. For each device the reports among the events that came in turns are those on its connections, and the end of each connection. The settings have the name that the device gave. The reports of a connection are a prefix of those that its bytes contain. On each connection, open or closed, they are all that its bytes contain, unless it is draining or broken.
 pub record AreHeard (opening : State) (trace : Trace) (l : Ledger) : Type 0 where
   pub came : List Came
   pub timed : ComeOf trace came
   pub run : AreRun opening came l.core
-  pub told : core_notes (happenings_in trace) ≡ flat_map (λ (it : Came). it.notes) came
+  pub notified : core_notes (happenings_in trace) ≡ flat_map (λ (it : Came). it.notes) came
   pub reported : (device : ℕ) → IsReported device (reports_by device came) l
   pub greeted : (key : ℕ) (e : Entry) → l.entries key ≡ Some e → IsGreeted (IsNameIn opening came) e
   pub closed_greeted : All (λ (it : Entry × Fate). IsGreeted (IsNameIn opening came) it.0) l.closed

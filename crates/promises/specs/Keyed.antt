@@ -1,8 +1,8 @@
--- What a wire and a listener see of a trace, and the keys that accepted connections get. If no memory was refused, that leads to one ledger.
+-- What a wire and an observer see of a trace, and the keys that accepted connections get. If no memory was refused, that leads to one ledger.
 use Rattle.std.specs.Prelude.{◌≡◌, false, List, [], ◌∷◌, map}
 use Rattle.std.specs.List.{flat_map}
 use Rattle.print_room.specs.State.{State}
-use Rattle.server.specs.Polls.{Happening, Polled, Told, Chosen, Choice, Found, Opened, Asked, Rested, Looked}
+use Rattle.server.specs.Polls.{Happening, Polled, Notified, Chosen, Choice, Found, Opened, Asked, Rested, Looked}
 use Rattle.server.specs.Ledger.{Ledger, opening_ledger}
 use Rattle.server.specs.Turn.{Action, Turned, Served_body, Reported, Ticked, Trace, Runs, has_refusal}
 use Rattle.server.specs.Law.{happenings_in}
@@ -17,10 +17,10 @@ key_chosen (Looked keys) = []
 
 abbrev pub keyed_one : Happening → List Happening
 keyed_one (Polled poll) = Polled poll ∷ []
-keyed_one (Told note) = Told note ∷ []
+keyed_one (Notified note) = Notified note ∷ []
 keyed_one (Chosen choice) = key_chosen choice
 
--- the happenings that a wire and a listener see, and the keys
+-- the happenings that a wire and an observer see, and the keys
 abbrev pub keyed : List Happening → List Happening
 keyed hs = flat_map keyed_one hs
 

@@ -11,12 +11,12 @@ use Rattle.events.specs.declared.event.Event.TheVariants as Is
 use Rattle.events.specs.declared.effects.Cancel.{Cancel}
 use Rattle.dispatcher.specs.declared.outcome.Outcome.{Outcome}
 use Rattle.dispatcher.specs.declared.outcome.Outcome.TheVariants.{Dropped, Queried, Undispatched, Idle, Dispatched}
-use Rattle.dispatcher.specs.declared.listener.AllocationSite.{AllocationSite}
-use Rattle.dispatcher.specs.declared.listener.AllocationSite.TheVariants as At
+use Rattle.dispatcher.specs.declared.observer.AllocationSite.{AllocationSite}
+use Rattle.dispatcher.specs.declared.observer.AllocationSite.TheVariants as At
 use Rattle.dispatcher.specs.Notes.{Note, Planned, Canceled, DeviceRefused, Refused}
 use Rattle.dispatcher.specs.Run.{Handles}
 use Rattle.connections.specs.Entry.{Entry, device_of}
-use Rattle.server.specs.Polls.{Happening, Polled, Told, Chosen}
+use Rattle.server.specs.Polls.{Happening, Polled, Notified, Chosen}
 use Rattle.server.specs.Ledger.{Ledger, Fate, job_bytes}
 use Rattle.server.specs.Turn.{Action, Turned, Served_body, Reported, Ticked, Trace}
 use Rattle.server.specs.Law.{moment_of, happenings_of, happenings_in}
@@ -28,7 +28,7 @@ pub data Happened : Type 0 where
   EventComes : (event : Event) (outcome : Outcome) → Happened
   MemoryRefused : (place : AllocationSite) (id : Option ℕ) → Happened
 
--- A part of the run: what happened, the listener's notes of it, and the state of the core after it. By a HELLO in a turn a device gave its name on its connection. A client's event, or the memory that was refused for it, was asked on the connection under a key.
+-- A part of the run: what happened, the observer's notes of it, and the state of the core after it. By a HELLO in a turn a device gave its name on its connection. A client's event, or the memory that was refused for it, was asked on the connection under a key.
 pub record Handled : Type 0 where
   pub moment : ℕ
   pub what : Happened
@@ -37,7 +37,7 @@ pub record Handled : Type 0 where
   pub named : Option ℕ
   pub asked : Option ℕ
 
--- the core handles an event; if memory was refused, the listener is notified, and the core is unchanged
+-- the core handles an event; if memory was refused, the observer is notified, and the core is unchanged
 abbrev pub IsHandled : ℕ → Happened → State → List Note → State → Type 0
 IsHandled moment (EventComes event outcome) old notes new = Handles moment event old outcome notes new
 IsHandled moment (MemoryRefused place id) old notes new = (notes ≡ Refused place id ∷ []) × (new ≡ old)
@@ -87,10 +87,10 @@ run_refusal At.Enqueue id = []
 
 -- the note of the run in a happening, if there is one: a note of the core, or that memory was refused
 abbrev pub run_note : Happening → List Note
-run_note (Told (Refused place id)) = run_refusal place id
-run_note (Told (Planned plan started)) = Planned plan started ∷ []
-run_note (Told (Canceled cancel)) = Canceled cancel ∷ []
-run_note (Told (DeviceRefused id why)) = []
+run_note (Notified (Refused place id)) = run_refusal place id
+run_note (Notified (Planned plan started)) = Planned plan started ∷ []
+run_note (Notified (Canceled cancel)) = Canceled cancel ∷ []
+run_note (Notified (DeviceRefused id why)) = []
 run_note (Polled poll) = []
 run_note (Chosen choice) = []
 
@@ -161,12 +161,12 @@ IsFrontSent handled device due = (before : List Handled) × (behind : List Handl
 abbrev pub WasHalted : List Handled → Entry → Type 0
 WasHalted handled e = (device : ℕ) → device_of e.progress ≡ Some device → e.broken ≡ true → IsFrontSent handled device e.due
 
--- The events of a trace are one run of the core, whose parts give the listener's notes. On each open connection of a device that isn't broken, the bytes due are the run's orders for the device since it gave its name: the line of each cancel, and for each job the line and the documents as they were when the job began. The same holds for each that was closed without having broken, by the events before. On one that broke, a prefix of the orders is due.
+-- The events of a trace are one run of the core, whose parts give the observer's notes. On each open connection of a device that isn't broken, the bytes due are the run's orders for the device since it gave its name: the line of each cancel, and for each job the line and the documents as they were when the job began. The same holds for each that was closed without having broken, by the events before. On one that broke, a prefix of the orders is due.
 pub record AreSent (opening : State) (trace : Trace) (l : Ledger) : Type 0 where
   pub handled : List Handled
   pub timed : AreOf trace handled
   pub run : AreHandled opening handled l.core
-  pub told : run_notes (happenings_in trace) ≡ flat_map (λ (it : Handled). it.notes) handled
+  pub notified : run_notes (happenings_in trace) ≡ flat_map (λ (it : Handled). it.notes) handled
   pub due : (key : ℕ) (e : Entry) (device : ℕ) → l.entries key ≡ Some e → device_of e.progress ≡ Some device → e.broken ≡ false → e.due ≡ due_by device [] handled
   pub closed : All (λ (it : Entry × Fate). WasSent handled it.0) l.closed
   pub halted : (key : ℕ) (e : Entry) → l.entries key ≡ Some e → WasHalted handled e

@@ -8,10 +8,10 @@ use Rattle.print_room.specs.State.{State}
 use Rattle.events.specs.declared.event.Event.TheVariants as Is
 use Rattle.events.specs.declared.effects.Cancel.{Cancel}
 use Rattle.dispatcher.specs.declared.outcome.Outcome.{Outcome}
-use Rattle.dispatcher.specs.declared.listener.AllocationSite.TheVariants as At
+use Rattle.dispatcher.specs.declared.observer.AllocationSite.TheVariants as At
 use Rattle.dispatcher.specs.Notes.{Refused}
 use Rattle.connections.specs.Entry.{Entry, device_of, owing}
-use Rattle.server.specs.Polls.{Happening, Told}
+use Rattle.server.specs.Polls.{Happening, Notified}
 use Rattle.server.specs.Ledger.{Ledger, job_bytes}
 use Rattle.server.specs.Rel.{Rel}
 use Rattle.server.specs.Law.{core_notes}
@@ -38,9 +38,9 @@ ComesAgain device came = (it : Came) × Contains came it × (name : List ℕ) ×
 abbrev pub Bears : ℕ → Ledger → ℕ → Type 0
 Bears key l device = (e : Entry) → l.entries key ≡ Some e → device_of e.progress ≡ Some device
 
--- why a device's connection of this number is closed: an order became due, and the listener was notified that memory for it was refused; or its input had ended, and the device came again, on a connection that `Named` holds of
+-- why a device's connection of this number is closed: an order became due, and the observer was notified that memory for it was refused; or its input had ended, and the device came again, on a connection that `Named` holds of
 abbrev pub IsCause : (ℕ → Type 0) → List Came → List Happening → ℕ → ℕ → Bool → Type 0
-IsCause Named came hs device id ended = (Contains hs (Told (Refused At.Enqueue (Some id))) × ((bytes : List ℕ) × IsOrder came device bytes)) ⊎ ((ended ≡ true) × ComesAgain device came × Named device)
+IsCause Named came hs device id ended = (Contains hs (Notified (Refused At.Enqueue (Some id))) × ((bytes : List ℕ) × IsOrder came device bytes)) ⊎ ((ended ≡ true) × ComesAgain device came × Named device)
 
 -- a client's connection is unchanged; on a device's connection orders become due, or it is closed for a cause
 abbrev pub SparedAs : (ℕ → Type 0) → List Came → List Happening → Option ℕ → Entry → Option Entry → Type 0
@@ -52,12 +52,12 @@ abbrev pub IsSpared : (ℕ → Type 0) → List Came → List Happening → Opti
 IsSpared Named came hs None now = now ≡ None
 IsSpared Named came hs (Some e) now = SparedAs Named came hs (device_of e.progress) e now
 
--- The events of an action on the connection under a key are a run of the core, which gives the listener's notes. By these events every other connection is spared.
+-- The events of an action on the connection under a key are a run of the core, which gives the observer's notes. By these events every other connection is spared.
 pub record Spares (moment key : ℕ) (l : Ledger) (hs : List Happening) (l' : Ledger) : Type 0 where
   pub came : List Came
   pub timed : ComeAt true moment came
   pub run : AreRun l.core came l'.core
-  pub told : core_notes hs ≡ flat_map (λ (it : Came). it.notes) came
+  pub notified : core_notes hs ≡ flat_map (λ (it : Came). it.notes) came
   pub each : (other : ℕ) → other ≢ key → IsSpared (Bears key l') came hs (l.entries other) (l'.entries other)
 
 -- the part of a turn that is about the connection under a key spares the others, if none is broken before

@@ -14,10 +14,10 @@ ghost use Rattle.promises.specs.Others.{SparesAll};
 ghost use Rattle.server.specs.Ledger.{Ledger, opening_ledger};
 ghost use Rattle.server.specs.Turn.{Trace, Runs};
 
-use dispatcher::Listener;
+use dispatcher::Observer;
 use wires::Wire;
 
-/// A trace leads to one ledger. The calls of the wire and their answers, the listener's notes (the plans
+/// A trace leads to one ledger. The calls of the wire and their answers, the observer's notes (the plans
 /// among them), and the choices in between determine the state of the core, and for each connection the bytes
 /// that were read, are due and were taken.
 pub fn one_ledger()
@@ -29,7 +29,7 @@ pub fn one_ledger()
     ipp_operations::one_asked();
 }
 
-/// The core's events of a trace are one run. The listener's notes of it are exactly those of its parts, turn
+/// The core's events of a trace are one run. The observer's notes of it are exactly those of its parts, turn
 /// by turn and call by call. On each open connection of a device that isn't broken, the bytes due are the
 /// run's orders for the device since it last gave its name: the line of each cancel, and for each job that
 /// began on the device the line of the job, and its documents as they were when the job began. Each HELLO in a
@@ -50,7 +50,7 @@ pub fn devices_are_heard()
     ensures { (opening : State) (trace : Trace) (ledger : Ledger) → Runs trace (opening_ledger opening) ledger → AreHeard opening trace ledger }
 {}
 
-/// The core's events of a trace, and the notes that memory was refused, are one run. The listener's notes of
+/// The core's events of a trace, and the notes that memory was refused, are one run. The observer's notes of
 /// it are exactly those of its parts, turn by turn and call by call. On each open connection of a client that
 /// isn't broken, the bytes due are those of its acts, one after the other, from its first byte on: `100
 /// Continue` if a head invites a body, an acknowledgement or a refusal, or the reply that the run gave to an
@@ -76,23 +76,23 @@ pub fn due_was_carried()
 /// A read on one connection with all its results, a write and a closing are each a run of the core, and spare
 /// the other connections. A client's connection is unchanged. On a device's connection only orders of the
 /// run's events become due: lines of cancels, and lines and documents of jobs that began. It is closed only
-/// for a cause: the listener was notified that memory for its orders was refused, or its input had ended and
+/// for a cause: the observer was notified that memory for its orders was refused, or its input had ended and
 /// the device gave its name again.
 pub fn others_are_spared()
     ensures { (moment : ℕ) → SparesAll moment }
 {}
 
 /// For each answer of the wire and each refusal of memory: after any calls from the start of an engine on,
-/// there is a trace of exactly these calls. It leads the wire and the listener to their present states, and
+/// there is a trace of exactly these calls. It leads the wire and the observer to their present states, and
 /// leads to a ledger that represents the engine. Hence on each open connection the bytes that the wire took
 /// and those that wait are exactly the bytes due.
-pub fn due_after_calls<W: Wire, N: Listener>()
-    ensures { (opening : State) (calls : List Call) (u v : W × N) (old new : EngineState) → StandsAt opening [] old → AreMade W.polled N.told calls u old v new → IsAccounted W.polled N.told opening calls u v new }
+pub fn due_after_calls<W: Wire, N: Observer>()
+    ensures { (opening : State) (calls : List Call) (u v : W × N) (old new : EngineState) → StandsAt opening [] old → AreMade W.polled N.notified calls u old v new → IsAccounted W.polled N.notified opening calls u v new }
 {}
 
-/// From the start of an engine on, two traces lead to one ledger if the wire and the listener see them alike,
+/// From the start of an engine on, two traces lead to one ledger if the wire and the observer see them alike,
 /// the accepted connections get the same keys in both, and no memory was refused. Hence the bytes due on each
-/// connection are then determined by the calls of the wire with their answers, the listener's notes (the plans
+/// connection are then determined by the calls of the wire with their answers, the observer's notes (the plans
 /// among them), and these keys.
 pub fn one_seen_ledger()
     ensures { SeenLeadsToOne }

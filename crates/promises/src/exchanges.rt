@@ -7,7 +7,7 @@ ghost use Rattle.promises.specs.Exchanges.{ActsAreExchanges, AreByExchanges};
 /// An IPP client is answered exchange by exchange of its stream: `100 Continue` if the head invites it, and
 /// one answer after the body. If the body has an event, that is the only event asked, and the answer is the
 /// reply that the run gave to it. Otherwise no event is asked, and the answer is a status or the head of a
-/// refusal. The answer is the status 0x0505 only if the listener was notified that memory was refused on the
+/// refusal. The answer is the status 0x0505 only if the observer was notified that memory was refused on the
 /// connection of that number: for the event, for reading the body, or for the reply to a query; each such
 /// answer has a note of its own. The items acted on are such exchanges, one after the other, and at most a
 /// prefix of one more, or a refusal. No other bytes are due, and no other event is asked. On each connection of

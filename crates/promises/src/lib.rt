@@ -4,7 +4,7 @@
 //! nothing but the text, accepts it. Bytes: one trace leads to one ledger, so the wire's answers, the
 //! refusals of memory and the plans determine the bytes due on each connection; and after any calls an engine
 //! is at the trace of exactly these calls. Devices: the reports of each device, and the end of each of
-//! its connections, reach the core. Events: the listener was notified of each event that was dropped. The
+//! its connections, reach the core. Events: the observer was notified of each event that was dropped. The
 //! functions do nothing; their contracts are the laws.
 #![tactic(auto)]
 
@@ -19,4 +19,4 @@ pub use bytes::{
 };
 pub use exchanges::exchanges_are_answered;
 pub use plans::plan_is_its_text;
-pub use run::dropped_events_are_told;
+pub use run::dropped_events_are_notified;

@@ -7,7 +7,7 @@ use crate::standing::Standings;
 use crate::totals::Totals;
 use crate::unended::Unended;
 use base_types::{DeviceId, JobId, Moment};
-use dispatcher::{AllocationSite, DeviceRefusal, Dispatched, Listener, Started};
+use dispatcher::{AllocationSite, DeviceRefusal, Dispatched, Observer, Started};
 use events::Cancel;
 use job_objects::{Job, JobState};
 use plan_prices::Planner;
@@ -24,7 +24,7 @@ const MANY_BEGUN: usize = 4096;
 /// The ms for which printed jobs are kept at least.
 const KEPT: u64 = 172_800_000;
 
-/// What a view needs and only an observer of the turns knows. It is the listener of each turn, and is notified of its
+/// What a view needs and only an observer of the turns knows. It is the observer of each turn, and is notified of its
 /// end: [`Ledger::begin_turn`], the turn, [`Ledger::end_turn`].
 #[derive(Drop)]
 pub struct Ledger {
@@ -45,8 +45,8 @@ pub struct Ledger {
     is_lost: bool,
 }
 
-impl Listener for Ledger {
-    ghost told = { λ old note new. Unit {0} };
+impl Observer for Ledger {
+    ghost notified = { λ old note new. Unit {0} };
 
     fn dispatched(&mut self, made: &Dispatched<'_>) {
         if self.keep(made).is_err() {

@@ -1,6 +1,6 @@
 //! The queue of a print server as it is shown: to people on a page, or to programs.
 //!
-//! A [`Ledger`] observes the turns of an engine, as their [`dispatcher::Listener`], and keeps what the engine
+//! A [`Ledger`] observes the turns of an engine, as their [`dispatcher::Observer`], and keeps what the engine
 //! itself doesn't: the last plan, the devices that began jobs, the moments at which devices changed, and the
 //! jobs that were printed. [`Ledger::view`] makes a [`QueueView`] of it and the engine: the devices, the
 //! unfinished jobs with what is to become of each ([`Prospect`]), and the last finished jobs, at a moment. A

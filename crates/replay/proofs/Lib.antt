@@ -1,4 +1,4 @@
-mod Telling
+mod LogObserves
 mod Reach
 mod Playing
 mod Refusals

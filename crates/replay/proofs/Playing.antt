@@ -23,7 +23,7 @@ use Rattle.replay.specs.Playing.{Standing, Calls, Serves, Turns, Plays, IsReplyL
 use Rattle.traces.specs.Wire.{WirePolls}
 use Rattle.replay.specs.Peers.{PeersSee, any_stirs, all_turns}
 use Rattle.replay.proofs.Reach.{moves_nothing, moves_then}
-use Rattle.replay.proofs.Telling.{heard_alone, heard_beside, moved_beside, all_heard, leads_append}
+use Rattle.replay.proofs.LogObserves.{heard_alone, heard_beside, moved_beside, all_heard, leads_append}
 
 -- ---- calls between turns
 
@@ -154,8 +154,8 @@ pub ran : (old mid new : Play) (heard text : List ℕ) → IsReady old → Takes
 ran old mid new heard text ready (turns, till, takes) fine printed is marked cleared engine moment prompt =
     let peers : List PeerState = mid.peers.wire.memory.peers.items in
     let same : mid.peers.connections.items ≡ old.peers.connections.items = ap (λ cs. cs.items) takes.connections in
-    let told = takes.hears heard printed.0 in
-    let empty : told.0 ≡ [] = some_is told.0 (sym told.1 ∙ ready.silent) in
+    let notified = takes.hears heard printed.0 in
+    let empty : notified.0 ≡ [] = some_is notified.0 (sym notified.1 ∙ ready.silent) in
     record {
       actions = map (Turned old.moment) turns;
       is = record {
@@ -164,7 +164,7 @@ ran old mid new heard text ready (turns, till, takes) fine printed is marked cle
         peers = peers;
         sees = (takes.sees fine).1;
         does = refl;
-        printed = is ∙ ap (λ h. h ++ connections_text peers mid.peers.connections.items) (told.2 ∙ ap (λ b. b ++ happenings_text old.log.texts old.log.names (all_turns turns)) empty) ∙ ap (λ cs. happenings_text old.log.texts old.log.names (all_turns turns) ++ connections_text peers cs) same;
+        printed = is ∙ ap (λ h. h ++ connections_text peers mid.peers.connections.items) (notified.2 ∙ ap (λ b. b ++ happenings_text old.log.texts old.log.names (all_turns turns)) empty) ∙ ap (λ cs. happenings_text old.log.texts old.log.names (all_turns turns) ++ connections_text peers cs) same;
         after = stands new.moment old.moment new.peers.connections.items (map (seen peers) old.peers.connections.items) new.peers.wire.memory.peers.items (map emptied peers) (moment ∙ takes.moment) (marked ∙ ap (map (seen peers)) same) cleared;
       };
       moves = subst (λ e. Moves old.engine (map (Turned old.moment) turns) e) (sym engine) takes.moves;
@@ -195,10 +195,10 @@ still_ready old mid s is ready = record { silent = ap (λ (l : LogRecord). l.hea
 pub becomes : (old mid : Play) (s : Standing) → Holds s.connections s.peers old.peers.wire.failed mid.peers → mid.engine ≡ old.engine → mid.log ≡ old.log → mid.moment ≡ s.moment → Becomes old mid s
 becomes old mid s holds engine log moment = record { engine = engine; log = log; prompt = holds.failed; stands = rw (moment, holds.connections, holds.peers) refl }
 
--- the moment is told
-pub told_moment : (old new : Play) (line : Line) (moment : ℕ) (text : List ℕ) → IsReady old → line ≡ Form.At moment → text ≡ [] → new.engine ≡ old.engine → new.log ≡ old.log → new.peers.wire.failed ≡ old.peers.wire.failed → standing new ≡ record (standing old) { moment = moment }
+-- the moment is notified
+pub printed_moment : (old new : Play) (line : Line) (moment : ℕ) (text : List ℕ) → IsReady old → line ≡ Form.At moment → text ≡ [] → new.engine ≡ old.engine → new.log ≡ old.log → new.peers.wire.failed ≡ old.peers.wire.failed → standing new ≡ record (standing old) { moment = moment }
     → TakesActions old new (λ actions. Plays old.log.texts old.log.names line (standing old) actions text (standing new))
-told_moment old new line moment text ready is none engine log fine stands = record {
+printed_moment old new line moment text ready is none engine log fine stands = record {
   actions = [];
   is = subst (λ l. Plays old.log.texts old.log.names l (standing old) [] text (standing new)) (sym is) (refl, none, stands);
   moves = subst (λ e. Moves old.engine [] e) (sym engine) (moves_nothing old.engine);

@@ -1,4 +1,4 @@
--- A server that is told the lines of a trace, line by line.
+-- A server that is notified the lines of a trace, line by line.
 use Rattle.std.proofs.Common.{◌≡◌, ℕ, suc, Bool, true, List, [], ◌∷◌, ◌++◌, refl, sym, ap, ◌∙◌, subst, inl, inr, codes, append_assoc, append-nil, Option, Some, None, Result, Ok, Err, OnErr}
 use Rattle.std.specs.Fmt.{decimal}
 use Rattle.server.specs.State.{EngineState}

@@ -131,10 +131,10 @@ is_given given reply same is = let one : given ≡ reply = cc same in subst (λ 
 -- a request that is answered is answered by a message
 request_is_answered : (moment : ℕ) (event : Event) (outcome : Outcome) (reply : Effects) (old : State) (notes : List Note) (new : State) → IsRequest event → reply_of outcome ≡ Some reply → Handles moment event old outcome notes new → IsOfIpp reply.answer
 request_is_answered moment event Dropped reply old notes new is answered handled = absurd (none-some reply answered)
-request_is_answered moment event (Queried given) reply old notes new is answered (query, step, told) = is_given given reply answered (stepped_answer event (max moment old.last) old given new is step)
-request_is_answered moment event (Undispatched given) reply old notes new is answered (query, step, ready, told) = is_given given reply answered (stepped_answer event (max moment old.last) old given new is step)
-request_is_answered moment event (Idle given) reply old notes new is answered (query, mid, step, made, told) = is_given given reply answered (stepped_answer event (max moment old.last) old given mid is step)
-request_is_answered moment event (Dispatched given) reply old notes new is answered (query, mid, step, plan, made, told) = is_given given reply answered (stepped_answer event (max moment old.last) old given mid is step)
+request_is_answered moment event (Queried given) reply old notes new is answered (query, step, notified) = is_given given reply answered (stepped_answer event (max moment old.last) old given new is step)
+request_is_answered moment event (Undispatched given) reply old notes new is answered (query, step, ready, notified) = is_given given reply answered (stepped_answer event (max moment old.last) old given new is step)
+request_is_answered moment event (Idle given) reply old notes new is answered (query, mid, step, made, notified) = is_given given reply answered (stepped_answer event (max moment old.last) old given mid is step)
+request_is_answered moment event (Dispatched given) reply old notes new is answered (query, mid, step, plan, made, notified) = is_given given reply answered (stepped_answer event (max moment old.last) old given mid is step)
 
 -- ---- the event of a body
 

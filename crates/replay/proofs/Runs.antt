@@ -21,8 +21,8 @@ use Rattle.ipp_operations.specs.ParsedRequest.{Asks}
 use Rattle.ipp_operations.specs.Reply.{refusal_bytes}
 use Rattle.server.specs.Ledger.{Ledger, opening_ledger}
 use Rattle.server.specs.Law.{IsOneEvent, IsNoEvent, IsServed, IsAtMostOne}
-use Rattle.dispatcher.specs.Notes.{Note, Tells}
-use Rattle.server.specs.Polls.{Happening, Polled, Told, Chosen, seen}
+use Rattle.dispatcher.specs.Notes.{Note, Notifies}
+use Rattle.server.specs.Polls.{Happening, Polled, Notified, Chosen, seen}
 use Rattle.server.specs.Turn.{Outcome as Given, Replied, BadRequest, OutOfMemory, Action, Served_body, Reported, Ticked, Trace, Allows}
 use Rattle.server.proofs.Laws.{action_seen, none_seen, seen_apart}
 use Rattle.program.specs.Said.{ProgramOutput, said_after}
@@ -38,20 +38,20 @@ use Rattle.replay.proofs.Requests.{body_replied}
 
 -- ---- a run hears the same after whatever was heard before
 
-printed_after : (texts : Bool) (names : List (List ℕ)) (first before after : List (List ℕ)) (notes : List Note) → Tells (PrintsEach texts names) before notes after → Tells (PrintsEach texts names) (first ++ before) notes (first ++ after)
+printed_after : (texts : Bool) (names : List (List ℕ)) (first before after : List (List ℕ)) (notes : List Note) → Notifies (PrintsEach texts names) before notes after → Notifies (PrintsEach texts names) (first ++ before) notes (first ++ after)
 printed_after texts names first before after [] same = ap (λ h. first ++ h) same
 printed_after texts names first before after (note ∷ notes) (mid, prints, rest) =
     (first ++ mid, ap (λ h. first ++ h) prints ∙ sym (append_assoc first before (note_text texts names note ∷ [])), printed_after texts names first mid after notes rest)
 
 heard_after : (texts : Bool) (names : List (List ℕ)) (first : List (List ℕ)) (old new : State) (timed : Timed) (outcome : Outcome) (before after : List (List ℕ)) → Comes (PrintsEach texts names) old before timed outcome new after → Comes (PrintsEach texts names) old (first ++ before) timed outcome new (first ++ after)
-heard_after texts names first old new timed outcome before after (notes, handled, told) = (notes, handled, printed_after texts names first before after notes told)
+heard_after texts names first old new timed outcome before after (notes, handled, notified) = (notes, handled, printed_after texts names first before after notes notified)
 
 -- the texts of notes are kept
-prints : (texts : Bool) (names : List (List ℕ)) (before : List (List ℕ)) (notes : List Note) → Tells (PrintsEach texts names) before notes (before ++ map (note_text texts names) notes)
+prints : (texts : Bool) (names : List (List ℕ)) (before : List (List ℕ)) (notes : List Note) → Notifies (PrintsEach texts names) before notes (before ++ map (note_text texts names) notes)
 prints texts names before [] = append-nil before
 prints texts names before (note ∷ notes) =
     let text = note_text texts names note in
-    (before ++ text ∷ [], refl, subst (λ h. Tells (PrintsEach texts names) (before ++ text ∷ []) notes h) (append_assoc before (text ∷ []) (map (note_text texts names) notes)) (prints texts names (before ++ text ∷ []) notes))
+    (before ++ text ∷ [], refl, subst (λ h. Notifies (PrintsEach texts names) (before ++ text ∷ []) notes h) (append_assoc before (text ∷ []) (map (note_text texts names) notes)) (prints texts names (before ++ text ∷ []) notes))
 
 run_after : (texts : Bool) (names : List (List ℕ)) (first : List (List ℕ)) (old new : State) (events : List Timed) (outcomes : List Outcome) (before after : List (List ℕ)) → Run (PrintsEach texts names) old before events outcomes new after → Run (PrintsEach texts names) old (first ++ before) events outcomes new (first ++ after)
 run_after texts names first old new [] [] before after (same, silent) = (same, ap (λ h. first ++ h) silent)
@@ -70,14 +70,14 @@ then_runs texts names [] [] before heard later old mid new (same, silent) runs =
     subst (λ s. Run (PrintsEach texts names) s before later.events later.outcomes new (heard ++ later.heard)) same
     (subst (λ h. Run (PrintsEach texts names) mid h later.events later.outcomes new (heard ++ later.heard)) (append-nil heard ∙ silent)
     (run_after texts names heard mid new later.events later.outcomes [] later.heard runs))
-then_runs texts names (timed ∷ events) (outcome ∷ outcomes) before heard later old mid new (next, told, comes, rest) runs =
-    (next, told, comes, then_runs texts names events outcomes told heard later next mid new rest runs)
+then_runs texts names (timed ∷ events) (outcome ∷ outcomes) before heard later old mid new (next, notified, comes, rest) runs =
+    (next, notified, comes, then_runs texts names events outcomes notified heard later next mid new rest runs)
 then_runs texts names [] (outcome ∷ outcomes) before heard later old mid new none runs = absurd none
 then_runs texts names (timed ∷ events) [] before heard later old mid new none runs = absurd none
 
 -- ---- the text printed for an event
 
-notes_text : (texts : Bool) (names : List (List ℕ)) (notes : List Note) → happenings_text texts names (map Told notes) ≡ concat (map (note_text texts names) notes)
+notes_text : (texts : Bool) (names : List (List ℕ)) (notes : List Note) → happenings_text texts names (map Notified notes) ≡ concat (map (note_text texts names) notes)
 notes_text texts names [] = refl
 notes_text texts names (note ∷ notes) = ap (λ t. note_text texts names note ++ t) (notes_text texts names notes)
 
@@ -85,7 +85,7 @@ notes_text texts names (note ∷ notes) = ap (λ t. note_text texts names note +
 seen_text : (texts : Bool) (names : List (List ℕ)) (hs : List Happening) → happenings_text texts names (seen hs) ≡ happenings_text texts names hs
 seen_text texts names [] = refl
 seen_text texts names (Polled poll ∷ hs) = seen_text texts names hs
-seen_text texts names (Told note ∷ hs) = ap (λ t. note_text texts names note ++ t) (seen_text texts names hs)
+seen_text texts names (Notified note ∷ hs) = ap (λ t. note_text texts names note ++ t) (seen_text texts names hs)
 seen_text texts names (Chosen choice ∷ hs) = seen_text texts names hs
 
 -- an event, its step, and the text printed after its reply
@@ -101,7 +101,7 @@ one_event texts names event moment reply old hs new it =
       part = record { events = record { event = event; moment = moment } ∷ []; outcomes = it.outcome ∷ []; heard = heard };
       is_one = record { outcome = it.outcome; heard = heard; answered = it.answered; whole = it.whole; is = refl };
       does = (new, heard, (it.notes, it.handled, prints texts names [] it.notes), (refl, refl));
-      printed = sym (seen_text texts names hs) ∙ ap (happenings_text texts names) it.told ∙ notes_text texts names it.notes;
+      printed = sym (seen_text texts names hs) ∙ ap (happenings_text texts names) it.notified ∙ notes_text texts names it.notes;
     }
 
 -- ---- a body

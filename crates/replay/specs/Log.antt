@@ -1,7 +1,7 @@
 -- A log: the printed text of an engine's notes.
 use Rattle.std.specs.Prelude.{ℕ, ◌≡◌, ◌⊎◌, Bool, List, [], ◌∷◌, ◌++◌, Option, None, option_map}
 use Rattle.dispatcher.specs.Notes.{Note, Planned, Canceled, DeviceRefused, Refused}
-use Rattle.server.specs.Polls.{Happening, Polled, Told, Chosen}
+use Rattle.server.specs.Polls.{Happening, Polled, Notified, Chosen}
 use Rattle.traces.specs.Printed.{dispatch_lines, cancel_line}
 
 -- whether the texts of plans are printed, the names of the devices, and the text so far; `None` if memory was refused
@@ -26,7 +26,7 @@ LogsNote old note new =
 -- the printed text of a happening, which is that of its note
 abbrev pub happening_text : Bool → List (List ℕ) → Happening → List ℕ
 happening_text texts names (Polled poll) = []
-happening_text texts names (Told note) = note_text texts names note
+happening_text texts names (Notified note) = note_text texts names note
 happening_text texts names (Chosen choice) = []
 
 abbrev pub happenings_text : Bool → List (List ℕ) → List Happening → List ℕ

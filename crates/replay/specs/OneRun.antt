@@ -44,7 +44,7 @@ SpeaksOfNoConnection names lines = All (λ bytes. (line : Line) → IsLine names
 
 -- ---- a run and its printed text
 
--- a listener that stores the text of each note
+-- an observer that stores the text of each note
 abbrev pub PrintsEach : Bool → List (List ℕ) → List (List ℕ) → Note → List (List ℕ) → Type 0
 PrintsEach texts names before note after = after ≡ before ++ note_text texts names note ∷ []
 

@@ -5,14 +5,14 @@ ghost use Rattle.dispatcher.specs.Notes.{Planned, Canceled};
 ghost use Rattle.replay.specs.Log.{note_text};
 
 use base_types::{MemoryLog, Text};
-use dispatcher::{AllocationSite, DeviceRefusal, Dispatched, Listener};
+use dispatcher::{AllocationSite, DeviceRefusal, Dispatched, Observer};
 use events::Cancel;
 use std::alloc::{AllocError, Global};
 use std::marker::Model;
 use traces::{put_cancel, put_dispatch};
 use wires::WireId;
 
-/// A listener that stores the printed text of each dispatch and of each cancel. In clauses it is a record of
+/// An observer that stores the printed text of each dispatch and of each cancel. In clauses it is a record of
 /// whether the texts of plans are printed, the names of the devices, and the text so far, which is `None` if
 /// memory was refused.
 #[derive(Drop)]
@@ -31,10 +31,10 @@ impl Model for Log {
     ghost view = { λ l. record { texts = l.texts; names = l.names.items; heard = l.heard } };
 }
 
-impl Listener for Log {
+impl Observer for Log {
     ghost use Rattle.replay.specs.Log.{LogsNote};
 
-    ghost told = { LogsNote };
+    ghost notified = { LogsNote };
 
     fn dispatched(&mut self, made: &Dispatched<'_>) {
         match self.dispatch_text(made) {

@@ -17,7 +17,7 @@ use Rattle.server.specs.Rel.{Then}
 use Rattle.server.specs.Ledger.{with_entry}
 use Rattle.connections.specs.Choice.{part_of, lost_of}
 use Rattle.server.specs.Acting.{Asks, ActsOn, ActsNext}
-use Rattle.server.specs.Closing.{Settles}
+use Rattle.server.specs.Closing.{ClosesBroken}
 use Rattle.server.specs.Polling.{Acts, IsHeardAt}
 use Rattle.server.specs.State.{EngineState, with_slots}
 use Rattle.server.specs.Refinement.{Represents, RefinesQuietly, AsksBy}
@@ -72,10 +72,10 @@ asks_by a slots key (Some asked) on = something_asked a slots key asked on
 -- ---- the happenings of an ask
 
 -- the connection asks, what it asks happens, and then the broken connections are closed
-pub acts : {S : Type 0} (polled : S → Poll → S → Type 0) (told : S → Note → S → Type 0) (u v w : S) (a b c d : EngineState) (moment key : ℕ) (asked : ConnectionAsk)
-    → AsksBy key (Some asked) a b → RefinesQuietly (alone told) (ActsOn moment key asked.id asked.ask) u b v c → RefinesQuietly (moved polled told) (Settles moment) v c w d → Refinement.Refines (moved polled told) (Acts moment key) u a w d
-acts polled told u v w a b c d moment key asked asks refines settled =
-    let acted : Refinement.Refines (alone told) (ActsNext moment key) u a v c = record {
+pub acts : {S : Type 0} (polled : S → Poll → S → Type 0) (notified : S → Note → S → Type 0) (u v w : S) (a b c d : EngineState) (moment key : ℕ) (asked : ConnectionAsk)
+    → AsksBy key (Some asked) a b → RefinesQuietly (alone notified) (ActsOn moment key asked.id asked.ask) u b v c → RefinesQuietly (moved polled notified) (ClosesBroken moment) v c w d → Refinement.Refines (moved polled notified) (Acts moment key) u a w d
+acts polled notified u v w a b c d moment key asked asks refines settled =
+    let acted : Refinement.Refines (alone notified) (ActsNext moment key) u a v c = record {
       happenings = refines.happenings;
       leads = refines.leads;
       stands = λ l fits.
@@ -83,4 +83,4 @@ acts polled told u v w a b c d moment key asked asks refines settled =
           let r = refines.stands s.0 s.2 in
           (r.0, seen_as (Then (Asks key asked.id asked.ask) (ActsOn moment key asked.id asked.ask)) (ActsNext moment key) l refines.happenings r.0 (λ hs it. (asked.id, asked.ask, it)) (seen_then (Asks key asked.id asked.ask) (ActsOn moment key asked.id asked.ask) l [] s.0 refines.happenings r.0 s.1 r.1), r.2);
     } in
-    refines_then (moved polled told) (ActsNext moment key) (Settles moment) u v w a c d (refines_moved polled told (ActsNext moment key) u v a c acted) (aloud (moved polled told) (Settles moment) v w c d settled)
+    refines_then (moved polled notified) (ActsNext moment key) (ClosesBroken moment) u v w a c d (refines_moved polled notified (ActsNext moment key) u v a c acted) (aloud (moved polled notified) (ClosesBroken moment) v w c d settled)

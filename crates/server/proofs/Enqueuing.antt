@@ -4,21 +4,21 @@ use Rattle.std.specs.Prelude.{slice_index_or, slice_set, nat_lt, is_some, ◌||�
 use Rattle.std.specs.Option.{option_map_or}
 use Rattle.std.proofs.lemmas.Bool.Decides.{nat_tests}
 use Rattle.send_queues.specs.declared.queue.TheConstants.{RESERVED_BYTES}
-use Rattle.dispatcher.specs.declared.listener.AllocationSite.TheVariants.{Enqueue}
+use Rattle.dispatcher.specs.declared.observer.AllocationSite.TheVariants.{Enqueue}
 use Rattle.dispatcher.specs.Notes.{Note, Refused}
 use Rattle.connections.specs.declared.peer.Peer.{Peer}
 use Rattle.connections.specs.declared.peer.Peer.TheVariants as of
-use Rattle.connections.specs.Entry.{PeerRecord, Entry, waiting, broken, owing, needs_memory, unnamed, given_up, closes_of}
+use Rattle.connections.specs.Entry.{PeerRecord, Entry, waiting, broken, owing, needs_memory, unnamed, superseded_entry, closes_of}
 use Rattle.connections.specs.Peers.{work, closes_of as closes_in, unnamed as has_no_name}
-use Rattle.connections.specs.Connections.{ConnectionState, EnqueuesAs, is_kept, is_broken, gives_way, load}
+use Rattle.connections.specs.Connections.{ConnectionState, EnqueuesAs, is_kept, is_broken, superseded, load}
 use Rattle.connections.specs.Representation.{FitsPeer, RepresentsConnection}
 use Rattle.connections.specs.Slots.{EnqueuesAt as EnqueuesSlot, IsGrowth, output_at, closes_at}
-use Rattle.server.specs.Polls.{Happening, Told, Chosen, Found, seen, alone}
+use Rattle.server.specs.Polls.{Happening, Notified, Chosen, Found, seen, alone}
 use Rattle.server.specs.Ledger.{Ledger, with_entry}
 use Rattle.server.specs.Rel.{Nothing}
 use Rattle.server.specs.Enqueuing.{Sets, EnqueuesOpen, EnqueuesAt, EnqueuesWhere, Enqueues, EnqueuesReplyAt}
 use Rattle.server.specs.State.{EngineState, slot_at, with_slots}
-use Rattle.server.specs.Refinement.{RepresentsOpen, RefinesQuietly, RefinesReporting, ToldOf}
+use Rattle.server.specs.Refinement.{RepresentsOpen, RefinesQuietly, RefinesReporting, NotifiedOf}
 use Rattle.server.proofs.Steps.{quietly_same, quietly_as, reporting_flag, if_true, if_false, chosen_first}
 use Rattle.server.proofs.Slots.{set_same}
 use Rattle.server.proofs.Places.{absent, found, refines_at, quietly_at}
@@ -44,11 +44,11 @@ pub fits_broken : (e : Entry) (c : ConnectionState) → RepresentsConnection e c
 fits_broken e c f = record { id = f.id; peer = broken_peer e.read e.progress e.broken c.peer f.peer; ended = f.ended; draining = f.draining; broken = refl; due = f.due }
 
 given_peer : (read : List ℕ) (progress : PeerRecord) (off : Bool) (p : Peer) → FitsPeer read progress off p → FitsPeer read (unnamed progress) true (has_no_name p)
-given_peer read progress off (of.Ipp t) f = record { said = f.said; body = f.body; untold = f.untold; told = f.told; is = ap unnamed f.is; stands = f.stands; heard = f.heard }
+given_peer read progress off (of.Ipp t) f = record { said = f.said; body = f.body; unreported = f.unreported; notified = f.notified; is = ap unnamed f.is; stands = f.stands; heard = f.heard }
 given_peer read progress off (of.Lpd t) f = record { items = f.items; is = ap unnamed f.is; stands = f.stands }
 given_peer read progress off (of.Device t) f = record { reports = f.reports; is = ap unnamed f.is; linked = λ no. let never : true ≡ false = no in cc }
 
-pub fits_given : (e : Entry) (c : ConnectionState) → RepresentsConnection e c → RepresentsConnection (given_up e) (gives_way c)
+pub fits_given : (e : Entry) (c : ConnectionState) → RepresentsConnection e c → RepresentsConnection (superseded_entry e) (superseded c)
 fits_given e c f = record { id = f.id; peer = given_peer e.read e.progress e.broken c.peer f.peer; ended = f.ended; draining = f.draining; broken = refl; due = f.due }
 
 -- ---- the load of a connection
@@ -64,7 +64,7 @@ none_off : (x : Bool) (n m : ℕ) → (if x || true then 0 else n) ≤ m
 none_off true n m = omega arith
 none_off false n m = omega arith
 
-pub load_given : (c : ConnectionState) → load (gives_way c) ≤ load c
+pub load_given : (c : ConnectionState) → load (superseded c) ≤ load c
 load_given c = none_off c.draining (1 + work (has_no_name c.peer)) (load c)
 
 pub load_as : (c d e : ConnectionState) → d ≡ e → load e ≤ load c → load d ≤ load c
@@ -102,22 +102,22 @@ pub open_kept : (grows : Bool) (key : ℕ) (bytes : List ℕ) (e : Entry) (l : L
 open_kept true key bytes e l = inl (chosen_first Found (Sets key (owing bytes e)) l [] (with_entry key (owing bytes e) l) (refl, refl))
 open_kept false key bytes e l = (refl, refl)
 
-pub open_dropped : (grows : Bool) (key : ℕ) (bytes : List ℕ) (e : Entry) (l : Ledger) (hs : List Happening) → grows ≡ true → hs ≡ Told (Refused Enqueue (Some e.id)) ∷ [] → EnqueuesOpen grows key bytes e l hs (with_entry key (broken e) l)
-open_dropped true key bytes e l hs is told = inr (told, refl)
-open_dropped false key bytes e l hs is told = cc
+pub open_dropped : (grows : Bool) (key : ℕ) (bytes : List ℕ) (e : Entry) (l : Ledger) (hs : List Happening) → grows ≡ true → hs ≡ Notified (Refused Enqueue (Some e.id)) ∷ [] → EnqueuesOpen grows key bytes e l hs (with_entry key (broken e) l)
+open_dropped true key bytes e l hs is notified = inr (notified, refl)
+open_dropped false key bytes e l hs is notified = cc
 
 -- bytes become due on a connection, or the connection is broken and unchanged
-unfoldable pub kept_where : {N : Type 0} (told : N → Note → N → Type 0) (n n' : N) (a : EngineState) (slots : List (Option ConnectionState)) (key : ℕ) (bytes : List ℕ) (grows : Entry → Bool) (c d : ConnectionState)
-    → slice_index_or a.slots key None ≡ Some c → slots ≡ slice_set a.slots key (Some d) → EnqueuesAs bytes false c d → n' ≡ n → RefinesQuietly (alone told) (EnqueuesWhere grows key bytes) n a n' (with_slots slots a)
+unfoldable pub kept_where : {N : Type 0} (notified : N → Note → N → Type 0) (n n' : N) (a : EngineState) (slots : List (Option ConnectionState)) (key : ℕ) (bytes : List ℕ) (grows : Entry → Bool) (c d : ConnectionState)
+    → slice_index_or a.slots key None ≡ Some c → slots ≡ slice_set a.slots key (Some d) → EnqueuesAs bytes false c d → n' ≡ n → RefinesQuietly (alone notified) (EnqueuesWhere grows key bytes) n a n' (with_slots slots a)
 unfolding quietly_same quietly_at refines_at
-kept_where told n n' a slots key bytes grows c d was is (inl (off, still)) same =
+kept_where notified n n' a slots key bytes grows c d was is (inl (off, still)) same =
     let as_before : slots ≡ a.slots = is ∙ (ap (λ (k : ConnectionState). slice_set a.slots key (Some k)) still ∙ set_same a.slots key c was) in
-    quietly_same (alone told) (EnqueuesWhere grows key bytes) [] n n' a (with_slots slots a) same (ap (λ (xs : List (Option ConnectionState)). with_slots xs a) as_before)
+    quietly_same (alone notified) (EnqueuesWhere grows key bytes) [] n n' a (with_slots slots a) same (ap (λ (xs : List (Option ConnectionState)). with_slots xs a) as_before)
     (λ l fits.
     let f = found l a key c fits was in
     ([], refl, enqueues_from grows key bytes l [] l (Some f.entry) f.there (if_true f.entry.broken Nothing (EnqueuesOpen (grows f.entry) key bytes f.entry) l [] l (sym f.fits.broken ∙ off) (refl, refl))))
-kept_where told n n' a slots key bytes grows c d was is (inr (whole, now)) same =
-    quietly_at (alone told) (EnqueuesWhere grows key bytes) [] n n' a slots key c d same was is (load_as c d (is_kept bytes c) now (omega arith))
+kept_where notified n n' a slots key bytes grows c d was is (inr (whole, now)) same =
+    quietly_at (alone notified) (EnqueuesWhere grows key bytes) [] n n' a slots key c d same was is (load_as c d (is_kept bytes c) now (omega arith))
     (λ l e fits there f.
     let e' : Entry = owing bytes e in (
       e',
@@ -130,19 +130,19 @@ kept_where told n n' a slots key bytes grows c d was is (inr (whole, now)) same 
       ),
     ))
 
--- bytes are enqueued in the table, and the listener is told of a connection that broke
-unfoldable pub enqueues_where : {N : Type 0} (told : N → Note → N → Type 0) (n n' : N) (a : EngineState) (slots : List (Option ConnectionState)) (key : ℕ) (bytes : List ℕ) (grows : Entry → Bool) (broke : Option ℕ)
-    → EnqueuesSlot key bytes broke a.slots slots → IsGrowthWhere grows a.slots key broke → ToldOf told broke n n' → RefinesQuietly (alone told) (EnqueuesWhere grows key bytes) n a n' (with_slots slots a)
-enqueues_where told n n' a slots key bytes grows None (inl none) growth same =
-    quietly_same (alone told) (EnqueuesWhere grows key bytes) [] n n' a (with_slots slots a) same (ap (λ (xs : List (Option ConnectionState)). with_slots xs a) none.same)
+-- bytes are enqueued in the table, and the observer is notified of a connection that broke
+unfoldable pub enqueues_where : {N : Type 0} (notified : N → Note → N → Type 0) (n n' : N) (a : EngineState) (slots : List (Option ConnectionState)) (key : ℕ) (bytes : List ℕ) (grows : Entry → Bool) (broke : Option ℕ)
+    → EnqueuesSlot key bytes broke a.slots slots → IsGrowthWhere grows a.slots key broke → NotifiedOf notified broke n n' → RefinesQuietly (alone notified) (EnqueuesWhere grows key bytes) n a n' (with_slots slots a)
+enqueues_where notified n n' a slots key bytes grows None (inl none) growth same =
+    quietly_same (alone notified) (EnqueuesWhere grows key bytes) [] n n' a (with_slots slots a) same (ap (λ (xs : List (Option ConnectionState)). with_slots xs a) none.same)
     (λ l fits. ([], refl, enqueues_from grows key bytes l [] l None (absent l a key fits none.there) (refl, refl)))
-enqueues_where told n n' a slots key bytes grows None (inr on) growth same = kept_where told n n' a slots key bytes grows on.before on.after on.there on.slots on.changes same
-enqueues_where told n n' a slots key bytes grows (Some id) on growth tells =
-    quietly_at (alone told) (EnqueuesWhere grows key bytes) (Told (Refused Enqueue (Some id)) ∷ []) n n' a slots key on.before on.after (n', tells, refl) on.there on.slots (load_as on.before on.after (is_broken on.before) on.changes.1.1 (load_broken on.before))
+enqueues_where notified n n' a slots key bytes grows None (inr on) growth same = kept_where notified n n' a slots key bytes grows on.before on.after on.there on.slots on.changes same
+enqueues_where notified n n' a slots key bytes grows (Some id) on growth notifies =
+    quietly_at (alone notified) (EnqueuesWhere grows key bytes) (Notified (Refused Enqueue (Some id)) ∷ []) n n' a slots key on.before on.after (n', notifies, refl) on.there on.slots (load_as on.before on.after (is_broken on.before) on.changes.1.1 (load_broken on.before))
     (λ l e fits there f.
-    let hs : List Happening = Told (Refused Enqueue (Some id)) ∷ [] in
+    let hs : List Happening = Notified (Refused Enqueue (Some id)) ∷ [] in
     let same : id ≡ e.id = sym on.changes.0 ∙ f.id in
-    let it : EnqueuesOpen (grows e) key bytes e l hs (with_entry key (broken e) l) = open_dropped (grows e) key bytes e l hs (growth refl on.before e on.there f) (ap (λ (i : ℕ). Told (Refused Enqueue (Some i)) ∷ []) same) in (
+    let it : EnqueuesOpen (grows e) key bytes e l hs (with_entry key (broken e) l) = open_dropped (grows e) key bytes e l hs (growth refl on.before e on.there f) (ap (λ (i : ℕ). Notified (Refused Enqueue (Some i)) ∷ []) same) in (
       broken e,
       subst (λ (d : ConnectionState). RepresentsConnection (broken e) d) (sym on.changes.1.1) (fits_broken e on.before f),
       (hs, refl, enqueues_from grows key bytes l hs (with_entry key (broken e) l) (Some e) there (if_false e.broken Nothing (EnqueuesOpen (grows e) key bytes e) l hs (with_entry key (broken e) l) (sym f.broken ∙ on.changes.1.0) it)),
@@ -161,9 +161,9 @@ pub growth_as : (bytes : List ℕ) (slots : List (Option ConnectionState)) (key 
 growth_as bytes slots key None more is c e there f = cc
 growth_as bytes slots key (Some id) more is c e there f = growth_at bytes slots key id c e more there f
 
-pub enqueues : {N : Type 0} (told : N → Note → N → Type 0) (n n' : N) (a : EngineState) (slots : List (Option ConnectionState)) (key : ℕ) (bytes : List ℕ) (broke : Option ℕ)
-    → EnqueuesSlot key bytes broke a.slots slots → IsGrowth key bytes broke a.slots → ToldOf told broke n n' → RefinesQuietly (alone told) (Enqueues key bytes) n a n' (with_slots slots a)
-enqueues told n n' a slots key bytes broke enqueue full tells = enqueues_where told n n' a slots key bytes (needs_memory bytes) broke enqueue (growth_as bytes a.slots key broke full) tells
+pub enqueues : {N : Type 0} (notified : N → Note → N → Type 0) (n n' : N) (a : EngineState) (slots : List (Option ConnectionState)) (key : ℕ) (bytes : List ℕ) (broke : Option ℕ)
+    → EnqueuesSlot key bytes broke a.slots slots → IsGrowth key bytes broke a.slots → NotifiedOf notified broke n n' → RefinesQuietly (alone notified) (Enqueues key bytes) n a n' (with_slots slots a)
+enqueues notified n n' a slots key bytes broke enqueue full notifies = enqueues_where notified n n' a slots key bytes (needs_memory bytes) broke enqueue (growth_as bytes a.slots key broke full) notifies
 
 -- ---- a reply, by whether the connection closes after it
 
@@ -180,24 +180,24 @@ enqueues_reply_from bytes key l a hs l' None y there fits it = subst (λ (o : Op
 enqueues_reply_from bytes key l a hs l' (Some e) None there fits it = absurd fits
 enqueues_reply_from bytes key l a hs l' (Some e) (Some c) there fits it = subst (λ (closes : Bool). Enqueues key (bytes closes) l hs l') (closes_as e c fits) it
 
-pub enqueues_reply : {N : Type 0} (told : N → Note → N → Type 0) (n n' : N) (a : EngineState) (slots : List (Option ConnectionState)) (key : ℕ) (bytes : Bool → List ℕ) (broke : Option ℕ)
-    → EnqueuesSlot key (bytes (closes_at key a.slots)) broke a.slots slots → IsGrowth key (bytes (closes_at key a.slots)) broke a.slots → ToldOf told broke n n' → RefinesQuietly (alone told) (λ l hs l'. EnqueuesReplyAt bytes key (l.entries key) l hs l') n a n' (with_slots slots a)
-enqueues_reply told n n' a slots key bytes broke enqueue full tells =
-    quietly_as (alone told) (Enqueues key (bytes (closes_at key a.slots))) (λ l hs l'. EnqueuesReplyAt bytes key (l.entries key) l hs l') n n' a (with_slots slots a)
+pub enqueues_reply : {N : Type 0} (notified : N → Note → N → Type 0) (n n' : N) (a : EngineState) (slots : List (Option ConnectionState)) (key : ℕ) (bytes : Bool → List ℕ) (broke : Option ℕ)
+    → EnqueuesSlot key (bytes (closes_at key a.slots)) broke a.slots slots → IsGrowth key (bytes (closes_at key a.slots)) broke a.slots → NotifiedOf notified broke n n' → RefinesQuietly (alone notified) (λ l hs l'. EnqueuesReplyAt bytes key (l.entries key) l hs l') n a n' (with_slots slots a)
+enqueues_reply notified n n' a slots key bytes broke enqueue full notifies =
+    quietly_as (alone notified) (Enqueues key (bytes (closes_at key a.slots))) (λ l hs l'. EnqueuesReplyAt bytes key (l.entries key) l hs l') n n' a (with_slots slots a)
     (λ l hs l' fits fits' it. enqueues_reply_from bytes key l a hs l' (l.entries key) (slot_at a key) refl (fits.each key) it)
-    (enqueues told n n' a slots key (bytes (closes_at key a.slots)) broke enqueue full tells)
+    (enqueues notified n n' a slots key (bytes (closes_at key a.slots)) broke enqueue full notifies)
 
-kept_openly : {N : Type 0} (told : N → Note → N → Type 0) (n n' : N) (a : EngineState) (slots : List (Option ConnectionState)) (key : ℕ) (bytes : List ℕ) (grows : Entry → Bool) (c d : ConnectionState)
-    → slice_index_or a.slots key None ≡ Some c → slots ≡ slice_set a.slots key (Some d) → EnqueuesAs bytes false c d → n' ≡ n → RefinesReporting (alone told) (EnqueuesWhere grows key bytes) n a n' (with_slots slots a) false
+kept_openly : {N : Type 0} (notified : N → Note → N → Type 0) (n n' : N) (a : EngineState) (slots : List (Option ConnectionState)) (key : ℕ) (bytes : List ℕ) (grows : Entry → Bool) (c d : ConnectionState)
+    → slice_index_or a.slots key None ≡ Some c → slots ≡ slice_set a.slots key (Some d) → EnqueuesAs bytes false c d → n' ≡ n → RefinesReporting (alone notified) (EnqueuesWhere grows key bytes) n a n' (with_slots slots a) false
 unfolding quietly_same quietly_at refines_at kept_where
-kept_openly told n n' a slots key bytes grows c d was is (inl still) same = record { refines = kept_where told n n' a slots key bytes grows c d was is (inl still) same; is = refl }
-kept_openly told n n' a slots key bytes grows c d was is (inr now) same = record { refines = kept_where told n n' a slots key bytes grows c d was is (inr now) same; is = refl }
+kept_openly notified n n' a slots key bytes grows c d was is (inl still) same = record { refines = kept_where notified n n' a slots key bytes grows c d was is (inl still) same; is = refl }
+kept_openly notified n n' a slots key bytes grows c d was is (inr now) same = record { refines = kept_where notified n n' a slots key bytes grows c d was is (inr now) same; is = refl }
 
 -- as `enqueues_where`, and the flag says whether memory was refused
-pub enqueues_openly : {N : Type 0} (told : N → Note → N → Type 0) (n n' : N) (a : EngineState) (slots : List (Option ConnectionState)) (key : ℕ) (bytes : List ℕ) (grows : Entry → Bool) (broke : Option ℕ)
-    → EnqueuesSlot key bytes broke a.slots slots → IsGrowthWhere grows a.slots key broke → ToldOf told broke n n' → RefinesReporting (alone told) (EnqueuesWhere grows key bytes) n a n' (with_slots slots a) (is_some broke)
+pub enqueues_openly : {N : Type 0} (notified : N → Note → N → Type 0) (n n' : N) (a : EngineState) (slots : List (Option ConnectionState)) (key : ℕ) (bytes : List ℕ) (grows : Entry → Bool) (broke : Option ℕ)
+    → EnqueuesSlot key bytes broke a.slots slots → IsGrowthWhere grows a.slots key broke → NotifiedOf notified broke n n' → RefinesReporting (alone notified) (EnqueuesWhere grows key bytes) n a n' (with_slots slots a) (is_some broke)
 unfolding quietly_same quietly_at refines_at enqueues_where kept_where
-enqueues_openly told n n' a slots key bytes grows None (inl none) growth same = record { refines = enqueues_where told n n' a slots key bytes grows None (inl none) growth same; is = refl }
-enqueues_openly told n n' a slots key bytes grows None (inr on) growth same =
-    reporting_flag (alone told) (EnqueuesWhere grows key bytes) n n' a (with_slots slots a) false (is_some {T = ℕ} None) refl (kept_openly told n n' a slots key bytes grows on.before on.after on.there on.slots on.changes same)
-enqueues_openly told n n' a slots key bytes grows (Some id) on growth tells = record { refines = enqueues_where told n n' a slots key bytes grows (Some id) on growth tells; is = refl }
+enqueues_openly notified n n' a slots key bytes grows None (inl none) growth same = record { refines = enqueues_where notified n n' a slots key bytes grows None (inl none) growth same; is = refl }
+enqueues_openly notified n n' a slots key bytes grows None (inr on) growth same =
+    reporting_flag (alone notified) (EnqueuesWhere grows key bytes) n n' a (with_slots slots a) false (is_some {T = ℕ} None) refl (kept_openly notified n n' a slots key bytes grows on.before on.after on.there on.slots on.changes same)
+enqueues_openly notified n n' a slots key bytes grows (Some id) on growth notifies = record { refines = enqueues_where notified n n' a slots key bytes grows (Some id) on growth notifies; is = refl }

@@ -6,9 +6,9 @@ use Rattle.wires.specs.declared.wire.Door.{Door}
 use Rattle.wires.specs.declared.wire.Progress.TheVariants.{Done}
 use Rattle.dispatcher.specs.Notes.{Note, Refused, DeviceRefused}
 use Rattle.dispatcher.specs.Run.{reply_of}
-use Rattle.dispatcher.specs.declared.listener.AllocationSite.{AllocationSite}
-use Rattle.dispatcher.specs.declared.listener.AllocationSite.TheVariants as At
-use Rattle.dispatcher.specs.declared.listener.DeviceRefusal.TheVariants as why
+use Rattle.dispatcher.specs.declared.observer.AllocationSite.{AllocationSite}
+use Rattle.dispatcher.specs.declared.observer.AllocationSite.TheVariants as At
+use Rattle.dispatcher.specs.declared.observer.DeviceRefusal.TheVariants as why
 use Rattle.dispatcher.specs.declared.outcome.Outcome.{Outcome}
 use Rattle.events.specs.declared.effects.Effects.{Effects}
 use Rattle.events.specs.declared.effects.Response.{Response}
@@ -23,21 +23,21 @@ use Rattle.ipp_operations.specs.declared.parsed_request.ParsedRequest.TheVariant
 use Rattle.ipp_operations.specs.ParsedRequest.{Asks}
 use Rattle.connections.specs.declared.ask.Ask.{Ask}
 use Rattle.connections.specs.declared.ask.Ask.TheVariants as ask
-use Rattle.connections.specs.declared.ask.Growth.{Growth}
+use Rattle.connections.specs.declared.ask.AllocFailure.{AllocFailure}
 use Rattle.connections.specs.declared.ask.Client.{Client}
-use Rattle.server.specs.Polls.{Happening, Told, alone}
+use Rattle.server.specs.Polls.{Happening, Notified, alone}
 use Rattle.server.specs.World.{moved}
-use Rattle.server.specs.Rel.{Rel, Tells, Then, Each}
+use Rattle.server.specs.Rel.{Rel, Notifies, Then, Each}
 use Rattle.server.specs.Happening.{Happens, ReportComes}
 use Rattle.server.specs.Acting.{place_of, ActsOn}
 use Rattle.server.specs.Answering.{Drops, Replies, IsShown, Answers, IsAnswered}
-use Rattle.server.specs.Closing.{Settles}
+use Rattle.server.specs.Closing.{ClosesBroken}
 use Rattle.server.specs.Polling.{Opens, AcceptsOne, ReadsOne, WritesOne, EndsOne}
 use Rattle.server.specs.Turn.{Outcome as Answer, OutOfMemory, BadRequest, is_due, Ticks, TicksIfDue, Round, BodyAsks, BodyBrings, BodyComes}
 use Rattle.server.specs.State.{EngineState, slot_at}
 use Rattle.server.specs.Refinement.{Refines, RefinesQuietly, RefinesReporting, RefinesAnswering}
 use Rattle.server.proofs.Steps.{refines_then, refines_moved, quietly_then, quietly_as, quietly_nothing, aloud, reporting_as, reporting_flag, reporting_then}
-use Rattle.server.proofs.Happening.{tells}
+use Rattle.server.proofs.Happening.{notifies}
 use Rattle.server.proofs.TurnsAndTicks.{ticks_due, covers, one_round}
 use Rattle.server.proofs.Accepts.{accepts_open}
 use Rattle.server.proofs.ServedBody.{answered_found, answered_refused}
@@ -76,10 +76,10 @@ module _ {S : Type 0} {moves : S → Happening → S → Type 0} where
   pub answers : (key id : ℕ) (who : Client) {moment : ℕ} {event : Event} {outcome : Outcome} {query refused : Bool} {reply : Option Effects} {u v w : S} {a b c : EngineState} → RefinesReporting moves (Happens moment event outcome) u a v b refused → query ≡ is_query event → reply ≡ reply_of outcome
       → RefinesQuietly moves (Answers key id who query reply) v b w c → RefinesQuietly moves (IsAnswered moment key id who event) u a w c
   answers key id who {moment} {event} {outcome} {query} {refused} {reply} {u} {v} {w} {a} {b} {c} p asked answered q =
-      let told : RefinesQuietly moves (Answers key id who (is_query event) (reply_of outcome)) v b w c =
+      let notified : RefinesQuietly moves (Answers key id who (is_query event) (reply_of outcome)) v b w c =
       subst (λ (t : Bool). RefinesQuietly moves (Answers key id who t (reply_of outcome)) v b w c) asked (subst (λ (o : Option Effects). RefinesQuietly moves (Answers key id who query o) v b w c) answered q) in
       quietly_as moves (Then (Happens moment event outcome) (Answers key id who (is_query event) (reply_of outcome))) (IsAnswered moment key id who event) u w a c (λ l hs l' fits fits' it. (outcome, it))
-      (quietly_then moves (Happens moment event outcome) (Answers key id who (is_query event) (reply_of outcome)) u v w a b c p.refines told)
+      (quietly_then moves (Happens moment event outcome) (Answers key id who (is_query event) (reply_of outcome)) u v w a b c p.refines notified)
 
   -- a request was dropped
   pub replies_none : (key id request : ℕ) (query : Bool) {reply : Option Effects} {u v : S} {a b : EngineState} → reply ≡ None → RefinesQuietly moves (Drops key id request) u a v b → RefinesQuietly moves (Replies key id request query reply) u a v b
@@ -108,34 +108,34 @@ module _ {S : Type 0} {moves : S → Happening → S → Type 0} where
   pub body_read : (body : List ℕ) (asked : ParsedRequest) {moment : ℕ} {answer : Answer} {u v : S} {a b : EngineState} → Asks body asked → RefinesAnswering moves (BodyAsks moment asked) u a v b answer → RefinesAnswering moves (BodyComes moment body) u a v b answer
   body_read body asked {moment} {answer} {u} {v} {a} {b} said p = answered_found moves (BodyAsks moment asked) (BodyComes moment body) u v a b answer (λ served l hs l' it. inl (asked, said, it)) p
 
-module _ {S : Type 0} {polled : S → Poll → S → Type 0} {told : S → Note → S → Type 0} where
+module _ {S : Type 0} {polled : S → Poll → S → Type 0} {notified : S → Note → S → Type 0} where
   -- a tick comes that is due
-  pub ticks_now : (test : Bool) {moment : ℕ} {u v w : S} {a b c : EngineState} {refused : Bool} → test ≡ is_due (max moment a.core.last) a.ticked a.undispatched → test ≡ true → RefinesReporting (alone told) (Ticks moment) u a v b refused → RefinesQuietly (moved polled told) (Settles moment) v b w c
-      → Refines (moved polled told) (TicksIfDue moment) u a w c
+  pub ticks_now : (test : Bool) {moment : ℕ} {u v w : S} {a b c : EngineState} {refused : Bool} → test ≡ is_due (max moment a.core.last) a.ticked a.undispatched → test ≡ true → RefinesReporting (alone notified) (Ticks moment) u a v b refused → RefinesQuietly (moved polled notified) (ClosesBroken moment) v b w c
+      → Refines (moved polled notified) (TicksIfDue moment) u a w c
   ticks_now test {moment} {u} {v} {w} {a} {b} {c} same due p q =
-      ticks_due (moved polled told) u w a c moment (sym same ∙ due)
-      (refines_then (moved polled told) (Ticks moment) (Settles moment) u v w a b c (refines_moved polled told (Ticks moment) u v a b (aloud (alone told) (Ticks moment) u v a b p.refines)) (aloud (moved polled told) (Settles moment) v w b c q))
+      ticks_due (moved polled notified) u w a c moment (sym same ∙ due)
+      (refines_then (moved polled notified) (Ticks moment) (ClosesBroken moment) u v w a b c (refines_moved polled notified (Ticks moment) u v a b (aloud (alone notified) (Ticks moment) u v a b p.refines)) (aloud (moved polled notified) (ClosesBroken moment) v w b c q))
 
   -- a connection is accepted at a door
-  pub comes : {door : Door} {id : ℕ} {u v w : S} {a b : EngineState} → polled u (Accepts door (Done id)) v → Refines (moved polled told) (Opens door id) v a w b → Refines (moved polled told) (AcceptsOne door) u a w b
-  comes {door} {id} {u} {v} {w} {a} {b} poll p = accepts_open (moved polled told) u v w a b door id poll p
+  pub comes : {door : Door} {id : ℕ} {u v w : S} {a b : EngineState} → polled u (Accepts door (Done id)) v → Refines (moved polled notified) (Opens door id) v a w b → Refines (moved polled notified) (AcceptsOne door) u a w b
+  comes {door} {id} {u} {v} {w} {a} {b} poll p = accepts_open (moved polled notified) u v w a b door id poll p
 
-module _ {N : Type 0} {told : N → Note → N → Type 0} where
+module _ {N : Type 0} {notified : N → Note → N → Type 0} where
   -- a note, and then R
-  pub tells_then : {R : Rel} {u v w : N} {a b : EngineState} {note : Note} → told u note v → RefinesQuietly (alone told) R v a w b → RefinesQuietly (alone told) (Then (Tells note) R) u a w b
-  tells_then {R} {u} {v} {w} {a} {b} {note} p q = quietly_then (alone told) (Tells note) R u v w a a b (tells told u v a note p) q
+  pub notifies_then : {R : Rel} {u v w : N} {a b : EngineState} {note : Note} → notified u note v → RefinesQuietly (alone notified) R v a w b → RefinesQuietly (alone notified) (Then (Notifies note) R) u a w b
+  notifies_then {R} {u} {v} {w} {a} {b} {note} p q = quietly_then (alone notified) (Notifies note) R u v w a a b (notifies notified u v a note p) q
 
-  -- an ask of which the listener alone is told
-  pub acts_broke : (moment key id : ℕ) {asked : Ask} {growth : Growth} {place : AllocationSite} {u v : N} {a : EngineState} → asked ≡ ask.Broke growth → place ≡ place_of growth → told u (Refused place (Some id)) v → RefinesQuietly (alone told) (ActsOn moment key id asked) u a v a
+  -- an ask of which the observer alone is notified
+  pub acts_broke : (moment key id : ℕ) {asked : Ask} {growth : AllocFailure} {place : AllocationSite} {u v : N} {a : EngineState} → asked ≡ ask.Broke growth → place ≡ place_of growth → notified u (Refused place (Some id)) v → RefinesQuietly (alone notified) (ActsOn moment key id asked) u a v a
   acts_broke moment key id {asked} {growth} {place} {u} {v} {a} is same p =
-      acts_as moment key id {what = ask.Broke growth} is (tells told u v a (Refused (place_of growth) (Some id)) (subst (λ (x : AllocationSite). told u (Refused x (Some id)) v) same p))
+      acts_as moment key id {what = ask.Broke growth} is (notifies notified u v a (Refused (place_of growth) (Some id)) (subst (λ (x : AllocationSite). notified u (Refused x (Some id)) v) same p))
 
-  pub acts_stranger : (moment key id : ℕ) {asked : Ask} {name : List ℕ} {u v : N} {a : EngineState} → asked ≡ ask.Stranger name → told u (DeviceRefused id (why.UnknownName name)) v → RefinesQuietly (alone told) (ActsOn moment key id asked) u a v a
-  acts_stranger moment key id {asked} {name} {u} {v} {a} is p = acts_as moment key id {what = ask.Stranger name} is (tells told u v a (DeviceRefused id (why.UnknownName name)) p)
+  pub acts_stranger : (moment key id : ℕ) {asked : Ask} {name : List ℕ} {u v : N} {a : EngineState} → asked ≡ ask.UnknownDevice name → notified u (DeviceRefused id (why.UnknownName name)) v → RefinesQuietly (alone notified) (ActsOn moment key id asked) u a v a
+  acts_stranger moment key id {asked} {name} {u} {v} {a} is p = acts_as moment key id {what = ask.UnknownDevice name} is (notifies notified u v a (DeviceRefused id (why.UnknownName name)) p)
 
-  pub acts_fault : (moment key id : ℕ) {asked : Ask} {device : Option ℕ} {u v : N} {a : EngineState} → asked ≡ ask.Fault device → told u (DeviceRefused id (why.Fault device)) v → RefinesQuietly (alone told) (ActsOn moment key id asked) u a v a
-  acts_fault moment key id {asked} {device} {u} {v} {a} is p = acts_as moment key id {what = ask.Fault device} is (tells told u v a (DeviceRefused id (why.Fault device)) p)
+  pub acts_fault : (moment key id : ℕ) {asked : Ask} {device : Option ℕ} {u v : N} {a : EngineState} → asked ≡ ask.Fault device → notified u (DeviceRefused id (why.Fault device)) v → RefinesQuietly (alone notified) (ActsOn moment key id asked) u a v a
+  acts_fault moment key id {asked} {device} {u} {v} {a} is p = acts_as moment key id {what = ask.Fault device} is (notifies notified u v a (DeviceRefused id (why.Fault device)) p)
 
   -- memory to parse a body was refused
-  pub body_unread : (body : List ℕ) {moment : ℕ} {u v : N} {a : EngineState} → told u (Refused At.Event None) v → RefinesAnswering (alone told) (BodyComes moment body) u a v a OutOfMemory
-  body_unread body {moment} {u} {v} {a} p = answered_refused told (BodyComes moment body) u v a a At.Event BadRequest p refl (λ l fits. (Told (Refused At.Event None) ∷ [], refl, inr (refl, refl)))
+  pub body_unread : (body : List ℕ) {moment : ℕ} {u v : N} {a : EngineState} → notified u (Refused At.Event None) v → RefinesAnswering (alone notified) (BodyComes moment body) u a v a OutOfMemory
+  body_unread body {moment} {u} {v} {a} p = answered_refused notified (BodyComes moment body) u v a a At.Event BadRequest p refl (λ l fits. (Notified (Refused At.Event None) ∷ [], refl, inr (refl, refl)))

@@ -1,4 +1,4 @@
--- The notes after those of an event: they tell of memory that was refused, and are no notes of the core.
+-- The notes after those of an event: they notify of memory that was refused, and are no notes of the core.
 use Rattle.std.proofs.Common.{◌≡◌, ℕ, Bool, true, false, List, [], ◌∷◌, ◌++◌, refl, sym, ◌∙◌, ap, subst, Option, Some, None, inl, inr}
 use Rattle.std.specs.Prelude.{◌||◌, map}
 use Rattle.std.proofs.lemmas.List.{append-nil, append_assoc}
@@ -11,14 +11,14 @@ use Rattle.events.specs.declared.effects.Effects.{Effects}
 use Rattle.events.specs.declared.effects.Cancel.{Cancel}
 use Rattle.dispatcher.specs.declared.outcome.Outcome.{Outcome}
 use Rattle.dispatcher.specs.declared.outcome.Outcome.TheVariants.{Dropped, Queried, Undispatched, Idle, Dispatched}
-use Rattle.dispatcher.specs.declared.listener.AllocationSite.{AllocationSite}
-use Rattle.dispatcher.specs.declared.listener.AllocationSite.TheVariants as At
+use Rattle.dispatcher.specs.declared.observer.AllocationSite.{AllocationSite}
+use Rattle.dispatcher.specs.declared.observer.AllocationSite.TheVariants as At
 use Rattle.dispatcher.specs.Notes.{Note, Planned, Canceled, DeviceRefused, Refused}
-use Rattle.dispatcher.specs.Run.{reply_of, cancels_told, Handles}
+use Rattle.dispatcher.specs.Run.{reply_of, cancel_notes, Handles}
 use Rattle.dispatcher.specs.Step.{TakesNoMemory}
-use Rattle.server.specs.Polls.{Happening, Polled, Told, Choice, Found, Chosen, seen}
+use Rattle.server.specs.Polls.{Happening, Polled, Notified, Choice, Found, Chosen, seen}
 use Rattle.server.specs.Ledger.{Ledger, with_entry, job_bytes}
-use Rattle.server.specs.Rel.{Rel, Nothing, Tells, Chooses, Then, If, Or, EachOf}
+use Rattle.server.specs.Rel.{Rel, Nothing, Notifies, Chooses, Then, If, Or, EachOf}
 use Rattle.server.specs.Enqueuing.{Sets, BreaksAt, Breaks, Drops, EnqueuesOpen, EnqueuesAt, EnqueuesWhere, Enqueues, EnqueuesOn}
 use Rattle.server.specs.Happening.{found_by, Sends, SendsAll, Starts, StartsAll, Orders, Happens}
 use Rattle.server.specs.Turn.{has_refusal}
@@ -35,8 +35,8 @@ notes_append hs ks = flat_map-append core_note hs ks
 pub never : {A : Type 0} → (refused : Bool) → refused ≡ true → refused ≡ false → A
 never refused is none = let same : true ≡ false = sym is ∙ none in absurd (cc)
 
-pub no_refusal_told : {A : Type 0} → (hs : List Happening) (place : AllocationSite) (id : Option ℕ) → has_refusal hs ≡ false → hs ≡ Told (Refused place id) ∷ [] → A
-no_refusal_told hs place id none is = never (has_refusal hs) (ap has_refusal is) none
+pub no_refusal_notified : {A : Type 0} → (hs : List Happening) (place : AllocationSite) (id : Option ℕ) → has_refusal hs ≡ false → hs ≡ Notified (Refused place id) ∷ [] → A
+no_refusal_notified hs place id none is = never (has_refusal hs) (ap has_refusal is) none
 
 left_false : (x y : Bool) → x || y ≡ false → x ≡ false
 left_false true y is = is
@@ -56,45 +56,45 @@ IsOther place id = refusal_note place id ≡ []
 -- the happenings are notes of such memory, and choices
 abbrev pub OnlyRefusals : List Happening → Type 0
 OnlyRefusals [] = Unit {0}
-OnlyRefusals (Told (Planned plan started) ∷ hs) = ⊥
-OnlyRefusals (Told (Canceled cancel) ∷ hs) = ⊥
-OnlyRefusals (Told (DeviceRefused id why) ∷ hs) = ⊥
-OnlyRefusals (Told (Refused place id) ∷ hs) = IsOther place id × OnlyRefusals hs
+OnlyRefusals (Notified (Planned plan started) ∷ hs) = ⊥
+OnlyRefusals (Notified (Canceled cancel) ∷ hs) = ⊥
+OnlyRefusals (Notified (DeviceRefused id why) ∷ hs) = ⊥
+OnlyRefusals (Notified (Refused place id) ∷ hs) = IsOther place id × OnlyRefusals hs
 OnlyRefusals (Polled poll ∷ hs) = ⊥
 OnlyRefusals (Chosen choice ∷ hs) = OnlyRefusals hs
 
 only_append : (hs ks : List Happening) → OnlyRefusals hs → OnlyRefusals ks → OnlyRefusals (hs ++ ks)
 only_append [] ks p q = q
-only_append (Told (Planned plan started) ∷ hs) ks p q = absurd p
-only_append (Told (Canceled cancel) ∷ hs) ks p q = absurd p
-only_append (Told (DeviceRefused id why) ∷ hs) ks p q = absurd p
-only_append (Told (Refused place id) ∷ hs) ks p q = (p.0, only_append hs ks p.1 q)
+only_append (Notified (Planned plan started) ∷ hs) ks p q = absurd p
+only_append (Notified (Canceled cancel) ∷ hs) ks p q = absurd p
+only_append (Notified (DeviceRefused id why) ∷ hs) ks p q = absurd p
+only_append (Notified (Refused place id) ∷ hs) ks p q = (p.0, only_append hs ks p.1 q)
 only_append (Polled poll ∷ hs) ks p q = absurd p
 only_append (Chosen choice ∷ hs) ks p q = only_append hs ks p q
 
 -- these happenings have no note of the core
 pub only_notes : (hs : List Happening) → OnlyRefusals hs → core_notes hs ≡ []
 only_notes [] p = refl
-only_notes (Told (Planned plan started) ∷ hs) p = absurd p
-only_notes (Told (Canceled cancel) ∷ hs) p = absurd p
-only_notes (Told (DeviceRefused id why) ∷ hs) p = absurd p
-only_notes (Told (Refused place id) ∷ hs) p = ap (λ (ns : List Note). ns ++ core_notes hs) p.0 ∙ only_notes hs p.1
+only_notes (Notified (Planned plan started) ∷ hs) p = absurd p
+only_notes (Notified (Canceled cancel) ∷ hs) p = absurd p
+only_notes (Notified (DeviceRefused id why) ∷ hs) p = absurd p
+only_notes (Notified (Refused place id) ∷ hs) p = ap (λ (ns : List Note). ns ++ core_notes hs) p.0 ∙ only_notes hs p.1
 only_notes (Polled poll ∷ hs) p = absurd p
 only_notes (Chosen choice ∷ hs) p = only_notes hs p
 
--- if no memory was refused, a wire and a listener see none of these happenings
+-- if no memory was refused, a wire and an observer see none of these happenings
 only_none : (hs : List Happening) → OnlyRefusals hs → has_refusal hs ≡ false → seen hs ≡ []
 only_none [] p none = refl
-only_none (Told (Planned plan started) ∷ hs) p none = absurd p
-only_none (Told (Canceled cancel) ∷ hs) p none = absurd p
-only_none (Told (DeviceRefused id why) ∷ hs) p none = absurd p
-only_none (Told (Refused place id) ∷ hs) p none = let both : true ≡ false = none in absurd (cc)
+only_none (Notified (Planned plan started) ∷ hs) p none = absurd p
+only_none (Notified (Canceled cancel) ∷ hs) p none = absurd p
+only_none (Notified (DeviceRefused id why) ∷ hs) p none = absurd p
+only_none (Notified (Refused place id) ∷ hs) p none = let both : true ≡ false = none in absurd (cc)
 only_none (Polled poll ∷ hs) p none = absurd p
 only_none (Chosen choice ∷ hs) p none = only_none hs p none
 
 -- ---- relations that leave the core unchanged
 
--- the core and the closed connections are unchanged, and the notes tell only of memory that was refused
+-- the core and the closed connections are unchanged, and the notes notify only of memory that was refused
 pub record Calm (l : Ledger) (hs : List Happening) (l' : Ledger) : Type 0 where
   pub core : l'.core ≡ l.core
   pub closed : l'.closed ≡ l.closed
@@ -127,8 +127,8 @@ pub calm_if : (test : Bool) (R S : Rel) → Calmly R → Calmly S → Calmly (If
 calm_if true R S f g l hs l' it = f l hs l' it
 calm_if false R S f g l hs l' it = g l hs l' it
 
-pub calm_refusal : (place : AllocationSite) (id : Option ℕ) → IsOther place id → Calmly (Tells (Refused place id))
-calm_refusal place id other l hs l' it = calm_by (Told (Refused place id) ∷ []) l l hs l' (other, tt) refl refl it
+pub calm_refusal : (place : AllocationSite) (id : Option ℕ) → IsOther place id → Calmly (Notifies (Refused place id))
+calm_refusal place id other l hs l' it = calm_by (Notified (Refused place id) ∷ []) l l hs l' (other, tt) refl refl it
 
 pub calm_choice : (choice : Choice) → Calmly (Chooses choice)
 calm_choice choice l hs l' it = calm_by (Chosen choice ∷ []) l l hs l' tt refl refl it
@@ -137,7 +137,7 @@ pub calm_sets : (key : ℕ) (e : Entry) → Calmly (Sets key e)
 calm_sets key e l hs l' it = calm_by [] (with_entry key e l) l hs l' tt refl refl it
 
 pub calm_drops : (place : AllocationSite) (key : ℕ) (e : Entry) → IsOther place (Some e.id) → Calmly (Drops place key e)
-calm_drops place key e other l hs l' it = calm_by (Told (Refused place (Some e.id)) ∷ []) (with_entry key (broken e) l) l hs l' (other, tt) refl refl it
+calm_drops place key e other l hs l' it = calm_by (Notified (Refused place (Some e.id)) ∷ []) (with_entry key (broken e) l) l hs l' (other, tt) refl refl it
 
 breaks_at : (key : ℕ) (o : Option Entry) → Calmly (BreaksAt key o)
 breaks_at key None = calm_nothing
@@ -189,27 +189,27 @@ calm_orders (Idle reply) = each_sent reply.cancels.items
 calm_orders (Dispatched reply) = calm_then {R = SendsAll reply} {S = StartsAll} (each_sent reply.cancels.items) all_started
 
 -- the notes of an event are notes of the core
-told_last : (cancels : List Cancel) (last : List Note) → core_notes (map Told last) ≡ last → core_notes (map Told (map Canceled cancels ++ last)) ≡ map Canceled cancels ++ last
-told_last [] last is = is
-told_last (cancel ∷ cancels) last is = ap (λ (ns : List Note). Canceled cancel ∷ ns) (told_last cancels last is)
+notified_last : (cancels : List Cancel) (last : List Note) → core_notes (map Notified last) ≡ last → core_notes (map Notified (map Canceled cancels ++ last)) ≡ map Canceled cancels ++ last
+notified_last [] last is = is
+notified_last (cancel ∷ cancels) last is = ap (λ (ns : List Note). Canceled cancel ∷ ns) (notified_last cancels last is)
 
-told_by : (notes : List Note) (reply : Effects) (last : List Note) → notes ≡ cancels_told reply ++ last → core_notes (map Told last) ≡ last → core_notes (map Told notes) ≡ notes
-told_by notes reply last is told = subst (λ (ns : List Note). core_notes (map Told ns) ≡ ns) (sym is) (told_last reply.cancels.items last told)
+notified_by : (notes : List Note) (reply : Effects) (last : List Note) → notes ≡ cancel_notes reply ++ last → core_notes (map Notified last) ≡ last → core_notes (map Notified notes) ≡ notes
+notified_by notes reply last is notified = subst (λ (ns : List Note). core_notes (map Notified ns) ≡ ns) (sym is) (notified_last reply.cancels.items last notified)
 
-told_back : (moment : ℕ) (event : Event) (old : State) (outcome : Outcome) (notes : List Note) (new : State) → Handles moment event old outcome notes new → core_notes (map Told notes) ≡ notes
-told_back moment event old Dropped notes new (same, none, heavy) = subst (λ (ns : List Note). core_notes (map Told ns) ≡ ns) (sym none) refl
-told_back moment event old (Queried reply) notes new (query, step, is) = told_by notes reply [] (is ∙ sym (append-nil (cancels_told reply))) refl
-told_back moment event old (Undispatched reply) notes new (query, step, ready, is) = told_by notes reply (Refused At.Dispatch None ∷ []) is refl
-told_back moment event old (Idle reply) notes new (query, mid, step, made, is) = told_by notes reply (Planned None [] ∷ []) is refl
-told_back moment event old (Dispatched reply) notes new (query, mid, step, plan, made, is) = told_by notes reply (Planned (Some plan) new.begun ∷ []) is refl
+notified_back : (moment : ℕ) (event : Event) (old : State) (outcome : Outcome) (notes : List Note) (new : State) → Handles moment event old outcome notes new → core_notes (map Notified notes) ≡ notes
+notified_back moment event old Dropped notes new (same, none, heavy) = subst (λ (ns : List Note). core_notes (map Notified ns) ≡ ns) (sym none) refl
+notified_back moment event old (Queried reply) notes new (query, step, is) = notified_by notes reply [] (is ∙ sym (append-nil (cancel_notes reply))) refl
+notified_back moment event old (Undispatched reply) notes new (query, step, ready, is) = notified_by notes reply (Refused At.Dispatch None ∷ []) is refl
+notified_back moment event old (Idle reply) notes new (query, mid, step, made, is) = notified_by notes reply (Planned None [] ∷ []) is refl
+notified_back moment event old (Dispatched reply) notes new (query, mid, step, plan, made, is) = notified_by notes reply (Planned (Some plan) new.begun ∷ []) is refl
 
--- an event came; its notes come first, and later notes tell only of memory that was refused
+-- an event came; its notes come first, and later notes notify only of memory that was refused
 pub record Happened (moment : ℕ) (event : Event) (outcome : Outcome) (l : Ledger) (hs : List Happening) (l' : Ledger) : Type 0 where
   pub notes : List Note
   pub later : List Happening
   pub handled : Handles moment event l.core outcome notes l'.core
   pub closed : l'.closed ≡ l.closed
-  pub whole : hs ≡ found_by outcome ++ (map Told notes ++ later)
+  pub whole : hs ≡ found_by outcome ++ (map Notified notes ++ later)
   pub only : OnlyRefusals later
 
 -- the choice that memory was found is no note of the core
@@ -223,17 +223,17 @@ found_notes (Dispatched reply) hs = refl
 -- the notes of the event are all notes of the core
 pub happened_notes : (moment : ℕ) (event : Event) (outcome : Outcome) (l : Ledger) (hs : List Happening) (l' : Ledger) (it : Happened moment event outcome l hs l') → core_notes hs ≡ it.notes
 happened_notes moment event outcome l hs l' it =
-    ap core_notes it.whole ∙ (found_notes outcome (map Told it.notes ++ it.later) ∙ (notes_append (map Told it.notes) it.later
-    ∙ (ap (λ (ns : List Note). core_notes (map Told it.notes) ++ ns) (only_notes it.later it.only)
-    ∙ (append-nil (core_notes (map Told it.notes)) ∙ told_back moment event l.core outcome it.notes l'.core it.handled))))
+    ap core_notes it.whole ∙ (found_notes outcome (map Notified it.notes ++ it.later) ∙ (notes_append (map Notified it.notes) it.later
+    ∙ (ap (λ (ns : List Note). core_notes (map Notified it.notes) ++ ns) (only_notes it.later it.only)
+    ∙ (append-nil (core_notes (map Notified it.notes)) ∙ notified_back moment event l.core outcome it.notes l'.core it.handled))))
 
--- if no memory was refused, a wire and a listener see the notes of the event, and nothing else
-pub happened_whole : (moment : ℕ) (event : Event) (outcome : Outcome) (l : Ledger) (hs : List Happening) (l' : Ledger) (it : Happened moment event outcome l hs l') → has_refusal hs ≡ false → seen hs ≡ map Told it.notes
+-- if no memory was refused, a wire and an observer see the notes of the event, and nothing else
+pub happened_whole : (moment : ℕ) (event : Event) (outcome : Outcome) (l : Ledger) (hs : List Happening) (l' : Ledger) (it : Happened moment event outcome l hs l') → has_refusal hs ≡ false → seen hs ≡ map Notified it.notes
 happened_whole moment event outcome l hs l' it none =
-    let rest : has_refusal (map Told it.notes ++ it.later) ≡ false = none_after hs (found_by outcome) (map Told it.notes ++ it.later) it.whole none in
-    let silent : seen it.later ≡ [] = only_none it.later it.only (none_after (map Told it.notes ++ it.later) (map Told it.notes) it.later refl rest) in
-    ap seen it.whole ∙ (found_unseen outcome (map Told it.notes ++ it.later) ∙ (seen_append (map Told it.notes) it.later
-    ∙ (ap (λ (ks : List Happening). ks ++ seen it.later) (notes_seen it.notes) ∙ (ap (λ (ks : List Happening). map Told it.notes ++ ks) silent ∙ append-nil (map Told it.notes)))))
+    let rest : has_refusal (map Notified it.notes ++ it.later) ≡ false = none_after hs (found_by outcome) (map Notified it.notes ++ it.later) it.whole none in
+    let silent : seen it.later ≡ [] = only_none it.later it.only (none_after (map Notified it.notes ++ it.later) (map Notified it.notes) it.later refl rest) in
+    ap seen it.whole ∙ (found_unseen outcome (map Notified it.notes ++ it.later) ∙ (seen_append (map Notified it.notes) it.later
+    ∙ (ap (λ (ks : List Happening). ks ++ seen it.later) (notes_seen it.notes) ∙ (ap (λ (ks : List Happening). map Notified it.notes ++ ks) silent ∙ append-nil (map Notified it.notes)))))
 
 pub happened : (moment : ℕ) (event : Event) (outcome : Outcome) (l : Ledger) (hs : List Happening) (l' : Ledger) → Happens moment event outcome l hs l' → Happened moment event outcome l hs l'
 happened moment event outcome l hs l' it =
@@ -245,7 +245,7 @@ happened moment event outcome l hs l' it =
       later = it.back;
       handled = subst (λ (s : State). Handles moment event l.core outcome made.notes s) (sym core) made.handles;
       closed = rest.closed ∙ ap (λ (x : Ledger). x.closed) made.after;
-      whole = it.whole ∙ (ap (λ (ks : List Happening). ks ++ it.back) made.told ∙ append_assoc (found_by outcome) (map Told made.notes) it.back);
+      whole = it.whole ∙ (ap (λ (ks : List Happening). ks ++ it.back) made.notified ∙ append_assoc (found_by outcome) (map Notified made.notes) it.back);
       only = rest.only;
     }
 
@@ -259,8 +259,8 @@ happened_then moment event outcome Q calm l hs l' it =
       later = one.later ++ it.back;
       handled = subst (λ (s : State). Handles moment event l.core outcome one.notes s) (sym rest.core) one.handled;
       closed = rest.closed ∙ one.closed;
-      whole = it.whole ∙ (ap (λ (ks : List Happening). ks ++ it.back) one.whole ∙ (append_assoc (found_by outcome) (map Told one.notes ++ one.later) it.back
-          ∙ ap (λ (ks : List Happening). found_by outcome ++ ks) (append_assoc (map Told one.notes) one.later it.back)));
+      whole = it.whole ∙ (ap (λ (ks : List Happening). ks ++ it.back) one.whole ∙ (append_assoc (found_by outcome) (map Notified one.notes ++ one.later) it.back
+          ∙ ap (λ (ks : List Happening). found_by outcome ++ ks) (append_assoc (map Notified one.notes) one.later it.back)));
       only = only_append one.later it.back one.only rest.only;
     }
 
@@ -268,7 +268,7 @@ happened_then moment event outcome Q calm l hs l' it =
 
 undispatched_never : {A : Type 0} → (moment : ℕ) (event : Event) (reply : Effects) (l : Ledger) (hs : List Happening) (l' : Ledger) → Happened moment event (Undispatched reply) l hs l' → has_refusal hs ≡ false → A
 undispatched_never moment event reply l hs l' it none =
-    never (has_refusal (map Told it.notes)) (refused_of moment event l.core (Undispatched reply) it.notes l'.core it.handled) (none_before (map Told it.notes ++ it.later) (map Told it.notes) it.later refl (none_after hs (found_by (Undispatched reply)) (map Told it.notes ++ it.later) it.whole none))
+    never (has_refusal (map Notified it.notes)) (refused_of moment event l.core (Undispatched reply) it.notes l'.core it.handled) (none_before (map Notified it.notes ++ it.later) (map Notified it.notes) it.later refl (none_after hs (found_by (Undispatched reply)) (map Notified it.notes ++ it.later) it.whole none))
 
 -- if no memory was refused, an event that takes no memory wasn't dropped
 pub whole_light : (moment : ℕ) (event : Event) (outcome : Outcome) (l : Ledger) (hs : List Happening) (l' : Ledger) → Happened moment event outcome l hs l' → TakesNoMemory event moment l.core → has_refusal hs ≡ false → IsWhole outcome
@@ -278,11 +278,11 @@ whole_light moment event (Undispatched reply) l hs l' it light none = undispatch
 whole_light moment event (Idle reply) l hs l' it light none = tt
 whole_light moment event (Dispatched reply) l hs l' it light none = tt
 
--- if no memory was refused, an event wasn't dropped whose caller tells of a drop
-pub whole_told : (moment : ℕ) (event : Event) (outcome : Outcome) (Q : Option Effects → Rel) → ((l : Ledger) (hs : List Happening) (l' : Ledger) → Q None l hs l' → has_refusal hs ≡ true)
+-- if no memory was refused, an event wasn't dropped whose caller notifies of a drop
+pub whole_notified : (moment : ℕ) (event : Event) (outcome : Outcome) (Q : Option Effects → Rel) → ((l : Ledger) (hs : List Happening) (l' : Ledger) → Q None l hs l' → has_refusal hs ≡ true)
     → (l : Ledger) (hs : List Happening) (l' : Ledger) → Then (Happens moment event outcome) (Q (reply_of outcome)) l hs l' → Happened moment event outcome l hs l' → has_refusal hs ≡ false → IsWhole outcome
-whole_told moment event Dropped Q told l hs l' it done none = never (has_refusal it.back) (told it.mid it.back l' it.second) (none_after hs it.front it.back it.whole none)
-whole_told moment event (Queried reply) Q told l hs l' it done none = tt
-whole_told moment event (Undispatched reply) Q told l hs l' it done none = undispatched_never moment event reply l hs l' done none
-whole_told moment event (Idle reply) Q told l hs l' it done none = tt
-whole_told moment event (Dispatched reply) Q told l hs l' it done none = tt
+whole_notified moment event Dropped Q notified l hs l' it done none = never (has_refusal it.back) (notified it.mid it.back l' it.second) (none_after hs it.front it.back it.whole none)
+whole_notified moment event (Queried reply) Q notified l hs l' it done none = tt
+whole_notified moment event (Undispatched reply) Q notified l hs l' it done none = undispatched_never moment event reply l hs l' done none
+whole_notified moment event (Idle reply) Q notified l hs l' it done none = tt
+whole_notified moment event (Dispatched reply) Q notified l hs l' it done none = tt

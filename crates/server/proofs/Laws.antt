@@ -15,17 +15,17 @@ use Rattle.dispatcher.specs.Step.{TakesNoMemory}
 use Rattle.ipp_operations.specs.declared.parsed_request.ParsedRequest.{ParsedRequest}
 use Rattle.ipp_operations.specs.declared.parsed_request.ParsedRequest.TheVariants as asks
 use Rattle.ipp_operations.specs.ParsedRequest.{Asks}
-use Rattle.dispatcher.specs.Notes.{Note, Tells}
-use Rattle.server.specs.Polls.{Happening, Polled, Told, Chosen, seen}
+use Rattle.dispatcher.specs.Notes.{Note, Notifies}
+use Rattle.server.specs.Polls.{Happening, Polled, Notified, Chosen, seen}
 use Rattle.server.specs.Ledger.{Ledger, Fate, opening_ledger}
 use Rattle.server.specs.Rel.{Rel}
 use Rattle.server.specs.Closing.{IsTaken}
 use Rattle.server.specs.Turn as Between
 use Rattle.server.specs.Turn.{has_refusal, Outcome as Given, Replied, OutOfMemory, IsBytes, Answers, BodyAsks, BodyComes, Action, Turned, Served_body, Reported, Ticked, seen_of, seen_in, DoesAction, Trace, Runs, Allows}
 use Rattle.server.specs.Law.{core_notes, Collects, moment_of, happenings_of, happenings_in, AreAt, IsWhole, IsOneRun, IsOneEvent, IsServed, IsAtMostOne, AllTaken}
-use Rattle.dispatcher.specs.declared.listener.AllocationSite.TheVariants as At
+use Rattle.dispatcher.specs.declared.observer.AllocationSite.TheVariants as At
 use Rattle.server.proofs.Steps.{seen_refusal}
-use Rattle.server.proofs.LaterNotes.{notes_append, no_refusal_told, none_before, none_after, Happened, happened_whole, happened, happened_then, whole_light, whole_told}
+use Rattle.server.proofs.LaterNotes.{notes_append, no_refusal_notified, none_before, none_after, Happened, happened_whole, happened, happened_then, whole_light, whole_notified}
 use Rattle.server.proofs.Parts.{calm_answers, ticked, Holds, action_in}
 use Rattle.connections.specs.Entry.{Entry}
 
@@ -58,18 +58,18 @@ all_taken opening trace ledger runs = taken_on trace (opening_ledger opening) le
 
 -- ---- one run of the core
 
-tells_after : (first before after notes : List Note) → Tells Collects before notes after → Tells Collects (first ++ before) notes (first ++ after)
-tells_after first before after [] same = ap (λ (ns : List Note). first ++ ns) same
-tells_after first before after (note ∷ notes) (mid, is, rest) =
-    (first ++ mid, ap (λ (ns : List Note). first ++ ns) is ∙ sym (append_assoc first before (note ∷ [])), tells_after first mid after notes rest)
+notifies_after : (first before after notes : List Note) → Notifies Collects before notes after → Notifies Collects (first ++ before) notes (first ++ after)
+notifies_after first before after [] same = ap (λ (ns : List Note). first ++ ns) same
+notifies_after first before after (note ∷ notes) (mid, is, rest) =
+    (first ++ mid, ap (λ (ns : List Note). first ++ ns) is ∙ sym (append_assoc first before (note ∷ [])), notifies_after first mid after notes rest)
 
 comes_after : (first before after : List Note) (old new : State) (timed : Timed) (outcome : Outcome) → Comes Collects old before timed outcome new after → Comes Collects old (first ++ before) timed outcome new (first ++ after)
-comes_after first before after old new timed outcome (notes, handled, told) = (notes, handled, tells_after first before after notes told)
+comes_after first before after old new timed outcome (notes, handled, notified) = (notes, handled, notifies_after first before after notes notified)
 
--- the listener that collects notes has all notes that it is told
-collected : (before notes : List Note) → Tells Collects before notes (before ++ notes)
+-- the observer that collects notes has all notes that it is notified
+collected : (before notes : List Note) → Notifies Collects before notes (before ++ notes)
 collected before [] = append-nil before
-collected before (note ∷ notes) = (before ++ note ∷ [], refl, subst (λ (ns : List Note). Tells Collects (before ++ note ∷ []) notes ns) (append_assoc before (note ∷ []) notes) (collected (before ++ note ∷ []) notes))
+collected before (note ∷ notes) = (before ++ note ∷ [], refl, subst (λ (ns : List Note). Notifies Collects (before ++ note ∷ []) notes ns) (append_assoc before (note ∷ []) notes) (collected (before ++ note ∷ []) notes))
 
 run_after : (first before after : List Note) (old new : State) (events : List Timed) (outcomes : List Outcome) → Run Collects old before events outcomes new after → Run Collects old (first ++ before) events outcomes new (first ++ after)
 run_after first before after old new [] [] (same, silent) = (same, ap (λ (ns : List Note). first ++ ns) silent)
@@ -83,8 +83,8 @@ run_then before heard more old mid new [] later [] others (same, silent) runs =
     subst (λ (s : State). Run Collects s before later others new (heard ++ more)) same
     (subst (λ (ns : List Note). Run Collects mid ns later others new (heard ++ more)) (append-nil heard ∙ silent)
     (run_after heard [] more mid new later others runs))
-run_then before heard more old mid new (timed ∷ events) later (outcome ∷ outcomes) others (next, told, comes, rest) runs =
-    (next, told, comes, run_then told heard more next mid new events later outcomes others rest runs)
+run_then before heard more old mid new (timed ∷ events) later (outcome ∷ outcomes) others (next, notified, comes, rest) runs =
+    (next, notified, comes, run_then notified heard more next mid new events later outcomes others rest runs)
 run_then before heard more old mid new [] later (outcome ∷ outcomes) others none runs = absurd none
 run_then before heard more old mid new (timed ∷ events) later [] others none runs = absurd none
 
@@ -145,7 +145,7 @@ one_run (action ∷ actions) old new (mid, refines, runs) =
 
 one_event : (moment : ℕ) (event : Event) (outcome : Outcome) (reply : Effects) (l : Ledger) (hs : List Happening) (l' : Ledger) → has_refusal hs ≡ false → IsWhole outcome → reply_of outcome ≡ Some reply → Happened moment event outcome l hs l' → IsOneEvent moment event reply l.core hs l'.core
 one_event moment event outcome reply l hs l' none whole is it =
-    record { outcome = outcome; notes = it.notes; answered = is; whole = whole; handled = it.handled; told = happened_whole moment event outcome l hs l' it none }
+    record { outcome = outcome; notes = it.notes; answered = is; whole = whole; handled = it.handled; notified = happened_whole moment event outcome l hs l' it none }
 
 -- an event has a reply if neither the event nor its dispatch was refused memory
 reply_there : (outcome : Outcome) → IsWhole outcome → (reply : Effects) × (reply_of outcome ≡ Some reply)
@@ -165,20 +165,20 @@ light_event moment event outcome l hs l' light none it =
 -- the bytes of a reply, if no memory was refused
 are_bytes : (request : ℕ) (reply : Option Effects) (bytes : List ℕ) (l : Ledger) (hs : List Happening) (l' : Ledger) → has_refusal hs ≡ false → Answers request reply bytes l hs l' → (it : Effects) × (reply ≡ Some it) × IsBytes request it.answer bytes
 are_bytes request (Some reply) bytes l hs l' none (inl (are, it)) = (reply, refl, are)
-are_bytes request (Some reply) bytes l hs l' none (inr it) = no_refusal_told hs At.Reply None none it.0
-are_bytes request None bytes l hs l' none it = no_refusal_told hs At.Event None none it.0
+are_bytes request (Some reply) bytes l hs l' none (inr it) = no_refusal_notified hs At.Reply None none it.0
+are_bytes request None bytes l hs l' none it = no_refusal_notified hs At.Event None none it.0
 
 event_served : (moment request : ℕ) (event : Event) (bytes : List ℕ) (answer : Given) (l : Ledger) (hs : List Happening) (l' : Ledger) → has_refusal hs ≡ false → answer ≡ Replied bytes → Between.IsAnswered moment request event bytes l hs l' → IsServed moment (asks.Event request event) answer l.core hs l'.core
 event_served moment request event bytes answer l hs l' none is (outcome, it) =
     let came = happened_then moment event outcome (Answers request (reply_of outcome) bytes) (calm_answers request (reply_of outcome) bytes) l hs l' it in
-    let whole = whole_told moment event outcome (λ reply. Answers request reply bytes) (λ a ks b told. ap has_refusal told.0) l hs l' it came none in
+    let whole = whole_notified moment event outcome (λ reply. Answers request reply bytes) (λ a ks b notified. ap has_refusal notified.0) l hs l' it came none in
     let are = are_bytes request (reply_of outcome) bytes it.mid it.back l' (none_after hs it.front it.back it.whole none) it.second in
     (are.0, bytes, is, are.2, one_event moment event outcome are.0 l hs l' none whole are.1 came)
 
 is_served : (moment : ℕ) (asked : ParsedRequest) (served answer : Given) (l : Ledger) (hs : List Happening) (l' : Ledger) → has_refusal hs ≡ false → answer ≡ served → BodyAsks moment asked served l hs l' → IsServed moment asked answer l.core hs l'.core
 is_served moment asks.TooShort served answer l hs l' none same (is, it) = (same ∙ is, (ap seen it.0, ap (λ (x : Ledger). x.core) it.1))
 is_served moment (asks.Refused status request) served answer l hs l' none same (is, inl it) = (same ∙ is, (ap seen it.0, ap (λ (x : Ledger). x.core) it.1))
-is_served moment (asks.Refused status request) served answer l hs l' none same (is, inr it) = no_refusal_told hs At.Reply None none it.0
+is_served moment (asks.Refused status request) served answer l hs l' none same (is, inr it) = no_refusal_notified hs At.Reply None none it.0
 is_served moment (asks.Event request event) served answer l hs l' none same (bytes, is, it) = event_served moment request event bytes answer l hs l' none (same ∙ is) it
 
 -- if the outcome isn't out of memory, no memory was refused
@@ -186,12 +186,12 @@ not_refused : (refused : Bool) (served answer : Given) → answer ≡ (if refuse
 not_refused true served answer is some = absurd (some is)
 not_refused false served answer is some = (refl, is)
 
--- `IsServed` depends only on the happenings that a wire and a listener see
+-- `IsServed` depends only on the happenings that a wire and an observer see
 served_seen : (moment : ℕ) (asked : ParsedRequest) (answer : Given) (old : State) (hs ks : List Happening) (new : State) → seen ks ≡ seen hs → IsServed moment asked answer old hs new → IsServed moment asked answer old ks new
 served_seen moment asks.TooShort answer old hs ks new same (is, it) = (is, (same ∙ it.0, it.1))
 served_seen moment (asks.Refused status request) answer old hs ks new same (is, it) = (is, (same ∙ it.0, it.1))
 served_seen moment (asks.Event request event) answer old hs ks new same (reply, bytes, is, are, one) =
-    (reply, bytes, is, are, record { outcome = one.outcome; notes = one.notes; answered = one.answered; whole = one.whole; handled = one.handled; told = same ∙ one.told })
+    (reply, bytes, is, are, record { outcome = one.outcome; notes = one.notes; answered = one.answered; whole = one.whole; handled = one.handled; notified = same ∙ one.notified })
 
 body_served : (moment : ℕ) (body : List ℕ) (served answer : Given) (l : Ledger) (hs : List Happening) (l' : Ledger) → has_refusal hs ≡ false → answer ≡ served → BodyComes moment body served l hs l' → (asked : ParsedRequest) × Asks body asked × IsServed moment asked answer l.core hs l'.core
 body_served moment body served answer l hs l' none same (inl (asked, are, it)) =
@@ -199,7 +199,7 @@ body_served moment body served answer l hs l' none same (inl (asked, are, it)) =
     let core : it.mid.core ≡ l.core = ap (λ (x : Ledger). x.core) it.first.1 in
     let sight : seen hs ≡ seen it.back = ap seen (it.whole ∙ ap (λ (ks : List Happening). ks ++ it.back) it.first.0) in
     (asked, are, served_seen moment asked answer l.core it.back hs l'.core sight (subst (λ (s : State). IsServed moment asked answer s it.back l'.core) core after))
-body_served moment body served answer l hs l' none same (inr it) = no_refusal_told hs At.Event None none it.0
+body_served moment body served answer l hs l' none same (inr it) = no_refusal_notified hs At.Event None none it.0
 
 pub at_most_one : (action : Action) (old new : Ledger) → DoesAction action old new → IsAtMostOne action old.core new.core
 at_most_one (Turned moment hs) old new it = tt
@@ -209,16 +209,16 @@ at_most_one (Reported moment device said hs) old new (report, is, (outcome, it))
     λ none. let one = light_event moment (Is.Report device report) outcome old hs new tt none (happened moment (Is.Report device report) outcome old hs new it) in (report, is, one.0, one.1)
 at_most_one (Ticked moment hs) old new it = λ none. let tick = ticked moment old hs new it in light_event moment Is.Tick tick.0 old hs new tt none tick.1
 
--- ---- traces as a wire and a listener see them
+-- ---- traces as a wire and an observer see them
 
 seen_again : (hs : List Happening) → seen (seen hs) ≡ seen hs
 seen_again [] = refl
 seen_again (Polled poll ∷ hs) = ap (λ (xs : List Happening). Polled poll ∷ xs) (seen_again hs)
-seen_again (Told note ∷ hs) = ap (λ (xs : List Happening). Told note ∷ xs) (seen_again hs)
+seen_again (Notified note ∷ hs) = ap (λ (xs : List Happening). Notified note ∷ xs) (seen_again hs)
 seen_again (Chosen choice ∷ hs) = seen_again hs
 
 event_seen : (moment : ℕ) (event : Event) (reply : Effects) (old : State) (hs : List Happening) (new : State) → IsOneEvent moment event reply old hs new → IsOneEvent moment event reply old (seen hs) new
-event_seen moment event reply old hs new one = record { outcome = one.outcome; notes = one.notes; answered = one.answered; whole = one.whole; handled = one.handled; told = seen_again hs ∙ one.told }
+event_seen moment event reply old hs new one = record { outcome = one.outcome; notes = one.notes; answered = one.answered; whole = one.whole; handled = one.handled; notified = seen_again hs ∙ one.notified }
 
 one_seen : (action : Action) (old new : State) → IsAtMostOne action old new → IsAtMostOne (seen_of action) old new
 one_seen (Turned moment hs) old new one = tt

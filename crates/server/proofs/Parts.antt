@@ -17,10 +17,10 @@ use Rattle.events.specs.declared.status.Status.{Status}
 use Rattle.events.specs.declared.status.Status.TheVariants.{TemporaryError}
 use Rattle.events.specs.Event.{is_query}
 use Rattle.dispatcher.specs.declared.outcome.Outcome.{Outcome}
-use Rattle.dispatcher.specs.declared.listener.DeviceRefusal.{DeviceRefusal}
-use Rattle.dispatcher.specs.declared.listener.DeviceRefusal.TheVariants as why
-use Rattle.dispatcher.specs.declared.listener.AllocationSite.{AllocationSite}
-use Rattle.dispatcher.specs.declared.listener.AllocationSite.TheVariants as At
+use Rattle.dispatcher.specs.declared.observer.DeviceRefusal.{DeviceRefusal}
+use Rattle.dispatcher.specs.declared.observer.DeviceRefusal.TheVariants as why
+use Rattle.dispatcher.specs.declared.observer.AllocationSite.{AllocationSite}
+use Rattle.dispatcher.specs.declared.observer.AllocationSite.TheVariants as At
 use Rattle.dispatcher.specs.Notes.{Note, DeviceRefused, Refused}
 use Rattle.dispatcher.specs.Run.{reply_of, Handles}
 use Rattle.ipp_operations.specs.declared.parsed_request.ParsedRequest.{ParsedRequest}
@@ -36,29 +36,29 @@ use Rattle.connections.specs.declared.ask.Ask.{Ask}
 use Rattle.connections.specs.declared.ask.Ask.TheVariants as ask
 use Rattle.connections.specs.declared.ask.Client.{Client}
 use Rattle.connections.specs.declared.ask.Client.TheVariants as client
-use Rattle.connections.specs.declared.ask.Growth.{Growth}
-use Rattle.connections.specs.declared.ask.Growth.TheVariants as growth
+use Rattle.connections.specs.declared.ask.AllocFailure.{AllocFailure}
+use Rattle.connections.specs.declared.ask.AllocFailure.TheVariants as growth
 use Rattle.connections.specs.declared.ask.Part.{Part}
 use Rattle.connections.specs.declared.ask.Part.TheVariants as part
-use Rattle.connections.specs.Entry.{Entry, opening_entry, device_of, closes_of, given_up, reading, waiting}
+use Rattle.connections.specs.Entry.{Entry, opening_entry, device_of, closes_of, superseded_entry, reading, waiting}
 use Rattle.connections.specs.Steps.{http_status}
 use Rattle.connections.specs.Choice.{part_of, lost_of}
-use Rattle.server.specs.Polls.{Happening, Polled, Told, Choice, Found, Opened, Rested, Looked, Chosen}
+use Rattle.server.specs.Polls.{Happening, Polled, Notified, Choice, Found, Opened, Rested, Looked, Chosen}
 use Rattle.server.specs.Polls as As
 use Rattle.server.specs.Ledger.{Ledger, Fate, Drained, Broken, with_entry, with_new}
-use Rattle.server.specs.Rel.{Rel, Nothing, Polls, Tells, Chooses, Then, If, Or, Times, Many, Each}
+use Rattle.server.specs.Rel.{Rel, Nothing, Polls, Notifies, Chooses, Then, If, Or, Times, Many, Each}
 use Rattle.server.specs.Enqueuing.{Sets, Breaks, Enqueues, EnqueuesReplyAt, EnqueuesResponse, EnqueuesStatus}
 use Rattle.server.specs.Happening.{Happens, Unanswered}
 use Rattle.server.specs.Closing as Closing
-use Rattle.server.specs.Closing.{Leaves, ClosesAs, ClosesFirst, Settles}
+use Rattle.server.specs.Closing.{Leaves, ClosesAs, ClosesFirst, ClosesBroken}
 use Rattle.server.specs.Answering as Answering
-use Rattle.server.specs.Greeting as Greeting
+use Rattle.server.specs.Hello as Hello
 use Rattle.server.specs.Acting as Acting
 use Rattle.server.specs.Polling.{Opens, AcceptsAs, AcceptsOne, AcceptsAt, Acts, Serves, FedWhole, FedOpen, FeedsAt, FeedsOne, Fails, ReadsAs, ReadsOpen, ReadsAt, is_read, ReadsOne, WritesAs, WritesOpen, WritesAt, WritesOne, is_done, EndsAt, EndsOne}
 use Rattle.server.specs.Turn as Between
 use Rattle.server.specs.Turn.{Ticks, is_tick_due, TicksIfDue, Covers, Round, Turn, has_refusal, Action, Turned, Served_body, Reported, Ticked, DoesAction}
 use Rattle.server.specs.Law.{core_notes, IsWhole, moment_of, happenings_of}
-use Rattle.server.proofs.LaterNotes.{only_notes, Calmly, calm_nothing, calm_choice, calm_then, calm_if, calm_or, calm_refusal, calm_sets, calm_drops, calm_breaks, calm_enqueues, IsOther, Happened, happened_notes, happened, happened_then, whole_light, whole_told}
+use Rattle.server.proofs.LaterNotes.{only_notes, Calmly, calm_nothing, calm_choice, calm_then, calm_if, calm_or, calm_refusal, calm_sets, calm_drops, calm_breaks, calm_enqueues, IsOther, Happened, happened_notes, happened, happened_then, whole_light, whole_notified}
 
 -- the core and the closed connections are unchanged, and there is no note of the core
 pub record IsCalm (l : Ledger) (hs : List Happening) (l' : Ledger) : Type 0 where
@@ -155,13 +155,13 @@ calm_answer key id request query None = calm_dropped key id request
 calm_shows : (key id : ℕ) (text : List ℕ) → Calmly (Answering.Shows key id text)
 calm_shows key id text = calm_or (calm_then (calm_choice Found) (calm_enqueues key text)) (calm_then (calm_refusal At.Reply (Some id) refl) (calm_breaks key))
 
-calm_told : (key id : ℕ) (answer : LpdResponse) → Calmly (Answering.IsTold key id answer)
-calm_told key id (shown.Taken taken) = calm_enqueues key (ack_of (shown.Taken taken) ∷ [])
-calm_told key id (shown.Queue listing) = calm_shows key id (text_of (shown.Queue listing))
-calm_told key id shown.NoQueue = calm_shows key id (text_of shown.NoQueue)
+calm_notified : (key id : ℕ) (answer : LpdResponse) → Calmly (Answering.SendsLpd key id answer)
+calm_notified key id (shown.Taken taken) = calm_enqueues key (ack_of (shown.Taken taken) ∷ [])
+calm_notified key id (shown.Queue listing) = calm_shows key id (text_of (shown.Queue listing))
+calm_notified key id shown.NoQueue = calm_shows key id (text_of shown.NoQueue)
 
 calm_answered : (key id : ℕ) (answer : Response) → Calmly (Answering.IsShown key id answer)
-calm_answered key id (answered.Lpd answer) = calm_told key id answer
+calm_answered key id (answered.Lpd answer) = calm_notified key id answer
 calm_answered key id (answered.Ipp answer) = calm_nothing
 calm_answered key id answered.Nothing = calm_nothing
 
@@ -176,7 +176,7 @@ calm_responds : (key id : ℕ) (reply : Option Effects) → Calmly (Answering.Re
 calm_responds key id (Some reply) = calm_answered key id reply.answer
 calm_responds key id None = calm_then (calm_refusal At.Event (Some id) refl) (calm_breaks key)
 
-other_growth : (growth : Growth) (id : ℕ) → IsOther (Acting.place_of growth) (Some id)
+other_growth : (growth : AllocFailure) (id : ℕ) → IsOther (Acting.place_of growth) (Some id)
 other_growth growth.Input id = refl
 other_growth growth.Output id = refl
 
@@ -184,10 +184,10 @@ other_part : (part : Part) (id : ℕ) → IsOther (Acting.place_of_part part) (S
 other_part part.File id = refl
 other_part part.Job id = refl
 
--- ---- the listener is told of an event that was dropped
+-- ---- the observer is notified of an event that was dropped
 
--- the listener is told first that memory was refused
-refused_first : (place : AllocationSite) (id : Option ℕ) (Q : Rel) (l : Ledger) (hs : List Happening) (l' : Ledger) → Then (Tells (Refused place id)) Q l hs l' → has_refusal hs ≡ true
+-- the observer is notified first that memory was refused
+refused_first : (place : AllocationSite) (id : Option ℕ) (Q : Rel) (l : Ledger) (hs : List Happening) (l' : Ledger) → Then (Notifies (Refused place id)) Q l hs l' → has_refusal hs ≡ true
 refused_first place id Q l hs l' it = ap has_refusal (it.whole ∙ ap (λ (ks : List Happening). ks ++ it.back) it.first.0)
 
 calm_client : (key id : ℕ) (who : Client) (query : Bool) (reply : Option Effects) → Calmly (Answering.Answers key id who query reply)
@@ -195,10 +195,10 @@ calm_client key id (client.Ipp request) query reply = calm_answer key id request
 calm_client key id client.LpdJob query reply = calm_acknowledges key id reply
 calm_client key id client.LpdCommand query reply = calm_responds key id reply
 
-dropped_told : (key id : ℕ) (who : Client) (query : Bool) (l : Ledger) (hs : List Happening) (l' : Ledger) → Answering.Answers key id who query None l hs l' → has_refusal hs ≡ true
-dropped_told key id (client.Ipp request) query = refused_first At.Event (Some id) (EnqueuesStatus key TemporaryError request)
-dropped_told key id client.LpdJob query = refused_first At.Event (Some id) (Enqueues key (1 ∷ []))
-dropped_told key id client.LpdCommand query = refused_first At.Event (Some id) (Breaks key)
+dropped_notified : (key id : ℕ) (who : Client) (query : Bool) (l : Ledger) (hs : List Happening) (l' : Ledger) → Answering.Answers key id who query None l hs l' → has_refusal hs ≡ true
+dropped_notified key id (client.Ipp request) query = refused_first At.Event (Some id) (EnqueuesStatus key TemporaryError request)
+dropped_notified key id client.LpdJob query = refused_first At.Event (Some id) (Enqueues key (1 ∷ []))
+dropped_notified key id client.LpdCommand query = refused_first At.Event (Some id) (Breaks key)
 
 -- ---- actions
 
@@ -249,12 +249,12 @@ module _ (moment : ℕ) (P : Rel) (k : Holds moment P) where
 
   -- ---- events
 
-  -- P holds for an event and its reply, if the listener is told of an event that was dropped
+  -- P holds for an event and its reply, if the observer is notified of an event that was dropped
   answered_in : (event : Event) (Q : Option Effects → Rel) → ((reply : Option Effects) → Calmly (Q reply)) → ((l : Ledger) (hs : List Happening) (l' : Ledger) → Q None l hs l' → has_refusal hs ≡ true)
       → (outcome : Outcome) → Within P (Then (Happens moment event outcome) (Q (reply_of outcome)))
-  answered_in event Q calm told outcome l hs l' it =
+  answered_in event Q calm notified outcome l hs l' it =
       let came = happened_then moment event outcome (Q (reply_of outcome)) (calm (reply_of outcome)) l hs l' it in
-      k.event l hs l' (event_as moment event outcome l hs l' (λ none. whole_told moment event outcome Q told l hs l' it came none) came)
+      k.event l hs l' (event_as moment event outcome l hs l' (λ none. whole_notified moment event outcome Q notified l hs l' it came none) came)
 
   reported_in : (device : ℕ) (report : Report) → Within P (Unanswered moment (Is.Report device report))
   reported_in device report l hs l' (outcome, it) =
@@ -278,7 +278,7 @@ module _ (moment : ℕ) (P : Rel) (k : Holds moment P) where
   closes_first_in : Within P (ClosesFirst moment)
   closes_first_in l hs l' it = closes_in Broken it.key it.entry l hs l' it.closes
 
-  settles_in : Within P (Settles moment)
+  settles_in : Within P (ClosesBroken moment)
   settles_in l hs l' it = many_in (ClosesFirst moment) closes_first_in l hs l' it.0
 
   fails_in : (key : ℕ) → Within P (Fails moment key)
@@ -287,22 +287,22 @@ module _ (moment : ℕ) (P : Rel) (k : Holds moment P) where
   -- ---- the asks of connections
 
   answers_in : (key id : ℕ) (who : Client) (event : Event) → Within P (Answering.IsAnswered moment key id who event)
-  answers_in key id who event l hs l' (outcome, it) = answered_in event (Answering.Answers key id who (is_query event)) (calm_client key id who (is_query event)) (dropped_told key id who (is_query event)) outcome l hs l' it
+  answers_in key id who event l hs l' (outcome, it) = answered_in event (Answering.Answers key id who (is_query event)) (calm_client key id who (is_query event)) (dropped_notified key id who (is_query event)) outcome l hs l' it
 
-  tells_in : (device : ℕ) (said : ReportRecord) → Within P (Greeting.Tells moment device said)
-  tells_in device said l hs l' (report, is, it) = reported_in device report l hs l' it
+  notifies_in : (device : ℕ) (said : ReportRecord) → Within P (Hello.ReportComes moment device said)
+  notifies_in device said l hs l' (report, is, it) = reported_in device report l hs l' it
 
-  gives_way_at_in : (key : ℕ) (o : Option Entry) → Within P (Greeting.GivesWayAt key o)
+  gives_way_at_in : (key : ℕ) (o : Option Entry) → Within P (Hello.IsSupersededAt key o)
   gives_way_at_in key None = nothing_in
-  gives_way_at_in key (Some e) = sets_in key (given_up e)
+  gives_way_at_in key (Some e) = sets_in key (superseded_entry e)
 
-  gives_way_in : (key : ℕ) → Within P (Greeting.GivesWay key)
+  gives_way_in : (key : ℕ) → Within P (Hello.IsSuperseded key)
   gives_way_in key l hs l' it = gives_way_at_in key (l.entries key) l hs l' it
 
-  turned_away_in : (id : ℕ) (reason : DeviceRefusal) → Within P (Tells (DeviceRefused id reason))
-  turned_away_in id reason = same_in (Told (DeviceRefused id reason) ∷ []) refl
+  turned_away_in : (id : ℕ) (reason : DeviceRefusal) → Within P (Notifies (DeviceRefused id reason))
+  turned_away_in id reason = same_in (Notified (DeviceRefused id reason) ∷ []) refl
 
-  greets_in : (key id device : ℕ) (name : List ℕ) → Within P (Greeting.Greets moment key id device name)
+  greets_in : (key id device : ℕ) (name : List ℕ) → Within P (Hello.HandlesHello moment key id device name)
   greets_in key id device name l hs l' (inl (absent, it)) = reported_in device (reported.Hello name) l hs l' it
   greets_in key id device name l hs l' (inr (inl (other, ended, it))) = then_in (gives_way_in other) (then_in (gone_in (Some device)) (reported_in device (reported.Hello name))) l hs l' it
   greets_in key id device name l hs l' (inr (inr (other, is, it))) = then_in (gives_way_in key) (turned_away_in id (why.Connected device)) l hs l' it
@@ -315,7 +315,7 @@ module _ (moment : ℕ) (P : Rel) (k : Holds moment P) where
   refines_in key id (ask.Lost part) = calmly_in (calm_declines (Acting.place_of_part part) key id (other_part part id))
   refines_in key id (ask.Hello device name) = greets_in key id device name
   refines_in key id (ask.Report device report) = reported_in device report
-  refines_in key id (ask.Stranger name) = turned_away_in id (why.UnknownName name)
+  refines_in key id (ask.UnknownDevice name) = turned_away_in id (why.UnknownName name)
   refines_in key id (ask.Fault device) = turned_away_in id (why.Fault device)
 
   asks_in : (key id : ℕ) (what : Ask) → Within P (Acting.Asks key id what)
@@ -374,14 +374,14 @@ module _ (moment : ℕ) (P : Rel) (k : Holds moment P) where
 
   ends_at_in : (key : ℕ) (o : Option Entry) → Within P (EndsAt moment key o)
   ends_at_in key None = nothing_in
-  ends_at_in key (Some e) = if_in (is_done e) (Then (ClosesAs moment Drained key e) (Settles moment)) Nothing (then_in (closes_in Drained key e) settles_in) nothing_in
+  ends_at_in key (Some e) = if_in (is_done e) (Then (ClosesAs moment Drained key e) (ClosesBroken moment)) Nothing (then_in (closes_in Drained key e) settles_in) nothing_in
 
   ends_one_in : (key : ℕ) → Within P (EndsOne moment key)
   ends_one_in key l hs l' it = ends_at_in key (l.entries key) l hs l' it
 
   opens_in : (door : Door) (id : ℕ) → Within P (Opens door id)
   opens_in door id l hs l' (inl (key, free, none, after)) = k.calm l hs l' (calm_as (Chosen (Opened key) ∷ []) (with_new key (opening_entry door id) l) l hs l' refl refl refl (none, after))
-  opens_in door id l hs l' (inr it) = same_in (Told (Refused At.Accept (Some id)) ∷ Polled (Closes id) ∷ []) refl l hs l' it
+  opens_in door id l hs l' (inr it) = same_in (Notified (Refused At.Accept (Some id)) ∷ Polled (Closes id) ∷ []) refl l hs l' it
 
   accepts_as_in : (door : Door) (answer : WireAnswer ℕ) → Within P (AcceptsAs door answer)
   accepts_as_in door (wire.Done id) = then_in (polls_in (Accepts door (wire.Done id))) (opens_in door id)
@@ -393,7 +393,7 @@ module _ (moment : ℕ) (P : Rel) (k : Holds moment P) where
   accepts_in door l hs l' it = if_in (nat_lt l.count CONNECTIONS) (AcceptsOne door) Nothing (λ a ks b (answer, is). accepts_as_in door answer a ks b is) nothing_in l hs l' it
 
   tick_due_in : Within P (TicksIfDue moment)
-  tick_due_in l hs l' it = if_in (is_tick_due moment l) (Then (Ticks moment) (Settles moment)) Nothing (then_in ticks_in settles_in) nothing_in l hs l' it
+  tick_due_in l hs l' it = if_in (is_tick_due moment l) (Then (Ticks moment) (ClosesBroken moment)) Nothing (then_in ticks_in settles_in) nothing_in l hs l' it
 
   round_in : Within P (Round moment)
   round_in l hs l' (n, it) =
@@ -408,7 +408,7 @@ module _ (moment : ℕ) (P : Rel) (k : Holds moment P) where
 
   body_event_in : (request : ℕ) (event : Event) (bytes : List ℕ) → Within P (Between.IsAnswered moment request event bytes)
   body_event_in request event bytes l hs l' (outcome, it) =
-      answered_in event (λ reply. Between.Answers request reply bytes) (λ reply. calm_answers request reply bytes) (λ a ks b told. ap has_refusal told.0) outcome l hs l' it
+      answered_in event (λ reply. Between.Answers request reply bytes) (λ reply. calm_answers request reply bytes) (λ a ks b notified. ap has_refusal notified.0) outcome l hs l' it
 
   asked_in : (asked : ParsedRequest) (served : Between.Outcome) → Within P (Between.BodyAsks moment asked served)
   asked_in asks.TooShort served l hs l' (is, it) = nothing_in l hs l' it
@@ -423,7 +423,7 @@ module _ (moment : ℕ) (P : Rel) (k : Holds moment P) where
   serves_body_in body answer l hs l' (served, is, it) = body_in body served l hs l' it
 
   reports_in : (device : ℕ) (said : ReportRecord) → Within P (Between.Reports moment device said)
-  reports_in device said = tells_in device said
+  reports_in device said = notifies_in device said
 
 -- what holds for all parts of an action holds for the action
 pub action_in : (P : Rel) (action : Action) → Holds (moment_of action) P → (l l' : Ledger) → DoesAction action l l' → P l (happenings_of action) l'

@@ -10,8 +10,8 @@ use Rattle.events.specs.declared.effects.LpdResponse.TheVariants as Shown
 use Rattle.events.specs.declared.status.Status.TheVariants.{TemporaryError}
 use Rattle.events.specs.Event.{is_query}
 use Rattle.dispatcher.specs.declared.outcome.Outcome.{Outcome}
-use Rattle.dispatcher.specs.declared.listener.AllocationSite.{AllocationSite}
-use Rattle.dispatcher.specs.declared.listener.AllocationSite.TheVariants as At
+use Rattle.dispatcher.specs.declared.observer.AllocationSite.{AllocationSite}
+use Rattle.dispatcher.specs.declared.observer.AllocationSite.TheVariants as At
 use Rattle.dispatcher.specs.Notes.{Refused}
 use Rattle.dispatcher.specs.Run.{reply_of}
 use Rattle.ipp_operations.specs.Reply.{IsReply}
@@ -20,7 +20,7 @@ use Rattle.ipp_operations.specs.declared.queue_text.TheConstants.{REFUSED}
 use Rattle.connections.specs.declared.ask.Client.{Client}
 use Rattle.connections.specs.declared.ask.Client.TheVariants as client
 use Rattle.server.specs.Polls.{Found}
-use Rattle.server.specs.Rel.{Rel, Nothing, Tells, Chooses, Then, If, Or}
+use Rattle.server.specs.Rel.{Rel, Nothing, Notifies, Chooses, Then, If, Or}
 use Rattle.server.specs.Enqueuing.{Breaks, Enqueues, EnqueuesResponse, EnqueuesStatus}
 use Rattle.server.specs.Happening.{Happens}
 
@@ -28,12 +28,12 @@ use Rattle.server.specs.Happening.{Happens}
 
 -- a request was dropped, out of memory, and its reply is the status of a temporary error
 abbrev pub Drops : ℕ → ℕ → ℕ → Rel
-Drops key id request = Then (Tells (Refused At.Event (Some id))) (EnqueuesStatus key TemporaryError request)
+Drops key id request = Then (Notifies (Refused At.Event (Some id))) (EnqueuesStatus key TemporaryError request)
 
 -- Memory for the bytes of a reply is refused, and the event isn't undone. The reply to a query is then the status of a
 -- temporary error. After any other event the connection breaks.
 abbrev pub LosesReply : ℕ → ℕ → ℕ → Bool → Rel
-LosesReply key id request query = Then (Tells (Refused At.Reply (Some id))) (If query (EnqueuesStatus key TemporaryError request) (Breaks key))
+LosesReply key id request query = Then (Notifies (Refused At.Reply (Some id))) (If query (EnqueuesStatus key TemporaryError request) (Breaks key))
 
 -- the response to an IPP request, if the response is one
 abbrev pub ipp_answer : Response → Option IppResponse
@@ -57,20 +57,20 @@ Replies key id request query None = Drops key id request
 
 -- memory for a file or for a job is refused, and the client gets the refusal, the byte 01 (RFC 1179, section 6)
 abbrev pub Declines : AllocationSite → ℕ → ℕ → Rel
-Declines place key id = Then (Tells (Refused place (Some id))) (Enqueues key (REFUSED ∷ []))
+Declines place key id = Then (Notifies (Refused place (Some id))) (Enqueues key (REFUSED ∷ []))
 
 -- a text becomes due; if memory for the text is refused, the connection breaks without a byte of the text
 abbrev pub Shows : ℕ → ℕ → List ℕ → Rel
-Shows key id text = Or (Then (Chooses Found) (Enqueues key text)) (Then (Tells (Refused At.Reply (Some id))) (Breaks key))
+Shows key id text = Or (Then (Chooses Found) (Enqueues key text)) (Then (Notifies (Refused At.Reply (Some id))) (Breaks key))
 
-abbrev pub IsTold : ℕ → ℕ → LpdResponse → Rel
-IsTold key id (Shown.Taken taken) = Enqueues key (ack_of (Shown.Taken taken) ∷ [])
-IsTold key id (Shown.Queue listing) = Shows key id (text_of (Shown.Queue listing))
-IsTold key id Shown.NoQueue = Shows key id (text_of Shown.NoQueue)
+abbrev pub SendsLpd : ℕ → ℕ → LpdResponse → Rel
+SendsLpd key id (Shown.Taken taken) = Enqueues key (ack_of (Shown.Taken taken) ∷ [])
+SendsLpd key id (Shown.Queue listing) = Shows key id (text_of (Shown.Queue listing))
+SendsLpd key id Shown.NoQueue = Shows key id (text_of Shown.NoQueue)
 
 -- A job is acknowledged, and takes no memory for a reply. A queue is shown. A removal of jobs has no response.
 abbrev pub IsShown : ℕ → ℕ → Response → Rel
-IsShown key id (responds.Lpd answer) = IsTold key id answer
+IsShown key id (responds.Lpd answer) = SendsLpd key id answer
 IsShown key id (responds.Ipp answer) = Nothing
 IsShown key id responds.Nothing = Nothing
 
@@ -82,7 +82,7 @@ Acknowledges key id None = Declines At.Event key id
 -- the response to a command becomes due; if the event was dropped, the connection breaks
 abbrev pub Responds : ℕ → ℕ → Option Effects → Rel
 Responds key id (Some reply) = IsShown key id reply.answer
-Responds key id None = Then (Tells (Refused At.Event (Some id))) (Breaks key)
+Responds key id None = Then (Notifies (Refused At.Event (Some id))) (Breaks key)
 
 -- ---- any client
 

@@ -2,12 +2,12 @@
 use Rattle.std.specs.Prelude.{ℕ, ◌≡◌, ◌<◌, ◌⊎◌, Bool, List, [], ◌∷◌, Option, Some, None}
 use Rattle.events.specs.declared.status.Status.{Status}
 use Rattle.send_queues.specs.Reply.{http_reply}
-use Rattle.dispatcher.specs.declared.listener.AllocationSite.{AllocationSite}
-use Rattle.dispatcher.specs.declared.listener.AllocationSite.TheVariants.{Enqueue}
+use Rattle.dispatcher.specs.declared.observer.AllocationSite.{AllocationSite}
+use Rattle.dispatcher.specs.declared.observer.AllocationSite.TheVariants.{Enqueue}
 use Rattle.dispatcher.specs.Notes.{Refused}
 use Rattle.connections.specs.Entry.{Entry, device_of, closes_of, broken, owing, needs_memory}
 use Rattle.connections.specs.Steps.{http_status}
-use Rattle.server.specs.Polls.{Told, Found}
+use Rattle.server.specs.Polls.{Notified, Found}
 use Rattle.server.specs.Ledger.{Ledger, with_entry}
 use Rattle.server.specs.Rel.{Rel, Nothing, Chooses, Then, If, Or}
 
@@ -24,7 +24,7 @@ Breaks key l hs l' = BreaksAt key (l.entries key) l hs l'
 
 -- the allocator refused memory for a growth of the connection under a key, and the connection breaks
 abbrev pub Drops : AllocationSite → ℕ → Entry → Rel
-Drops place key e l hs l' = (hs ≡ Told (Refused place (Some e.id)) ∷ []) × (l' ≡ with_entry key (broken e) l)
+Drops place key e l hs l' = (hs ≡ Notified (Refused place (Some e.id)) ∷ []) × (l' ≡ with_entry key (broken e) l)
 
 abbrev pub EnqueuesOpen : Bool → ℕ → List ℕ → Entry → Rel
 EnqueuesOpen refusable key bytes e = If refusable (Or (Then (Chooses Found) (Sets key (owing bytes e))) (Drops Enqueue key e)) (Sets key (owing bytes e))

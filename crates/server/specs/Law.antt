@@ -8,8 +8,8 @@ use Rattle.print_room.specs.State.{State}
 use Rattle.events.specs.declared.event.Event.{Event}
 use Rattle.events.specs.declared.event.Event.TheVariants as Is
 use Rattle.events.specs.declared.effects.Effects.{Effects}
-use Rattle.dispatcher.specs.declared.listener.AllocationSite.{AllocationSite}
-use Rattle.dispatcher.specs.declared.listener.AllocationSite.TheVariants as At
+use Rattle.dispatcher.specs.declared.observer.AllocationSite.{AllocationSite}
+use Rattle.dispatcher.specs.declared.observer.AllocationSite.TheVariants as At
 use Rattle.dispatcher.specs.declared.run.Timed.{Timed}
 use Rattle.dispatcher.specs.declared.outcome.Outcome.{Outcome}
 use Rattle.dispatcher.specs.declared.outcome.Outcome.TheVariants.{Dropped, Queried, Undispatched, Idle, Dispatched}
@@ -19,7 +19,7 @@ use Rattle.ipp_operations.specs.declared.parsed_request.ParsedRequest.TheVariant
 use Rattle.ipp_operations.specs.ParsedRequest.{Asks}
 use Rattle.ipp_operations.specs.Reply.{refusal_bytes}
 use Rattle.dispatcher.specs.Notes.{Note, Planned, Canceled, DeviceRefused, Refused}
-use Rattle.server.specs.Polls.{Happening, Polled, Told, Chosen, seen}
+use Rattle.server.specs.Polls.{Happening, Polled, Notified, Chosen, seen}
 use Rattle.connections.specs.declared.ask.Ask.{Ask}
 use Rattle.connections.specs.declared.ask.Ask.TheVariants as ask
 use Rattle.connections.specs.Entry.{Entry, waiting, owing}
@@ -38,10 +38,10 @@ refusal_note place id = []
 
 -- the note of the core in a happening, if there is one: a dispatch, a dispatch that was refused memory, or a cancel
 abbrev pub core_note : Happening → List Note
-core_note (Told (Planned plan started)) = Planned plan started ∷ []
-core_note (Told (Canceled cancel)) = Canceled cancel ∷ []
-core_note (Told (DeviceRefused id why)) = []
-core_note (Told (Refused place id)) = refusal_note place id
+core_note (Notified (Planned plan started)) = Planned plan started ∷ []
+core_note (Notified (Canceled cancel)) = Canceled cancel ∷ []
+core_note (Notified (DeviceRefused id why)) = []
+core_note (Notified (Refused place id)) = refusal_note place id
 core_note (Polled poll) = []
 core_note (Chosen choice) = []
 
@@ -49,7 +49,7 @@ core_note (Chosen choice) = []
 abbrev pub core_notes : List Happening → List Note
 core_notes hs = flat_map core_note hs
 
--- the listener that appends each note to a list
+-- the observer that appends each note to a list
 abbrev pub Collects : List Note → Note → List Note → Type 0
 Collects before note after = after ≡ before ++ note ∷ []
 
@@ -98,7 +98,7 @@ pub record IsOneRun (trace : Trace) (old new : State) : Type 0 where
 
 -- ---- an action between turns
 
--- One event came with these effects, and nothing else happened. The listener got the cancels of the event, and
+-- One event came with these effects, and nothing else happened. The observer got the cancels of the event, and
 -- then the dispatch, unless the event is a query. Neither the event nor its dispatch was refused memory.
 pub record IsOneEvent (moment : ℕ) (event : Event) (reply : Effects) (old : State) (hs : List Happening) (new : State) : Type 0 where
   pub outcome : Outcome
@@ -106,7 +106,7 @@ pub record IsOneEvent (moment : ℕ) (event : Event) (reply : Effects) (old : St
   pub answered : reply_of outcome ≡ Some reply
   pub whole : IsWhole outcome
   pub handled : Handles moment event old outcome notes new
-  pub told : seen hs ≡ map Told notes
+  pub notified : seen hs ≡ map Notified notes
 
 -- no event came: there was no poll and no note, and the state is unchanged
 abbrev pub IsNoEvent : State → List Happening → State → Type 0

@@ -6,7 +6,7 @@ pub mod Enqueuing
 pub mod Happening
 pub mod Closing
 pub mod Answering
-pub mod Greeting
+pub mod Hello
 pub mod Acting
 pub mod Polling
 pub mod Turn

@@ -8,7 +8,7 @@ use Rattle.events.specs.declared.effects.Response.{Response}
 use Rattle.events.specs.declared.effects.Effects.{Effects}
 use Rattle.events.specs.declared.status.Status.{Status}
 use Rattle.ipp_operations.specs.Reply.{refusal_bytes}
-use Rattle.dispatcher.specs.declared.listener.AllocationSite.TheVariants as At
+use Rattle.dispatcher.specs.declared.observer.AllocationSite.TheVariants as At
 use Rattle.dispatcher.specs.Notes.{Note, Refused}
 use Rattle.connections.specs.declared.table.ConnectionAsk.{ConnectionAsk}
 use Rattle.connections.specs.Entry.{Entry}
@@ -70,20 +70,20 @@ pub record RefinesAnswering {S : Type 0} (moves : S → Happening → S → Type
   pub refines : RefinesQuietly moves (R served) world old world' new
   pub is : answer ≡ served_as refines.happenings served
 
--- ---- functions without a wire: only a listener is notified
+-- ---- functions without a wire: only an observer is notified
 
--- as `RefinesQuietly`, for a listener without a wire
-abbrev pub RefinesTold : {N : Type 0} → (N → Note → N → Type 0) → Rel → N → EngineState → N → EngineState → Type 0
-RefinesTold told R listener old listener' new = RefinesQuietly (alone told) R listener old listener' new
+-- as `RefinesQuietly`, for an observer without a wire
+abbrev pub RefinesNotified : {N : Type 0} → (N → Note → N → Type 0) → Rel → N → EngineState → N → EngineState → Type 0
+RefinesNotified notified R observer old observer' new = RefinesQuietly (alone notified) R observer old observer' new
 
--- as `RefinesReporting`, for a listener without a wire
+-- as `RefinesReporting`, for an observer without a wire
 abbrev pub Reports : {N : Type 0} → (N → Note → N → Type 0) → Rel → N → EngineState → N → EngineState → Bool → Type 0
-Reports told R listener old listener' new refused = RefinesReporting (alone told) R listener old listener' new refused
+Reports notified R observer old observer' new refused = RefinesReporting (alone notified) R observer old observer' new refused
 
 -- as `Reports`, for the connections of any engine with this core
 abbrev pub ReportsAmong : {N : Type 0} → (N → Note → N → Type 0) → Rel → State → N → Slab ConnectionState → N → Slab ConnectionState → Bool → Type 0
-ReportsAmong told R core listener old listener' new refused =
-    (engine : EngineState) → engine.core ≡ core → engine.slots ≡ old.slots → Reports told R listener engine listener' (with_slots new.slots engine) refused
+ReportsAmong notified R core observer old observer' new refused =
+    (engine : EngineState) → engine.core ≡ core → engine.slots ≡ old.slots → Reports notified R observer engine observer' (with_slots new.slots engine) refused
 
 -- ---- the asks of connections
 
@@ -150,25 +150,25 @@ said_of (Ok (as_served.Reply bytes)) = Replied bytes.items
 said_of (Ok as_served.BadRequest) = BadRequest
 said_of (Err error) = OutOfMemory
 
--- as `RefinesAnswering`, for a listener without a wire and for the result of a function
+-- as `RefinesAnswering`, for an observer without a wire and for the result of a function
 abbrev pub AnswersBody : {N : Type 0} → (N → Note → N → Type 0) → (Outcome → Rel) → N → EngineState → N → EngineState → Result Served AllocError → Type 0
-AnswersBody told R listener old listener' new result = RefinesAnswering (alone told) R listener old listener' new (said_of result)
+AnswersBody notified R observer old observer' new result = RefinesAnswering (alone notified) R observer old observer' new (said_of result)
 
--- the bytes of a response; if memory for the bytes is refused, the listener is notified
+-- the bytes of a response; if memory for the bytes is refused, the observer is notified
 abbrev pub AnswerAs : {N : Type 0} → (N → Note → N → Type 0) → ℕ → Response → N → Result (Vec ℕ Global) AllocError → N → Type 0
-AnswerAs told request answer listener (Ok bytes) listener' = IsBytes request answer bytes.items × (listener' ≡ listener)
-AnswerAs told request answer listener (Err error) listener' = told listener (Refused At.Reply None) listener'
+AnswerAs notified request answer observer (Ok bytes) observer' = IsBytes request answer bytes.items × (observer' ≡ observer)
+AnswerAs notified request answer observer (Err error) observer' = notified observer (Refused At.Reply None) observer'
 
--- the bytes of a reply; if the event was dropped, there are no bytes, and the listener is notified
+-- the bytes of a reply; if the event was dropped, there are no bytes, and the observer is notified
 abbrev pub BytesAs : {N : Type 0} → (N → Note → N → Type 0) → ℕ → Option Effects → N → Result (Vec ℕ Global) AllocError → N → Type 0
-BytesAs told request (Some reply) listener bytes listener' = AnswerAs told request reply.answer listener bytes listener'
-BytesAs told request None listener (Ok bytes) listener' = ⊥
-BytesAs told request None listener (Err error) listener' = told listener (Refused At.Event None) listener'
+BytesAs notified request (Some reply) observer bytes observer' = AnswerAs notified request reply.answer observer bytes observer'
+BytesAs notified request None observer (Ok bytes) observer' = ⊥
+BytesAs notified request None observer (Err error) observer' = notified observer (Refused At.Event None) observer'
 
--- the reply of a status alone; if memory for the reply is refused, the listener is notified
+-- the reply of a status alone; if memory for the reply is refused, the observer is notified
 abbrev pub RefusalAs : {N : Type 0} → (N → Note → N → Type 0) → Status → ℕ → N → Result Served AllocError → N → Type 0
-RefusalAs told status request listener (Ok served) listener' = (said_of (Ok served) ≡ Replied (refusal_bytes status request)) × (listener' ≡ listener)
-RefusalAs told status request listener (Err error) listener' = told listener (Refused At.Reply None) listener'
+RefusalAs notified status request observer (Ok served) observer' = (said_of (Ok served) ≡ Replied (refusal_bytes status request)) × (observer' ≡ observer)
+RefusalAs notified status request observer (Err error) observer' = notified observer (Refused At.Reply None) observer'
 
 abbrev pub bytes_in : Result (Vec ℕ Global) AllocError → List ℕ
 bytes_in (Ok bytes) = bytes.items
@@ -184,7 +184,7 @@ answer_in (Ok bytes) false = Replied bytes.items
 answer_in (Ok bytes) true = OutOfMemory
 answer_in (Err error) refused = OutOfMemory
 
--- the listener is notified of the connection that broke, if one did, since memory for due bytes was refused
-abbrev pub ToldOf : {N : Type 0} → (N → Note → N → Type 0) → Option ℕ → N → N → Type 0
-ToldOf told (Some id) old new = told old (Refused At.Enqueue (Some id)) new
-ToldOf told None old new = new ≡ old
+-- the observer is notified of the connection that broke, if one did, since memory for due bytes was refused
+abbrev pub NotifiedOf : {N : Type 0} → (N → Note → N → Type 0) → Option ℕ → N → N → Type 0
+NotifiedOf notified (Some id) old new = notified old (Refused At.Enqueue (Some id)) new
+NotifiedOf notified None old new = new ≡ old

@@ -1,51 +1,51 @@
 //! The replies to the events of clients.
 ghost use Rattle.std.specs.Prelude.{◌≡◌};
 ghost use Rattle.ipp_operations.specs.QueueText.{text_of};
-ghost use Rattle.server.specs.Answering.{IsAnswered, Answers, Replies, RepliesWith, LosesReply, Drops, ipp_answer, Declines, Acknowledges, Responds, IsShown, IsTold, Shows};
-ghost use Rattle.server.specs.Refinement.{RefinesTold};
+ghost use Rattle.server.specs.Answering.{IsAnswered, Answers, Replies, RepliesWith, LosesReply, Drops, ipp_answer, Declines, Acknowledges, Responds, IsShown, SendsLpd, Shows};
+ghost use Rattle.server.specs.Refinement.{RefinesNotified};
 
-use crate::acting::Asker;
+use crate::acting::EventOrigin;
 use crate::engine::Engine;
 use base_types::Moment;
 use connections::Client;
 use connections::table::break_off;
-use dispatcher::{AllocationSite, Listener};
+use dispatcher::{AllocationSite, Observer};
 use events::{Effects, Event, IppResponse, LpdResponse, Response, Status};
 use ipp_operations::{REFUSED, ipp_response, lpd_ack, lpd_queue_text};
 use plan_prices::Planner;
 
 impl<P: Planner + Drop> Engine<P> {
     /// Handles an event of a client, and enqueues its reply.
-    pub(crate) fn happen<N: Listener>(
+    pub(crate) fn happen<N: Observer>(
         &mut self,
         moment: Moment,
-        asker: Asker,
+        origin: EventOrigin,
         client: Client,
         event: Event,
         notes: &mut N,
     )
-        ensures { RefinesTold N.told (IsAnswered moment asker.key asker.id client event) notes.old self.old notes.new self.new }
+        ensures { RefinesNotified N.notified (IsAnswered moment origin.key origin.id client event) notes.old self.old notes.new self.new }
     {
         let query = event.is_query();
         let handled = self.handle(moment, event, notes);
-        self.answer(asker, client, query, handled.outcome.into_reply(), notes);
+        self.answer(origin, client, query, handled.outcome.into_reply(), notes);
     }
 
     /// Enqueues the reply to an event of a client. `reply` is `None` if the event was dropped, out of memory.
-    fn answer<N: Listener>(
+    fn answer<N: Observer>(
         &mut self,
-        asker: Asker,
+        origin: EventOrigin,
         client: Client,
         query: bool,
         reply: Option<Effects>,
         notes: &mut N,
     )
-        ensures { RefinesTold N.told (Answers asker.key asker.id client query reply) notes.old self.old notes.new self.new }
+        ensures { RefinesNotified N.notified (Answers origin.key origin.id client query reply) notes.old self.old notes.new self.new }
     {
         match client {
-            Client::Ipp(request) => self.reply(asker, request, query, reply, notes),
-            Client::LpdJob => self.answer_job(asker, reply, notes),
-            Client::LpdCommand => self.answer_command(asker, reply, notes),
+            Client::Ipp(request) => self.reply(origin, request, query, reply, notes),
+            Client::LpdJob => self.answer_job(origin, reply, notes),
+            Client::LpdCommand => self.answer_command(origin, reply, notes),
         }
     }
 }
@@ -54,62 +54,73 @@ impl<P: Planner + Drop> Engine<P> {
 impl<P: Planner + Drop> Engine<P> {
     /// Enqueues the reply to an event, or the status of a temporary error if the request was dropped.
     #[tactic(auto, using(crate::proofs::Joins::replies_none))]
-    fn reply<N: Listener>(
+    fn reply<N: Observer>(
         &mut self,
-        asker: Asker,
+        origin: EventOrigin,
         request: u32,
         query: bool,
         reply: Option<Effects>,
         notes: &mut N,
     )
-        ensures { RefinesTold N.told (Replies asker.key asker.id request query reply) notes.old self.old notes.new self.new }
+        ensures { RefinesNotified N.notified (Replies origin.key origin.id request query reply) notes.old self.old notes.new self.new }
     {
         match reply {
-            Some(reply) => self.reply_with(asker, request, query, reply.answer, notes),
-            None => self.drop_request(asker, request, notes),
+            Some(reply) => self.reply_with(origin, request, query, reply.answer, notes),
+            None => self.drop_request(origin, request, notes),
         }
     }
 
-    /// Tells the listener that a request was dropped, out of memory, and enqueues the status of a temporary
+    /// Notifies the observer that a request was dropped, out of memory, and enqueues the status of a temporary
     /// error.
-    #[tactic(auto, using(crate::proofs::Joins::tells_then))]
-    pub(crate) fn drop_request<N: Listener>(&mut self, asker: Asker, request: u32, notes: &mut N)
-        ensures { RefinesTold N.told (Drops asker.key asker.id request) notes.old self.old notes.new self.new }
+    #[tactic(auto, using(crate::proofs::Joins::notifies_then))]
+    pub(crate) fn drop_request<N: Observer>(
+        &mut self,
+        origin: EventOrigin,
+        request: u32,
+        notes: &mut N,
+    )
+        ensures { RefinesNotified N.notified (Drops origin.key origin.id request) notes.old self.old notes.new self.new }
     {
-        notes.refused(AllocationSite::Event, Some(asker.id));
-        self.enqueue_status(asker.key, Status::TemporaryError, request, notes);
+        notes.refused(AllocationSite::Event, Some(origin.id));
+        self.enqueue_status(origin.key, Status::TemporaryError, request, notes);
     }
 
     /// Enqueues the bytes of a response to an IPP request. Any other response has none.
-    fn reply_with<N: Listener>(
+    fn reply_with<N: Observer>(
         &mut self,
-        asker: Asker,
+        origin: EventOrigin,
         request: u32,
         query: bool,
         answer: Response,
         notes: &mut N,
     )
-        ensures { RefinesTold N.told (RepliesWith asker.key asker.id request query answer) notes.old self.old notes.new self.new }
+        ensures { RefinesNotified N.notified (RepliesWith origin.key origin.id request query answer) notes.old self.old notes.new self.new }
     {
         let Some(answer) = ipp_answer(answer) else {
             return;
         };
         match ipp_response(self.alloc, answer, request) {
-            Ok(bytes) => self.enqueue_response(asker.key, &bytes, notes),
-            Err(_) => self.lose_reply(asker, request, query, notes),
+            Ok(bytes) => self.enqueue_response(origin.key, &bytes, notes),
+            Err(_) => self.lose_reply(origin, request, query, notes),
         }
     }
 
-    /// Tells the listener that memory for the bytes of a reply was refused. After a query the status of a
+    /// Notifies the observer that memory for the bytes of a reply was refused. After a query the status of a
     /// temporary error is enqueued; after any other event the connection breaks.
-    fn lose_reply<N: Listener>(&mut self, asker: Asker, request: u32, query: bool, notes: &mut N)
-        ensures { RefinesTold N.told (LosesReply asker.key asker.id request query) notes.old self.old notes.new self.new }
+    fn lose_reply<N: Observer>(
+        &mut self,
+        origin: EventOrigin,
+        request: u32,
+        query: bool,
+        notes: &mut N,
+    )
+        ensures { RefinesNotified N.notified (LosesReply origin.key origin.id request query) notes.old self.old notes.new self.new }
     {
-        notes.refused(AllocationSite::Reply, Some(asker.id));
+        notes.refused(AllocationSite::Reply, Some(origin.id));
         if query {
-            self.enqueue_status(asker.key, Status::TemporaryError, request, notes);
+            self.enqueue_status(origin.key, Status::TemporaryError, request, notes);
         } else {
-            break_off(&mut self.connections, asker.key);
+            break_off(&mut self.connections, origin.key);
         }
     }
 }
@@ -117,76 +128,86 @@ impl<P: Planner + Drop> Engine<P> {
 /// The replies to LPD clients.
 impl<P: Planner + Drop> Engine<P> {
     /// Enqueues the acknowledgement of a job, or the refusal if its event was dropped.
-    fn answer_job<N: Listener>(&mut self, asker: Asker, reply: Option<Effects>, notes: &mut N)
-        ensures { RefinesTold N.told (Acknowledges asker.key asker.id reply) notes.old self.old notes.new self.new }
+    fn answer_job<N: Observer>(
+        &mut self,
+        origin: EventOrigin,
+        reply: Option<Effects>,
+        notes: &mut N,
+    )
+        ensures { RefinesNotified N.notified (Acknowledges origin.key origin.id reply) notes.old self.old notes.new self.new }
     {
         match reply {
-            Some(reply) => self.tell_answer(asker, &reply.answer, notes),
-            None => self.decline(AllocationSite::Event, asker, notes),
+            Some(reply) => self.send_response(origin, &reply.answer, notes),
+            None => self.decline(AllocationSite::Event, origin, notes),
         }
     }
 
-    /// Tells the listener that memory for a file or for a job was refused, and enqueues the refusal.
-    #[tactic(auto, using(crate::proofs::Joins::tells_then))]
-    pub(crate) fn decline<N: Listener>(
+    /// Notifies the observer that memory for a file or for a job was refused, and enqueues the refusal.
+    #[tactic(auto, using(crate::proofs::Joins::notifies_then))]
+    pub(crate) fn decline<N: Observer>(
         &mut self,
         place: AllocationSite,
-        asker: Asker,
+        origin: EventOrigin,
         notes: &mut N,
     )
-        ensures { RefinesTold N.told (Declines place asker.key asker.id) notes.old self.old notes.new self.new }
+        ensures { RefinesNotified N.notified (Declines place origin.key origin.id) notes.old self.old notes.new self.new }
     {
-        notes.refused(place, Some(asker.id));
-        self.enqueue(asker.key, &[REFUSED], notes);
+        notes.refused(place, Some(origin.id));
+        self.enqueue(origin.key, &[REFUSED], notes);
     }
 
-    /// Enqueues the response to a command. If its event was dropped, the listener is notified and the
+    /// Enqueues the response to a command. If its event was dropped, the observer is notified and the
     /// connection breaks.
-    fn answer_command<N: Listener>(&mut self, asker: Asker, reply: Option<Effects>, notes: &mut N)
-        ensures { RefinesTold N.told (Responds asker.key asker.id reply) notes.old self.old notes.new self.new }
+    fn answer_command<N: Observer>(
+        &mut self,
+        origin: EventOrigin,
+        reply: Option<Effects>,
+        notes: &mut N,
+    )
+        ensures { RefinesNotified N.notified (Responds origin.key origin.id reply) notes.old self.old notes.new self.new }
     {
         match reply {
-            Some(reply) => self.tell_answer(asker, &reply.answer, notes),
+            Some(reply) => self.send_response(origin, &reply.answer, notes),
             None => {
-                notes.refused(AllocationSite::Event, Some(asker.id));
-                break_off(&mut self.connections, asker.key);
+                notes.refused(AllocationSite::Event, Some(origin.id));
+                break_off(&mut self.connections, origin.key);
             }
         }
     }
 
     /// Enqueues the bytes of a response to an LPD client. Any other response has none.
     #[tactic(auto, using(crate::proofs::Joins::shows_no_ipp, crate::proofs::Joins::shows_nothing))]
-    fn tell_answer<N: Listener>(&mut self, asker: Asker, answer: &Response, notes: &mut N)
-        ensures { RefinesTold N.told (IsShown asker.key asker.id answer.now) notes.old self.old notes.new self.new }
+    fn send_response<N: Observer>(&mut self, origin: EventOrigin, answer: &Response, notes: &mut N)
+        ensures { RefinesNotified N.notified (IsShown origin.key origin.id answer.now) notes.old self.old notes.new self.new }
     {
         match answer {
-            Response::Lpd(answer) => self.tell_client(asker, answer, notes),
+            Response::Lpd(answer) => self.send_lpd(origin, answer, notes),
             Response::Ipp(_) => {}
             Response::Nothing => {}
         }
     }
 
     /// Enqueues the bytes of a response to an LPD client.
-    fn tell_client<N: Listener>(&mut self, asker: Asker, answer: &LpdResponse, notes: &mut N)
-        ensures { RefinesTold N.told (IsTold asker.key asker.id answer.now) notes.old self.old notes.new self.new }
+    fn send_lpd<N: Observer>(&mut self, origin: EventOrigin, answer: &LpdResponse, notes: &mut N)
+        ensures { RefinesNotified N.notified (SendsLpd origin.key origin.id answer.now) notes.old self.old notes.new self.new }
     {
         match answer {
-            LpdResponse::Taken(_) => self.enqueue(asker.key, &[lpd_ack(answer)], notes),
-            LpdResponse::Queue(_) => self.show(asker, answer, notes),
-            LpdResponse::NoQueue => self.show(asker, answer, notes),
+            LpdResponse::Taken(_) => self.enqueue(origin.key, &[lpd_ack(answer)], notes),
+            LpdResponse::Queue(_) => self.show(origin, answer, notes),
+            LpdResponse::NoQueue => self.show(origin, answer, notes),
         }
     }
 
-    /// Enqueues the text of a queue. If memory for the text is refused, the listener is notified and the
+    /// Enqueues the text of a queue. If memory for the text is refused, the observer is notified and the
     /// connection breaks.
-    fn show<N: Listener>(&mut self, asker: Asker, answer: &LpdResponse, notes: &mut N)
-        ensures { RefinesTold N.told (Shows asker.key asker.id (text_of answer.now)) notes.old self.old notes.new self.new }
+    fn show<N: Observer>(&mut self, origin: EventOrigin, answer: &LpdResponse, notes: &mut N)
+        ensures { RefinesNotified N.notified (Shows origin.key origin.id (text_of answer.now)) notes.old self.old notes.new self.new }
     {
         match lpd_queue_text(self.alloc, answer) {
-            Ok(text) => self.enqueue(asker.key, &text, notes),
+            Ok(text) => self.enqueue(origin.key, &text, notes),
             Err(_) => {
-                notes.refused(AllocationSite::Reply, Some(asker.id));
-                break_off(&mut self.connections, asker.key);
+                notes.refused(AllocationSite::Reply, Some(origin.id));
+                break_off(&mut self.connections, origin.key);
             }
         }
     }

@@ -9,7 +9,7 @@ use crate::engine::Engine;
 use crate::handling::Handled;
 use crate::served::{Served, answered};
 use base_types::{DeviceId, Moment, Report};
-use dispatcher::{AllocationSite, Listener};
+use dispatcher::{AllocationSite, Observer};
 use events::{Effects, Event, Response, Status};
 use ipp_operations::{ParsedRequest, ipp_event, ipp_refusal, ipp_response};
 use plan_prices::Planner;
@@ -17,29 +17,29 @@ use std::alloc::AllocError;
 
 /// Bodies, reports and ticks of a caller without connections.
 impl<P: Planner + Drop> Engine<P> {
-    /// Serves one IPP body between turns, without HTTP. The only error is out of memory, and the listener is
+    /// Serves one IPP body between turns, without HTTP. The only error is out of memory, and the observer is
     /// notified of it. The event may have happened then.
     #[tactic(auto, using(crate::proofs::ServedBody::one_body))]
-    pub fn serve_body<N: Listener>(
+    pub fn serve_body<N: Observer>(
         &mut self,
         body: &[u8],
         notes: &mut N,
         moment: Moment,
     ) -> Result<Served, AllocError>
-        ensures { RefinesBody (alone N.told) moment body.now notes.old self.old notes.new self.new (said_of result) }
+        ensures { RefinesBody (alone N.notified) moment body.now notes.old self.old notes.new self.new (said_of result) }
     {
         self.serve_now(moment, body, notes)
     }
 
     /// Parses a body and acts on it.
     #[tactic(auto, using(crate::proofs::Joins::body_read, crate::proofs::Joins::body_unread))]
-    fn serve_now<N: Listener>(
+    fn serve_now<N: Observer>(
         &mut self,
         moment: Moment,
         body: &[u8],
         notes: &mut N,
     ) -> Result<Served, AllocError>
-        ensures { AnswersBody N.told (BodyComes moment body.now) notes.old self.old notes.new self.new result }
+        ensures { AnswersBody N.notified (BodyComes moment body.now) notes.old self.old notes.new self.new result }
     {
         match ipp_event(self.alloc, body) {
             Ok(asked) => self.serve_asked(moment, asked, notes),
@@ -51,13 +51,13 @@ impl<P: Planner + Drop> Engine<P> {
     }
 
     /// Acts on a parsed body.
-    fn serve_asked<N: Listener>(
+    fn serve_asked<N: Observer>(
         &mut self,
         moment: Moment,
         asked: ParsedRequest,
         notes: &mut N,
     ) -> Result<Served, AllocError>
-        ensures { AnswersBody N.told (BodyAsks moment asked) notes.old self.old notes.new self.new result }
+        ensures { AnswersBody N.notified (BodyAsks moment asked) notes.old self.old notes.new self.new result }
     {
         match asked {
             ParsedRequest::TooShort => Ok(Served::BadRequest),
@@ -66,14 +66,14 @@ impl<P: Planner + Drop> Engine<P> {
         }
     }
 
-    /// Returns the reply of a status alone. The only error is out of memory, and the listener is notified of it.
-    fn serve_refusal<N: Listener>(
+    /// Returns the reply of a status alone. The only error is out of memory, and the observer is notified of it.
+    fn serve_refusal<N: Observer>(
         &self,
         status: Status,
         request: u32,
         notes: &mut N,
     ) -> Result<Served, AllocError>
-        ensures { RefusalAs N.told status request notes.old result notes.new }
+        ensures { RefusalAs N.notified status request notes.old result notes.new }
     {
         match Vec::from_slice(self.alloc, &ipp_refusal(status, request)) {
             Ok(bytes) => Ok(Served::Reply(bytes)),
@@ -85,14 +85,14 @@ impl<P: Planner + Drop> Engine<P> {
     }
 
     /// Handles the event of a body, and returns its reply.
-    fn serve_event<N: Listener>(
+    fn serve_event<N: Observer>(
         &mut self,
         moment: Moment,
         request: u32,
         event: Event,
         notes: &mut N,
     ) -> Result<Served, AllocError>
-        ensures { AnswersBody N.told (BodyBrings moment request event) notes.old self.old notes.new self.new result }
+        ensures { AnswersBody N.notified (BodyBrings moment request event) notes.old self.old notes.new self.new result }
     {
         let Handled { outcome, refused } = self.handle(moment, event, notes);
         let bytes = self.bytes_of(outcome.into_reply(), request, notes);
@@ -100,14 +100,14 @@ impl<P: Planner + Drop> Engine<P> {
     }
 
     /// Returns the bytes of the reply to an event. The only error is out of memory, for the event or for the
-    /// bytes, and the listener is notified of it.
-    fn bytes_of<N: Listener>(
+    /// bytes, and the observer is notified of it.
+    fn bytes_of<N: Observer>(
         &self,
         reply: Option<Effects>,
         request: u32,
         notes: &mut N,
     ) -> Result<Vec<u8>, AllocError>
-        ensures { BytesAs N.told request reply notes.old result notes.new }
+        ensures { BytesAs N.notified request reply notes.old result notes.new }
     {
         match reply {
             Some(reply) => self.answer_bytes(reply.answer, request, notes),
@@ -119,14 +119,14 @@ impl<P: Planner + Drop> Engine<P> {
     }
 
     /// Returns the bytes of a response; a response that isn't one of IPP has none. The only error is out of
-    /// memory, and the listener is notified of it.
-    fn answer_bytes<N: Listener>(
+    /// memory, and the observer is notified of it.
+    fn answer_bytes<N: Observer>(
         &self,
         answer: Response,
         request: u32,
         notes: &mut N,
     ) -> Result<Vec<u8>, AllocError>
-        ensures { AnswerAs N.told request answer notes.old result notes.new }
+        ensures { AnswerAs N.notified request answer notes.old result notes.new }
     {
         match answer {
             Response::Lpd(_) => Ok(Vec::new(self.alloc)),
@@ -142,15 +142,15 @@ impl<P: Planner + Drop> Engine<P> {
     }
 
     /// Handles one report of a device between turns, without a connection. The only error is out of memory, and
-    /// the listener is notified of it.
-    pub fn report<N: Listener>(
+    /// the observer is notified of it.
+    pub fn report<N: Observer>(
         &mut self,
         device: DeviceId,
         report: Report,
         notes: &mut N,
         moment: Moment,
     ) -> Result<(), AllocError>
-        ensures { RefinesCall (alone N.told) (Reported moment device (report_of report)) notes.old self.old notes.new self.new result }
+        ensures { RefinesCall (alone N.notified) (Reported moment device (report_of report)) notes.old self.old notes.new self.new result }
     {
         if self.report_now(moment, device, report, notes) {
             Err(AllocError)
@@ -160,22 +160,22 @@ impl<P: Planner + Drop> Engine<P> {
     }
 
     /// Handles one report of a device. Returns whether memory was refused.
-    pub(crate) fn report_now<N: Listener>(
+    pub(crate) fn report_now<N: Observer>(
         &mut self,
         moment: Moment,
         device: DeviceId,
         report: Report,
         notes: &mut N,
     ) -> bool
-        ensures { Reports N.told (ReportComes moment device report) notes.old self.old notes.new self.new result }
+        ensures { Reports N.notified (ReportComes moment device report) notes.old self.old notes.new self.new result }
     {
         self.handle(moment, Event::Report(device, report), notes)
             .refused
     }
 
-    /// Makes one tick between turns. The only error is out of memory, and the listener is notified of it.
-    pub fn tick<N: Listener>(&mut self, notes: &mut N, moment: Moment) -> Result<(), AllocError>
-        ensures { RefinesCall (alone N.told) (Ticked moment) notes.old self.old notes.new self.new result }
+    /// Makes one tick between turns. The only error is out of memory, and the observer is notified of it.
+    pub fn tick<N: Observer>(&mut self, notes: &mut N, moment: Moment) -> Result<(), AllocError>
+        ensures { RefinesCall (alone N.notified) (Ticked moment) notes.old self.old notes.new self.new result }
     {
         if self.tick_now(moment, notes) {
             Err(AllocError)

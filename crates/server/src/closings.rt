@@ -1,7 +1,7 @@
 //! The closings of connections.
 ghost use Rattle.std.specs.Prelude.{◌≡◌, false, ℕ, IfSome, IfNone, IsTrue};
 ghost use Rattle.server.specs.World.{moved};
-ghost use Rattle.server.specs.Closing.{Settles};
+ghost use Rattle.server.specs.Closing.{ClosesBroken};
 ghost use Rattle.server.specs.Polling.{Fails, EndsOne};
 ghost use Rattle.connections.specs.Slots.{IsFirstBroken, broken_at};
 ghost use Rattle.server.specs.Refinement.{Refines, RefinesQuietly, RefinesAnyFate};
@@ -9,7 +9,7 @@ ghost use Rattle.server.specs.Refinement.{Refines, RefinesQuietly, RefinesAnyFat
 use crate::engine::Engine;
 use base_types::{Moment, Report};
 use connections::table::{break_off, close, is_broken, is_done};
-use dispatcher::Listener;
+use dispatcher::Observer;
 use plan_prices::Planner;
 use wires::Wire;
 
@@ -29,7 +29,7 @@ impl<P: Planner + Drop> Engine<P> {
     }
 
     /// Returns whether no connection is broken. Connections break between turns where memory is refused.
-    pub fn is_settled(&self) -> bool
+    pub fn has_no_broken(&self) -> bool
         ensures { IsTrue result → (key : ℕ) → broken_at self.now.slots key ≡ false }
     {
         self.first_broken().is_none()
@@ -37,8 +37,8 @@ impl<P: Planner + Drop> Engine<P> {
 
     /// Closes the connection under a key. If a device gave its name on the connection, the core gets the report
     /// that the device is gone.
-    fn close<W: Wire + Listener>(&mut self, moment: Moment, key: usize, world: &mut W)
-        ensures { RefinesAnyFate (moved W.polled W.told) moment key world.old self.old world.new self.new }
+    fn close<W: Wire + Observer>(&mut self, moment: Moment, key: usize, world: &mut W)
+        ensures { RefinesAnyFate (moved W.polled W.notified) moment key world.old self.old world.new self.new }
     {
         if let Some(device) = close(&mut self.connections, key, world) {
             self.report_now(moment, device, Report::Gone, world);
@@ -46,8 +46,8 @@ impl<P: Planner + Drop> Engine<P> {
     }
 
     /// Closes the broken connection of the least key, again and again, until no connection is broken.
-    pub(crate) fn settle<W: Wire + Listener>(&mut self, moment: Moment, world: &mut W)
-        ensures { RefinesQuietly (moved W.polled W.told) (Settles moment) world.old self.old world.new self.new }
+    pub(crate) fn close_broken<W: Wire + Observer>(&mut self, moment: Moment, world: &mut W)
+        ensures { RefinesQuietly (moved W.polled W.notified) (ClosesBroken moment) world.old self.old world.new self.new }
     {
         while let Some(key) = self.first_broken() {
             self.close(moment, key, world);
@@ -55,20 +55,20 @@ impl<P: Planner + Drop> Engine<P> {
     }
 
     /// Marks the connection under a key as broken, and closes the broken connections.
-    pub(crate) fn fail<W: Wire + Listener>(&mut self, moment: Moment, key: usize, world: &mut W)
-        ensures { RefinesQuietly (moved W.polled W.told) (Fails moment key) world.old self.old world.new self.new }
+    pub(crate) fn fail<W: Wire + Observer>(&mut self, moment: Moment, key: usize, world: &mut W)
+        ensures { RefinesQuietly (moved W.polled W.notified) (Fails moment key) world.old self.old world.new self.new }
     {
         break_off(&mut self.connections, key);
-        self.settle(moment, world);
+        self.close_broken(moment, world);
     }
 
     /// Closes the connection under a key if it is done, and then the broken connections.
-    pub(crate) fn end_one<W: Wire + Listener>(&mut self, moment: Moment, key: usize, world: &mut W)
-        ensures { Refines (moved W.polled W.told) (EndsOne moment key) world.old self.old world.new self.new }
+    pub(crate) fn end_one<W: Wire + Observer>(&mut self, moment: Moment, key: usize, world: &mut W)
+        ensures { Refines (moved W.polled W.notified) (EndsOne moment key) world.old self.old world.new self.new }
     {
         if is_done(&self.connections, key) {
             self.close(moment, key, world);
-            self.settle(moment, world);
+            self.close_broken(moment, world);
         }
     }
 }

@@ -14,7 +14,7 @@ use crate::world::World;
 use base_types::{DeviceId, DeviceNow, JobId, Moment, PrinterId};
 use connections::Connection;
 use connections::table::key_of;
-use dispatcher::{Core, Listener};
+use dispatcher::{Core, Observer};
 use job_objects::Job;
 use plan_prices::Planner;
 use settings_file::Settings;
@@ -81,8 +81,8 @@ impl<P: Planner + Drop> Engine<P> {
     ///
     /// If the engine was at a trace, it is at the trace followed by this turn, whatever the results of
     /// the polls are.
-    pub fn turn<W: Wire, N: Listener>(&mut self, wire: &mut W, notes: &mut N, moment: Moment)
-        ensures { RefinesTurn (both W.polled N.told) moment (wire.old, notes.old) self.old (wire.new, notes.new) self.new }
+    pub fn turn<W: Wire, N: Observer>(&mut self, wire: &mut W, notes: &mut N, moment: Moment)
+        ensures { RefinesTurn (both W.polled N.notified) moment (wire.old, notes.old) self.old (wire.new, notes.new) self.new }
     {
         let mut world = World { wire, notes };
         self.turn_once(moment, &mut world);

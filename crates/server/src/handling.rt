@@ -4,12 +4,12 @@ ghost use Rattle.server.specs.Rel.{EachOf};
 ghost use Rattle.server.specs.Happening.{Decides, Happens, Orders, Sends, SendsAndStarts, is_undispatched, undispatched_after};
 ghost use Rattle.server.specs.Refinement.{Reports};
 
-use crate::due::tell;
+use crate::due::notify;
 use crate::engine::Engine;
 use crate::starting::start_all;
 use base_types::Moment;
 use connections::table::{enqueue_cancel, key_of};
-use dispatcher::{Listener, Outcome, Timed};
+use dispatcher::{Observer, Outcome, Timed};
 use events::{Cancel, Event};
 use plan_prices::Planner;
 
@@ -22,15 +22,15 @@ pub(crate) struct Handled {
 }
 
 impl<P: Planner + Drop> Engine<P> {
-    /// Handles an event by the core, and notifies the listener. Enqueues the lines of the cancels and the bytes
+    /// Handles an event by the core, and notifies the observer. Enqueues the lines of the cancels and the bytes
     /// of the jobs that begin on the connections of their devices. The caller enqueues the reply to the event.
-    pub(crate) fn handle<N: Listener>(
+    pub(crate) fn handle<N: Observer>(
         &mut self,
         moment: Moment,
         event: Event,
         notes: &mut N,
     ) -> Handled
-        ensures { Reports N.told (Happens moment event result.outcome) notes.old self.old notes.new self.new result.refused }
+        ensures { Reports N.notified (Happens moment event result.outcome) notes.old self.old notes.new self.new result.refused }
     {
         let outcome = self.decide(moment, event, notes);
         let undispatched = is_undispatched(&outcome);
@@ -41,9 +41,9 @@ impl<P: Planner + Drop> Engine<P> {
         }
     }
 
-    /// Handles an event by the core, and notifies the listener.
-    fn decide<N: Listener>(&mut self, moment: Moment, event: Event, notes: &mut N) -> Outcome
-        ensures { Reports N.told (Decides moment event result) notes.old self.old notes.new self.new (is_undispatched result) }
+    /// Handles an event by the core, and notifies the observer.
+    fn decide<N: Observer>(&mut self, moment: Moment, event: Event, notes: &mut N) -> Outcome
+        ensures { Reports N.notified (Decides moment event result) notes.old self.old notes.new self.new (is_undispatched result) }
     {
         let outcome = self.core.handle(Timed { event, moment }, notes);
         self.undispatched = undispatched_after(&outcome, self.undispatched);
@@ -52,8 +52,8 @@ impl<P: Planner + Drop> Engine<P> {
 
     /// Enqueues the bytes of an event for devices: the lines of its cancels, and then the bytes of the jobs
     /// that begin. Returns whether memory was refused.
-    fn order<N: Listener>(&mut self, outcome: &Outcome, notes: &mut N) -> bool
-        ensures { Reports N.told (Orders outcome.now) notes.old self.old notes.new self.new result }
+    fn order<N: Observer>(&mut self, outcome: &Outcome, notes: &mut N) -> bool
+        ensures { Reports N.notified (Orders outcome.now) notes.old self.old notes.new self.new result }
     {
         match outcome {
             Outcome::Dropped => false,
@@ -66,8 +66,8 @@ impl<P: Planner + Drop> Engine<P> {
 
     /// Enqueues the lines of these cancels, and then the bytes of the jobs that began with the last plan.
     /// Returns whether memory was refused.
-    fn send_and_start<N: Listener>(&mut self, cancels: &[Cancel], notes: &mut N) -> bool
-        ensures { Reports N.told (SendsAndStarts cancels.now) notes.old self.old notes.new self.new result }
+    fn send_and_start<N: Observer>(&mut self, cancels: &[Cancel], notes: &mut N) -> bool
+        ensures { Reports N.notified (SendsAndStarts cancels.now) notes.old self.old notes.new self.new result }
     {
         let unsent = self.send_all(cancels, notes);
         let unstarted = start_all(&self.core, &mut self.connections, notes);
@@ -75,8 +75,8 @@ impl<P: Planner + Drop> Engine<P> {
     }
 
     /// Enqueues the lines of these cancels. Returns whether memory was refused.
-    fn send_all<N: Listener>(&mut self, cancels: &[Cancel], notes: &mut N) -> bool
-        ensures { Reports N.told (EachOf cancels.now Sends) notes.old self.old notes.new self.new result }
+    fn send_all<N: Observer>(&mut self, cancels: &[Cancel], notes: &mut N) -> bool
+        ensures { Reports N.notified (EachOf cancels.now Sends) notes.old self.old notes.new self.new result }
     {
         let mut refused = false;
         for cancel in cancels {
@@ -87,15 +87,15 @@ impl<P: Planner + Drop> Engine<P> {
 
     /// Enqueues the line of a cancel on the device's connection, if the device has one. Returns whether memory
     /// was refused.
-    fn send<N: Listener>(&mut self, cancel: Cancel, notes: &mut N) -> bool
-        ensures { Reports N.told (Sends cancel) notes.old self.old notes.new self.new result }
+    fn send<N: Observer>(&mut self, cancel: Cancel, notes: &mut N) -> bool
+        ensures { Reports N.notified (Sends cancel) notes.old self.old notes.new self.new result }
     {
         let Cancel { job, device } = cancel;
         let Some(key) = key_of(&self.connections, device) else {
             return false;
         };
         let broke = enqueue_cancel(&mut self.connections, key, job);
-        tell(broke, notes)
+        notify(broke, notes)
     }
 }
 

@@ -12,7 +12,7 @@ ghost use Rattle.server.specs.Turn.{Action, DoesAction, Trace, Runs};
 
 /// A trace is one run of the core. The events of the actions, in order and each at the moment of its action,
 /// lead the core from its state before the trace to its state after the trace. The notes of the run are the
-/// notes of the core that the listener gets in the trace, in the same order: the cancels, the plans with
+/// notes of the core that the observer gets in the trace, in the same order: the cancels, the plans with
 /// the jobs that began, and the dispatches that were refused memory. If no memory is refused in the trace, no
 /// event is dropped, and a dispatch follows each event that isn't a query.
 pub fn trace_is_one_run()
@@ -21,7 +21,7 @@ pub fn trace_is_one_run()
 
 /// An action between turns is one event if no memory was refused: a report, a tick, or the event of a body
 /// with the bytes of its reply. A body that is too short or is refused brings no event and changes nothing.
-/// The listener is notified of the cancels of the event, then the dispatch unless the event is a query, and nothing
+/// The observer is notified of the cancels of the event, then the dispatch unless the event is a query, and nothing
 /// else.
 pub fn action_is_one_event()
     ensures { (action : Action) (old new : Ledger) → DoesAction action old new → IsAtMostOne action old.core new.core }

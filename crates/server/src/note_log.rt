@@ -1,11 +1,11 @@
-//! A listener that logs its notes.
+//! An observer that logs its notes.
 ghost use Rattle.std.specs.Prelude.{◌≡◌, ◌++◌, [], Some, None, IfOk, OnOk, OnErr, map};
 ghost use Rattle.std.specs.Option.{option_copied};
 ghost use Rattle.dispatcher.specs.Dispatched.{plan_of, started_of};
 ghost use Rattle.server.specs.NoteLog.{plan_words, class_word, dispatch_words};
 
 use base_types::{MemoryLog, Priority, Stranded};
-use dispatcher::{AllocationSite, DeviceRefusal, Dispatched, Listener, Started};
+use dispatcher::{AllocationSite, DeviceRefusal, Dispatched, Observer, Started};
 use events::Cancel;
 use plan_prices::{Plan, PlannedClass};
 use std::alloc::{AllocError, Global};
@@ -32,7 +32,7 @@ pub enum LoggedNote {
     Refused(AllocationSite, Option<WireId>),
 }
 
-/// A listener that logs its notes. Once memory for a note is refused, the log is lost and stays lost. In
+/// An observer that logs its notes. Once memory for a note is refused, the log is lost and stays lost. In
 /// clauses it is the list of the logged notes, or none if the log is lost.
 #[derive(Drop)]
 pub struct NoteLog {
@@ -49,10 +49,10 @@ impl Model for NoteLog {
     ghost view = { λ l. l.heard };
 }
 
-impl Listener for NoteLog {
+impl Observer for NoteLog {
     ghost use Rattle.server.specs.NoteLog.{LogsNote};
 
-    ghost told = { LogsNote };
+    ghost notified = { LogsNote };
 
     fn dispatched(&mut self, made: &Dispatched<'_>) {
         match notes_of(self.alloc, made) {

@@ -7,7 +7,7 @@ use crate::engine::Engine;
 use base_types::{Limits, Moment};
 use connections::Fed;
 use connections::table::{end, feed, insert, offer, to_read};
-use dispatcher::{AllocationSite, Listener};
+use dispatcher::{AllocationSite, Observer};
 use plan_prices::Planner;
 use send_queues::Offered;
 use wires::{Door, Progress, Wire, WireId};
@@ -18,8 +18,8 @@ pub(crate) const PIECE: usize = 4096;
 /// One accept, one read or one write, with all that the poll brings.
 impl<P: Planner + Drop> Engine<P> {
     /// Accepts at most one connection at a door. Accepts none while [`Limits::CONNECTIONS`] are open.
-    pub(crate) fn accept_at<W: Wire + Listener>(&mut self, door: Door, world: &mut W)
-        ensures { Refines (moved W.polled W.told) (AcceptsAt door) world.old self.old world.new self.new }
+    pub(crate) fn accept_at<W: Wire + Observer>(&mut self, door: Door, world: &mut W)
+        ensures { Refines (moved W.polled W.notified) (AcceptsAt door) world.old self.old world.new self.new }
     {
         if self.connections.len() < Limits::CONNECTIONS {
             self.accept(door, world);
@@ -28,18 +28,18 @@ impl<P: Planner + Drop> Engine<P> {
 
     /// Polls a door, and opens the connection that comes.
     #[tactic(auto, using(crate::proofs::Joins::comes))]
-    fn accept<W: Wire + Listener>(&mut self, door: Door, world: &mut W)
-        ensures { Refines (moved W.polled W.told) (AcceptsOne door) world.old self.old world.new self.new }
+    fn accept<W: Wire + Observer>(&mut self, door: Door, world: &mut W)
+        ensures { Refines (moved W.polled W.notified) (AcceptsOne door) world.old self.old world.new self.new }
     {
         if let Progress::Done(id) = world.poll_accept(door) {
             self.open(door, id, world);
         }
     }
 
-    /// Inserts a connection that came. If memory for it is refused, the listener is notified and the connection
+    /// Inserts a connection that came. If memory for it is refused, the observer is notified and the connection
     /// is closed.
-    fn open<W: Wire + Listener>(&mut self, door: Door, id: WireId, world: &mut W)
-        ensures { Refines (moved W.polled W.told) (Opens door id) world.old self.old world.new self.new }
+    fn open<W: Wire + Observer>(&mut self, door: Door, id: WireId, world: &mut W)
+        ensures { Refines (moved W.polled W.notified) (Opens door id) world.old self.old world.new self.new }
     {
         if insert(&mut self.connections, self.alloc, id, door) {
             return;
@@ -50,14 +50,14 @@ impl<P: Planner + Drop> Engine<P> {
 
     /// Reads the connection under a key once, if it is to be read, and acts on the items that the read
     /// completes. The piece that is read is written to the buffer `piece`.
-    pub(crate) fn read_one<W: Wire + Listener>(
+    pub(crate) fn read_one<W: Wire + Observer>(
         &mut self,
         moment: Moment,
         key: usize,
         piece: &mut [u8; PIECE],
         world: &mut W,
     )
-        ensures { Refines (moved W.polled W.told) (ReadsOne moment key) world.old self.old world.new self.new }
+        ensures { Refines (moved W.polled W.notified) (ReadsOne moment key) world.old self.old world.new self.new }
     {
         let Some(id) = to_read(&self.connections, key) else {
             return;
@@ -71,8 +71,8 @@ impl<P: Planner + Drop> Engine<P> {
     }
 
     /// Feeds a piece that was read to the connection under a key, and acts on what the connection asks.
-    fn take<W: Wire + Listener>(&mut self, moment: Moment, key: usize, piece: &[u8], world: &mut W)
-        ensures { Refines (moved W.polled W.told) (FeedsOne moment key piece.now) world.old self.old world.new self.new }
+    fn take<W: Wire + Observer>(&mut self, moment: Moment, key: usize, piece: &[u8], world: &mut W)
+        ensures { Refines (moved W.polled W.notified) (FeedsOne moment key piece.now) world.old self.old world.new self.new }
     {
         let Some(fed) = feed(&mut self.connections, key, piece) else {
             return;
@@ -82,19 +82,19 @@ impl<P: Planner + Drop> Engine<P> {
             Fed::Fed => self.serve(moment, key, world),
             Fed::Refused(id) => {
                 world.refused(AllocationSite::Feed, Some(id));
-                self.settle(moment, world);
+                self.close_broken(moment, world);
             }
         }
     }
 
     /// Writes once on the connection under a key, if bytes wait there.
-    pub(crate) fn write_one<W: Wire + Listener>(
+    pub(crate) fn write_one<W: Wire + Observer>(
         &mut self,
         moment: Moment,
         key: usize,
         world: &mut W,
     )
-        ensures { Refines (moved W.polled W.told) (WritesOne moment key) world.old self.old world.new self.new }
+        ensures { Refines (moved W.polled W.notified) (WritesOne moment key) world.old self.old world.new self.new }
     {
         match offer(&mut self.connections, key, world) {
             Offered::Nothing => {}

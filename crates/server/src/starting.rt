@@ -4,23 +4,23 @@ ghost use Rattle.server.specs.Happening.{Starts, StartsAll};
 ghost use Rattle.connections.specs.Slots.{EnqueuesAt};
 ghost use Rattle.server.specs.Refinement.{ReportsAmong};
 
-use crate::due::tell;
+use crate::due::notify;
 use base_types::JobId;
 use connections::Connection;
 use connections::table::{enqueue, enqueue_job, key_of};
-use dispatcher::{Core, Listener, Started};
+use dispatcher::{Core, Observer, Started};
 use plan_prices::Planner;
 use slab::Slab;
 use wires::WireId;
 
 /// Enqueues the bytes of the jobs that began with the last plan, by device. Returns whether memory was
 /// refused.
-pub(crate) fn start_all<P: Planner + Drop, N: Listener>(
+pub(crate) fn start_all<P: Planner + Drop, N: Observer>(
     core: &Core<P>,
     connections: &mut Slab<Connection>,
     notes: &mut N,
 ) -> bool
-    ensures { ReportsAmong N.told StartsAll core.now notes.old connections.old notes.new connections.new result }
+    ensures { ReportsAmong N.notified StartsAll core.now notes.old connections.old notes.new connections.new result }
 {
     let mut refused = false;
     for started in core.begun() {
@@ -31,19 +31,19 @@ pub(crate) fn start_all<P: Planner + Drop, N: Listener>(
 
 /// Enqueues the bytes of a job that begins on the device's connection, if the device has one. Returns whether
 /// memory was refused.
-fn start<P: Planner + Drop, N: Listener>(
+fn start<P: Planner + Drop, N: Observer>(
     core: &Core<P>,
     connections: &mut Slab<Connection>,
     started: Started,
     notes: &mut N,
 ) -> bool
-    ensures { ReportsAmong N.told (Starts started) core.now notes.old connections.old notes.new connections.new result }
+    ensures { ReportsAmong N.notified (Starts started) core.now notes.old connections.old notes.new connections.new result }
 {
     let Some(key) = key_of(connections, started.device) else {
         return false;
     };
     let broke = enqueue_started(core, connections, key, started.job);
-    tell(broke, notes)
+    notify(broke, notes)
 }
 
 /// Enqueues the bytes of the job of an id on the connection under a key. Returns the number of the connection

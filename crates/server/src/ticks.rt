@@ -6,7 +6,7 @@ ghost use Rattle.server.specs.Refinement.{Refines, Reports};
 
 use crate::engine::Engine;
 use base_types::Moment;
-use dispatcher::Listener;
+use dispatcher::Observer;
 use events::Event;
 use plan_prices::Planner;
 use wires::Wire;
@@ -18,12 +18,12 @@ pub const TICK_TIME: u64 = 1000;
 /// The ticks. A tick aborts the jobs whose documents stopped coming, and tries a dispatch.
 impl<P: Planner + Drop> Engine<P> {
     /// Makes a tick if one is due, and closes the connections that broke.
-    pub(crate) fn tick_if_due<W: Wire + Listener>(&mut self, moment: Moment, world: &mut W)
-        ensures { Refines (moved W.polled W.told) (TicksIfDue moment) world.old self.old world.new self.new }
+    pub(crate) fn tick_if_due<W: Wire + Observer>(&mut self, moment: Moment, world: &mut W)
+        ensures { Refines (moved W.polled W.notified) (TicksIfDue moment) world.old self.old world.new self.new }
     {
         if self.is_tick_due(moment) {
             self.tick_now(moment, world);
-            self.settle(moment, world);
+            self.close_broken(moment, world);
         }
     }
 
@@ -36,8 +36,8 @@ impl<P: Planner + Drop> Engine<P> {
     }
 
     /// Makes a tick. Returns whether memory was refused.
-    pub(crate) fn tick_now<N: Listener>(&mut self, moment: Moment, notes: &mut N) -> bool
-        ensures { Reports N.told (Ticks moment) notes.old self.old notes.new self.new result }
+    pub(crate) fn tick_now<N: Observer>(&mut self, moment: Moment, notes: &mut N) -> bool
+        ensures { Reports N.notified (Ticks moment) notes.old self.old notes.new self.new result }
     {
         self.ticked = Some(moment.later(self.core.last()));
         self.handle(moment, Event::Tick, notes).refused

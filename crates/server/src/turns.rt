@@ -11,17 +11,17 @@ use crate::engine::Engine;
 use crate::polls::PIECE;
 use base_types::Moment;
 use connections::table::keys;
-use dispatcher::Listener;
+use dispatcher::Observer;
 use plan_prices::Planner;
 use wires::{Door, Wire};
 
 /// The parts of a turn.
 impl<P: Planner + Drop> Engine<P> {
     /// Makes one turn.
-    pub(crate) fn turn_once<W: Wire + Listener>(&mut self, moment: Moment, world: &mut W)
-        ensures { Refines (moved W.polled W.told) (Turn moment) world.old self.old world.new self.new }
+    pub(crate) fn turn_once<W: Wire + Observer>(&mut self, moment: Moment, world: &mut W)
+        ensures { Refines (moved W.polled W.notified) (Turn moment) world.old self.old world.new self.new }
     {
-        self.settle(moment, world);
+        self.close_broken(moment, world);
         self.tick_if_due(moment, world);
         self.accept_at(Door::Ipp, world);
         self.accept_at(Door::Lpd, world);
@@ -31,8 +31,8 @@ impl<P: Planner + Drop> Engine<P> {
 
     /// Reads all open connections, then writes on them, and then closes those that are done.
     #[tactic(auto, using(crate::proofs::Joins::rounds))]
-    fn round<W: Wire + Listener>(&mut self, moment: Moment, world: &mut W)
-        ensures { Refines (moved W.polled W.told) (Round moment) world.old self.old world.new self.new }
+    fn round<W: Wire + Observer>(&mut self, moment: Moment, world: &mut W)
+        ensures { Refines (moved W.polled W.notified) (Round moment) world.old self.old world.new self.new }
     {
         let keys = self.keys();
         self.read_all(moment, keys, world);
@@ -49,8 +49,8 @@ impl<P: Planner + Drop> Engine<P> {
 
     /// Reads each connection once. All reads use one buffer.
     #[tactic(auto, using(crate::proofs::Joins::next_more))]
-    fn read_all<W: Wire + Listener>(&mut self, moment: Moment, keys: usize, world: &mut W)
-        ensures { Refines (moved W.polled W.told) (Each keys (ReadsOne moment)) world.old self.old world.new self.new }
+    fn read_all<W: Wire + Observer>(&mut self, moment: Moment, keys: usize, world: &mut W)
+        ensures { Refines (moved W.polled W.notified) (Each keys (ReadsOne moment)) world.old self.old world.new self.new }
     {
         let mut piece = [0; PIECE];
         for key in 0..keys {
@@ -60,8 +60,8 @@ impl<P: Planner + Drop> Engine<P> {
 
     /// Writes once on each connection with waiting bytes.
     #[tactic(auto, using(crate::proofs::Joins::next_more))]
-    fn write_all<W: Wire + Listener>(&mut self, moment: Moment, keys: usize, world: &mut W)
-        ensures { Refines (moved W.polled W.told) (Each keys (WritesOne moment)) world.old self.old world.new self.new }
+    fn write_all<W: Wire + Observer>(&mut self, moment: Moment, keys: usize, world: &mut W)
+        ensures { Refines (moved W.polled W.notified) (Each keys (WritesOne moment)) world.old self.old world.new self.new }
     {
         for key in 0..keys {
             self.write_one(moment, key, world);
@@ -70,8 +70,8 @@ impl<P: Planner + Drop> Engine<P> {
 
     /// Closes each connection that is done.
     #[tactic(auto, using(crate::proofs::Joins::next_more))]
-    fn end_all<W: Wire + Listener>(&mut self, moment: Moment, keys: usize, world: &mut W)
-        ensures { Refines (moved W.polled W.told) (Each keys (EndsOne moment)) world.old self.old world.new self.new }
+    fn end_all<W: Wire + Observer>(&mut self, moment: Moment, keys: usize, world: &mut W)
+        ensures { Refines (moved W.polled W.notified) (Each keys (EndsOne moment)) world.old self.old world.new self.new }
     {
         for key in 0..keys {
             self.end_one(moment, key, world);

@@ -1,17 +1,17 @@
-//! The world outside the engine: a wire and a listener as one.
-use dispatcher::{AllocationSite, DeviceRefusal, Dispatched, Listener};
+//! The world outside the engine: a wire and an observer as one.
+use dispatcher::{AllocationSite, DeviceRefusal, Dispatched, Observer};
 use events::Cancel;
 use std::io::IoSlice;
 use wires::{Door, Progress, Wire, WireId};
 
-/// A wire and a listener that are lent. The world is a wire by its wire, and a listener by its listener.
+/// A wire and an observer that are lent. The world is a wire by its wire, and an observer by its observer.
 #[derive(Drop)]
-pub(crate) struct World<'a, W: Wire, N: Listener> {
+pub(crate) struct World<'a, W: Wire, N: Observer> {
     pub wire: &'a mut W,
     pub notes: &'a mut N,
 }
 
-impl<'a, W: Wire, N: Listener> Wire for World<'a, W, N> {
+impl<'a, W: Wire, N: Observer> Wire for World<'a, W, N> {
     ghost use Rattle.server.specs.World.{wire_polled};
 
     ghost polled = { wire_polled W.polled };
@@ -39,10 +39,10 @@ impl<'a, W: Wire, N: Listener> Wire for World<'a, W, N> {
     }
 }
 
-impl<'a, W: Wire, N: Listener> Listener for World<'a, W, N> {
-    ghost use Rattle.server.specs.World.{listener_told};
+impl<'a, W: Wire, N: Observer> Observer for World<'a, W, N> {
+    ghost use Rattle.server.specs.World.{observer_notified};
 
-    ghost told = { listener_told N.told };
+    ghost notified = { observer_notified N.notified };
 
     fn dispatched(&mut self, made: &Dispatched<'_>) {
         self.notes.dispatched(made);

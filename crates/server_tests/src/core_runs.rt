@@ -1,6 +1,6 @@
 //! Lists of events, and the notes of their plans.
 use base_types::{DeviceId, Moment, Report};
-use dispatcher::{AllocationSite, Core, DeviceRefusal, Dispatched, Listener, Outcome, Timed};
+use dispatcher::{AllocationSite, Core, DeviceRefusal, Dispatched, Observer, Outcome, Timed};
 use events::{Cancel, Event};
 use ipp_operations::{ParsedRequest, ipp_event};
 use plan_solver::AugmentingPaths;
@@ -26,15 +26,15 @@ format_default = \"text/plain\"\n";
 const PRINT_JOB: &[u8] =
     b"\x01\x01\x00\x02\x00\x00\x00\x01\x01\x47\x00\x12attributes-charset\x00\x05utf-8\x48\x00\x1Battributes-natural-language\x00\x02en\x45\x00\x0Bprinter-uri\x00\x20ipp://localhost:631/printers/lab\x03hello";
 
-/// The number of plans and of starts of which the listener was notified.
+/// The number of plans and of starts of which the observer was notified.
 #[derive(Drop)]
 struct Counts {
     plans: u64,
     starts: u64,
 }
 
-impl Listener for Counts {
-    ghost told = { λ old note new. Unit {0} };
+impl Observer for Counts {
+    ghost notified = { λ old note new. Unit {0} };
 
     fn dispatched(&mut self, made: &Dispatched<'_>) {
         if made.plan().is_some() {

@@ -6,4 +6,4 @@ returns-in_default g c = λ a core same. starts_nowhere _ _ a c.args.connections
 
 pub returns : goal.returns
 returns g c = λ a core same.
-    starts_there _ _ _ a c.args.core.now c.args.connections.now.slots c.enqueue_started-broke.new.connections.slots c.args.started c.in-Some.key c.enqueue_started-broke.result c.tell.result core same c.in-Some.ensures.some c.in-Some.ensures.lowest c.enqueue_started-broke.ensures c.tell.ensures.told c.tell.ensures.refused
+    starts_there _ _ _ a c.args.core.now c.args.connections.now.slots c.enqueue_started-broke.new.connections.slots c.args.started c.in-Some.key c.enqueue_started-broke.result c.notify.result core same c.in-Some.ensures.some c.in-Some.ensures.lowest c.enqueue_started-broke.ensures c.notify.ensures.notified c.notify.ensures.refused

@@ -8,4 +8,4 @@ use Rattle.server.proofs.starting.start_all.Given as goal
 abbrev pub invariant-loop-started : goal.invariant-loop-started
 invariant-loop-started g l =
     (a : EngineState) → a.core ≡ l.core → a.slots ≡ l.initial.connections.slots
-    → Continues (alone g.N.Listener.told) Starts l.started-items (drop l.started-index l.started-items) l.initial.notes a l.notes (with_slots l.connections.slots a) l.refused
+    → Continues (alone g.N.Observer.notified) Starts l.started-items (drop l.started-index l.started-items) l.initial.notes a l.notes (with_slots l.connections.slots a) l.refused

@@ -9,8 +9,8 @@ use Rattle.connections.proofs.lpd_client.LpdClient.next.Goals as goal
 pub returns-in-Ok : goal.returns-in-Ok
 returns-in-Ok c =
     let t : LpdClientState = record { reader = c.self.inside.reader; session = c.self.inside.session } in
-    subst (λ (s : LpdClientState). NextLpd (is_queue c.args.settings.now) c.hear_whole.result s c.hear_whole.new.self) c.self.view_is
-    (item_heard (is_queue c.args.settings.now) t c.hear_whole.new.self c.next_item.new.self c.in-Ok.item c.hear_whole.result c.in-Ok.ensures.answer c.in-Ok.ensures.falls c.hear_whole.ensures)
+    subst (λ (s : LpdClientState). NextLpd (is_queue c.args.settings.now) c.handle_whole.result s c.handle_whole.new.self) c.self.view_is
+    (item_heard (is_queue c.args.settings.now) t c.handle_whole.new.self c.next_item.new.self c.in-Ok.item c.handle_whole.result c.in-Ok.ensures.answer c.in-Ok.ensures.falls c.handle_whole.ensures)
 
 pub returns-in-Err : goal.returns-in-Err
 returns-in-Err c =

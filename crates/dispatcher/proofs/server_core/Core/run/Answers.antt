@@ -13,6 +13,6 @@ loop-timed-preserved g c =
     let room : length c.push_reserved.new.self.items + length (into_iter_items c.next.new.self) ≤ c.push_reserved.new.self.cap = omega (arith, ap (λ (os : List Outcome). length os) pushed, length-append c.loop-timed.outcomes.items (c.handle.result ∷ []), ap (λ (ts : List Timed). length ts) rest, c.loop-timed.invariant.3, c.push_reserved.ensures.capacity) in (
       tt,
       tt,
-      subst (λ (os : List Outcome). Run g.L.Listener.told c.args.self.now c.args.listener.now (c.loop-timed.yielded ++ c.in-Some.timed ∷ []) os c.handle.new.self c.handle.new.listener) (sym pushed) (run_more g.L.Listener.told c.args.self.now c.args.listener.now c.loop-timed.yielded c.loop-timed.outcomes.items c.loop-timed.self c.loop-timed.listener c.in-Some.timed c.handle.result c.handle.new.self c.handle.new.listener c.loop-timed.invariant.2 c.handle.ensures),
+      subst (λ (os : List Outcome). Run g.L.Observer.notified c.args.self.now c.args.observer.now (c.loop-timed.yielded ++ c.in-Some.timed ∷ []) os c.handle.new.self c.handle.new.observer) (sym pushed) (run_more g.L.Observer.notified c.args.self.now c.args.observer.now c.loop-timed.yielded c.loop-timed.outcomes.items c.loop-timed.self c.loop-timed.observer c.in-Some.timed c.handle.result c.handle.new.self c.handle.new.observer c.loop-timed.invariant.2 c.handle.ensures),
       room,
     )

@@ -4,18 +4,18 @@ use Rattle.base_types.specs.declared.report.Report.{Report}
 use Rattle.base_types.specs.declared.report.Report.TheVariants as report
 use Rattle.base_types.specs.Report.{ReportRecord, report_of}
 use Rattle.events.specs.declared.event.Event.TheVariants as Is
-use Rattle.dispatcher.specs.declared.listener.DeviceRefusal.TheVariants as why
+use Rattle.dispatcher.specs.declared.observer.DeviceRefusal.TheVariants as why
 use Rattle.dispatcher.specs.Notes.{DeviceRefused}
-use Rattle.connections.specs.Entry.{Entry, device_of, given_up}
+use Rattle.connections.specs.Entry.{Entry, device_of, superseded_entry}
 use Rattle.server.specs.Ledger.{Ledger}
-use Rattle.server.specs.Rel.{Rel, Nothing, Tells as Informs, Then}
+use Rattle.server.specs.Rel.{Rel, Nothing, Notifies, Then}
 use Rattle.server.specs.Enqueuing.{Sets, IsDevice}
 use Rattle.server.specs.Happening.{Unanswered}
 use Rattle.server.specs.Closing.{IsGone}
 
 -- a report of a device comes
-abbrev pub Tells : ℕ → ℕ → ReportRecord → Rel
-Tells moment device said l hs l' = (report : Report) × (report_of report ≡ said) × Unanswered moment (Is.Report device report) l hs l'
+abbrev pub ReportComes : ℕ → ℕ → ReportRecord → Rel
+ReportComes moment device said l hs l' = (report : Report) × (report_of report ≡ said) × Unanswered moment (Is.Report device report) l hs l'
 
 -- a connection is open, this device gave its name on it, and `ended` is whether the input of the connection has ended
 abbrev pub IsDeviceAs : Bool → ℕ → Option Entry → Type 0
@@ -33,26 +33,26 @@ HasOther ended device key other l =
     (other ≢ key) × IsDeviceAs ended device (l.entries other) × ((lower : ℕ) → lower < other → lower ≢ key → IsDevice device (l.entries lower) → ⊥)
 
 -- the connection under a key is to be closed as by a fault, since its device has another connection
-abbrev pub GivesWayAt : ℕ → Option Entry → Rel
-GivesWayAt key None = Nothing
-GivesWayAt key (Some e) = Sets key (given_up e)
+abbrev pub IsSupersededAt : ℕ → Option Entry → Rel
+IsSupersededAt key None = Nothing
+IsSupersededAt key (Some e) = Sets key (superseded_entry e)
 
-abbrev pub GivesWay : ℕ → Rel
-GivesWay key l hs l' = GivesWayAt key (l.entries key) l hs l'
+abbrev pub IsSuperseded : ℕ → Rel
+IsSuperseded key l hs l' = IsSupersededAt key (l.entries key) l hs l'
 
 -- the device gives its name
 abbrev pub SaysName : ℕ → ℕ → List ℕ → Rel
 SaysName moment device name = Unanswered moment (Is.Report device (report.Hello name))
 
--- a device comes again: its old connection gives way, the device is gone, and the device gives its name
+-- a device comes again: its old connection is superseded, the device is gone, and the device gives its name
 abbrev pub TakesOver : ℕ → ℕ → ℕ → List ℕ → Rel
-TakesOver moment old device name = Then (GivesWay old) (Then (IsGone moment (Some device)) (SaysName moment device name))
+TakesOver moment old device name = Then (IsSuperseded old) (Then (IsGone moment (Some device)) (SaysName moment device name))
 
 -- A device gives its name on the connection under a key. If the device has no other connection, the name is an event of
--- the core. If the input of the other connection has ended, the other connection gives way, and the name is an event
--- too. Else the new connection gives way and is refused, and no event comes.
+-- the core. If the input of the other connection has ended, the other connection is superseded, and the name is an event
+-- too. Else the new connection is superseded and is refused, and no event comes.
 abbrev pub Greets : ℕ → ℕ → ℕ → ℕ → List ℕ → Rel
 Greets moment key id device name l hs l' =
     (IsAlone device key l × SaysName moment device name l hs l')
     ⊎ (((other : ℕ) × HasOther true device key other l × TakesOver moment other device name l hs l')
-    ⊎ ((other : ℕ) × HasOther false device key other l × Then (GivesWay key) (Informs (DeviceRefused id (why.Connected device))) l hs l'))
+    ⊎ ((other : ℕ) × HasOther false device key other l × Then (IsSuperseded key) (Notifies (DeviceRefused id (why.Connected device))) l hs l'))

@@ -3,7 +3,7 @@ use Rattle.std.proofs.Common.{◌≡◌, ℕ, Bool, true, false, List, [], ◌�
 use Rattle.std.specs.Prelude.{◌||◌}
 use Rattle.std.specs.Option.{ForSome}
 use Rattle.std.proofs.lemmas.Option.{none-some}
-use Rattle.server.specs.Polls.{Happening, Polled, Told, Chosen, Leads, both, alone}
+use Rattle.server.specs.Polls.{Happening, Polled, Notified, Chosen, Leads, both, alone}
 use Rattle.traces.specs.declared.wire.TraceWire.{TraceWire}
 use Rattle.replay.specs.Log.{LogRecord, LogsNote, note_text, happening_text, happenings_text}
 use Rattle.traces.specs.Wire.{WirePolls}
@@ -21,10 +21,10 @@ leads_append moves a b c (h ∷ hs) ks p q = (p.0, p.1, leads_append moves p.0 b
 -- ---- the log
 
 -- the log hears notes, and no polls
-abbrev Listens : LogRecord → Happening → LogRecord → Type 0
-Listens old (Polled poll) new = new ≡ old
-Listens old (Told note) new = LogsNote old note new
-Listens old (Chosen choice) new = ⊥
+abbrev Observes : LogRecord → Happening → LogRecord → Type 0
+Observes old (Polled poll) new = new ≡ old
+Observes old (Notified note) new = LogsNote old note new
+Observes old (Chosen choice) new = ⊥
 
 -- the notes of a log for happenings, if it has lost no note
 pub record HasHeard (old : LogRecord) (hs : List Happening) (new : LogRecord) : Type 0 where
@@ -36,13 +36,13 @@ added text None after is = absurd (none-some after is)
 added text (Some before) after is = (before, refl, cc (sym is))
 
 -- one happening is heard
-heard_one : (old : LogRecord) (h : Happening) (new : LogRecord) → Listens old h new → (new ≡ record old { heard = new.heard }) × ForSome new.heard (λ text. (before : List ℕ) × (old.heard ≡ Some before) × (text ≡ before ++ happening_text old.texts old.names h))
+heard_one : (old : LogRecord) (h : Happening) (new : LogRecord) → Observes old h new → (new ≡ record old { heard = new.heard }) × ForSome new.heard (λ text. (before : List ℕ) × (old.heard ≡ Some before) × (text ≡ before ++ happening_text old.texts old.names h))
 heard_one old (Polled poll) new same = subst (λ n. (n ≡ record old { heard = n.heard }) × ForSome n.heard (λ text. (before : List ℕ) × (old.heard ≡ Some before) × (text ≡ before ++ []))) (sym same) (refl, λ text is. (text, is, sym (append-nil text)))
 heard_one old (Chosen choice) new none = absurd none
-heard_one old (Told note) new (inl kept) = subst (λ n. (n ≡ record old { heard = n.heard }) × ForSome n.heard (λ text. (before : List ℕ) × (old.heard ≡ Some before) × (text ≡ before ++ note_text old.texts old.names note))) (sym kept) (refl, λ text is. added (note_text old.texts old.names note) old.heard text is)
-heard_one old (Told note) new (inr lost) = subst (λ n. (n ≡ record old { heard = n.heard }) × ForSome n.heard (λ text. (before : List ℕ) × (old.heard ≡ Some before) × (text ≡ before ++ note_text old.texts old.names note))) (sym lost) (refl, λ text is. absurd (none-some text is))
+heard_one old (Notified note) new (inl kept) = subst (λ n. (n ≡ record old { heard = n.heard }) × ForSome n.heard (λ text. (before : List ℕ) × (old.heard ≡ Some before) × (text ≡ before ++ note_text old.texts old.names note))) (sym kept) (refl, λ text is. added (note_text old.texts old.names note) old.heard text is)
+heard_one old (Notified note) new (inr lost) = subst (λ n. (n ≡ record old { heard = n.heard }) × ForSome n.heard (λ text. (before : List ℕ) × (old.heard ≡ Some before) × (text ≡ before ++ note_text old.texts old.names note))) (sym lost) (refl, λ text is. absurd (none-some text is))
 
-heard_all : (old new : LogRecord) (hs : List Happening) → Leads Listens old hs new → HasHeard old hs new
+heard_all : (old new : LogRecord) (hs : List Happening) → Leads Observes old hs new → HasHeard old hs new
 heard_all old new [] same = subst (λ n. HasHeard old [] n) (sym same) (record { log = refl; hears = λ text is. (text, is, sym (append-nil text)) })
 heard_all old new (h ∷ hs) (mid, first, later) =
     let one = heard_one old h mid first in
@@ -56,37 +56,37 @@ heard_all old new (h ∷ hs) (mid, first, later) =
           (begun.0, begun.1, rest.2 ∙ ap (λ t. t ++ happenings_text mid.texts mid.names hs) begun.2 ∙ append_assoc begun.0 (happening_text old.texts old.names h) _ ∙ ap (λ t. begun.0 ++ (happening_text old.texts old.names h ++ t)) named);
     }
 
-listens_alone : (old : LogRecord) (h : Happening) (new : LogRecord) → alone LogsNote old h new → Listens old h new
-listens_alone old (Polled poll) new none = absurd none
-listens_alone old (Told note) new hears = hears
-listens_alone old (Chosen choice) new none = absurd none
+observes_alone : (old : LogRecord) (h : Happening) (new : LogRecord) → alone LogsNote old h new → Observes old h new
+observes_alone old (Polled poll) new none = absurd none
+observes_alone old (Notified note) new hears = hears
+observes_alone old (Chosen choice) new none = absurd none
 
 -- without a wire
 pub heard_alone : (old new : LogRecord) (hs : List Happening) → Leads (alone LogsNote) old hs new → HasHeard old hs new
-heard_alone old new hs leads = heard_all old new hs (leads_as (alone LogsNote) Listens (λ l. l) listens_alone old new hs leads)
+heard_alone old new hs leads = heard_all old new hs (leads_as (alone LogsNote) Observes (λ l. l) observes_alone old new hs leads)
 
-listens_beside : (old : TraceWire × LogRecord) (h : Happening) (new : TraceWire × LogRecord) → both WirePolls LogsNote old h new → Listens old.1 h new.1
-listens_beside old (Polled poll) new (moved, same) = same
-listens_beside old (Told note) new (hears, same) = hears
-listens_beside old (Chosen choice) new none = absurd none
+observes_beside : (old : TraceWire × LogRecord) (h : Happening) (new : TraceWire × LogRecord) → both WirePolls LogsNote old h new → Observes old.1 h new.1
+observes_beside old (Polled poll) new (moved, same) = same
+observes_beside old (Notified note) new (hears, same) = hears
+observes_beside old (Chosen choice) new none = absurd none
 
 -- beside a wire
 pub heard_beside : (old new : TraceWire × LogRecord) (hs : List Happening) → Leads (both WirePolls LogsNote) old hs new → HasHeard old.1 hs new.1
-heard_beside old new hs leads = heard_all old.1 new.1 hs (leads_as (both WirePolls LogsNote) Listens (λ s. s.1) listens_beside old new hs leads)
+heard_beside old new hs leads = heard_all old.1 new.1 hs (leads_as (both WirePolls LogsNote) Observes (λ s. s.1) observes_beside old new hs leads)
 
 -- all notes are printed, and then the log is as it was
 pub all_heard : (old new after : LogRecord) (hs : List Happening) (text : List ℕ) → HasHeard old hs new → old.heard ≡ Some [] → new.heard ≡ Some text → after ≡ record new { heard = Some [] } → (text ≡ happenings_text old.texts old.names hs) × (after ≡ old)
-all_heard old new after hs text told none some is =
-    let heard = told.hears text some in
+all_heard old new after hs text notified none some is =
+    let heard = notified.hears text some in
     let empty : heard.0 ≡ [] = cc (sym heard.1 ∙ none) in
-    (heard.2 ∙ ap (λ t. t ++ happenings_text old.texts old.names hs) empty, is ∙ ap (λ (l : LogRecord). record l { heard = Some [] }) told.log ∙ ap (λ (o : Option (List ℕ)). record old { heard = o }) (sym none))
+    (heard.2 ∙ ap (λ t. t ++ happenings_text old.texts old.names hs) empty, is ∙ ap (λ (l : LogRecord). record l { heard = Some [] }) notified.log ∙ ap (λ (o : Option (List ℕ)). record old { heard = o }) (sym none))
 
 -- ---- the wire
 
 -- the wire is moved by polls, and knows of no notes
 abbrev WireSees : TraceWire → Happening → TraceWire → Type 0
 WireSees old (Polled poll) new = WirePolls old poll new
-WireSees old (Told note) new = new ≡ old
+WireSees old (Notified note) new = new ≡ old
 WireSees old (Chosen choice) new = ⊥
 
 -- the bytes that polls have moved, if all polls were prompt, and whether one had an answer other than Waiting
@@ -105,7 +105,7 @@ or_assoc false b c = refl
 moved_one : (old : TraceWire) (h : Happening) (new : TraceWire) → WireSees old h new → (new.stirred ≡ (old.stirred || happening_stirs h)) × (new.failed ≡ false → (old.failed ≡ false) × PeersSee old.memory.peers.items h new.memory.peers.items)
 moved_one old (Polled poll) new polls = (polls.stirred, λ fine. let before = polls.prompt fine in (before.0, (polls.moves, before.1)))
 moved_one old (Chosen choice) new none = absurd none
-moved_one old (Told note) new same = (ap (λ (w : TraceWire). w.stirred) same ∙ or_false old.stirred, λ fine. (ap (λ (w : TraceWire). w.failed) (sym same) ∙ fine, ap (λ (w : TraceWire). w.memory.peers.items) same))
+moved_one old (Notified note) new same = (ap (λ (w : TraceWire). w.stirred) same ∙ or_false old.stirred, λ fine. (ap (λ (w : TraceWire). w.failed) (sym same) ∙ fine, ap (λ (w : TraceWire). w.memory.peers.items) same))
 
 moved_all : (old new : TraceWire) (hs : List Happening) → Leads WireSees old hs new → HasMoved old hs new
 moved_all old new [] same = record {
@@ -125,7 +125,7 @@ moved_all old new (h ∷ hs) (mid, first, later) =
 
 sees_beside : (old : TraceWire × LogRecord) (h : Happening) (new : TraceWire × LogRecord) → both WirePolls LogsNote old h new → WireSees old.0 h new.0
 sees_beside old (Polled poll) new (moved, same) = moved
-sees_beside old (Told note) new (hears, same) = same
+sees_beside old (Notified note) new (hears, same) = same
 sees_beside old (Chosen choice) new none = absurd none
 
 pub moved_beside : (old new : TraceWire × LogRecord) (hs : List Happening) → Leads (both WirePolls LogsNote) old hs new → HasMoved old.0 hs new.0

@@ -1,7 +1,7 @@
 use Rattle.std.proofs.Common.{◌≡◌, ◌++◌, map, filter, drop}
 use Rattle.listings.specs.Removal.{is_named, named_jobs}
 use Rattle.dispatcher.specs.RemoveJobs.{cancels_of_each}
-use Rattle.dispatcher.proofs.remove_jobs.told_of_named.Given as goal
+use Rattle.dispatcher.proofs.remove_jobs.cancels_of_named.Given as goal
 
 -- the appended cancels and the cancels for the jobs that are left are all cancels
 abbrev pub invariant-loop-spooled : goal.invariant-loop-spooled
