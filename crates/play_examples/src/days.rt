@@ -2,13 +2,12 @@
 //! its file.
 
 use base_types::JobId;
-use gantt_chart::Form;
-use job_lists::{ListedJob, read_list};
-use played_days::{
-    Comparison, Noise, Policy, Question, Round, Watch, draw_day, listed_jobs, read_day,
-    run_simulation,
-};
+use drawing::Form;
 use settings_file::{Settings, read_settings_bytes};
+use simulation::{
+    Comparison, ListedJob, Noise, Policy, Question, Round, Watch, draw_day, listed_jobs, read_day,
+    read_list, run_simulation,
+};
 use std::alloc::{AllocError, Global};
 
 /// A day that is simulated: a file with settings, one with a list of jobs or a trace, and one with the

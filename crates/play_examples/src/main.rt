@@ -25,13 +25,12 @@ use crate::example::{EXAMPLES, Program};
 use crate::many_jobs::CROWDS;
 use crate::pages::{PAGED, is_paged_so};
 use crate::texts::each_is_proved;
-use gantt_chart::Form;
+use drawing::{Form, run_draw};
 use plan_audit::run_check;
-use plan_drawing::run_draw;
 use playback::Shows;
-use played_days::{Comparison, Round};
 use program::ExitStatus;
 use replay::run_replay;
+use simulation::{Comparison, Round};
 use std::process::ExitCode;
 use std::{fs, io};
 

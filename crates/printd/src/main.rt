@@ -11,7 +11,6 @@
 
 mod attaching;
 mod chain;
-mod drawing;
 mod error_keeping;
 mod failure;
 mod following;
@@ -20,6 +19,7 @@ mod jobs;
 mod judging;
 mod log_output;
 mod page;
+mod pictures;
 mod replaying;
 mod serving;
 mod settings;
@@ -29,11 +29,11 @@ mod tape;
 mod zone;
 
 use crate::attaching::run_attach;
-use crate::drawing::{draw, form_of};
 use crate::failure::{cannot, out_of_memory};
 use crate::jobs::run_jobs;
 use crate::judging::check;
 use crate::page::run_page;
+use crate::pictures::{draw, form_of};
 use crate::replaying::{log, replay};
 use crate::serving::run_serve;
 use crate::settings::run_settings;

@@ -1,17 +1,16 @@
 //! `printd simulate`.
 
-use crate::drawing::{WrittenTrace, form_of, refuse_day, written_trace};
 use crate::failure::{cannot, out_of_memory, say, write_text};
+use crate::pictures::{WrittenTrace, form_of, refuse_day, written_trace};
 use crate::settings::{read_file, settings_of};
 use command_line::Simulating;
-use gantt_chart::Form;
-use job_lists::{JobList, ListError, ListedJob, read_list};
-use played_days::{
-    Added, Comparison, DayFault, Noise, Policy, Question, Round, Watch, hasten, listed_jobs,
-    read_day, run_simulation,
-};
+use drawing::Form;
 use program::ExitStatus;
 use settings_file::Settings;
+use simulation::{
+    Added, Comparison, DayFault, JobList, ListError, ListedJob, Noise, Policy, Question, Round,
+    Watch, hasten, listed_jobs, read_day, read_list, run_simulation,
+};
 use std::alloc::AllocError;
 use std::os::unix::fs::FileTypeExt;
 use std::{fs, slice};

@@ -8,7 +8,7 @@
 //!
 //! An [`AccountTable`] has the jobs of a day as comma-separated values: a head and a row for each
 //! [`queue_views::JobAccount`]. The columns `time`, `printer`, `octets`, `impressions`, `copies`, `sides`, `media`,
-//! `format`, `finishings` and `priority` have the names and the values that `job_lists` reads, so the table of a day is
+//! `format`, `finishings` and `priority` have the names and the values that `simulation` reads, so the table of a day is
 //! a list of jobs, too.
 //!
 //! [`metrics_of`] writes a view in the text format that Prometheus reads: each metric with its help, its type and its

@@ -1,6 +1,6 @@
 //! Lists of jobs, and the sentences about their first faults.
-use job_lists::{JobList, ListedJob, read_list};
 use settings_file::{Settings, read_settings};
+use simulation::{JobList, ListedJob, read_list};
 use std::alloc::{AllocError, Global};
 use std::test::Fail;
 

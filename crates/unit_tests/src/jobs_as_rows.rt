@@ -1,10 +1,10 @@
 //! The jobs of a day as comma-separated values.
 use base_types::{Finishings, JobId, Moment, Priority, Sides, Text};
-use job_lists::read_list;
 use job_objects::JobState;
 use queue_reports::AccountTable;
 use queue_views::{Clock, JobAccount};
 use settings_file::read_settings_bytes;
+use simulation::read_list;
 use std::alloc::{AllocError, Global};
 use std::test::Fail;
 

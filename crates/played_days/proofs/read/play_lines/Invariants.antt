@@ -1,5 +1,0 @@
-use Rattle.std.proofs.Common.{length}
-use Rattle.played_days.proofs.read.play_lines.Given as goal
-
-abbrev pub decreases-loop-cut : goal.decreases-loop-cut
-decreases-loop-cut l = length l.rest
