@@ -27,8 +27,8 @@ use Rattle.dispatcher.specs.declared.checks.Rejection.{Rejection}
 use Rattle.events.specs.declared.effects.Effects.{Effects}
 use Rattle.dispatcher.specs.Answers.{Refuses, Shows}
 use Rattle.dispatcher.specs.GetJobs.{wanted_of}
-use Rattle.dispatcher.specs.Checks.{named_job, named_printer, printer_of_job, format_asked, unrefused}
-use Rattle.dispatcher.specs.PrintJob.{TakesJob, asked_of}
+use Rattle.dispatcher.specs.Checks.{named_job, named_printer, printer_of_job, checked_format, unrefused}
+use Rattle.dispatcher.specs.PrintJob.{TakesJob, checked_of}
 use Rattle.dispatcher.specs.ValidateJob.{Validates, validated_of}
 use Rattle.dispatcher.specs.CreateJob.{CreatesIt, created_of}
 use Rattle.dispatcher.specs.SendDocument.{SendsIt, sent_group, sent_in_format, sent_to_printer, sent_to_job, sent_of}
@@ -79,7 +79,7 @@ pub is_sent : (request : SendDocument) (old : State) (sent : Sent) → sent_of r
 is_sent request old sent is =
     let job = behind (named_job request.job.target old) (sent_to_job request old) sent is in
     let printer = behind (printer_of_job job.0 old) (sent_to_printer request old job.0) sent job.2 in
-    let format = behind (format_asked request.form printer.0.offer) (sent_in_format request old job.0) sent printer.2 in
+    let format = behind (checked_format request.form printer.0.offer) (sent_in_format request old job.0) sent printer.2 in
     let one : Sent = record { job = job.0.id; format = format.0; groups = sent_group old job.0 request.last ∷ [] } in
     let last = at_last (sending_refusal job.0.id request.job.user (length request.octets) request.last old) one sent format.2 in
     record {
@@ -105,74 +105,74 @@ module _ (old : State) (room : RoomKeeps old) where
   becomes : (new after : State) → new ≡ after → AllKeep old after → AllKeep old new
   becomes new after is keeps = subst (λ (s : State). AllKeep old s) (sym is) keeps
 
-  refusing : (now : ℕ) (reply : Effects) (new : State) (refusal : Rejection) → Refuses now old refusal reply new → AllKeep old new × (reply.documents.items ≡ [])
-  refusing now reply new refusal refuses = (only_later now new refuses.state, refuses.replies.documents)
+  refusing : (now : ℕ) (effects : Effects) (new : State) (refusal : Rejection) → Refuses now old refusal effects new → AllKeep old new × (effects.documents.items ≡ [])
+  refusing now effects new refusal refuses = (only_later now new refuses.state, refuses.replies.documents)
 
-  printed : (now : ℕ) (reply : Effects) (new : State) (r : Result Accepted Rejection) → MatchResult r (λ accepted. TakesJob now old accepted reply new) (λ refusal. Refuses now old refusal reply new) → AllKeep old new × (reply.documents.items ≡ [])
-  printed now reply new (Ok accepted) is = (becomes new (with_job_taken now accepted.job false old) is.state (room.submits now accepted.job false), is.replies.documents)
-  printed now reply new (Err refusal) refuses = refusing now reply new refusal refuses
+  printed : (now : ℕ) (effects : Effects) (new : State) (r : Result Accepted Rejection) → MatchResult r (λ accepted. TakesJob now old accepted effects new) (λ refusal. Refuses now old refusal effects new) → AllKeep old new × (effects.documents.items ≡ [])
+  printed now effects new (Ok accepted) is = (becomes new (with_job_taken now accepted.job false old) is.state (room.submits now accepted.job false), is.replies.documents)
+  printed now effects new (Err refusal) refuses = refusing now effects new refusal refuses
 
-  created : (now : ℕ) (reply : Effects) (new : State) (r : Result Accepted Rejection) → MatchResult r (λ accepted. CreatesIt now old accepted reply new) (λ refusal. Refuses now old refusal reply new) → AllKeep old new × (reply.documents.items ≡ [])
-  created now reply new (Ok accepted) is = (becomes new (with_job_taken now accepted.job true old) is.state (room.submits now accepted.job true), is.replies.documents)
-  created now reply new (Err refusal) refuses = refusing now reply new refusal refuses
+  created : (now : ℕ) (effects : Effects) (new : State) (r : Result Accepted Rejection) → MatchResult r (λ accepted. CreatesIt now old accepted effects new) (λ refusal. Refuses now old refusal effects new) → AllKeep old new × (effects.documents.items ≡ [])
+  created now effects new (Ok accepted) is = (becomes new (with_job_taken now accepted.job true old) is.state (room.submits now accepted.job true), is.replies.documents)
+  created now effects new (Err refusal) refuses = refusing now effects new refusal refuses
 
-  validated : (now : ℕ) (reply : Effects) (new : State) (r : Result (List IppAttribute) Rejection) → MatchResult r (λ unsupported. Validates now old unsupported reply new) (λ refusal. Refuses now old refusal reply new) → AllKeep old new × (reply.documents.items ≡ [])
-  validated now reply new (Ok unsupported) is = (only_later now new is.state, is.replies.documents)
-  validated now reply new (Err refusal) refuses = refusing now reply new refusal refuses
+  validated : (now : ℕ) (effects : Effects) (new : State) (r : Result (List IppAttribute) Rejection) → MatchResult r (λ unsupported. Validates now old unsupported effects new) (λ refusal. Refuses now old refusal effects new) → AllKeep old new × (effects.documents.items ≡ [])
+  validated now effects new (Ok unsupported) is = (only_later now new is.state, is.replies.documents)
+  validated now effects new (Err refusal) refuses = refusing now effects new refusal refuses
 
-  sent : (now : ℕ) (request : SendDocument) (reply : Effects) (new : State) (r : Result Sent Rejection) → sent_of request old ≡ r → MatchResult r (λ sent. SendsIt now old request sent reply new) (λ refusal. Refuses now old refusal reply new) → AllKeep old new × (reply.documents.items ≡ [])
-  sent now request reply new (Ok s) found is =
+  sent : (now : ℕ) (request : SendDocument) (effects : Effects) (new : State) (r : Result Sent Rejection) → sent_of request old ≡ r → MatchResult r (λ sent. SendsIt now old request sent effects new) (λ refusal. Refuses now old refusal effects new) → AllKeep old new × (effects.documents.items ≡ [])
+  sent now request effects new (Ok s) found is =
       let document : DocumentRecord = record { format = s.format; contents = request.octets } in
       (becomes new (sending now s.job document request.last old) is.state (room.sends now s.job request.job.user document request.last (sent_free request old s found)), is.replies.documents)
-  sent now request reply new (Err refusal) found refuses = refusing now reply new refusal refuses
+  sent now request effects new (Err refusal) found refuses = refusing now effects new refusal refuses
 
-  canceled : (now : ℕ) (name : List ℕ) (reply : Effects) (new : State) (r : Result ℕ Rejection) → MatchResult r (λ id. CancelsIt now old name id reply new) (λ refusal. Refuses now old refusal reply new) → AllKeep old new × (reply.documents.items ≡ [])
-  canceled now name reply new (Ok id) is = (becomes new (canceling now id name old) is.state (room.cancels now id name), is.documents)
-  canceled now name reply new (Err refusal) refuses = refusing now reply new refusal refuses
+  canceled : (now : ℕ) (name : List ℕ) (effects : Effects) (new : State) (r : Result ℕ Rejection) → MatchResult r (λ id. CancelsIt now old name id effects new) (λ refusal. Refuses now old refusal effects new) → AllKeep old new × (effects.documents.items ≡ [])
+  canceled now name effects new (Ok id) is = (becomes new (canceling now id name old) is.state (room.cancels now id name), is.documents)
+  canceled now name effects new (Err refusal) refuses = refusing now effects new refusal refuses
 
-  changed : (now : ℕ) (change : JobChange) (unsupported : List IppAttribute) (reply : Effects) (new : State) (r : Result ℕ Rejection) → MatchResult r (λ id. ChangesIt now old change unsupported id reply new) (λ refusal. Refuses now old refusal reply new) → AllKeep old new × (reply.documents.items ≡ [])
-  changed now change unsupported reply new (Ok id) is = (becomes new (changing now id change old) is.state (room.changes now id change), is.replies.documents)
-  changed now change unsupported reply new (Err refusal) refuses = refusing now reply new refusal refuses
+  changed : (now : ℕ) (change : JobChange) (unsupported : List IppAttribute) (effects : Effects) (new : State) (r : Result ℕ Rejection) → MatchResult r (λ id. ChangesIt now old change unsupported id effects new) (λ refusal. Refuses now old refusal effects new) → AllKeep old new × (effects.documents.items ≡ [])
+  changed now change unsupported effects new (Ok id) is = (becomes new (changing now id change old) is.state (room.changes now id change), is.replies.documents)
+  changed now change unsupported effects new (Err refusal) refuses = refusing now effects new refusal refuses
 
-  held : (now : ℕ) (request : JobRequest) (until : HoldUntil) (reply : Effects) (new : State) → HoldsUntil now request until old reply new → AllKeep old new × (reply.documents.items ≡ [])
-  held now request NoHold reply new step = changed now Change.Release [] reply new (changed_of request Change.Release now old) step
-  held now request Indefinite reply new step = changed now Change.Hold [] reply new (changed_of request Change.Hold now old) step
-  held now request (Unsupported attribute) reply new step = changed now Change.Hold attribute reply new (changed_of request Change.Hold now old) step
+  held : (now : ℕ) (request : JobRequest) (until : HoldUntil) (effects : Effects) (new : State) → HoldsUntil now request until old effects new → AllKeep old new × (effects.documents.items ≡ [])
+  held now request NoHold effects new step = changed now Change.Release [] effects new (changed_of request Change.Release now old) step
+  held now request Indefinite effects new step = changed now Change.Hold [] effects new (changed_of request Change.Hold now old) step
+  held now request (Unsupported attribute) effects new step = changed now Change.Hold attribute effects new (changed_of request Change.Hold now old) step
 
-  paused : (now : ℕ) (pauses : Bool) (reply : Effects) (new : State) (r : Result ℕ Rejection) → MatchResult r (λ place. PausesIt now old pauses place reply new) (λ refusal. Refuses now old refusal reply new) → AllKeep old new × (reply.documents.items ≡ [])
-  paused now pauses reply new (Ok place) is = (becomes new (pausing now place pauses old) is.state (room.pauses now place pauses), is.replies.documents)
-  paused now pauses reply new (Err refusal) refuses = refusing now reply new refusal refuses
+  paused : (now : ℕ) (pauses : Bool) (effects : Effects) (new : State) (r : Result ℕ Rejection) → MatchResult r (λ place. PausesIt now old pauses place effects new) (λ refusal. Refuses now old refusal effects new) → AllKeep old new × (effects.documents.items ≡ [])
+  paused now pauses effects new (Ok place) is = (becomes new (pausing now place pauses old) is.state (room.pauses now place pauses), is.replies.documents)
+  paused now pauses effects new (Err refusal) refuses = refusing now effects new refusal refuses
 
-  shown : {A : Type 0} (now : ℕ) (reply : Effects) (new : State) (groups : A → List IppGroup) (r : Result A Rejection) → MatchResult r (λ a. Shows now old (groups a) reply new) (λ refusal. Refuses now old refusal reply new) → AllKeep old new × (reply.documents.items ≡ [])
-  shown now reply new groups (Ok a) is = (only_later now new is.state, is.replies.documents)
-  shown now reply new groups (Err refusal) refuses = refusing now reply new refusal refuses
+  shown : {A : Type 0} (now : ℕ) (effects : Effects) (new : State) (groups : A → List IppGroup) (r : Result A Rejection) → MatchResult r (λ a. Shows now old (groups a) effects new) (λ refusal. Refuses now old refusal effects new) → AllKeep old new × (effects.documents.items ≡ [])
+  shown now effects new groups (Ok a) is = (only_later now new is.state, is.replies.documents)
+  shown now effects new groups (Err refusal) refuses = refusing now effects new refusal refuses
 
-  filed : (now : ℕ) (reply : Effects) (new : State) (o : Option Submission) → MatchOption o (FilesNothing now old reply new) (λ job. FilesJob now old job reply new) → AllKeep old new × (reply.documents.items ≡ [])
-  filed now reply new None is = (only_later now new is.state, is.answers.documents)
-  filed now reply new (Some job) is = (becomes new (with_job_taken now job false old) is.state (room.submits now job false), is.answers.documents)
+  filed : (now : ℕ) (effects : Effects) (new : State) (o : Option Submission) → MatchOption o (FilesNothing now old effects new) (λ job. FilesJob now old job effects new) → AllKeep old new × (effects.documents.items ≡ [])
+  filed now effects new None is = (only_later now new is.state, is.answers.documents)
+  filed now effects new (Some job) is = (becomes new (with_job_taken now job false old) is.state (room.submits now job false), is.answers.documents)
 
-  queue_listed : (now : ℕ) (request : ListQueue) (reply : Effects) (new : State) (o : Option ℕ) → MatchOption o (ListsNothing now old reply new) (λ place. ListsIt now old request place reply new) → AllKeep old new × (reply.documents.items ≡ [])
-  queue_listed now request reply new None is = (only_later now new is.state, is.answers.documents)
-  queue_listed now request reply new (Some place) is = (only_later now new is.state, is.documents)
+  queue_listed : (now : ℕ) (request : ListQueue) (effects : Effects) (new : State) (o : Option ℕ) → MatchOption o (ListsNothing now old effects new) (λ place. ListsIt now old request place effects new) → AllKeep old new × (effects.documents.items ≡ [])
+  queue_listed now request effects new None is = (only_later now new is.state, is.answers.documents)
+  queue_listed now request effects new (Some place) is = (only_later now new is.state, is.documents)
 
-  removed : (now : ℕ) (request : RemoveJobs) (reply : Effects) (new : State) → RemovesJobs now request old reply new → AllKeep old new × (reply.documents.items ≡ [])
-  removed now request reply new is = (becomes new (canceling_each now request.agent (removed_jobs request old) old) is.state (room.removes now request.agent (removed_jobs request old)), is.documents)
+  removed : (now : ℕ) (request : RemoveJobs) (effects : Effects) (new : State) → RemovesJobs now request old effects new → AllKeep old new × (effects.documents.items ≡ [])
+  removed now request effects new is = (becomes new (canceling_each now request.agent (removed_jobs request old) old) is.state (room.removes now request.agent (removed_jobs request old)), is.documents)
 
-  pub step_keeps : (event : Event) (now : ℕ) (reply : Effects) (new : State) → StepAt event now old reply new → StepKeeps event old reply.documents.items new
-  step_keeps (Is.PrintJob request) now reply new step = printed now reply new (asked_of request now old) step
-  step_keeps (Is.ValidateJob request) now reply new step = validated now reply new (validated_of request old) step
-  step_keeps (Is.CreateJob request) now reply new step = created now reply new (created_of request now old) step
-  step_keeps (Is.SendDocument request) now reply new step = sent now request reply new (sent_of request old) refl step
-  step_keeps (Is.CancelJob request) now reply new step = canceled now request.user reply new (canceled_of request old) step
-  step_keeps (Is.GetJobAttributes request) now reply new step = shown now reply new (λ job. job_group now request.requested old job ∷ []) (named_job request.target old) step
-  step_keeps (Is.GetJobs request) now reply new step = shown now reply new (λ wanted. job_groups wanted now request.requested old) (wanted_of request old) step
-  step_keeps (Is.GetPrinterAttributes request) now reply new step = shown now reply new (λ printer. printer_group printer.id printer.offer now request.requested old ∷ []) (named_printer request.target old) step
-  step_keeps (Is.HoldJob request) now reply new step = held now request.job request.until reply new step
-  step_keeps (Is.ReleaseJob request) now reply new step = changed now Change.Release [] reply new (changed_of request Change.Release now old) step
-  step_keeps (Is.PausePrinter request) now reply new step = paused now true reply new (paused_of request old) step
-  step_keeps (Is.ResumePrinter request) now reply new step = paused now false reply new (paused_of request old) step
-  step_keeps (Is.SubmitFiles request) now reply new step = filed now reply new (filed_of request now old) step
-  step_keeps (Is.ListQueue request) now reply new step = queue_listed now request reply new (queue_of request.queue old) step
-  step_keeps (Is.RemoveJobs request) now reply new step = removed now request reply new step
-  step_keeps (Is.Report device report) now reply new step = room.reports now device report reply.documents.items new step.reports
-  step_keeps Is.Tick now reply new step = (becomes new (expiring now old) step.state (room.expires now), step.documents)
+  pub step_keeps : (event : Event) (now : ℕ) (effects : Effects) (new : State) → StepAt event now old effects new → StepKeeps event old effects.documents.items new
+  step_keeps (Is.PrintJob request) now effects new step = printed now effects new (checked_of request now old) step
+  step_keeps (Is.ValidateJob request) now effects new step = validated now effects new (validated_of request old) step
+  step_keeps (Is.CreateJob request) now effects new step = created now effects new (created_of request now old) step
+  step_keeps (Is.SendDocument request) now effects new step = sent now request effects new (sent_of request old) refl step
+  step_keeps (Is.CancelJob request) now effects new step = canceled now request.user effects new (canceled_of request old) step
+  step_keeps (Is.GetJobAttributes request) now effects new step = shown now effects new (λ job. job_group now request.requested old job ∷ []) (named_job request.target old) step
+  step_keeps (Is.GetJobs request) now effects new step = shown now effects new (λ wanted. job_groups wanted now request.requested old) (wanted_of request old) step
+  step_keeps (Is.GetPrinterAttributes request) now effects new step = shown now effects new (λ printer. printer_group printer.id printer.offer now request.requested old ∷ []) (named_printer request.target old) step
+  step_keeps (Is.HoldJob request) now effects new step = held now request.job request.until effects new step
+  step_keeps (Is.ReleaseJob request) now effects new step = changed now Change.Release [] effects new (changed_of request Change.Release now old) step
+  step_keeps (Is.PausePrinter request) now effects new step = paused now true effects new (paused_of request old) step
+  step_keeps (Is.ResumePrinter request) now effects new step = paused now false effects new (paused_of request old) step
+  step_keeps (Is.SubmitFiles request) now effects new step = filed now effects new (filed_of request now old) step
+  step_keeps (Is.ListQueue request) now effects new step = queue_listed now request effects new (queue_of request.queue old) step
+  step_keeps (Is.RemoveJobs request) now effects new step = removed now request effects new step
+  step_keeps (Is.Report device report) now effects new step = room.reports now device report effects.documents.items new step.reports
+  step_keeps Is.Tick now effects new step = (becomes new (expiring now old) step.state (room.expires now), step.documents)

@@ -1,4 +1,4 @@
--- An event leads to one state and one reply, and so do two events with the same content.
+-- An event leads to one state and one value of effects, and so do two events with the same content.
 use Rattle.std.proofs.Common.{◌≡◌, ℕ, true, false, List, [], Option, None, Some, Result, Ok, Err, refl, sym, subst, ◌∙◌, max, slice_get, ap}
 use Rattle.std.specs.Prelude.{MatchOption, MatchResult}
 use Rattle.std.specs.Global.{Vec}
@@ -39,7 +39,7 @@ use Rattle.print_room.specs.Report.{documents_out, jobs_after, state_after, Repo
 use Rattle.dispatcher.specs.declared.checks.Rejection.{Rejection}
 use Rattle.dispatcher.specs.Answers.{Refuses, Shows}
 use Rattle.dispatcher.specs.Checks.{named_job, named_printer}
-use Rattle.dispatcher.specs.PrintJob.{asked_of, TakesJob}
+use Rattle.dispatcher.specs.PrintJob.{checked_of, TakesJob}
 use Rattle.dispatcher.specs.ValidateJob.{validated_of, Validates}
 use Rattle.dispatcher.specs.CreateJob.{created_of, CreatesIt}
 use Rattle.dispatcher.specs.SendDocument.{sent_of, SendsIt}
@@ -98,16 +98,16 @@ judged : {T : Type 0} (r : Result T Rejection) (Comes : T → Effects → State 
     → ((x : T) → Comes x one new → Comes x other new' → SameEnd one new other new') → SameEnd one new other new'
 judged (Ok x) Comes now old one new other new' a b each = each x a b
 judged (Err refusal) Comes now old one new other new' a b each =
-    record { state = a.state ∙ sym b.state; reply_is = same_replies refusal.status refusal.unsupported [] one other a.replies b.replies }
+    record { state = a.state ∙ sym b.state; effects_are = same_replies refusal.status refusal.unsupported [] one other a.replies b.replies }
 
 shown : (now : ℕ) (old : State) (groups : List IppGroup) (one : Effects) (new : State) (other : Effects) (new' : State) → Shows now old groups one new → Shows now old groups other new' → SameEnd one new other new'
-shown now old groups one new other new' a b = record { state = a.state ∙ sym b.state; reply_is = same_replies _ [] groups one other a.replies b.replies }
+shown now old groups one new other new' a b = record { state = a.state ∙ sym b.state; effects_are = same_replies _ [] groups one other a.replies b.replies }
 
 changed : (now : ℕ) (request : JobRequest) (change : JobChange) (unsupported : List IppAttribute) (old : State) (one : Effects) (new : State) (other : Effects) (new' : State)
     → ChangesJob now request change unsupported old one new → ChangesJob now request change unsupported old other new' → SameEnd one new other new'
 changed now request change unsupported old one new other new' a b =
     judged (changed_of request change now old) (ChangesIt now old change unsupported) now old one new other new' a b
-    (λ id x y. record { state = x.state ∙ sym y.state; reply_is = same_replies _ unsupported [] one other x.replies y.replies })
+    (λ id x y. record { state = x.state ∙ sym y.state; effects_are = same_replies _ unsupported [] one other x.replies y.replies })
 
 held : (now : ℕ) (request : JobRequest) (until : HoldUntil) (old : State) (one : Effects) (new : State) (other : Effects) (new' : State)
     → HoldsUntil now request until old one new → HoldsUntil now request until old other new' → SameEnd one new other new'
@@ -117,8 +117,8 @@ held now request (Unsupported attribute) old one new other new' a b = changed no
 
 filed : (now : ℕ) (old : State) (r : Option _) (one : Effects) (new : State) (other : Effects) (new' : State)
     → MatchOption r (FilesNothing now old one new) (λ job. FilesJob now old job one new) → MatchOption r (FilesNothing now old other new') (λ job. FilesJob now old job other new') → SameEnd one new other new'
-filed now old None one new other new' a b = record { state = a.state ∙ sym b.state; reply_is = lpd_replies (Taken false) one other a.answers b.answers }
-filed now old (Some job) one new other new' a b = record { state = a.state ∙ sym b.state; reply_is = lpd_replies (Taken true) one other a.answers b.answers }
+filed now old None one new other new' a b = record { state = a.state ∙ sym b.state; effects_are = lpd_replies (Taken false) one other a.answers b.answers }
+filed now old (Some job) one new other new' a b = record { state = a.state ∙ sym b.state; effects_are = lpd_replies (Taken true) one other a.answers b.answers }
 
 listed : (now place : ℕ) (request : ListQueue) (old : State) (one other : Response) → IsListed now place request old one → IsListed now place request old other → SameAnswer one other
 listed now place request old (Lpd (Queue one)) (Lpd (Queue other)) a b = record { form = a.form ∙ sym b.form; name = a.name ∙ sym b.name; state = a.state_is ∙ sym b.state_is; jobs = a.jobs ∙ sym b.jobs }
@@ -133,10 +133,10 @@ listed now place request old Nothing other a b = absurd a
 
 listed_by : (now : ℕ) (request : ListQueue) (old : State) (r : Option ℕ) (one : Effects) (new : State) (other : Effects) (new' : State)
     → MatchOption r (ListsNothing now old one new) (λ place. ListsIt now old request place one new) → MatchOption r (ListsNothing now old other new') (λ place. ListsIt now old request place other new') → SameEnd one new other new'
-listed_by now request old None one new other new' a b = record { state = a.state ∙ sym b.state; reply_is = lpd_replies NoQueue one other a.answers b.answers }
+listed_by now request old None one new other new' a b = record { state = a.state ∙ sym b.state; effects_are = lpd_replies NoQueue one other a.answers b.answers }
 listed_by now request old (Some place) one new other new' a b = record {
   state = a.state ∙ sym b.state;
-  reply_is = record { answer = listed now place request old one.answer other.answer a.answer b.answer; cancels = a.cancels ∙ sym b.cancels; documents = a.documents ∙ sym b.documents };
+  effects_are = record { answer = listed now place request old one.answer other.answer a.answer b.answer; cancels = a.cancels ∙ sym b.cancels; documents = a.documents ∙ sym b.documents };
 }
 
 -- a report leaves one state, and hands out one list of documents
@@ -158,20 +158,20 @@ reported now place report old documents new documents' new' a b = match_at (slic
 
 at_once : (event : Event) (now : ℕ) (old : State) (one : Effects) (new : State) (other : Effects) (new' : State) → StepAt event now old one new → StepAt event now old other new' → SameEnd one new other new'
 at_once (Is.PrintJob request) now old one new other new' a b =
-    judged (asked_of request now old) (TakesJob now old) now old one new other new' a b
-    (λ job x y. record { state = x.state ∙ sym y.state; reply_is = same_replies _ _ _ one other x.replies y.replies })
+    judged (checked_of request now old) (TakesJob now old) now old one new other new' a b
+    (λ job x y. record { state = x.state ∙ sym y.state; effects_are = same_replies _ _ _ one other x.replies y.replies })
 at_once (Is.ValidateJob request) now old one new other new' a b =
     judged (validated_of request old) (Validates now old) now old one new other new' a b
-    (λ u x y. record { state = x.state ∙ sym y.state; reply_is = same_replies _ _ _ one other x.replies y.replies })
+    (λ u x y. record { state = x.state ∙ sym y.state; effects_are = same_replies _ _ _ one other x.replies y.replies })
 at_once (Is.CreateJob request) now old one new other new' a b =
     judged (created_of request now old) (CreatesIt now old) now old one new other new' a b
-    (λ job x y. record { state = x.state ∙ sym y.state; reply_is = same_replies _ _ _ one other x.replies y.replies })
+    (λ job x y. record { state = x.state ∙ sym y.state; effects_are = same_replies _ _ _ one other x.replies y.replies })
 at_once (Is.SendDocument request) now old one new other new' a b =
     judged (sent_of request old) (SendsIt now old request) now old one new other new' a b
-    (λ sent x y. record { state = x.state ∙ sym y.state; reply_is = same_replies _ _ _ one other x.replies y.replies })
+    (λ sent x y. record { state = x.state ∙ sym y.state; effects_are = same_replies _ _ _ one other x.replies y.replies })
 at_once (Is.CancelJob request) now old one new other new' a b =
     judged (canceled_of request old) (CancelsIt now old request.user) now old one new other new' a b
-    (λ id x y. record { state = x.state ∙ sym y.state; reply_is = record { answer = same_answers _ [] [] one.answer other.answer x.answer y.answer; cancels = x.cancels ∙ sym y.cancels; documents = x.documents ∙ sym y.documents } })
+    (λ id x y. record { state = x.state ∙ sym y.state; effects_are = record { answer = same_answers _ [] [] one.answer other.answer x.answer y.answer; cancels = x.cancels ∙ sym y.cancels; documents = x.documents ∙ sym y.documents } })
 at_once (Is.GetJobAttributes request) now old one new other new' a b =
     judged (named_job request.target old) (λ job. Shows now old _) now old one new other new' a b (λ job x y. shown now old _ one new other new' x y)
 at_once (Is.GetJobs request) now old one new other new' a b =
@@ -182,22 +182,22 @@ at_once (Is.HoldJob request) now old one new other new' a b = held now request.j
 at_once (Is.ReleaseJob request) now old one new other new' a b = changed now request Change.Release [] old one new other new' a b
 at_once (Is.PausePrinter request) now old one new other new' a b =
     judged (paused_of request old) (PausesIt now old true) now old one new other new' a b
-    (λ place x y. record { state = x.state ∙ sym y.state; reply_is = same_replies _ [] [] one other x.replies y.replies })
+    (λ place x y. record { state = x.state ∙ sym y.state; effects_are = same_replies _ [] [] one other x.replies y.replies })
 at_once (Is.ResumePrinter request) now old one new other new' a b =
     judged (paused_of request old) (PausesIt now old false) now old one new other new' a b
-    (λ place x y. record { state = x.state ∙ sym y.state; reply_is = same_replies _ [] [] one other x.replies y.replies })
+    (λ place x y. record { state = x.state ∙ sym y.state; effects_are = same_replies _ [] [] one other x.replies y.replies })
 at_once (Is.SubmitFiles request) now old one new other new' a b = filed now old (filed_of request now old) one new other new' a b
 at_once (Is.ListQueue request) now old one new other new' a b = listed_by now request old (queue_of request.queue old) one new other new' a b
 at_once (Is.RemoveJobs request) now old one new other new' a b = record {
   state = a.state ∙ sym b.state;
-  reply_is = record { answer = same_as Nothing one.answer other.answer a.unanswered b.unanswered; cancels = a.cancels ∙ sym b.cancels; documents = a.documents ∙ sym b.documents };
+  effects_are = record { answer = same_as Nothing one.answer other.answer a.unanswered b.unanswered; cancels = a.cancels ∙ sym b.cancels; documents = a.documents ∙ sym b.documents };
 }
 at_once (Is.Report device report) now old one new other new' a b =
     let same = reported now device report old one.documents.items new other.documents.items new' a.reports b.reports in
-    record { state = same.state; reply_is = record { answer = same_as Nothing one.answer other.answer a.unanswered b.unanswered; cancels = a.cancels ∙ sym b.cancels; documents = same.documents_are } }
+    record { state = same.state; effects_are = record { answer = same_as Nothing one.answer other.answer a.unanswered b.unanswered; cancels = a.cancels ∙ sym b.cancels; documents = same.documents_are } }
 at_once Is.Tick now old one new other new' a b = record {
   state = a.state ∙ sym b.state;
-  reply_is = record { answer = same_as Nothing one.answer other.answer a.unanswered b.unanswered; cancels = a.cancels ∙ sym b.cancels; documents = a.documents ∙ sym b.documents };
+  effects_are = record { answer = same_as Nothing one.answer other.answer a.unanswered b.unanswered; cancels = a.cancels ∙ sym b.cancels; documents = a.documents ∙ sym b.documents };
 }
 
 -- ---- two events with the same content
@@ -206,9 +206,9 @@ at_once Is.Tick now old one new other new' a b = record {
 filed_same : (one other : SubmitFiles) → SameFiles one other → (now : ℕ) (old : State) → filed_of one now old ≡ filed_of other now old
 filed_same one other same now old = rw (same.queue, same.owner, same.name, same.documents) refl
 
-files_as : (one other : SubmitFiles) → SameFiles one other → (now : ℕ) (old : State) (reply : Effects) (new : State) → SubmitsFiles now other old reply new → SubmitsFiles now one old reply new
-files_as one other same now old reply new b =
-    subst (λ r. MatchOption r (FilesNothing now old reply new) (λ job. FilesJob now old job reply new)) (sym (filed_same one other same now old)) b
+files_as : (one other : SubmitFiles) → SameFiles one other → (now : ℕ) (old : State) (effects : Effects) (new : State) → SubmitsFiles now other old effects new → SubmitsFiles now one old effects new
+files_as one other same now old effects new b =
+    subst (λ r. MatchOption r (FilesNothing now old effects new) (λ job. FilesJob now old job effects new)) (sym (filed_same one other same now old)) b
 
 -- a queue to list
 shows_as : (one other : ListQueue) → SameList one other → (now place : ℕ) (old : State) (listing : QueueListing) → ShowsQueue now place other old listing → ShowsQueue now place one old listing
@@ -226,15 +226,15 @@ listed_as one other same now place old (Lpd NoQueue) b = absurd b
 listed_as one other same now place old (Ipp answer) b = absurd b
 listed_as one other same now place old Nothing b = absurd b
 
-lists_at : (one other : ListQueue) → SameList one other → (now : ℕ) (old : State) (r : Option ℕ) (reply : Effects) (new : State)
-    → MatchOption r (ListsNothing now old reply new) (λ place. ListsIt now old other place reply new) → MatchOption r (ListsNothing now old reply new) (λ place. ListsIt now old one place reply new)
-lists_at one other same now old None reply new b = b
-lists_at one other same now old (Some place) reply new b = record { answer = listed_as one other same now place old reply.answer b.answer; cancels = b.cancels; documents = b.documents; state = b.state }
+lists_at : (one other : ListQueue) → SameList one other → (now : ℕ) (old : State) (r : Option ℕ) (effects : Effects) (new : State)
+    → MatchOption r (ListsNothing now old effects new) (λ place. ListsIt now old other place effects new) → MatchOption r (ListsNothing now old effects new) (λ place. ListsIt now old one place effects new)
+lists_at one other same now old None effects new b = b
+lists_at one other same now old (Some place) effects new b = record { answer = listed_as one other same now place old effects.answer b.answer; cancels = b.cancels; documents = b.documents; state = b.state }
 
-lists_as : (one other : ListQueue) → SameList one other → (now : ℕ) (old : State) (reply : Effects) (new : State) → ListsQueue now other old reply new → ListsQueue now one old reply new
-lists_as one other same now old reply new b =
-    subst (λ (queue : List ℕ). MatchOption (queue_of queue old) (ListsNothing now old reply new) (λ place. ListsIt now old one place reply new)) (sym same.queue)
-    (lists_at one other same now old (queue_of other.queue old) reply new b)
+lists_as : (one other : ListQueue) → SameList one other → (now : ℕ) (old : State) (effects : Effects) (new : State) → ListsQueue now other old effects new → ListsQueue now one old effects new
+lists_as one other same now old effects new b =
+    subst (λ (queue : List ℕ). MatchOption (queue_of queue old) (ListsNothing now old effects new) (λ place. ListsIt now old one place effects new)) (sym same.queue)
+    (lists_at one other same now old (queue_of other.queue old) effects new b)
 
 -- jobs to remove
 removed_same : (one other : RemoveJobs) → SameRemoval one other → (old : State) → removed_jobs one old ≡ removed_jobs other old
@@ -243,8 +243,8 @@ removed_same one other same old = rw (same.queue, same.agent, same.operands) ref
 notified_same : (one other : RemoveJobs) → SameRemoval one other → (old : State) → due_cancels one old ≡ due_cancels other old
 notified_same one other same old = ap (λ (ids : List ℕ). cancels_of_each ids old) (removed_same one other same old)
 
-removes_as : (one other : RemoveJobs) → SameRemoval one other → (now : ℕ) (old : State) (reply : Effects) (new : State) → RemovesJobs now other old reply new → RemovesJobs now one old reply new
-removes_as one other same now old reply new b = record {
+removes_as : (one other : RemoveJobs) → SameRemoval one other → (now : ℕ) (old : State) (effects : Effects) (new : State) → RemovesJobs now other old effects new → RemovesJobs now one old effects new
+removes_as one other same now old effects new b = record {
   unanswered = b.unanswered;
   cancels = b.cancels ∙ sym (notified_same one other same old);
   documents = b.documents;
@@ -273,10 +273,10 @@ reports_as now place old one other same = by_report (ReportsAs now place old) (�
 -- ---- all events with the same content
 
 abbrev EndsAs : Event → Event → Type 0
-EndsAs one other = (now : ℕ) (old : State) (reply : Effects) (new : State) (said : Effects) (after : State) → StepAt one now old reply new → StepAt other now old said after → SameEnd reply new said after
+EndsAs one other = (now : ℕ) (old : State) (effects : Effects) (new : State) (said : Effects) (after : State) → StepAt one now old effects new → StepAt other now old said after → SameEnd effects new said after
 
 ends_as : (one other : Event) → ((now : ℕ) (old : State) (said : Effects) (after : State) → StepAt other now old said after → StepAt one now old said after) → EndsAs one other
-ends_as one other same now old reply new said after a b = at_once one now old reply new said after a (same now old said after b)
+ends_as one other same now old effects new said after a b = at_once one now old effects new said after a (same now old said after b)
 
 each_end : OfEach EndsAs
 each_end = record {
@@ -288,8 +288,8 @@ each_end = record {
       (λ now old said after b. record { unanswered = b.unanswered; cancels = b.cancels; reports = reports_as now device old one other same said.documents.items after b.reports });
 }
 
-pub same_end : (old : State) (one other : Event) (moment : ℕ) (reply : Effects) (new : State) (said : Effects) (after : State) → SameEvent one other → Step old one moment reply new → Step old other moment said after → SameEnd reply new said after
-same_end old one other moment reply new said after same = by_same EndsAs each_end one other same (max moment old.last) old reply new said after
+pub same_end : (old : State) (one other : Event) (moment : ℕ) (effects : Effects) (new : State) (said : Effects) (after : State) → SameEvent one other → Step old one moment effects new → Step old other moment said after → SameEnd effects new said after
+same_end old one other moment effects new said after same = by_same EndsAs each_end one other same (max moment old.last) old effects new said after
 
 -- queries, and events that are acted on without memory
 

@@ -37,33 +37,33 @@ notifies_next notified old mid new cancels i cancel inside is first last =
 -- ---- an event that was answered, and its dispatch
 
 -- its cancels are notified, and then one note more
-notified_then : {L : Type 0} (notified : L → Note → L → Type 0) (l m n : L) (reply : Effects) (cancels : List Cancel) (note : Note) → cancels ≡ reply.cancels.items → Notifies notified l (map Canceled cancels) m → notified m note n → Notifies notified l (cancel_notes reply ++ note ∷ []) n
-notified_then notified l m n reply cancels note same first last =
-    notifies_more notified l m n (cancel_notes reply) note (subst (λ (xs : List Cancel). Notifies notified l (map Canceled xs) m) same first) last
+notified_then : {L : Type 0} (notified : L → Note → L → Type 0) (l m n : L) (effects : Effects) (cancels : List Cancel) (note : Note) → cancels ≡ effects.cancels.items → Notifies notified l (map Canceled cancels) m → notified m note n → Notifies notified l (cancel_notes effects ++ note ∷ []) n
+notified_then notified l m n effects cancels note same first last =
+    notifies_more notified l m n (cancel_notes effects) note (subst (λ (xs : List Cancel). Notifies notified l (map Canceled xs) m) same first) last
 
-pub comes_refused : {L : Type 0} (notified : L → Note → L → Type 0) (old mid new : State) (l m n : L) (timed : Timed) (query : Bool) (reply : Effects) (cancels : List Cancel)
-    → query ≡ is_query timed.event → query ≡ false → Step old timed.event timed.moment reply mid → cancels ≡ reply.cancels.items → Notifies notified l (map Canceled cancels) m
-    → PlansAs notified (max timed.moment mid.last) mid m made.Refused new n → Comes notified old l timed (Undispatched reply) new n
-comes_refused notified old mid new l m n timed query reply cancels is other step same first (ready, still, last) = (
-  cancel_notes reply ++ Refused At.Dispatch None ∷ [],
-  (sym is ∙ other, subst (λ (s : State). Step old timed.event timed.moment reply s) (sym still) step, subst (λ (s : State). ready_of s ≢ []) (sym still) ready, refl),
-  notified_then notified l m n reply cancels (Refused At.Dispatch None) same first last,
+pub comes_refused : {L : Type 0} (notified : L → Note → L → Type 0) (old mid new : State) (l m n : L) (timed : Timed) (query : Bool) (effects : Effects) (cancels : List Cancel)
+    → query ≡ is_query timed.event → query ≡ false → Step old timed.event timed.moment effects mid → cancels ≡ effects.cancels.items → Notifies notified l (map Canceled cancels) m
+    → PlansAs notified (max timed.moment mid.last) mid m made.Refused new n → Comes notified old l timed (Undispatched effects) new n
+comes_refused notified old mid new l m n timed query effects cancels is other step same first (ready, still, last) = (
+  cancel_notes effects ++ Refused At.Dispatch None ∷ [],
+  (sym is ∙ other, subst (λ (s : State). Step old timed.event timed.moment effects s) (sym still) step, subst (λ (s : State). ready_of s ≢ []) (sym still) ready, refl),
+  notified_then notified l m n effects cancels (Refused At.Dispatch None) same first last,
 )
 
-pub comes_idle : {L : Type 0} (notified : L → Note → L → Type 0) (old mid new : State) (l m n : L) (timed : Timed) (query : Bool) (reply : Effects) (cancels : List Cancel)
-    → query ≡ is_query timed.event → query ≡ false → Step old timed.event timed.moment reply mid → cancels ≡ reply.cancels.items → Notifies notified l (map Canceled cancels) m
-    → PlansAs notified (max timed.moment mid.last) mid m made.Idle new n → Comes notified old l timed (Idle reply) new n
-comes_idle notified old mid new l m n timed query reply cancels is other step same first (chosen, last) = (
-  cancel_notes reply ++ Planned None [] ∷ [],
+pub comes_idle : {L : Type 0} (notified : L → Note → L → Type 0) (old mid new : State) (l m n : L) (timed : Timed) (query : Bool) (effects : Effects) (cancels : List Cancel)
+    → query ≡ is_query timed.event → query ≡ false → Step old timed.event timed.moment effects mid → cancels ≡ effects.cancels.items → Notifies notified l (map Canceled cancels) m
+    → PlansAs notified (max timed.moment mid.last) mid m made.Idle new n → Comes notified old l timed (Idle effects) new n
+comes_idle notified old mid new l m n timed query effects cancels is other step same first (chosen, last) = (
+  cancel_notes effects ++ Planned None [] ∷ [],
   (sym is ∙ other, mid, step, chosen, refl),
-  notified_then notified l m n reply cancels (Planned None []) same first last,
+  notified_then notified l m n effects cancels (Planned None []) same first last,
 )
 
-pub comes_planned : {L : Type 0} (notified : L → Note → L → Type 0) (old mid new : State) (l m n : L) (timed : Timed) (query : Bool) (reply : Effects) (cancels : List Cancel)
-    → query ≡ is_query timed.event → query ≡ false → Step old timed.event timed.moment reply mid → cancels ≡ reply.cancels.items → Notifies notified l (map Canceled cancels) m
-    → PlansAs notified (max timed.moment mid.last) mid m made.Planned new n → Comes notified old l timed (Dispatched reply) new n
-comes_planned notified old mid new l m n timed query reply cancels is other step same first (plan, chosen, last) = (
-  cancel_notes reply ++ Planned (Some plan) new.begun ∷ [],
+pub comes_planned : {L : Type 0} (notified : L → Note → L → Type 0) (old mid new : State) (l m n : L) (timed : Timed) (query : Bool) (effects : Effects) (cancels : List Cancel)
+    → query ≡ is_query timed.event → query ≡ false → Step old timed.event timed.moment effects mid → cancels ≡ effects.cancels.items → Notifies notified l (map Canceled cancels) m
+    → PlansAs notified (max timed.moment mid.last) mid m made.Planned new n → Comes notified old l timed (Dispatched effects) new n
+comes_planned notified old mid new l m n timed query effects cancels is other step same first (plan, chosen, last) = (
+  cancel_notes effects ++ Planned (Some plan) new.begun ∷ [],
   (sym is ∙ other, mid, step, plan, chosen, refl),
-  notified_then notified l m n reply cancels (Planned (Some plan) new.begun) same first last,
+  notified_then notified l m n effects cancels (Planned (Some plan) new.begun) same first last,
 )

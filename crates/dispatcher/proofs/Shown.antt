@@ -181,8 +181,8 @@ job_shown request now document old sent spool is =
     let under : IsShown sent.job (sent_group old job last ∷ []) (sending now sent.job document last old) = subst (λ (id : ℕ). IsShown id (sent_group old job last ∷ []) (sending now id document last old)) is.id_is shown in
     subst (λ (groups : List IppGroup). IsShown sent.job groups (sending now sent.job document last old)) is.groups_are under
 
-pub sent_shown : (now : ℕ) (request : SendDocument) (old : State) (reply : Effects) (new : State) (sent : Sent) → IsSpool old.spool → MatchResult (sent_of request old) (λ sent. SendsIt now old request sent reply new) (λ refusal. Refuses now old refusal reply new) → sent_of request old ≡ Ok sent → Replies Went.Ok [] sent.groups reply × IsShown sent.job sent.groups new
-sent_shown now request old reply new sent spool step is =
-    let sends : SendsIt now old request sent reply new = subst (λ (r : Result Sent Rejection). MatchResult r (λ sent. SendsIt now old request sent reply new) (λ refusal. Refuses now old refusal reply new)) is step in
+pub sent_shown : (now : ℕ) (request : SendDocument) (old : State) (effects : Effects) (new : State) (sent : Sent) → IsSpool old.spool → MatchResult (sent_of request old) (λ sent. SendsIt now old request sent effects new) (λ refusal. Refuses now old refusal effects new) → sent_of request old ≡ Ok sent → Replies Went.Ok [] sent.groups effects × IsShown sent.job sent.groups new
+sent_shown now request old effects new sent spool step is =
+    let sends : SendsIt now old request sent effects new = subst (λ (r : Result Sent Rejection). MatchResult r (λ sent. SendsIt now old request sent effects new) (λ refusal. Refuses now old refusal effects new)) is step in
     let document : DocumentRecord = record { format = sent.format; contents = request.octets } in
     (sends.replies, subst (λ (s : State). IsShown sent.job sent.groups s) (sym sends.state) (job_shown request now document old sent spool (is_sent request old sent is)))

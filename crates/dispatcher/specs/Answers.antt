@@ -13,11 +13,11 @@ abbrev pub taken_with : List IppAttribute → Status
 taken_with unsupported = if length unsupported == 0 then Went.Ok else Went.OkIgnoredOrSubstituted
 
 -- the response is the rejection alone, and only the last moment changes
-pub record Refuses (now : ℕ) (old : State) (refusal : Rejection) (reply : Effects) (new : State) : Type 0 where
-  pub replies : Replies refusal.status refusal.unsupported [] reply
+pub record Refuses (now : ℕ) (old : State) (refusal : Rejection) (effects : Effects) (new : State) : Type 0 where
+  pub replies : Replies refusal.status refusal.unsupported [] effects
   pub state : new ≡ record old { last = now }
 
 -- the response has these groups, and only the last moment changes
-pub record Shows (now : ℕ) (old : State) (groups : List IppGroup) (reply : Effects) (new : State) : Type 0 where
-  pub replies : Replies Went.Ok [] groups reply
+pub record Shows (now : ℕ) (old : State) (groups : List IppGroup) (effects : Effects) (new : State) : Type 0 where
+  pub replies : Replies Went.Ok [] groups effects
   pub state : new ≡ record old { last = now }

@@ -25,13 +25,13 @@ abbrev pub cancels_of : ℕ → State → List Cancel
 cancels_of id old = map (λ device. record { job = id; device = device }) (option_to_list (device_of old.devices id))
 
 -- the job is canceled by the user of the request
-pub record CancelsIt (now : ℕ) (old : State) (name : List ℕ) (id : ℕ) (reply : Effects) (new : State) : Type 0 where
-  pub answer : IsResponse Went.Ok [] [] reply.answer
-  pub cancels : reply.cancels.items ≡ cancels_of id old
-  pub documents : reply.documents.items ≡ []
+pub record CancelsIt (now : ℕ) (old : State) (name : List ℕ) (id : ℕ) (effects : Effects) (new : State) : Type 0 where
+  pub answer : IsResponse Went.Ok [] [] effects.answer
+  pub cancels : effects.cancels.items ≡ cancels_of id old
+  pub documents : effects.documents.items ≡ []
   pub state : new ≡ canceling now id name old
 
--- the relation has at most one reply and one state after it
+-- the relation has at most one result: effects and a state
 abbrev pub CancelsJob : ℕ → JobRequest → State → Effects → State → Type 0
-CancelsJob now request old reply new =
-    MatchResult (canceled_of request old) (λ id. CancelsIt now old request.user id reply new) (λ refusal. Refuses now old refusal reply new)
+CancelsJob now request old effects new =
+    MatchResult (canceled_of request old) (λ id. CancelsIt now old request.user id effects new) (λ refusal. Refuses now old refusal effects new)

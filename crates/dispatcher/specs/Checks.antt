@@ -51,17 +51,17 @@ is_compressed compression = option_map_or (λ c. not (bytes_eq c (codes "none"))
 -- the requested format as the settings spell it (section 5.1.10), if the printer has it; without document-format the printer's default
 abbrev pub format_of : OfferRecord → Option (List ℕ) → Option (List ℕ)
 format_of offer None = Some offer.printer.format_default
-format_of offer (Some asked) = format_named offer asked
+format_of offer (Some requested) = format_named offer requested
 
 -- the format of the document, which has to be uncompressed and of a supported format
-abbrev pub format_asked : DocumentForm → OfferRecord → Result (List ℕ) Rejection
-format_asked form offer =
+abbrev pub checked_format : DocumentForm → OfferRecord → Result (List ℕ) Rejection
+checked_format form offer =
     if is_compressed form.compression then Err (refused Went.CompressionNotSupported)
     else option_map_or Ok (format_of offer form.format) (Err (refused Went.FormatNotSupported))
 
 -- the unsupported attributes of the job group; they are a rejection if the request has ipp-attribute-fidelity (section 4.1.7)
-abbrev pub unsupported_asked : Bool → List IppAttribute → OfferRecord → Result (List IppAttribute) Rejection
-unsupported_asked fidelity template offer =
+abbrev pub unsupported_attributes : Bool → List IppAttribute → OfferRecord → Result (List IppAttribute) Rejection
+unsupported_attributes fidelity template offer =
     if fidelity && not (length (unsupported_of offer template) == 0) then Err (record { status = Went.AttributesNotSupported; unsupported = unsupported_of offer template })
     else Ok (unsupported_of offer template)
 

@@ -7,9 +7,9 @@ use Rattle.dispatcher.specs.Answers.{Refuses, Shows}
 use Rattle.dispatcher.specs.Checks.{named_job}
 use Rattle.print_room.specs.State.{State}
 
--- the relation has at most one reply and one state after it
+-- the relation has at most one result: effects and a state
 abbrev pub ShowsJob : ℕ → GetJobAttributes → State → Effects → State → Type 0
-ShowsJob now request old reply new =
+ShowsJob now request old effects new =
     MatchResult (named_job request.target old)
-    (λ job. Shows now old (job_group now request.requested old job ∷ []) reply new)
-    (λ refusal. Refuses now old refusal reply new)
+    (λ job. Shows now old (job_group now request.requested old job ∷ []) effects new)
+    (λ refusal. Refuses now old refusal effects new)

@@ -14,25 +14,25 @@ use Rattle.dispatcher.specs.Checks.{named_printer}
 use Rattle.print_room.specs.State.{State}
 
 -- whether finished jobs are requested; an unsupported which-jobs is a rejection with that attribute, unchanged
-abbrev pub finished_asked : WhichJobs → Result Bool Rejection
-finished_asked Completed = Ok true
-finished_asked NotCompleted = Ok false
-finished_asked (Unsupported attribute) = Err (record { status = Went.AttributesNotSupported; unsupported = attribute })
+abbrev pub lists_finished : WhichJobs → Result Bool Rejection
+lists_finished Completed = Ok true
+lists_finished NotCompleted = Ok false
+lists_finished (Unsupported attribute) = Err (record { status = Went.AttributesNotSupported; unsupported = attribute })
 
 -- the owner of the requested jobs, if my-jobs limits them to those of the request's user
-abbrev pub owner_asked : Bool → List ℕ → Option (List ℕ)
-owner_asked mine user = if mine then Some user else None
+abbrev pub listed_owner : Bool → List ℕ → Option (List ℕ)
+listed_owner mine user = if mine then Some user else None
 
 -- the requested jobs, or the rejection of the first check that fails
 abbrev pub wanted_of : GetJobs → State → Result WantedJobs Rejection
 wanted_of request old =
     named_printer request.printer.target old >>= (λ printer.
-    finished_asked request.which >>= (λ finished.
-    Ok (record { printer = printer.id; finished = finished; owner = owner_asked request.mine request.printer.user; limit = request.limit })))
+    lists_finished request.which >>= (λ finished.
+    Ok (record { printer = printer.id; finished = finished; owner = listed_owner request.mine request.printer.user; limit = request.limit })))
 
--- the relation has at most one reply and one state after it
+-- the relation has at most one result: effects and a state
 abbrev pub ListsJobs : ℕ → GetJobs → State → Effects → State → Type 0
-ListsJobs now request old reply new =
+ListsJobs now request old effects new =
     MatchResult (wanted_of request old)
-    (λ wanted. Shows now old (job_groups wanted now request.requested old) reply new)
-    (λ refusal. Refuses now old refusal reply new)
+    (λ wanted. Shows now old (job_groups wanted now request.requested old) effects new)
+    (λ refusal. Refuses now old refusal effects new)

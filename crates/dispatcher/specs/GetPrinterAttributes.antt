@@ -7,9 +7,9 @@ use Rattle.dispatcher.specs.Answers.{Refuses, Shows}
 use Rattle.dispatcher.specs.Checks.{named_printer}
 use Rattle.print_room.specs.State.{State}
 
--- the relation has at most one reply and one state after it
+-- the relation has at most one result: effects and a state
 abbrev pub ShowsPrinter : ℕ → GetPrinterAttributes → State → Effects → State → Type 0
-ShowsPrinter now request old reply new =
+ShowsPrinter now request old effects new =
     MatchResult (named_printer request.target old)
-    (λ printer. Shows now old (printer_group printer.id printer.offer now request.requested old ∷ []) reply new)
-    (λ refusal. Refuses now old refusal reply new)
+    (λ printer. Shows now old (printer_group printer.id printer.offer now request.requested old ∷ []) effects new)
+    (λ refusal. Refuses now old refusal effects new)

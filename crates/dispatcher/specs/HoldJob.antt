@@ -14,33 +14,33 @@ use Rattle.events.specs.Effects.{Replies}
 use Rattle.dispatcher.specs.Answers.{Refuses, taken_with}
 use Rattle.dispatcher.specs.Checks.{named_job, unrefused}
 use Rattle.print_room.specs.State.{State}
-use Rattle.print_room.specs.Jobs.{asked_refusal, changing}
+use Rattle.print_room.specs.Jobs.{checked_refusal, changing}
 
 -- the id of the changed job, or the rejection of the first check that fails
 abbrev pub changed_of : JobRequest → JobChange → ℕ → State → Result ℕ Rejection
 changed_of request change now old =
     named_job request.target old >>= (λ job.
-    unrefused (asked_refusal job.id request.user change now old) >>= (λ _.
+    unrefused (checked_refusal job.id request.user change now old) >>= (λ _.
     Ok job.id))
 
 -- the job is changed, and the response has the unsupported attributes
-pub record ChangesIt (now : ℕ) (old : State) (change : JobChange) (unsupported : List IppAttribute) (id : ℕ) (reply : Effects) (new : State) : Type 0 where
-  pub replies : Replies (taken_with unsupported) unsupported [] reply
+pub record ChangesIt (now : ℕ) (old : State) (change : JobChange) (unsupported : List IppAttribute) (id : ℕ) (effects : Effects) (new : State) : Type 0 where
+  pub replies : Replies (taken_with unsupported) unsupported [] effects
   pub state : new ≡ changing now id change old
 
 abbrev pub ChangesJob : ℕ → JobRequest → JobChange → List IppAttribute → State → Effects → State → Type 0
-ChangesJob now request change unsupported old reply new =
-    MatchResult (changed_of request change now old) (λ id. ChangesIt now old change unsupported id reply new) (λ refusal. Refuses now old refusal reply new)
+ChangesJob now request change unsupported old effects new =
+    MatchResult (changed_of request change now old) (λ id. ChangesIt now old change unsupported id effects new) (λ refusal. Refuses now old refusal effects new)
 
 -- `no-hold` releases the job; any other value holds it, and is returned as unsupported unless it is `indefinite`
 abbrev pub HoldsUntil : ℕ → JobRequest → HoldUntil → State → Effects → State → Type 0
-HoldsUntil now request NoHold old reply new = ChangesJob now request Release [] old reply new
-HoldsUntil now request Indefinite old reply new = ChangesJob now request Hold [] old reply new
-HoldsUntil now request (Unsupported attribute) old reply new = ChangesJob now request Hold attribute old reply new
+HoldsUntil now request NoHold old effects new = ChangesJob now request Release [] old effects new
+HoldsUntil now request Indefinite old effects new = ChangesJob now request Hold [] old effects new
+HoldsUntil now request (Unsupported attribute) old effects new = ChangesJob now request Hold attribute old effects new
 
--- the relation has at most one reply and one state after it
+-- the relation has at most one result: effects and a state
 abbrev pub HoldsJob : ℕ → HoldJob → State → Effects → State → Type 0
-HoldsJob now request old reply new = HoldsUntil now request.job request.until old reply new
+HoldsJob now request old effects new = HoldsUntil now request.job request.until old effects new
 
 abbrev pub ReleasesJob : ℕ → JobRequest → State → Effects → State → Type 0
-ReleasesJob now request old reply new = ChangesJob now request Release [] old reply new
+ReleasesJob now request old effects new = ChangesJob now request Release [] old effects new

@@ -6,7 +6,7 @@ use Rattle.print_room.specs.DeviceJobs.{AllKeep, KeepsOrEnds}
 use Rattle.events.specs.declared.event.Event.{Event}
 use Rattle.events.specs.declared.event.Event.TheVariants as Is
 
--- the documents are unchanged, byte for byte; the reply to a device's report has all documents of the job that the report ends
+-- the documents are unchanged, byte for byte; the effects of a device's report have all documents of the job that the report ends
 abbrev pub StepKeeps : Event → State → List DocumentRecord → State → Type 0
 StepKeeps (Is.PrintJob request) old documents new = AllKeep old new × (documents ≡ [])
 StepKeeps (Is.ValidateJob request) old documents new = AllKeep old new × (documents ≡ [])

@@ -24,18 +24,18 @@ IsListed now place request state (Ipp answer) = ⊥
 IsListed now place request state Nothing = ⊥
 
 -- the queue is listed, and only the last moment changes
-pub record ListsIt (now : ℕ) (old : State) (request : ListQueue) (place : ℕ) (reply : Effects) (new : State) : Type 0 where
-  pub answer : IsListed now place request old reply.answer
-  pub cancels : reply.cancels.items ≡ []
-  pub documents : reply.documents.items ≡ []
+pub record ListsIt (now : ℕ) (old : State) (request : ListQueue) (place : ℕ) (effects : Effects) (new : State) : Type 0 where
+  pub answer : IsListed now place request old effects.answer
+  pub cancels : effects.cancels.items ≡ []
+  pub documents : effects.documents.items ≡ []
   pub state : new ≡ record old { last = now }
 
 -- the queue isn't known, and only the last moment changes
-pub record ListsNothing (now : ℕ) (old : State) (reply : Effects) (new : State) : Type 0 where
-  pub answers : AnswersLpd NoQueue reply
+pub record ListsNothing (now : ℕ) (old : State) (effects : Effects) (new : State) : Type 0 where
+  pub answers : AnswersLpd NoQueue effects
   pub state : new ≡ record old { last = now }
 
--- the relation has at most one reply and one state after it
+-- the relation has at most one result: effects and a state
 abbrev pub ListsQueue : ℕ → ListQueue → State → Effects → State → Type 0
-ListsQueue now request old reply new =
-    MatchOption (queue_of request.queue old) (ListsNothing now old reply new) (λ place. ListsIt now old request place reply new)
+ListsQueue now request old effects new =
+    MatchOption (queue_of request.queue old) (ListsNothing now old effects new) (λ place. ListsIt now old request place effects new)

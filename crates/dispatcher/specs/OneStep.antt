@@ -1,4 +1,4 @@
--- Replies with the same content, and ends of a step with the same state and the same reply.
+-- Replies with the same content, and ends of a step with the same state and the same effects.
 use Rattle.std.specs.Prelude.{◌≡◌}
 use Rattle.events.specs.declared.effects.Response.{Response}
 use Rattle.events.specs.declared.effects.Response.TheVariants.{Ipp, Lpd, Nothing}
@@ -38,6 +38,6 @@ pub record SameReply (one other : Effects) : Type 0 where
   pub documents : one.documents.items ≡ other.documents.items
 
 -- the same state, and replies with the same content
-pub record SameEnd (reply : Effects) (new : State) (reply' : Effects) (new' : State) : Type 0 where
+pub record SameEnd (effects : Effects) (new : State) (effects' : Effects) (new' : State) : Type 0 where
   pub state : new ≡ new'
-  pub reply_is : SameReply reply reply'
+  pub effects_are : SameReply effects effects'

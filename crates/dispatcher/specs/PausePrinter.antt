@@ -19,11 +19,11 @@ paused_of request old =
     Ok printer.id))
 
 -- the printer is paused, or its pause has ended
-pub record PausesIt (now : ℕ) (old : State) (paused : Bool) (place : ℕ) (reply : Effects) (new : State) : Type 0 where
-  pub replies : Replies Went.Ok [] [] reply
+pub record PausesIt (now : ℕ) (old : State) (paused : Bool) (place : ℕ) (effects : Effects) (new : State) : Type 0 where
+  pub replies : Replies Went.Ok [] [] effects
   pub state : new ≡ pausing now place paused old
 
--- the relation has at most one reply and one state after it
+-- the relation has at most one result: effects and a state
 abbrev pub SetsPaused : ℕ → PrinterRequest → Bool → State → Effects → State → Type 0
-SetsPaused now request paused old reply new =
-    MatchResult (paused_of request old) (λ place. PausesIt now old paused place reply new) (λ refusal. Refuses now old refusal reply new)
+SetsPaused now request paused old effects new =
+    MatchResult (paused_of request old) (λ place. PausesIt now old paused place effects new) (λ refusal. Refuses now old refusal effects new)

@@ -23,9 +23,9 @@ cancels_if_named place request old job = if is_named place request job then canc
 abbrev pub due_cancels : RemoveJobs → State → List Cancel
 due_cancels request old = cancels_of_each (removed_jobs request old) old
 
--- The reply has no response, and there is one state after it. If no job is removed, only the last moment changes.
-pub record RemovesJobs (now : ℕ) (request : RemoveJobs) (old : State) (reply : Effects) (new : State) : Type 0 where
-  pub unanswered : reply.answer ≡ responds.Nothing
-  pub cancels : reply.cancels.items ≡ due_cancels request old
-  pub documents : reply.documents.items ≡ []
+-- There is no response, and there is one state after it. If no job is removed, only the last moment changes.
+pub record RemovesJobs (now : ℕ) (request : RemoveJobs) (old : State) (effects : Effects) (new : State) : Type 0 where
+  pub unanswered : effects.answer ≡ responds.Nothing
+  pub cancels : effects.cancels.items ≡ due_cancels request old
+  pub documents : effects.documents.items ≡ []
   pub state : new ≡ canceling_each now request.agent (removed_jobs request old) old

@@ -16,7 +16,7 @@ use Rattle.dispatcher.specs.declared.checks.Rejection.{Rejection}
 use Rattle.events.specs.declared.status.Status.TheVariants as Went
 use Rattle.events.specs.Effects.{Replies}
 use Rattle.dispatcher.specs.Answers.{Refuses}
-use Rattle.dispatcher.specs.Checks.{named_job, printer_of_job, format_asked, unrefused}
+use Rattle.dispatcher.specs.Checks.{named_job, printer_of_job, checked_format, unrefused}
 use Rattle.print_room.specs.State.{State}
 use Rattle.print_room.specs.Jobs.{sending_refusal, sending}
 
@@ -33,7 +33,7 @@ sent_in_format request old job format =
 
 -- with a known job and printer
 abbrev pub sent_to_printer : SendDocument → State → JobRecord → NamedPrinter → Result Sent Rejection
-sent_to_printer request old job printer = format_asked request.form printer.offer >>= sent_in_format request old job
+sent_to_printer request old job printer = checked_format request.form printer.offer >>= sent_in_format request old job
 
 -- with a known job
 abbrev pub sent_to_job : SendDocument → State → JobRecord → Result Sent Rejection
@@ -44,14 +44,14 @@ abbrev pub sent_of : SendDocument → State → Result Sent Rejection
 sent_of request old = named_job request.job.target old >>= sent_to_job request old
 
 -- the response has the job's group, and the job has the document
-pub record SendsIt (now : ℕ) (old : State) (request : SendDocument) (sent : Sent) (reply : Effects) (new : State) : Type 0 where
-  pub replies : Replies Went.Ok [] sent.groups reply
+pub record SendsIt (now : ℕ) (old : State) (request : SendDocument) (sent : Sent) (effects : Effects) (new : State) : Type 0 where
+  pub replies : Replies Went.Ok [] sent.groups effects
   pub state : new ≡ sending now sent.job (record { format = sent.format; contents = request.octets }) request.last old
 
--- the relation has at most one reply and one state after it
+-- the relation has at most one result: effects and a state
 abbrev pub SendsDocument : ℕ → SendDocument → State → Effects → State → Type 0
-SendsDocument now request old reply new =
-    MatchResult (sent_of request old) (λ sent. SendsIt now old request sent reply new) (λ refusal. Refuses now old refusal reply new)
+SendsDocument now request old effects new =
+    MatchResult (sent_of request old) (λ sent. SendsIt now old request sent effects new) (λ refusal. Refuses now old refusal effects new)
 
 -- the groups are the one group of the job of an id, in this state
 abbrev pub IsShown : ℕ → List IppGroup → State → Type 0

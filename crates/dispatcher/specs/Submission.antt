@@ -11,24 +11,24 @@ use Rattle.events.specs.declared.event.JobCreation.{JobCreation}
 use Rattle.dispatcher.specs.declared.checks.NamedPrinter.{NamedPrinter}
 use Rattle.dispatcher.specs.declared.checks.Rejection.{Rejection}
 use Rattle.dispatcher.specs.declared.submission.Accepted.{Accepted}
-use Rattle.dispatcher.specs.Checks.{unsupported_asked, room_for}
+use Rattle.dispatcher.specs.Checks.{unsupported_attributes, room_for}
 use Rattle.print_room.specs.State.{State}
 
 -- the job, with the values of its job group; its documents are added later
 abbrev pub submission_of : JobCreation → ℕ → NamedPrinter → Submission
-submission_of asked now printer =
-    let template = template_of printer.offer asked.template in record {
+submission_of requested now printer =
+    let template = template_of printer.offer requested.template in record {
       created = now;
       printer = printer.id;
-      owner = asked.user;
-      name = asked.name;
+      owner = requested.user;
+      name = requested.name;
       priority = template.priority;
       sides = template.sides;
       finishings = template.finishings;
-      media = medium_of printer.offer asked.template;
+      media = medium_of printer.offer requested.template;
       copies = template.copies;
       held = template.held;
-      impressions = asked.impressions;
+      impressions = requested.impressions;
       documents = [];
     }
 
@@ -37,11 +37,11 @@ abbrev pub of_documents : List DocumentRecord → Accepted → Accepted
 of_documents documents accepted = record accepted { job = record accepted.job { documents = documents } }
 
 -- the accepted job at a printer, for this many octets, or the rejection of the first check that fails
-abbrev pub job_asked : JobCreation → ℕ → ℕ → State → NamedPrinter → Result Accepted Rejection
-job_asked asked octets now old printer =
-    unsupported_asked asked.fidelity asked.template printer.offer >>= (λ unsupported.
+abbrev pub checked_job : JobCreation → ℕ → ℕ → State → NamedPrinter → Result Accepted Rejection
+checked_job requested octets now old printer =
+    unsupported_attributes requested.fidelity requested.template printer.offer >>= (λ unsupported.
     room_for octets old >>= (λ _.
-    Ok (record { job = submission_of asked now printer; unsupported = unsupported })))
+    Ok (record { job = submission_of requested now printer; unsupported = unsupported })))
 
 -- the group of the job that is taken next, before any dispatch (section 4.2.1.2); `incoming` indicates whether its documents are still to come
 abbrev pub group_of : State → Submission → Bool → IppGroup

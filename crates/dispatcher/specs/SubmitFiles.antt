@@ -42,16 +42,16 @@ filed_of request now old =
     else option_and_then (λ place. Some (job_of_files request now old place)) (queue_of request.queue old)
 
 -- the job is kept under the next id
-pub record FilesJob (now : ℕ) (old : State) (job : Submission) (reply : Effects) (new : State) : Type 0 where
-  pub answers : AnswersLpd (Taken true) reply
+pub record FilesJob (now : ℕ) (old : State) (job : Submission) (effects : Effects) (new : State) : Type 0 where
+  pub answers : AnswersLpd (Taken true) effects
   pub state : new ≡ with_job_taken now job false old
 
 -- the job isn't taken, and only the last moment changes
-pub record FilesNothing (now : ℕ) (old : State) (reply : Effects) (new : State) : Type 0 where
-  pub answers : AnswersLpd (Taken false) reply
+pub record FilesNothing (now : ℕ) (old : State) (effects : Effects) (new : State) : Type 0 where
+  pub answers : AnswersLpd (Taken false) effects
   pub state : new ≡ record old { last = now }
 
--- the relation has at most one reply and one state after it
+-- the relation has at most one result: effects and a state
 abbrev pub SubmitsFiles : ℕ → SubmitFiles → State → Effects → State → Type 0
-SubmitsFiles now request old reply new =
-    MatchOption (filed_of request now old) (FilesNothing now old reply new) (λ job. FilesJob now old job reply new)
+SubmitsFiles now request old effects new =
+    MatchOption (filed_of request now old) (FilesNothing now old effects new) (λ job. FilesJob now old job effects new)

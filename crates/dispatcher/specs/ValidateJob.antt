@@ -8,25 +8,25 @@ use Rattle.dispatcher.specs.declared.checks.NamedPrinter.{NamedPrinter}
 use Rattle.dispatcher.specs.declared.checks.Rejection.{Rejection}
 use Rattle.events.specs.Effects.{Replies}
 use Rattle.dispatcher.specs.Answers.{Refuses, taken_with}
-use Rattle.dispatcher.specs.Checks.{named_printer, format_asked, unsupported_asked}
+use Rattle.dispatcher.specs.Checks.{named_printer, checked_format, unsupported_attributes}
 use Rattle.print_room.specs.State.{State}
 
 -- the checks of the document's form and the job group, with a known printer
 abbrev pub validated_of_printer : ValidateJob → NamedPrinter → Result (List IppAttribute) Rejection
 validated_of_printer request printer =
-    format_asked request.form printer.offer >>= (λ _.
-    unsupported_asked request.job.fidelity request.job.template printer.offer)
+    checked_format request.form printer.offer >>= (λ _.
+    unsupported_attributes request.job.fidelity request.job.template printer.offer)
 
 -- the unsupported attributes, or the rejection of the first check that fails; the room for the job isn't checked
 abbrev pub validated_of : ValidateJob → State → Result (List IppAttribute) Rejection
 validated_of request old = named_printer request.job.target old >>= validated_of_printer request
 
 -- the response has the unsupported attributes, and only the last moment changes
-pub record Validates (now : ℕ) (old : State) (unsupported : List IppAttribute) (reply : Effects) (new : State) : Type 0 where
-  pub replies : Replies (taken_with unsupported) unsupported [] reply
+pub record Validates (now : ℕ) (old : State) (unsupported : List IppAttribute) (effects : Effects) (new : State) : Type 0 where
+  pub replies : Replies (taken_with unsupported) unsupported [] effects
   pub state : new ≡ record old { last = now }
 
--- the relation has at most one reply and one state after it
+-- the relation has at most one result: effects and a state
 abbrev pub ValidatesJob : ℕ → ValidateJob → State → Effects → State → Type 0
-ValidatesJob now request old reply new =
-    MatchResult (validated_of request old) (λ unsupported. Validates now old unsupported reply new) (λ refusal. Refuses now old refusal reply new)
+ValidatesJob now request old effects new =
+    MatchResult (validated_of request old) (λ unsupported. Validates now old unsupported effects new) (λ refusal. Refuses now old refusal effects new)

@@ -30,7 +30,7 @@ pub(crate) fn apply(
     event: Event,
     moment: Moment,
 ) -> Result<Effects, AllocError>
-    ensures ok { IfOk result (λ reply. Step room.old event moment reply room.new) }
+    ensures ok { IfOk result (λ effects. Step room.old event moment effects room.new) }
     ensures err { OnErr result (room.new ≡ room.old) }
     ensures light { TakesNoMemory event moment room.old → IsOk result }
 {

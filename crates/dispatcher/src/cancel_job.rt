@@ -18,7 +18,7 @@ pub(crate) fn cancel_job(
     now: Moment,
 ) -> Result<Effects, AllocError>
     requires { room.old.last ≤ now }
-    ensures ok { IfOk result (λ reply. CancelsJob now request.now room.old reply room.new) }
+    ensures ok { IfOk result (λ effects. CancelsJob now request.now room.old effects room.new) }
     ensures err { OnErr result (room.new ≡ room.old) }
     ensures light { IsErr (canceled_of request.now room.old) → IsOk result }
 {
@@ -50,7 +50,7 @@ fn cancel(
 ) -> Result<Effects, AllocError>
     requires later { room.old.last ≤ now }
     requires free { canceling_refusal id name.now room.old ≡ None }
-    ensures ok { IfOk result (λ reply. CancelsIt now room.old name.now id reply room.new) }
+    ensures ok { IfOk result (λ effects. CancelsIt now room.old name.now id effects room.new) }
     ensures err { OnErr result (room.new ≡ room.old) }
 {
     let cancels = cancels_of(alloc, room, id)?;

@@ -4,7 +4,7 @@
 ghost use Rattle.std.specs.Prelude.{◌≡◌, Ok, Err, MatchResult, option_map};
 ghost use Rattle.std.specs.Option.{option_copied, option_and_then};
 ghost use Rattle.spool.specs.Jobs.{job_at};
-ghost use Rattle.dispatcher.specs.Checks.{by_operator, format_asked, format_of, is_compressed, named_job, named_printer, printer_of_job, refused, room_for, status_of, unsupported_asked};
+ghost use Rattle.dispatcher.specs.Checks.{by_operator, checked_format, format_of, is_compressed, named_job, named_printer, printer_of_job, refused, room_for, status_of, unsupported_attributes};
 ghost use Rattle.dispatcher.specs.Target.{if_sent_to, job_of, printer_of};
 
 use base_types::{JobId, Limits, PrinterId, Text};
@@ -160,12 +160,12 @@ pub(crate) fn by_operator(alloc: Global, room: &PrintRoom, name: &Text) -> Resul
 
 /// The format of a document, as the settings spell it, or the rejection of a compressed document or an
 /// unsupported format.
-pub(crate) fn format_asked<'a>(
+pub(crate) fn checked_format<'a>(
     alloc: Global,
     offer: &Offer<'a>,
     form: &DocumentForm,
 ) -> Result<&'a Text, Rejection>
-    ensures { MatchResult result (λ format. format_asked form.now offer.now ≡ Ok format.now) (λ refusal. format_asked form.now offer.now ≡ Err refusal) }
+    ensures { MatchResult result (λ format. checked_format form.now offer.now ≡ Ok format.now) (λ refusal. checked_format form.now offer.now ≡ Err refusal) }
 {
     if is_compressed(&form.compression) {
         return Err(refused(alloc, Status::CompressionNotSupported));
@@ -177,11 +177,11 @@ pub(crate) fn format_asked<'a>(
 }
 
 /// The requested format, if the printer has it; without a requested format the printer's default.
-fn format_of<'a>(offer: &Offer<'a>, asked: &Option<Text>) -> Option<&'a Text>
-    ensures { option_copied result ≡ format_of offer.now asked.now }
+fn format_of<'a>(offer: &Offer<'a>, requested: &Option<Text>) -> Option<&'a Text>
+    ensures { option_copied result ≡ format_of offer.now requested.now }
 {
-    match asked {
-        Some(asked) => offer.format_named(asked.as_bytes()),
+    match requested {
+        Some(requested) => offer.format_named(requested.as_bytes()),
         None => Some(offer.default_format()),
     }
 }
@@ -197,13 +197,13 @@ fn is_compressed(compression: &Option<Text>) -> bool
 }
 
 /// The unsupported attributes of a job group. They are a rejection if `fidelity` is true.
-pub(crate) fn unsupported_asked(
+pub(crate) fn unsupported_attributes(
     alloc: Global,
     offer: &Offer<'_>,
     fidelity: bool,
     template: RequestAttributes,
 ) -> Result<RequestAttributes, Rejection>
-    ensures { result ≡ unsupported_asked fidelity template offer.now }
+    ensures { result ≡ unsupported_attributes fidelity template offer.now }
 {
     let mut unsupported = template;
     unsupported.make_unsupported(alloc, offer);

@@ -6,7 +6,7 @@ ghost use Rattle.dispatcher.specs.CreateJob.{CreatesJob, CreatesIt, created_of};
 
 use crate::answering::{refuse, taken_with};
 use crate::checks::{Rejection, named_printer};
-use crate::submission::{Accepted, groups_of, job_asked};
+use crate::submission::{Accepted, checked_job, groups_of};
 use base_types::Moment;
 use events::{Effects, JobCreation};
 use print_room::PrintRoom;
@@ -20,7 +20,7 @@ pub(crate) fn create_job(
     now: Moment,
 ) -> Result<Effects, AllocError>
     requires { room.old.last ≤ now }
-    ensures ok { IfOk result (λ reply. CreatesJob now request room.old reply room.new) }
+    ensures ok { IfOk result (λ effects. CreatesJob now request room.old effects room.new) }
     ensures err { OnErr result (room.new ≡ room.old) }
     ensures light { IsErr (created_of request now room.old) → IsOk result }
 {
@@ -40,7 +40,7 @@ fn create(
     requires later { room.old.last ≤ now }
     requires empty { accepted.job.documents ≡ [] }
     requires free { new_refusal room.old.spool [] ≡ None }
-    ensures ok { IfOk result (λ reply. CreatesIt now room.old accepted reply room.new) }
+    ensures ok { IfOk result (λ effects. CreatesIt now room.old accepted effects room.new) }
     ensures err { OnErr result (room.new ≡ room.old) }
 {
     let Accepted { job, unsupported } = accepted;
@@ -66,7 +66,7 @@ fn created_by(
     ensures empty { IfOk result (λ made. IfOk made (λ accepted. accepted.job.documents ≡ [])) }
 {
     match named_printer(alloc, room, &request.target) {
-        Ok(printer) => job_asked(alloc, room, &printer, request, 0, now),
+        Ok(printer) => checked_job(alloc, room, &printer, request, 0, now),
         Err(refusal) => Ok(Err(refusal)),
     }
 }

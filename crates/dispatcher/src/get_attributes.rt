@@ -22,7 +22,7 @@ pub(crate) fn get_printer_attributes(
     now: Moment,
 ) -> Result<Effects, AllocError>
     requires { room.old.last ≤ now }
-    ensures ok { IfOk result (λ reply. ShowsPrinter now request.now room.old reply room.new) }
+    ensures ok { IfOk result (λ effects. ShowsPrinter now request.now room.old effects room.new) }
     ensures err { OnErr result (room.new ≡ room.old) }
     ensures light { IsErr (named_printer request.now.target room.old) → IsOk result }
 {
@@ -57,7 +57,7 @@ pub(crate) fn get_job_attributes(
     now: Moment,
 ) -> Result<Effects, AllocError>
     requires { room.old.last ≤ now }
-    ensures ok { IfOk result (λ reply. ShowsJob now request.now room.old reply room.new) }
+    ensures ok { IfOk result (λ effects. ShowsJob now request.now room.old effects room.new) }
     ensures err { OnErr result (room.new ≡ room.old) }
     ensures light { IsErr (named_job request.now.target room.old) → IsOk result }
 {

@@ -2,7 +2,7 @@
 ghost use Rattle.std.specs.Prelude.{◌≡◌, ◌≤◌, IfOk, IsOk, IsErr, OnErr};
 ghost use Rattle.std.specs.Option.{option_copied};
 ghost use Rattle.listings.specs.Groups.{job_groups};
-ghost use Rattle.dispatcher.specs.GetJobs.{ListsJobs, finished_asked, owner_asked, wanted_of};
+ghost use Rattle.dispatcher.specs.GetJobs.{ListsJobs, lists_finished, listed_owner, wanted_of};
 
 use crate::answering::{refuse, show};
 use crate::checks::{Rejection, named_printer};
@@ -20,29 +20,29 @@ pub(crate) fn get_jobs(
     now: Moment,
 ) -> Result<Effects, AllocError>
     requires { room.old.last ≤ now }
-    ensures ok { IfOk result (λ reply. ListsJobs now request room.old reply room.new) }
+    ensures ok { IfOk result (λ effects. ListsJobs now request room.old effects room.new) }
     ensures err { OnErr result (room.new ≡ room.old) }
     ensures light { IsErr (wanted_of request room.old) → IsOk result }
 {
     let GetJobs {
-        printer: asked,
+        printer: query,
         which,
         mine,
         limit,
         requested,
     } = request;
-    let printer = match named_printer(alloc, room, &asked.target) {
+    let printer = match named_printer(alloc, room, &query.target) {
         Ok(printer) => printer.id,
         Err(refusal) => return Ok(refuse(alloc, room, refusal, now)),
     };
-    let finished = match finished_asked(which) {
+    let finished = match lists_finished(which) {
         Ok(finished) => finished,
         Err(refusal) => return Ok(refuse(alloc, room, refusal, now)),
     };
     let wanted = Wanted {
         printer,
         finished,
-        owner: owner_asked(mine, &asked.user),
+        owner: listed_owner(mine, &query.user),
         limit,
     };
     let groups = listed_groups(alloc, room, &wanted, now, requested.names())?;
@@ -65,8 +65,8 @@ fn listed_groups(
 
 /// Returns whether finished jobs are requested. An unsupported which-jobs is a rejection with that attribute,
 /// unchanged.
-fn finished_asked(which: WhichJobs) -> Result<bool, Rejection>
-    ensures { result ≡ finished_asked which }
+fn lists_finished(which: WhichJobs) -> Result<bool, Rejection>
+    ensures { result ≡ lists_finished which }
 {
     match which {
         WhichJobs::Completed => Ok(true),
@@ -79,8 +79,8 @@ fn finished_asked(which: WhichJobs) -> Result<bool, Rejection>
 }
 
 /// The owner of the requested jobs, if my-jobs limits them to those of the request's user.
-fn owner_asked(mine: bool, user: &Text) -> Option<&Text>
-    ensures { option_copied result ≡ owner_asked mine user.now }
+fn listed_owner(mine: bool, user: &Text) -> Option<&Text>
+    ensures { option_copied result ≡ listed_owner mine user.now }
 {
     if mine { Some(user) } else { None }
 }

@@ -1,5 +1,5 @@
 //! Laws of the core, as contracts of functions that do nothing: the invariant of its state; the documents
-//! that each step and each dispatch keep; that an event leads to one state and one reply; and that the
+//! that each step and each dispatch keep; that an event leads to one state and one value of effects; and that the
 //! response to a Send-Document has its job as it is after the step.
 ghost use Rattle.std.specs.Prelude.{ℕ, ◌≡◌, [], List, Ok, Option};
 ghost use Rattle.plan_prices.specs.Plan.{PlanRecord};
@@ -37,10 +37,10 @@ impl<P: Planner + Drop> Core<P> {
     }
 
     /// The documents of jobs that devices have are unchanged, byte for byte, over each event and each
-    /// dispatch. The reply to a report has all documents of the job that it ends, and no other job's
+    /// dispatch. The effects of a report have all documents of the job that it ends, and no other job's
     /// documents change.
     pub fn documents_stay(&self)
-        ensures steps { (event : Event) (moment : ℕ) (reply : Effects) (new : State) → Step self.now event moment reply new → StepKeeps event self.now reply.documents.items new }
+        ensures steps { (event : Event) (moment : ℕ) (effects : Effects) (new : State) → Step self.now event moment effects new → StepKeeps event self.now effects.documents.items new }
         ensures dispatches { (now : ℕ) (plan : Option PlanRecord) (started : List Started) (new : State) → Dispatches now self.now plan started new → AllKeep self.now new }
     {
         self.room.documents_stay();
@@ -49,17 +49,17 @@ impl<P: Planner + Drop> Core<P> {
     /// The response to a Send-Document has the group of its job after the step: whether its documents are
     /// still to come, and the reasons of its state (RFC 8011, sections 4.3.1 and 5.3.8).
     pub fn sent_is_shown(&self)
-        ensures { (request : SendDocument) (moment : ℕ) (reply : Effects) (new : State) (sent : Sent) → Step self.now (Is.SendDocument request) moment reply new → sent_of request self.now ≡ Ok sent → Replies Went.Ok [] sent.groups reply × IsShown sent.job sent.groups new }
+        ensures { (request : SendDocument) (moment : ℕ) (effects : Effects) (new : State) (sent : Sent) → Step self.now (Is.SendDocument request) moment effects new → sent_of request self.now ≡ Ok sent → Replies Went.Ok [] sent.groups effects × IsShown sent.job sent.groups new }
     {
         // Reading the jobs gives their invariants.
         let _jobs = self.room.spool().jobs();
     }
 }
 
-/// An event at a state and a moment leads to at most one state and one reply. The same holds for two events
+/// An event at a state and a moment leads to at most one state and one value of effects. The same holds for two events
 /// with the same content.
 pub fn one_step()
-    ensures { (old : State) (one other : Event) (moment : ℕ) (reply : Effects) (new : State) (said : Effects) (after : State) → SameEvent one other → Step old one moment reply new → Step old other moment said after → SameEnd reply new said after }
+    ensures { (old : State) (one other : Event) (moment : ℕ) (effects : Effects) (new : State) (said : Effects) (after : State) → SameEvent one other → Step old one moment effects new → Step old other moment said after → SameEnd effects new said after }
 {}
 
 /// Of two events with the same content, both are queries or neither is, and both take memory or neither does.

@@ -17,7 +17,7 @@ pub(crate) fn list_queue(
     now: Moment,
 ) -> Result<Effects, AllocError>
     requires { room.old.last ≤ now }
-    ensures ok { IfOk result (λ reply. ListsQueue now request.now room.old reply room.new) }
+    ensures ok { IfOk result (λ effects. ListsQueue now request.now room.old effects room.new) }
     ensures err { OnErr result (room.new ≡ room.old) }
     ensures light { queue_of request.now.queue room.old ≡ None → IsOk result }
 {

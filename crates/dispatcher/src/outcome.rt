@@ -1,6 +1,6 @@
 //! The outcome of an event.
 ghost use Rattle.std.specs.Prelude.{◌≡◌};
-ghost use Rattle.dispatcher.specs.Run.{reply_of};
+ghost use Rattle.dispatcher.specs.Run.{effects_of};
 
 use events::Effects;
 
@@ -22,15 +22,15 @@ pub enum Outcome {
 
 impl Outcome {
     /// The effects, unless the event was dropped.
-    pub fn into_reply(self) -> Option<Effects>
-        ensures { result ≡ reply_of self }
+    pub fn into_effects(self) -> Option<Effects>
+        ensures { result ≡ effects_of self }
     {
         match self {
             Outcome::Dropped => None,
-            Outcome::Queried(reply) => Some(reply),
-            Outcome::Undispatched(reply) => Some(reply),
-            Outcome::Idle(reply) => Some(reply),
-            Outcome::Dispatched(reply) => Some(reply),
+            Outcome::Queried(effects) => Some(effects),
+            Outcome::Undispatched(effects) => Some(effects),
+            Outcome::Idle(effects) => Some(effects),
+            Outcome::Dispatched(effects) => Some(effects),
         }
     }
 }

@@ -2,11 +2,11 @@
 //! job is taken.
 ghost use Rattle.std.specs.Prelude.{◌≡◌, ◌≤◌, ◌∷◌, [], IfOk, IsOk, IsErr, OnErr, None};
 ghost use Rattle.spool.specs.Calls.{new_refusal};
-ghost use Rattle.dispatcher.specs.PrintJob.{PrintsJob, TakesJob, asked_of_format, asked_of_printer, asked_of};
+ghost use Rattle.dispatcher.specs.PrintJob.{PrintsJob, TakesJob, checked_for_format, checked_for_printer, checked_of};
 
 use crate::answering::{refuse, taken_with};
-use crate::checks::{NamedPrinter, Rejection, format_asked, named_printer};
-use crate::submission::{Accepted, groups_of, job_asked};
+use crate::checks::{NamedPrinter, Rejection, checked_format, named_printer};
+use crate::submission::{Accepted, checked_job, groups_of};
 use base_types::{Moment, Text};
 use events::{Effects, PrintJob};
 use octets::{Document, Octets};
@@ -21,11 +21,11 @@ pub(crate) fn print_job(
     now: Moment,
 ) -> Result<Effects, AllocError>
     requires { room.old.last ≤ now }
-    ensures ok { IfOk result (λ reply. PrintsJob now request room.old reply room.new) }
+    ensures ok { IfOk result (λ effects. PrintsJob now request room.old effects room.new) }
     ensures err { OnErr result (room.new ≡ room.old) }
-    ensures light { IsErr (asked_of request now room.old) → IsOk result }
+    ensures light { IsErr (checked_of request now room.old) → IsOk result }
 {
-    match asked_by(alloc, room, request, now)? {
+    match checked_request(alloc, room, request, now)? {
         Ok(accepted) => take(alloc, room, accepted, now),
         Err(refusal) => Ok(refuse(alloc, room, refusal, now)),
     }
@@ -40,7 +40,7 @@ fn take(
 ) -> Result<Effects, AllocError>
     requires later { room.old.last ≤ now }
     requires free { new_refusal room.old.spool accepted.job.documents ≡ None }
-    ensures ok { IfOk result (λ reply. TakesJob now room.old accepted reply room.new) }
+    ensures ok { IfOk result (λ effects. TakesJob now room.old accepted effects room.new) }
     ensures err { OnErr result (room.new ≡ room.old) }
 {
     let Accepted { job, unsupported } = accepted;
@@ -54,43 +54,43 @@ fn take(
 
 /// The accepted job of a request, or the rejection of the first check that fails. The only outer error is out
 /// of memory.
-fn asked_by(
+fn checked_request(
     alloc: Global,
     room: &PrintRoom,
     request: PrintJob,
     now: Moment,
 ) -> Result<Result<Accepted, Rejection>, AllocError>
-    ensures ok { IfOk result (λ asked. asked ≡ asked_of request now room.now) }
-    ensures err { OnErr result (IsOk (asked_of request now room.now)) }
-    ensures free { IfOk result (λ asked. IfOk asked (λ accepted. new_refusal room.now.spool accepted.job.documents ≡ None)) }
+    ensures ok { IfOk result (λ checked. checked ≡ checked_of request now room.now) }
+    ensures err { OnErr result (IsOk (checked_of request now room.now)) }
+    ensures free { IfOk result (λ checked. IfOk checked (λ accepted. new_refusal room.now.spool accepted.job.documents ≡ None)) }
 {
     match named_printer(alloc, room, &request.job.target) {
-        Ok(printer) => asked_of_printer(alloc, room, &printer, request, now),
+        Ok(printer) => checked_for_printer(alloc, room, &printer, request, now),
         Err(refusal) => Ok(Err(refusal)),
     }
 }
 
 /// The accepted job of a request at a printer, or the rejection of the first check that fails.
-fn asked_of_printer(
+fn checked_for_printer(
     alloc: Global,
     room: &PrintRoom,
     printer: &NamedPrinter<'_>,
     request: PrintJob,
     now: Moment,
 ) -> Result<Result<Accepted, Rejection>, AllocError>
-    ensures ok { IfOk result (λ asked. asked ≡ asked_of_printer request now room.now printer.now) }
-    ensures err { OnErr result (IsOk (asked_of_printer request now room.now printer.now)) }
-    ensures free { IfOk result (λ asked. IfOk asked (λ accepted. new_refusal room.now.spool accepted.job.documents ≡ None)) }
+    ensures ok { IfOk result (λ checked. checked ≡ checked_for_printer request now room.now printer.now) }
+    ensures err { OnErr result (IsOk (checked_for_printer request now room.now printer.now)) }
+    ensures free { IfOk result (λ checked. IfOk checked (λ accepted. new_refusal room.now.spool accepted.job.documents ≡ None)) }
 {
-    match format_asked(alloc, &printer.offer, &request.form) {
-        Ok(format) => asked_of_format(alloc, room, printer, format, request, now),
+    match checked_format(alloc, &printer.offer, &request.form) {
+        Ok(format) => checked_for_format(alloc, room, printer, format, request, now),
         Err(refusal) => Ok(Err(refusal)),
     }
 }
 
 /// The accepted job of a request at a printer that has the document's format, or the rejection of the first
 /// check that fails.
-fn asked_of_format(
+fn checked_for_format(
     alloc: Global,
     room: &PrintRoom,
     printer: &NamedPrinter<'_>,
@@ -98,15 +98,15 @@ fn asked_of_format(
     request: PrintJob,
     now: Moment,
 ) -> Result<Result<Accepted, Rejection>, AllocError>
-    ensures ok { IfOk result (λ asked. asked ≡ asked_of_format request now room.now printer.now format.now) }
-    ensures err { OnErr result (IsOk (asked_of_format request now room.now printer.now format.now)) }
-    ensures free { IfOk result (λ asked. IfOk asked (λ accepted. new_refusal room.now.spool accepted.job.documents ≡ None)) }
+    ensures ok { IfOk result (λ checked. checked ≡ checked_for_format request now room.now printer.now format.now) }
+    ensures err { OnErr result (IsOk (checked_for_format request now room.now printer.now format.now)) }
+    ensures free { IfOk result (λ checked. IfOk checked (λ accepted. new_refusal room.now.spool accepted.job.documents ≡ None)) }
 {
     let PrintJob { job, octets, .. } = request;
     let Accepted {
         mut job,
         unsupported,
-    } = match job_asked(alloc, room, printer, job, octets.len(), now)? {
+    } = match checked_job(alloc, room, printer, job, octets.len(), now)? {
         Ok(accepted) => accepted,
         Err(refusal) => return Ok(Err(refusal)),
     };

@@ -19,7 +19,7 @@ pub(crate) fn remove_jobs(
     now: Moment,
 ) -> Result<Effects, AllocError>
     requires { room.old.last ≤ now }
-    ensures ok { IfOk result (λ reply. RemovesJobs now request.now room.old reply room.new) }
+    ensures ok { IfOk result (λ effects. RemovesJobs now request.now room.old effects room.new) }
     ensures err { OnErr result (room.new ≡ room.old) }
     ensures light { due_cancels request.now room.old ≡ [] → IsOk result }
 {

@@ -1,4 +1,4 @@
-//! Events, one after the other. Each is a step, the cancels of its reply, and a dispatch unless it is a
+//! Events, one after the other. Each is a step, the cancels of its effects, and a dispatch unless it is a
 //! query.
 ghost use Rattle.std.specs.Prelude.{◌≡◌, max, IfOk, OnErr, map};
 ghost use Rattle.dispatcher.specs.Notes.{Canceled, Notifies};
@@ -44,17 +44,17 @@ impl<P: Planner + Drop> Core<P> {
     {
         let Timed { event, moment } = timed;
         let is_query = event.is_query();
-        let Ok(reply) = self.apply(event, moment) else {
+        let Ok(effects) = self.apply(event, moment) else {
             return Outcome::Dropped;
         };
-        notify_cancels(&reply.cancels, observer);
+        notify_cancels(&effects.cancels, observer);
         if is_query {
-            return Outcome::Queried(reply);
+            return Outcome::Queried(effects);
         }
         match self.plan(moment, observer) {
-            Made::Refused => Outcome::Undispatched(reply),
-            Made::Idle => Outcome::Idle(reply),
-            Made::Planned => Outcome::Dispatched(reply),
+            Made::Refused => Outcome::Undispatched(effects),
+            Made::Idle => Outcome::Idle(effects),
+            Made::Planned => Outcome::Dispatched(effects),
         }
     }
 

@@ -6,7 +6,7 @@ ghost use Rattle.dispatcher.specs.SendDocument.{SendsDocument, SendsIt, sent_gro
 
 use crate::answering::refuse;
 use crate::checks::{
-    NamedPrinter, Rejection, format_asked, named_job, printer_of_job, refused_change,
+    NamedPrinter, Rejection, checked_format, named_job, printer_of_job, refused_change,
 };
 use base_types::{JobId, Moment, Text};
 use events::{Effects, ResponseGroups, SendDocument, Status};
@@ -35,7 +35,7 @@ pub(crate) fn send_document(
     now: Moment,
 ) -> Result<Effects, AllocError>
     requires { room.old.last ≤ now }
-    ensures ok { IfOk result (λ reply. SendsDocument now request room.old reply room.new) }
+    ensures ok { IfOk result (λ effects. SendsDocument now request room.old effects room.new) }
     ensures err { OnErr result (room.new ≡ room.old) }
     ensures light { IsErr (sent_of request room.old) → IsOk result }
 {
@@ -55,11 +55,11 @@ fn send(
 ) -> Result<Effects, AllocError>
     requires later { room.old.last ≤ now }
     requires free { sending_refusal sent.job request.job.user (length request.octets) request.last room.old ≡ None }
-    ensures ok { IfOk result (λ reply. SendsIt now room.old request sent reply room.new) }
+    ensures ok { IfOk result (λ effects. SendsIt now room.old request sent effects room.new) }
     ensures err { OnErr result (room.new ≡ room.old) }
 {
     let SendDocument {
-        job: asked,
+        job: requested,
         octets,
         last,
         ..
@@ -73,7 +73,7 @@ fn send(
         format,
         contents: octets,
     };
-    match room.add_document(job, &asked.user, document, last, now) {
+    match room.add_document(job, &requested.user, document, last, now) {
         Ok(()) => {
             let unsupported = RequestAttributes::new(alloc);
             Ok(Effects::answered(alloc, Status::Ok, unsupported, groups))
@@ -128,7 +128,7 @@ fn sent_to_printer(
     ensures err { OnErr result (IsOk (sent_to_printer request.now room.now job.now printer.now)) }
     ensures free { IfOk result (λ made. IfOk made (λ sent. sending_refusal sent.job request.now.job.user (length request.now.octets) request.now.last room.now ≡ None)) }
 {
-    match format_asked(alloc, &printer.offer, &request.form) {
+    match checked_format(alloc, &printer.offer, &request.form) {
         Ok(format) => sent_in_format(alloc, room, job, format, request),
         Err(refusal) => Ok(Err(refusal)),
     }

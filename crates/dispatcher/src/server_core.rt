@@ -80,7 +80,7 @@ impl<P: Planner + Drop> Core<P> {
     /// only for a response of more than a status, for a job of files that is taken, for the listing of a
     /// queue, and for a cancel of which a device is notified.
     pub fn apply(&mut self, event: Event, moment: Moment) -> Result<Effects, AllocError>
-        ensures ok { IfOk result (λ reply. Step self.old event moment reply self.new) }
+        ensures ok { IfOk result (λ effects. Step self.old event moment effects self.new) }
         ensures err { OnErr result (self.new ≡ self.old) }
         ensures light { TakesNoMemory event moment self.old → IsOk result }
     {

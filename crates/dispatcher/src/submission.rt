@@ -1,9 +1,9 @@
 //! The job of a request, and the response if the job is taken.
 ghost use Rattle.std.specs.Prelude.{◌≡◌, ◌≤◌, ◌∷◌, [], IfOk, IsOk, OnErr, None, false};
 ghost use Rattle.spool.specs.Calls.{is_full, new_refusal};
-ghost use Rattle.dispatcher.specs.Submission.{job_asked, group_of};
+ghost use Rattle.dispatcher.specs.Submission.{checked_job, group_of};
 
-use crate::checks::{NamedPrinter, Rejection, room_for, unsupported_asked};
+use crate::checks::{NamedPrinter, Rejection, room_for, unsupported_attributes};
 use base_types::{Limits, Moment};
 use events::{JobCreation, ResponseGroups};
 use job_objects::{JobState, waiting_reasons};
@@ -22,16 +22,16 @@ pub(crate) struct Accepted {
 
 /// The accepted job at a printer for this many octets, without documents yet, or the rejection of the first
 /// check that fails. Memory is taken only for an accepted job.
-pub(crate) fn job_asked(
+pub(crate) fn checked_job(
     alloc: Global,
     room: &PrintRoom,
     printer: &NamedPrinter<'_>,
-    asked: JobCreation,
+    requested: JobCreation,
     octets: usize,
     now: Moment,
 ) -> Result<Result<Accepted, Rejection>, AllocError>
-    ensures ok { IfOk result (λ made. made ≡ job_asked asked octets now room.now printer.now) }
-    ensures err { OnErr result (IsOk (job_asked asked octets now room.now printer.now)) }
+    ensures ok { IfOk result (λ made. made ≡ checked_job requested octets now room.now printer.now) }
+    ensures err { OnErr result (IsOk (checked_job requested octets now room.now printer.now)) }
     ensures small { IfOk result (λ made. IfOk made (λ accepted. octets ≤ Limits.JOB_OCTETS)) }
     ensures empty { IfOk result (λ made. IfOk made (λ accepted. accepted.job.documents ≡ [])) }
     ensures room { IfOk result (λ made. IfOk made (λ accepted. is_full room.now.spool ≡ false)) }
@@ -41,12 +41,12 @@ pub(crate) fn job_asked(
         name,
         impressions,
         fidelity,
-        template: asked,
+        template: requested,
         ..
-    } = asked;
-    let template = template_of(&printer.offer, &asked);
-    let medium = medium_of(&printer.offer, &asked);
-    let unsupported = match unsupported_asked(alloc, &printer.offer, fidelity, asked) {
+    } = requested;
+    let template = template_of(&printer.offer, &requested);
+    let medium = medium_of(&printer.offer, &requested);
+    let unsupported = match unsupported_attributes(alloc, &printer.offer, fidelity, requested) {
         Ok(unsupported) => unsupported,
         Err(refusal) => return Ok(Err(refusal)),
     };

@@ -20,7 +20,7 @@ pub(crate) fn submit_files(
     now: Moment,
 ) -> Result<Effects, AllocError>
     requires { room.old.last ≤ now }
-    ensures ok { IfOk result (λ reply. SubmitsFiles now request room.old reply room.new) }
+    ensures ok { IfOk result (λ effects. SubmitsFiles now request room.old effects room.new) }
     ensures err { OnErr result (room.new ≡ room.old) }
     ensures light { filed_of request now room.old ≡ None → IsOk result }
 {
@@ -42,7 +42,7 @@ fn take(
 ) -> Result<Effects, AllocError>
     requires later { room.old.last ≤ now }
     requires free { new_refusal room.old.spool job.documents ≡ None }
-    ensures ok { IfOk result (λ reply. FilesJob now room.old job reply room.new) }
+    ensures ok { IfOk result (λ effects. FilesJob now room.old job effects room.new) }
     ensures err { OnErr result (room.new ≡ room.old) }
 {
     match room.submit(job, now) {

@@ -4,7 +4,9 @@ ghost use Rattle.std.specs.Prelude.{◌≡◌, ◌≤◌};
 ghost use Rattle.dispatcher.specs.ValidateJob.{Validates, ValidatesJob, validated_of, validated_of_printer};
 
 use crate::answering::{refuse, taken_with};
-use crate::checks::{NamedPrinter, Rejection, format_asked, named_printer, unsupported_asked};
+use crate::checks::{
+    NamedPrinter, Rejection, checked_format, named_printer, unsupported_attributes,
+};
 use base_types::Moment;
 use events::{Effects, JobCreation, ResponseGroups, ValidateJob};
 use job_template::RequestAttributes;
@@ -64,11 +66,11 @@ fn validated_of_printer(
     ensures { result ≡ validated_of_printer request printer.now }
 {
     let ValidateJob { job, form } = request;
-    let _format = format_asked(alloc, &printer.offer, &form)?;
+    let _format = checked_format(alloc, &printer.offer, &form)?;
     let JobCreation {
         fidelity,
         template,
         ..
     } = job;
-    unsupported_asked(alloc, &printer.offer, fidelity, template)
+    unsupported_attributes(alloc, &printer.offer, fidelity, template)
 }

@@ -35,7 +35,7 @@ use Rattle.dispatcher.specs.ListQueue.{IsListed, ListsIt, ListsNothing}
 use Rattle.dispatcher.specs.declared.outcome.Outcome.{Outcome}
 use Rattle.dispatcher.specs.declared.outcome.Outcome.TheVariants.{Dropped, Queried, Undispatched, Idle, Dispatched}
 use Rattle.dispatcher.specs.Notes.{Note}
-use Rattle.dispatcher.specs.Run.{reply_of, Handles}
+use Rattle.dispatcher.specs.Run.{effects_of, Handles}
 use Rattle.dispatcher.specs.Step.{StepAt}
 use Rattle.ipp_operations.specs.declared.parsed_request.ParsedRequest.TheVariants as asked
 use Rattle.ipp_operations.specs.ParsedRequest.{header_of, operation_of, Requests, AsksBy, AsksUnder, Asks}
@@ -403,7 +403,7 @@ abbrev pub IsTypedReply : Client → Option Effects → Type 0
 IsTypedReply who None = Unit {0}
 IsTypedReply who (Some reply) = IsTyped who reply.answer
 
-pub typed : (who : Client) (moment : ℕ) (event : Event) (old : State) (outcome : Outcome) (notes : List Note) (new : State) → EventOf who event → Handles moment event old outcome notes new → IsTypedReply who (reply_of outcome)
+pub typed : (who : Client) (moment : ℕ) (event : Event) (old : State) (outcome : Outcome) (notes : List Note) (new : State) → EventOf who event → Handles moment event old outcome notes new → IsTypedReply who (effects_of outcome)
 typed who moment event old Dropped notes new of it = tt
 typed who moment event old (Queried reply) notes new of it = typed_step who event _ old reply new of it.1
 typed who moment event old (Undispatched reply) notes new of it = typed_step who event _ old reply new of it.1

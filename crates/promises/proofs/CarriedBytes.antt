@@ -21,7 +21,7 @@ use Rattle.dispatcher.specs.declared.observer.DeviceRefusal.TheVariants as why
 use Rattle.dispatcher.specs.declared.observer.AllocationSite.{AllocationSite}
 use Rattle.dispatcher.specs.declared.observer.AllocationSite.TheVariants as At
 use Rattle.dispatcher.specs.Notes.{Note, DeviceRefused, Refused}
-use Rattle.dispatcher.specs.Run.{reply_of}
+use Rattle.dispatcher.specs.Run.{effects_of}
 use Rattle.ipp_operations.specs.declared.parsed_request.ParsedRequest.{ParsedRequest}
 use Rattle.ipp_operations.specs.declared.parsed_request.ParsedRequest.TheVariants as asked
 use Rattle.ipp_operations.specs.QueueText.{ack_of, text_of}
@@ -468,7 +468,7 @@ carries_does : (moment key id : ℕ) (what : Ask) → Carries (ActsOn moment key
 carries_does moment key id ask.Nothing = carries_nothing
 carries_does moment key id (ask.Broke growth) = carries_notifies (Refused (place_of growth) (Some id))
 carries_does moment key id (ask.Event who event) =
-    λ c l hs l' a new it. carries_then (Happens moment event it.0) (Ans.Answers key id who (is_query event) (reply_of it.0)) (carries_happens moment event it.0) (carries_answers key id who (is_query event) (reply_of it.0)) c l hs l' a new it.1
+    λ c l hs l' a new it. carries_then (Happens moment event it.0) (Ans.Answers key id who (is_query event) (effects_of it.0)) (carries_happens moment event it.0) (carries_answers key id who (is_query event) (effects_of it.0)) c l hs l' a new it.1
 carries_does moment key id (ask.Unread request) = carries_dropped key id request
 carries_does moment key id (ask.Lost part) = carries_declines (place_of_part part) key id
 carries_does moment key id (ask.Hello device name) = carries_greets moment key id device name
@@ -812,7 +812,7 @@ body_asks moment asked.TooShort served c l hs l' a new it = carries_nothing c l 
 body_asks moment (asked.Refused status request) served c l hs l' a new (is, inl it) = carries_chooses Found c l hs l' a new it
 body_asks moment (asked.Refused status request) served c l hs l' a new (is, inr it) = carries_notifies (Refused At.Reply None) c l hs l' a new it
 body_asks moment (asked.Event request event) served c l hs l' a new (bytes, is, (outcome, it)) =
-    carries_then (Happens moment event outcome) (Between.Answers request (reply_of outcome) bytes) (carries_happens moment event outcome) (between_answers request (reply_of outcome) bytes) c l hs l' a new it
+    carries_then (Happens moment event outcome) (Between.Answers request (effects_of outcome) bytes) (carries_happens moment event outcome) (between_answers request (effects_of outcome) bytes) c l hs l' a new it
 
 body_comes : (moment : ℕ) (body : List ℕ) (served : Between.Outcome) → Carries (BodyComes moment body served)
 body_comes moment body served c l hs l' a new (inl (it, asks, comes)) = carries_then (Chooses Found) (BodyAsks moment it served) (carries_chooses Found) (body_asks moment it served) c l hs l' a new comes

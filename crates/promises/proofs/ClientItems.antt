@@ -7,7 +7,7 @@ use Rattle.print_room.specs.State.{State}
 use Rattle.events.specs.declared.event.Event.{Event}
 use Rattle.events.specs.declared.event.Event.TheVariants as Is
 use Rattle.events.specs.declared.effects.Effects.{Effects}
-use Rattle.dispatcher.specs.Run.{reply_of}
+use Rattle.dispatcher.specs.Run.{effects_of}
 use Rattle.ipp_operations.specs.declared.parsed_request.ParsedRequest.{ParsedRequest}
 use Rattle.ipp_operations.specs.declared.parsed_request.ParsedRequest.TheVariants as asked
 use Rattle.wires.specs.Poll.{Poll, Accepts, Reads, Writes}
@@ -319,8 +319,8 @@ keeps_does : (moment key id : ℕ) (what : Ask) → Keeps (ActsOn moment key id 
 keeps_does moment key id ask.Nothing = keeps_nothing
 keeps_does moment key id (ask.Broke growth) = keeps_notifies (Refused (place_of growth) (Some id))
 keeps_does moment key id (ask.Event who event) = λ l hs l' first (outcome, it).
-    keeps_then (Happens moment event outcome) (Ans.Answers key id who (is_query event) (reply_of outcome)) (keeps_happens moment event outcome)
-    (keeps_answers key id who (is_query event) (reply_of outcome)) l hs l' first it
+    keeps_then (Happens moment event outcome) (Ans.Answers key id who (is_query event) (effects_of outcome)) (keeps_happens moment event outcome)
+    (keeps_answers key id who (is_query event) (effects_of outcome)) l hs l' first it
 keeps_does moment key id (ask.Unread request) = keeps_dropped key id request
 keeps_does moment key id (ask.Lost part) = keeps_declines (place_of_part part) key id
 keeps_does moment key id (ask.Hello device name) = keeps_greets moment key id device name
@@ -461,7 +461,7 @@ body_asks moment asked.TooShort served l hs l' first it = keeps_nothing l hs l' 
 body_asks moment (asked.Refused status request) served l hs l' first (is, inl it) = keeps_same l l' (ap (λ (x : Ledger). x.entries) it.1) (ap (λ (x : Ledger). x.closed) it.1) first
 body_asks moment (asked.Refused status request) served l hs l' first (is, inr it) = keeps_same l l' (ap (λ (x : Ledger). x.entries) it.1) (ap (λ (x : Ledger). x.closed) it.1) first
 body_asks moment (asked.Event request event) served l hs l' first (bytes, is, (outcome, it)) =
-    keeps_then (Happens moment event outcome) (Between.Answers request (reply_of outcome) bytes) (keeps_happens moment event outcome) (between_answers request (reply_of outcome) bytes) l hs l' first it
+    keeps_then (Happens moment event outcome) (Between.Answers request (effects_of outcome) bytes) (keeps_happens moment event outcome) (between_answers request (effects_of outcome) bytes) l hs l' first it
 
 body_comes : (moment : ℕ) (body : List ℕ) (served : Between.Outcome) → Keeps (BodyComes moment body served)
 body_comes moment body served l hs l' first (inl (it, asks, comes)) =

@@ -11,7 +11,7 @@ use Rattle.events.specs.Event.{is_query}
 use Rattle.dispatcher.specs.declared.observer.AllocationSite.{AllocationSite}
 use Rattle.dispatcher.specs.declared.observer.AllocationSite.TheVariants as At
 use Rattle.dispatcher.specs.Notes.{Note, Refused}
-use Rattle.dispatcher.specs.Run.{reply_of}
+use Rattle.dispatcher.specs.Run.{effects_of}
 use Rattle.connections.specs.declared.ask.Ask.{Ask}
 use Rattle.connections.specs.declared.ask.Ask.TheVariants as ask
 use Rattle.connections.specs.declared.ask.Client.{Client}
@@ -146,7 +146,7 @@ own_nameless turn who event own = refl
 -- the core handles the client's event
 pub acted_event : (moment key : ℕ) (who : Client) (event : Event) (last : Bool) (new : Entry) (l : Ledger) (hs : List Happening) (l' : Ledger) → EventOf who event → Good l → l.entries key ≡ Some new → ClientTalk new.progress → Ans.IsAnswered moment key new.id who event l hs l'
     → Acted moment key (step.Asks (ask.Event who event) last) new new.due l hs l'
-acted_event moment key who event last new l hs l' own good there client (outcome, it) = by (gives_answers key new.id who (is_query event) (reply_of outcome) it.mid it.back l' it.second)
+acted_event moment key who event last new l hs l' own good there client (outcome, it) = by (gives_answers key new.id who (is_query event) (effects_of outcome) it.mid it.back l' it.second)
   where
     h : Handled
     h = one_handled moment event outcome it.front it.mid None (Some key)
@@ -165,7 +165,7 @@ acted_event moment key who event last new l hs l' own good there client (outcome
     event_few None = tt
     event_few (Some place) = (tt, λ is. is)
 
-    by : (given : (lost : Option AllocationSite) × Gave (notified_of new.id lost) key (λ closes bytes. Loose closes who (is_query event) (reply_of outcome) lost bytes) it.mid it.back l') → Acted moment key (step.Asks (ask.Event who event) last) new new.due l hs l'
+    by : (given : (lost : Option AllocationSite) × Gave (notified_of new.id lost) key (λ closes bytes. Loose closes who (is_query event) (effects_of outcome) lost bytes) it.mid it.back l') → Acted moment key (step.Asks (ask.Event who event) last) new new.due l hs l'
     by (lost, g) =
         let one = happened moment event outcome l it.front it.mid good it.first in
         let refused : List Handled = refusal_at moment new.id key l'.core lost in
@@ -197,8 +197,8 @@ acted_event moment key who event last new l hs l' own good there client (outcome
                     refusal_at moment new.id key l'.core lost,
                     asked,
                     refl,
-                    given moment new.id key l'.core (closes_of new.progress) who (is_query event) (reply_of outcome) lost gave.4.0 (typed who moment event l.core outcome (run_notes it.front) it.mid.core own one.handles)
-                        (subst (λ (x : PeerRecord). Loose (closes_of x) who (is_query event) (reply_of outcome) lost gave.4.0) (sym progress) gave.4.1),
+                    given moment new.id key l'.core (closes_of new.progress) who (is_query event) (effects_of outcome) lost gave.4.0 (typed who moment event l.core outcome (run_notes it.front) it.mid.core own one.handles)
+                        (subst (λ (x : PeerRecord). Loose (closes_of x) who (is_query event) (effects_of outcome) lost gave.4.0) (sym progress) gave.4.1),
                   ),
                   gave.4.2 ∙ ap (λ (due : List ℕ). due ++ gave.4.0) (sym was.4 ∙ ap (λ (x : Entry). x.due) (sym this)),
                 ),

@@ -13,7 +13,7 @@ use Rattle.events.specs.declared.event.Event.TheVariants as Is
 use Rattle.events.specs.declared.effects.Effects.{Effects}
 use Rattle.dispatcher.specs.declared.observer.AllocationSite.TheVariants as At
 use Rattle.dispatcher.specs.Notes.{Note}
-use Rattle.dispatcher.specs.Run.{reply_of}
+use Rattle.dispatcher.specs.Run.{effects_of}
 use Rattle.ipp_operations.specs.declared.parsed_request.ParsedRequest.{ParsedRequest}
 use Rattle.ipp_operations.specs.declared.parsed_request.ParsedRequest.TheVariants as asked
 use Rattle.wires.specs.Poll.{Poll, Accepts, Reads, Writes}
@@ -236,7 +236,7 @@ body_asks moment asked.TooShort served l hs l' good it = goes_calm false moment 
 body_asks moment (asked.Refused status request) served l hs l' good (is, inl it) = goes_calm false moment l hs l' good (calms_chooses Found l hs l' it)
 body_asks moment (asked.Refused status request) served l hs l' good (is, inr it) = goes_refused false moment At.Reply None l hs l' good refl it
 body_asks moment (asked.Event request event) served l hs l' good (bytes, is, (outcome, it)) =
-    moves_then false moment (Happens moment event outcome) (Between.Answers request (reply_of outcome) bytes) (moves_happens false moment event outcome (none_between event)) (between_answers moment request (reply_of outcome) bytes) l hs l' good it
+    moves_then false moment (Happens moment event outcome) (Between.Answers request (effects_of outcome) bytes) (moves_happens false moment event outcome (none_between event)) (between_answers moment request (effects_of outcome) bytes) l hs l' good it
 
 pub body_comes : (moment : ℕ) (body : List ℕ) (served : Between.Outcome) → Moves false moment (BodyComes moment body served)
 body_comes moment body served l hs l' good (inl (it, asks, comes)) =

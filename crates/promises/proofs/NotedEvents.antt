@@ -29,7 +29,7 @@ use Rattle.dispatcher.specs.declared.observer.AllocationSite.{AllocationSite}
 use Rattle.dispatcher.specs.declared.observer.AllocationSite.TheVariants as At
 use Rattle.dispatcher.specs.declared.run.Timed.{Timed}
 use Rattle.dispatcher.specs.Notes.{Note, Planned, Canceled, DeviceRefused, Refused, Notifies as Leads}
-use Rattle.dispatcher.specs.Run.{reply_of, cancel_notes, Handles, Run}
+use Rattle.dispatcher.specs.Run.{effects_of, cancel_notes, Handles, Run}
 use Rattle.dispatcher.specs.Step.{TakesNoMemory}
 use Rattle.ipp_operations.specs.declared.parsed_request.ParsedRequest.{ParsedRequest}
 use Rattle.ipp_operations.specs.declared.parsed_request.ParsedRequest.TheVariants as asks
@@ -383,7 +383,7 @@ dropped_then moment event Q refuses l hs l' it =
     (rest.id, refl, (rest.core ∙ none.1, refl, it.first.first.handles.2))
 
 answered_then : (moment : ℕ) (event : Event) (Q : Option Effects → Rel) → ((reply : Effects) → Quietly (Q (Some reply))) → ((l : Ledger) (hs : List Happening) (l' : Ledger) → Q None l hs l' → Refuses l hs l')
-    → (outcome : Outcome) (l : Ledger) (hs : List Happening) (l' : Ledger) → Then (Happens moment event outcome) (Q (reply_of outcome)) l hs l' → NotifiedFrom true moment l hs l'
+    → (outcome : Outcome) (l : Ledger) (hs : List Happening) (l' : Ledger) → Then (Happens moment event outcome) (Q (effects_of outcome)) l hs l' → NotifiedFrom true moment l hs l'
 answered_then moment event Q quiet refuses Dropped l hs l' it = dropped_then moment event (Q None) refuses l hs l' it
 answered_then moment event Q quiet refuses (Queried reply) l hs l' it = kept_then true moment event (Queried reply) (Q (Some reply)) tt (quiet reply) l hs l' it
 answered_then moment event Q quiet refuses (Undispatched reply) l hs l' it = kept_then true moment event (Undispatched reply) (Q (Some reply)) tt (quiet reply) l hs l' it

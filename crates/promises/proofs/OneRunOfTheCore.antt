@@ -17,7 +17,7 @@ use Rattle.dispatcher.specs.declared.outcome.Outcome.{Outcome}
 use Rattle.dispatcher.specs.declared.observer.DeviceRefusal.TheVariants as why
 use Rattle.dispatcher.specs.declared.observer.AllocationSite.TheVariants as At
 use Rattle.dispatcher.specs.Notes.{Note, DeviceRefused, Refused}
-use Rattle.dispatcher.specs.Run.{reply_of, Handles}
+use Rattle.dispatcher.specs.Run.{effects_of, Handles}
 use Rattle.ipp_operations.specs.declared.parsed_request.ParsedRequest.{ParsedRequest}
 use Rattle.ipp_operations.specs.declared.parsed_request.ParsedRequest.TheVariants as asked
 use Rattle.wires.specs.Poll.{Poll, Accepts, Reads, Writes}
@@ -273,7 +273,7 @@ none_of who Is.Tick own device = refl
 
 client_event : (moment key id : ℕ) (who : Client) (event : Event) → EventOf who event → Within true moment (Ans.IsAnswered moment key id who event)
 client_event moment key id who event own l hs l' (outcome, it) =
-    then_in true moment {R = Happens moment event outcome} (goes_event true moment event outcome (none_of who event own)) (calmly_in true moment (calms_answers key id who (is_query event) (reply_of outcome))) l hs l' it
+    then_in true moment {R = Happens moment event outcome} (goes_event true moment event outcome (none_of who event own)) (calmly_in true moment (calms_answers key id who (is_query event) (effects_of outcome))) l hs l' it
 
 fine_does : (moment key id : ℕ) (what : Ask) → IsFine what → Within true moment (ActsOn moment key id what)
 fine_does moment key id ask.Nothing fine = nothing_in true moment
@@ -684,7 +684,7 @@ module _ (moment : ℕ) where
   body_in asked.TooShort served l hs l' (is, it) = nothing_in false moment l hs l' it
   body_in (asked.Refused status request) served l hs l' (is, it) = or_in false moment (chooses_in false moment Found) (calmly_in false moment (calms_notifies (Refused At.Reply None) refl)) l hs l' it
   body_in (asked.Event request event) served l hs l' (bytes, is, (outcome, it)) =
-      then_in false moment {R = Happens moment event outcome} (goes_event false moment event outcome (λ device. refl)) (calmly_in false moment (body_answers request (reply_of outcome) bytes)) l hs l' it
+      then_in false moment {R = Happens moment event outcome} (goes_event false moment event outcome (λ device. refl)) (calmly_in false moment (body_answers request (effects_of outcome) bytes)) l hs l' it
 
   body_comes_in : (body : List ℕ) (served : Between.Outcome) → Within false moment (BodyComes moment body served)
   body_comes_in body served l hs l' (inl (it, asks, comes)) = then_in false moment (chooses_in false moment Found) (body_in it served) l hs l' comes

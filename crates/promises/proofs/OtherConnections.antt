@@ -25,7 +25,7 @@ use Rattle.dispatcher.specs.declared.observer.DeviceRefusal.TheVariants as why
 use Rattle.dispatcher.specs.declared.observer.AllocationSite.{AllocationSite}
 use Rattle.dispatcher.specs.declared.observer.AllocationSite.TheVariants as At
 use Rattle.dispatcher.specs.Notes.{Note, DeviceRefused, Refused}
-use Rattle.dispatcher.specs.Run.{reply_of}
+use Rattle.dispatcher.specs.Run.{effects_of}
 use Rattle.ipp_operations.specs.QueueText.{ack_of, text_of}
 use Rattle.send_queues.specs.Reply.{http_reply}
 use Rattle.wires.specs.Poll.{Poll, Reads, Writes}
@@ -551,7 +551,7 @@ module _ (moment key : ℕ) where
   kept_fine : (id : ℕ) (what : Ask) → IsFine what → (l : Ledger) (hs : List Happening) (l' : Ledger) → ActsOn moment key id what l hs l' → KeptAll l l'
   kept_fine id ask.Nothing fine l hs l' it = (calms_nothing l hs l' it).kept
   kept_fine id (ask.Broke growth) fine l hs l' it = (calms_notifies (Refused (place_of growth) (Some id)) (silent_growth growth id) l hs l' it).kept
-  kept_fine id (ask.Event who event) fine l hs l' (outcome, it) = kept_next l it.mid l' (happened moment event outcome l it.front it.mid it.first).kept (calms_answers key id who (is_query event) (reply_of outcome) it.mid it.back l' it.second).kept
+  kept_fine id (ask.Event who event) fine l hs l' (outcome, it) = kept_next l it.mid l' (happened moment event outcome l it.front it.mid it.first).kept (calms_answers key id who (is_query event) (effects_of outcome) it.mid it.back l' it.second).kept
   kept_fine id (ask.Unread request) fine l hs l' it = (calms_dropped key id request l hs l' it).kept
   kept_fine id (ask.Lost part) fine l hs l' it = (calms_declines (place_of_part part) key id (silent_part part id) l hs l' it).kept
   kept_fine id (ask.Hello device name) fine l hs l' it = absurd fine
@@ -699,7 +699,7 @@ module _ (F : ℕ → Type 0) (moment key : ℕ) where
   spares_does id (ask.Broke growth.Output) isnt = aside_in (aside_notifies key (Refused At.Enqueue (Some id)) refl)
   spares_does id (ask.Event who event) isnt =
       λ l hs l' it.
-      joins (Happens moment event it.0) (Ans.Answers key id who (is_query event) (reply_of it.0)) (λ a ks b one. (brings F moment key event it.0 a ks b one).spared) (aside_in (aside_answers key id who (is_query event) (reply_of it.0))) l hs l' it.1
+      joins (Happens moment event it.0) (Ans.Answers key id who (is_query event) (effects_of it.0)) (λ a ks b one. (brings F moment key event it.0 a ks b one).spared) (aside_in (aside_answers key id who (is_query event) (effects_of it.0))) l hs l' it.1
   spares_does id (ask.Unread request) isnt = aside_in (aside_dropped key id request)
   spares_does id (ask.Lost part.File) isnt = aside_in (aside_declines key At.File id refl)
   spares_does id (ask.Lost part.Job) isnt = aside_in (aside_declines key At.Event id refl)

@@ -12,7 +12,7 @@ use Rattle.dispatcher.specs.declared.outcome.Outcome.{Outcome}
 use Rattle.dispatcher.specs.declared.observer.DeviceRefusal.TheVariants as why
 use Rattle.dispatcher.specs.declared.observer.AllocationSite.TheVariants as At
 use Rattle.dispatcher.specs.Notes.{DeviceRefused, Refused}
-use Rattle.dispatcher.specs.Run.{reply_of}
+use Rattle.dispatcher.specs.Run.{effects_of}
 use Rattle.ipp_operations.specs.declared.parsed_request.ParsedRequest.{ParsedRequest}
 use Rattle.ipp_operations.specs.declared.parsed_request.ParsedRequest.TheVariants as asked
 use Rattle.wires.specs.Poll.{Accepts, Reads, Writes}
@@ -118,7 +118,7 @@ module _ (moment : ℕ) where
   ends_acts_on : (key id : ℕ) (what : Ask) → Ends (ActsOn moment key id what)
   ends_acts_on key id ask.Nothing = calmly calms_nothing
   ends_acts_on key id (ask.Broke growth) = calmly (calms_notifies (Refused (place_of growth) (Some id)) (silent_growth growth id))
-  ends_acts_on key id (ask.Event who event) = λ l hs l' (outcome, it). ends_then {R = Happens moment event outcome} (ends_happens event outcome) (calmly (calms_answers key id who (is_query event) (reply_of outcome))) l hs l' it
+  ends_acts_on key id (ask.Event who event) = λ l hs l' (outcome, it). ends_then {R = Happens moment event outcome} (ends_happens event outcome) (calmly (calms_answers key id who (is_query event) (effects_of outcome))) l hs l' it
   ends_acts_on key id (ask.Unread request) = calmly (calms_dropped key id request)
   ends_acts_on key id (ask.Lost part) = calmly (calms_declines (place_of_part part) key id (silent_part part id))
   ends_acts_on key id (ask.Hello device name) = ends_greets key id device name
@@ -237,7 +237,7 @@ module _ (moment : ℕ) where
   ends_body asked.TooShort served l hs l' (is, it) = calmly calms_nothing l hs l' it
   ends_body (asked.Refused status request) served l hs l' (is, inl it) = calmly (calms_choice Found) l hs l' it
   ends_body (asked.Refused status request) served l hs l' (is, inr it) = calmly (calms_notifies (Refused At.Reply None) refl) l hs l' it
-  ends_body (asked.Event request event) served l hs l' (bytes, is, (outcome, it)) = ends_then {R = Happens moment event outcome} (ends_happens event outcome) (calmly (body_answers request (reply_of outcome) bytes)) l hs l' it
+  ends_body (asked.Event request event) served l hs l' (bytes, is, (outcome, it)) = ends_then {R = Happens moment event outcome} (ends_happens event outcome) (calmly (body_answers request (effects_of outcome) bytes)) l hs l' it
 
   ends_comes : (body : List ℕ) (served : Between.Outcome) → Ends (BodyComes moment body served)
   ends_comes body served l hs l' (inl (it, asks, comes)) = ends_then (calmly (calms_choice Found)) (ends_body it served) l hs l' comes

@@ -8,7 +8,7 @@ use Rattle.print_room.specs.State.{State}
 use Rattle.events.specs.declared.event.Event.{Event}
 use Rattle.events.specs.declared.event.Event.TheVariants as Is
 use Rattle.events.specs.declared.effects.Effects.{Effects}
-use Rattle.dispatcher.specs.Run.{reply_of}
+use Rattle.dispatcher.specs.Run.{effects_of}
 use Rattle.ipp_operations.specs.declared.parsed_request.ParsedRequest.{ParsedRequest}
 use Rattle.ipp_operations.specs.declared.parsed_request.ParsedRequest.TheVariants as asked
 use Rattle.wires.specs.Poll.{Poll, Accepts, Reads, Writes}
@@ -252,7 +252,7 @@ body_asks moment asked.TooShort served l hs l' heard it = hears_nothing l hs l' 
 body_asks moment (asked.Refused status request) served l hs l' heard (is, inl it) = hears_same l l' (ap (λ (x : Ledger). x.entries) it.1) heard
 body_asks moment (asked.Refused status request) served l hs l' heard (is, inr it) = hears_same l l' (ap (λ (x : Ledger). x.entries) it.1) heard
 body_asks moment (asked.Event request event) served l hs l' heard (bytes, is, (outcome, it)) =
-    hears_then (Happens moment event outcome) (Between.Answers request (reply_of outcome) bytes) (hears_left moment (Happens moment event outcome) (λ key a ks b one. (brings Any moment key event outcome a ks b one).spared)) (between_answers request (reply_of outcome) bytes) l hs l' heard it
+    hears_then (Happens moment event outcome) (Between.Answers request (effects_of outcome) bytes) (hears_left moment (Happens moment event outcome) (λ key a ks b one. (brings Any moment key event outcome a ks b one).spared)) (between_answers request (effects_of outcome) bytes) l hs l' heard it
 
 body_comes : (moment : ℕ) (body : List ℕ) (served : Between.Outcome) → Hears (BodyComes moment body served)
 body_comes moment body served l hs l' heard (inl (it, asks, comes)) =

@@ -24,7 +24,7 @@ use Rattle.dispatcher.specs.declared.observer.AllocationSite.{AllocationSite}
 use Rattle.dispatcher.specs.declared.observer.AllocationSite.TheVariants as At
 use Rattle.dispatcher.specs.Notes.{Note, Refused}
 use Rattle.dispatcher.specs.OneStep.{SameReply, SameIppAnswer, SameLpdAnswer, SameAnswer}
-use Rattle.dispatcher.specs.Run.{reply_of}
+use Rattle.dispatcher.specs.Run.{effects_of}
 use Rattle.dispatcher.specs.Step.{TakesNoMemory}
 use Rattle.ipp_operations.specs.QueueText.{queue_text, ack_of, text_of}
 use Rattle.connections.specs.declared.ask.Client.{Client}
@@ -172,10 +172,10 @@ module _ (steps : StepsOnce) where
 
   -- an event and its answer; where the event was dropped, memory was refused
   pub answered_same : (moment : ℕ) (event other : Event) (Q R : Option Effects → Rel) → SameEvent event other → is_query event ≡ is_query other → Refuses (Q None) → Refuses (R None) → ((one two : Effects) → SameReply one two → Same (Q (Some one)) (R (Some two)))
-      → Same (λ l hs a. (outcome : Outcome) × Then (Happens moment event outcome) (Q (reply_of outcome)) l hs a) (λ l hs a. (outcome : Outcome) × Then (Happens moment other outcome) (R (reply_of outcome)) l hs a)
+      → Same (λ l hs a. (outcome : Outcome) × Then (Happens moment event outcome) (Q (effects_of outcome)) l hs a) (λ l hs a. (outcome : Outcome) × Then (Happens moment other outcome) (R (effects_of outcome)) l hs a)
   answered_same moment event other Q R same query refuses refuse answered = record { one = λ l hs rest a ks more b e c d (outcome, p) (said, q). by_kind outcome said l hs rest a ks more b e c d (kept_or outcome) (kept_or said) p q }
     where
-      replies : (outcome said : Outcome) → SameOutcome outcome said → IsKept outcome → Same (Q (reply_of outcome)) (R (reply_of said))
+      replies : (outcome said : Outcome) → SameOutcome outcome said → IsKept outcome → Same (Q (effects_of outcome)) (R (effects_of said))
       replies Dropped Dropped way kept = absurd kept
       replies (Queried one) (Queried two) way kept = answered one two way
       replies (Undispatched one) (Undispatched two) way kept = answered one two way
@@ -183,14 +183,14 @@ module _ (steps : StepsOnce) where
       replies (Dispatched one) (Dispatched two) way kept = answered one two way
       replies one two way kept = absurd way
 
-      never : (x : Event) (S : Option Effects → Rel) (outcome : Outcome) (l : Ledger) (hs : List Happening) (a : Ledger) → Refuses (S None) → outcome ≡ Dropped → Then (Happens moment x outcome) (S (reply_of outcome)) l hs a → Calm hs → ⊥
+      never : (x : Event) (S : Option Effects → Rel) (outcome : Outcome) (l : Ledger) (hs : List Happening) (a : Ledger) → Refuses (S None) → outcome ≡ Dropped → Then (Happens moment x outcome) (S (effects_of outcome)) l hs a → Calm hs → ⊥
       never x S outcome l hs a refused is it calm =
-          let last : S None it.mid it.back a = subst (λ (o : Outcome). S (reply_of o) it.mid it.back a) is it.second in refused.never it.mid it.back a last (calm_last hs it.front it.back it.whole calm)
+          let last : S None it.mid it.back a = subst (λ (o : Outcome). S (effects_of o) it.mid it.back a) is it.second in refused.never it.mid it.back a last (calm_last hs it.front it.back it.whole calm)
 
       by_kind : (outcome said : Outcome) (l : Ledger) (hs rest : List Happening) (a : Ledger) (ks more : List Happening) (b : Ledger) → keyed hs ++ rest ≡ keyed ks ++ more → Calm hs → Calm ks → IsKept outcome ⊎ (outcome ≡ Dropped) → IsKept said ⊎ (said ≡ Dropped)
-          → Then (Happens moment event outcome) (Q (reply_of outcome)) l hs a → Then (Happens moment other said) (R (reply_of said)) l ks b → (keyed hs ≡ keyed ks) × (a ≡ b)
+          → Then (Happens moment event outcome) (Q (effects_of outcome)) l hs a → Then (Happens moment other said) (R (effects_of said)) l ks b → (keyed hs ≡ keyed ks) × (a ≡ b)
       by_kind outcome said l hs rest a ks more b e c d (inl kept) (inl enqueues) p q =
-          let it = same_then_by (Happens moment event outcome) (Happens moment other said) (Q (reply_of outcome)) (R (reply_of said)) l hs rest a ks more b e c d p q
+          let it = same_then_by (Happens moment event outcome) (Happens moment other said) (Q (effects_of outcome)) (R (effects_of said)) l hs rest a ks more b e c d p q
           (λ left right both calm still. happened_same moment event other outcome said l p.front left p.mid q.front right q.mid same query kept enqueues both calm still p.first q.first) (λ way. replies outcome said way kept) in
           (it.1, it.2)
       by_kind outcome said l hs rest a ks more b e c d (inr is) its p q = absurd (never event Q outcome l hs a refuses is p c)

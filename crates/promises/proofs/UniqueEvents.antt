@@ -15,7 +15,7 @@ use Rattle.dispatcher.specs.declared.outcome.Outcome.TheVariants.{Dropped, Queri
 use Rattle.dispatcher.specs.declared.observer.AllocationSite.TheVariants as At
 use Rattle.dispatcher.specs.Notes.{Note, Planned, Canceled, Refused}
 use Rattle.dispatcher.specs.OneStep.{SameReply}
-use Rattle.dispatcher.specs.Run.{reply_of, cancel_notes, Handles}
+use Rattle.dispatcher.specs.Run.{effects_of, cancel_notes, Handles}
 use Rattle.dispatcher.specs.Step.{TakesNoMemory}
 use Rattle.events.specs.SameEvent.{SameEvent}
 use Rattle.server.specs.Polls.{Happening, Notified, Found, Chosen}
@@ -283,10 +283,10 @@ module _ (steps : StepsOnce) where
   -- an event and its answer; the drop of an event is notified first
   pub answered_alike : (moment : ℕ) (event other : Event) (Q R : Option Effects → Rel) → SameEvent event other → is_query event ≡ is_query other → Begins is_choice false (Q None) → Begins is_choice false (R None) → Alike (Q None) (R None)
       → ((one two : Effects) → SameReply one two → Alike (Q (Some one)) (R (Some two)))
-      → Alike (λ l hs a. (outcome : Outcome) × Then (Happens moment event outcome) (Q (reply_of outcome)) l hs a) (λ l hs a. (outcome : Outcome) × Then (Happens moment other outcome) (R (reply_of outcome)) l hs a)
+      → Alike (λ l hs a. (outcome : Outcome) × Then (Happens moment event outcome) (Q (effects_of outcome)) l hs a) (λ l hs a. (outcome : Outcome) × Then (Happens moment other outcome) (R (effects_of outcome)) l hs a)
   answered_alike moment event other Q R same query notifies notified dropped answered = record { one = λ l hs rest a ks more b e (outcome, p) (said, q). by_kind outcome said l hs rest a ks more b e (kept_or outcome) (kept_or said) p q }
     where
-      replies : (outcome said : Outcome) → SameOutcome outcome said → Alike (Q (reply_of outcome)) (R (reply_of said))
+      replies : (outcome said : Outcome) → SameOutcome outcome said → Alike (Q (effects_of outcome)) (R (effects_of said))
       replies Dropped Dropped way = dropped
       replies (Queried one) (Queried two) way = answered one two way
       replies (Undispatched one) (Undispatched two) way = answered one two way
@@ -319,16 +319,16 @@ module _ (steps : StepsOnce) where
           let none = dropped_one moment x l it.front it.mid it.first in
           subst (BeginsAs is_choice false) (sym (it.whole ∙ ap (λ (xs : List Happening). xs ++ it.back) none.0)) (begins.begins it.mid it.back a it.second)
 
-      chosen_first : (x : Event) (S : Option Effects → Rel) (outcome : Outcome) → IsKept outcome → (l : Ledger) (hs : List Happening) (a : Ledger) → Then (Happens moment x outcome) (S (reply_of outcome)) l hs a → BeginsAs is_choice true hs
+      chosen_first : (x : Event) (S : Option Effects → Rel) (outcome : Outcome) → IsKept outcome → (l : Ledger) (hs : List Happening) (a : Ledger) → Then (Happens moment x outcome) (S (effects_of outcome)) l hs a → BeginsAs is_choice true hs
       chosen_first x S outcome kept l hs a it = subst (BeginsAs is_choice true) (sym it.whole) (begins_append is_choice true it.front it.back (found_first moment x outcome l it.front it.mid kept it.first))
 
-      as_dropped : (x : Event) (S : Option Effects → Rel) (outcome : Outcome) (l : Ledger) (hs : List Happening) (a : Ledger) → outcome ≡ Dropped → Then (Happens moment x outcome) (S (reply_of outcome)) l hs a → Then (Happens moment x Dropped) (S None) l hs a
-      as_dropped x S outcome l hs a is it = subst (λ (o : Outcome). Then (Happens moment x o) (S (reply_of o)) l hs a) is it
+      as_dropped : (x : Event) (S : Option Effects → Rel) (outcome : Outcome) (l : Ledger) (hs : List Happening) (a : Ledger) → outcome ≡ Dropped → Then (Happens moment x outcome) (S (effects_of outcome)) l hs a → Then (Happens moment x Dropped) (S None) l hs a
+      as_dropped x S outcome l hs a is it = subst (λ (o : Outcome). Then (Happens moment x o) (S (effects_of o)) l hs a) is it
 
       by_kind : (outcome said : Outcome) (l : Ledger) (hs rest : List Happening) (a : Ledger) (ks more : List Happening) (b : Ledger) → hs ++ rest ≡ ks ++ more → IsKept outcome ⊎ (outcome ≡ Dropped) → IsKept said ⊎ (said ≡ Dropped)
-          → Then (Happens moment event outcome) (Q (reply_of outcome)) l hs a → Then (Happens moment other said) (R (reply_of said)) l ks b → (hs ≡ ks) × (a ≡ b)
+          → Then (Happens moment event outcome) (Q (effects_of outcome)) l hs a → Then (Happens moment other said) (R (effects_of said)) l ks b → (hs ≡ ks) × (a ≡ b)
       by_kind outcome said l hs rest a ks more b e (inl kept) (inl enqueues) p q =
-          let it = then_one (Happens moment event outcome) (Happens moment other said) (Q (reply_of outcome)) (R (reply_of said)) l hs rest a ks more b e p q
+          let it = then_one (Happens moment event outcome) (Happens moment other said) (Q (effects_of outcome)) (R (effects_of said)) l hs rest a ks more b e p q
           (λ left right both. happened_one moment event other outcome said l p.front left p.mid q.front right q.mid same query kept enqueues both p.first q.first)
           (λ way. replies outcome said way) in
           (it.1, it.2)

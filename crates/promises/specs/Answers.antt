@@ -21,7 +21,7 @@ use Rattle.events.specs.Event.{is_query}
 use Rattle.dispatcher.specs.declared.outcome.Outcome.{Outcome}
 use Rattle.dispatcher.specs.declared.observer.AllocationSite.{AllocationSite}
 use Rattle.dispatcher.specs.declared.observer.AllocationSite.TheVariants as At
-use Rattle.dispatcher.specs.Run.{reply_of}
+use Rattle.dispatcher.specs.Run.{effects_of}
 use Rattle.ipp_operations.specs.Reply.{IsReply}
 use Rattle.ipp_operations.specs.QueueText.{ack_of, text_of}
 use Rattle.send_queues.specs.Reply.{http_reply}
@@ -120,7 +120,7 @@ Given id closes client.LpdCommand query None lost bytes = ⊥
 -- the core handled this event of a client, which was answered so
 abbrev pub IsGivenTo : ℕ → Bool → Client → Event → List Handled → List ℕ → Type 0
 IsGivenTo id closes who event asked bytes =
-    (it : Handled) × (outcome : Outcome) × (lost : List Handled) × (asked ≡ it ∷ lost) × (it.what ≡ EventComes event outcome) × Given id closes who (is_query event) (reply_of outcome) lost bytes
+    (it : Handled) × (outcome : Outcome) × (lost : List Handled) × (asked ≡ it ∷ lost) × (it.what ≡ EventComes event outcome) × Given id closes who (is_query event) (effects_of outcome) lost bytes
 
 -- the answer to the connection's ask
 abbrev pub IsGiven : ℕ → Bool → Ask → List Handled → List ℕ → Type 0

@@ -38,7 +38,7 @@ use Rattle.ipp_operations.specs.Request.{operation_group, job_attributes, is_utf
 use Rattle.dispatcher.specs.declared.outcome.Outcome.{Outcome}
 use Rattle.dispatcher.specs.declared.outcome.Outcome.TheVariants.{Dropped, Queried, Undispatched, Idle, Dispatched}
 use Rattle.dispatcher.specs.Notes.{Note}
-use Rattle.dispatcher.specs.Run.{reply_of, Handles}
+use Rattle.dispatcher.specs.Run.{effects_of, Handles}
 use Rattle.std.proofs.lemmas.Option.{none-some}
 use Rattle.server.specs.Turn.{IsBytes}
 use Rattle.replay.specs.OneRun.{IsReplyOf}
@@ -129,7 +129,7 @@ is_given : (given reply : Effects) → Some given ≡ Some reply → IsOfIpp giv
 is_given given reply same is = let one : given ≡ reply = cc same in subst (λ (r : Effects). IsOfIpp r.answer) one is
 
 -- a request that is answered is answered by a message
-request_is_answered : (moment : ℕ) (event : Event) (outcome : Outcome) (reply : Effects) (old : State) (notes : List Note) (new : State) → IsRequest event → reply_of outcome ≡ Some reply → Handles moment event old outcome notes new → IsOfIpp reply.answer
+request_is_answered : (moment : ℕ) (event : Event) (outcome : Outcome) (reply : Effects) (old : State) (notes : List Note) (new : State) → IsRequest event → effects_of outcome ≡ Some reply → Handles moment event old outcome notes new → IsOfIpp reply.answer
 request_is_answered moment event Dropped reply old notes new is answered handled = absurd (none-some reply answered)
 request_is_answered moment event (Queried given) reply old notes new is answered (query, step, notified) = is_given given reply answered (stepped_answer event (max moment old.last) old given new is step)
 request_is_answered moment event (Undispatched given) reply old notes new is answered (query, step, ready, notified) = is_given given reply answered (stepped_answer event (max moment old.last) old given new is step)
@@ -206,6 +206,6 @@ are_of_reply request (responds.Ipp answer) bytes is are = are
 are_of_reply request (responds.Lpd answer) bytes is are = absurd is
 are_of_reply request responds.Nothing bytes is are = absurd is
 
-pub body_replied : (body : List ℕ) (moment request : ℕ) (event : Event) (outcome : Outcome) (reply : Effects) (bytes : List ℕ) (old : State) (notes : List Note) (new : State) → Asks body (Body.Event request event) → reply_of outcome ≡ Some reply → Handles moment event old outcome notes new → IsBytes request reply.answer bytes → IsReplyOf reply.answer request bytes
+pub body_replied : (body : List ℕ) (moment request : ℕ) (event : Event) (outcome : Outcome) (reply : Effects) (bytes : List ℕ) (old : State) (notes : List Note) (new : State) → Asks body (Body.Event request event) → effects_of outcome ≡ Some reply → Handles moment event old outcome notes new → IsBytes request reply.answer bytes → IsReplyOf reply.answer request bytes
 body_replied body moment request event outcome reply bytes old notes new asks answered handled are =
     are_of_reply request reply.answer bytes (request_is_answered moment event outcome reply old notes new (body_is_request body request event asks) answered handled) are

@@ -13,7 +13,7 @@ use Rattle.events.specs.declared.effects.Effects.{Effects}
 use Rattle.dispatcher.specs.declared.run.Timed.{Timed}
 use Rattle.dispatcher.specs.declared.outcome.Outcome.{Outcome}
 use Rattle.dispatcher.specs.Notes.{Note}
-use Rattle.dispatcher.specs.Run.{reply_of, Run}
+use Rattle.dispatcher.specs.Run.{effects_of, Run}
 use Rattle.ipp_operations.specs.declared.parsed_request.ParsedRequest.{ParsedRequest}
 use Rattle.ipp_operations.specs.declared.parsed_request.ParsedRequest.TheVariants as Body
 use Rattle.ipp_operations.specs.ParsedRequest.{Asks}
@@ -65,7 +65,7 @@ then_part first later = record { events = first.events ++ later.events; outcomes
 pub record IsOne (event : Event) (moment : ℕ) (reply : Effects) (part : Part) : Type 0 where
   pub outcome : Outcome
   pub heard : List (List ℕ)
-  pub answered : reply_of outcome ≡ Some reply
+  pub answered : effects_of outcome ≡ Some reply
   pub whole : IsWhole outcome
   pub is : part ≡ record { events = record { event = event; moment = moment } ∷ []; outcomes = outcome ∷ []; heard = heard }
 

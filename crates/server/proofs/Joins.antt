@@ -5,7 +5,7 @@ use Rattle.wires.specs.Poll.{Poll, Accepts}
 use Rattle.wires.specs.declared.wire.Door.{Door}
 use Rattle.wires.specs.declared.wire.Progress.TheVariants.{Done}
 use Rattle.dispatcher.specs.Notes.{Note, Refused, DeviceRefused}
-use Rattle.dispatcher.specs.Run.{reply_of}
+use Rattle.dispatcher.specs.Run.{effects_of}
 use Rattle.dispatcher.specs.declared.observer.AllocationSite.{AllocationSite}
 use Rattle.dispatcher.specs.declared.observer.AllocationSite.TheVariants as At
 use Rattle.dispatcher.specs.declared.observer.DeviceRefusal.TheVariants as why
@@ -73,13 +73,13 @@ module _ {S : Type 0} {moves : S → Happening → S → Type 0} where
       reporting_as moves (Happens moment (Is.Report device report) outcome) (ReportComes moment device report) u v a b refused (λ l hs l' fits fits' it. (outcome, it)) p
 
   -- the event of a client comes, and then its reply becomes due
-  pub answers : (key id : ℕ) (who : Client) {moment : ℕ} {event : Event} {outcome : Outcome} {query refused : Bool} {reply : Option Effects} {u v w : S} {a b c : EngineState} → RefinesReporting moves (Happens moment event outcome) u a v b refused → query ≡ is_query event → reply ≡ reply_of outcome
+  pub answers : (key id : ℕ) (who : Client) {moment : ℕ} {event : Event} {outcome : Outcome} {query refused : Bool} {reply : Option Effects} {u v w : S} {a b c : EngineState} → RefinesReporting moves (Happens moment event outcome) u a v b refused → query ≡ is_query event → reply ≡ effects_of outcome
       → RefinesQuietly moves (Answers key id who query reply) v b w c → RefinesQuietly moves (IsAnswered moment key id who event) u a w c
   answers key id who {moment} {event} {outcome} {query} {refused} {reply} {u} {v} {w} {a} {b} {c} p asked answered q =
-      let notified : RefinesQuietly moves (Answers key id who (is_query event) (reply_of outcome)) v b w c =
-      subst (λ (t : Bool). RefinesQuietly moves (Answers key id who t (reply_of outcome)) v b w c) asked (subst (λ (o : Option Effects). RefinesQuietly moves (Answers key id who query o) v b w c) answered q) in
-      quietly_as moves (Then (Happens moment event outcome) (Answers key id who (is_query event) (reply_of outcome))) (IsAnswered moment key id who event) u w a c (λ l hs l' fits fits' it. (outcome, it))
-      (quietly_then moves (Happens moment event outcome) (Answers key id who (is_query event) (reply_of outcome)) u v w a b c p.refines notified)
+      let notified : RefinesQuietly moves (Answers key id who (is_query event) (effects_of outcome)) v b w c =
+      subst (λ (t : Bool). RefinesQuietly moves (Answers key id who t (effects_of outcome)) v b w c) asked (subst (λ (o : Option Effects). RefinesQuietly moves (Answers key id who query o) v b w c) answered q) in
+      quietly_as moves (Then (Happens moment event outcome) (Answers key id who (is_query event) (effects_of outcome))) (IsAnswered moment key id who event) u w a c (λ l hs l' fits fits' it. (outcome, it))
+      (quietly_then moves (Happens moment event outcome) (Answers key id who (is_query event) (effects_of outcome)) u v w a b c p.refines notified)
 
   -- a request was dropped
   pub replies_none : (key id request : ℕ) (query : Bool) {reply : Option Effects} {u v : S} {a b : EngineState} → reply ≡ None → RefinesQuietly moves (Drops key id request) u a v b → RefinesQuietly moves (Replies key id request query reply) u a v b

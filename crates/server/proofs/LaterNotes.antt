@@ -14,7 +14,7 @@ use Rattle.dispatcher.specs.declared.outcome.Outcome.TheVariants.{Dropped, Queri
 use Rattle.dispatcher.specs.declared.observer.AllocationSite.{AllocationSite}
 use Rattle.dispatcher.specs.declared.observer.AllocationSite.TheVariants as At
 use Rattle.dispatcher.specs.Notes.{Note, Planned, Canceled, DeviceRefused, Refused}
-use Rattle.dispatcher.specs.Run.{reply_of, cancel_notes, Handles}
+use Rattle.dispatcher.specs.Run.{effects_of, cancel_notes, Handles}
 use Rattle.dispatcher.specs.Step.{TakesNoMemory}
 use Rattle.server.specs.Polls.{Happening, Polled, Notified, Choice, Found, Chosen, seen}
 use Rattle.server.specs.Ledger.{Ledger, with_entry, job_bytes}
@@ -280,7 +280,7 @@ whole_light moment event (Dispatched reply) l hs l' it light none = tt
 
 -- if no memory was refused, an event wasn't dropped whose caller notifies of a drop
 pub whole_notified : (moment : ℕ) (event : Event) (outcome : Outcome) (Q : Option Effects → Rel) → ((l : Ledger) (hs : List Happening) (l' : Ledger) → Q None l hs l' → has_refusal hs ≡ true)
-    → (l : Ledger) (hs : List Happening) (l' : Ledger) → Then (Happens moment event outcome) (Q (reply_of outcome)) l hs l' → Happened moment event outcome l hs l' → has_refusal hs ≡ false → IsWhole outcome
+    → (l : Ledger) (hs : List Happening) (l' : Ledger) → Then (Happens moment event outcome) (Q (effects_of outcome)) l hs l' → Happened moment event outcome l hs l' → has_refusal hs ≡ false → IsWhole outcome
 whole_notified moment event Dropped Q notified l hs l' it done none = never (has_refusal it.back) (notified it.mid it.back l' it.second) (none_after hs it.front it.back it.whole none)
 whole_notified moment event (Queried reply) Q notified l hs l' it done none = tt
 whole_notified moment event (Undispatched reply) Q notified l hs l' it done none = undispatched_never moment event reply l hs l' done none

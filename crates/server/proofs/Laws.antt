@@ -10,7 +10,7 @@ use Rattle.events.specs.declared.effects.Effects.{Effects}
 use Rattle.dispatcher.specs.declared.run.Timed.{Timed}
 use Rattle.dispatcher.specs.declared.outcome.Outcome.{Outcome}
 use Rattle.dispatcher.specs.declared.outcome.Outcome.TheVariants.{Dropped, Queried, Undispatched, Idle, Dispatched}
-use Rattle.dispatcher.specs.Run.{reply_of, Comes, Run}
+use Rattle.dispatcher.specs.Run.{effects_of, Comes, Run}
 use Rattle.dispatcher.specs.Step.{TakesNoMemory}
 use Rattle.ipp_operations.specs.declared.parsed_request.ParsedRequest.{ParsedRequest}
 use Rattle.ipp_operations.specs.declared.parsed_request.ParsedRequest.TheVariants as asks
@@ -143,12 +143,12 @@ one_run (action ∷ actions) old new (mid, refines, runs) =
 
 -- ---- one event in an action
 
-one_event : (moment : ℕ) (event : Event) (outcome : Outcome) (reply : Effects) (l : Ledger) (hs : List Happening) (l' : Ledger) → has_refusal hs ≡ false → IsWhole outcome → reply_of outcome ≡ Some reply → Happened moment event outcome l hs l' → IsOneEvent moment event reply l.core hs l'.core
+one_event : (moment : ℕ) (event : Event) (outcome : Outcome) (reply : Effects) (l : Ledger) (hs : List Happening) (l' : Ledger) → has_refusal hs ≡ false → IsWhole outcome → effects_of outcome ≡ Some reply → Happened moment event outcome l hs l' → IsOneEvent moment event reply l.core hs l'.core
 one_event moment event outcome reply l hs l' none whole is it =
     record { outcome = outcome; notes = it.notes; answered = is; whole = whole; handled = it.handled; notified = happened_whole moment event outcome l hs l' it none }
 
 -- an event has a reply if neither the event nor its dispatch was refused memory
-reply_there : (outcome : Outcome) → IsWhole outcome → (reply : Effects) × (reply_of outcome ≡ Some reply)
+reply_there : (outcome : Outcome) → IsWhole outcome → (reply : Effects) × (effects_of outcome ≡ Some reply)
 reply_there Dropped whole = absurd whole
 reply_there (Queried reply) whole = (reply, refl)
 reply_there (Undispatched reply) whole = absurd whole
@@ -170,9 +170,9 @@ are_bytes request None bytes l hs l' none it = no_refusal_notified hs At.Event N
 
 event_served : (moment request : ℕ) (event : Event) (bytes : List ℕ) (answer : Given) (l : Ledger) (hs : List Happening) (l' : Ledger) → has_refusal hs ≡ false → answer ≡ Replied bytes → Between.IsAnswered moment request event bytes l hs l' → IsServed moment (asks.Event request event) answer l.core hs l'.core
 event_served moment request event bytes answer l hs l' none is (outcome, it) =
-    let came = happened_then moment event outcome (Answers request (reply_of outcome) bytes) (calm_answers request (reply_of outcome) bytes) l hs l' it in
+    let came = happened_then moment event outcome (Answers request (effects_of outcome) bytes) (calm_answers request (effects_of outcome) bytes) l hs l' it in
     let whole = whole_notified moment event outcome (λ reply. Answers request reply bytes) (λ a ks b notified. ap has_refusal notified.0) l hs l' it came none in
-    let are = are_bytes request (reply_of outcome) bytes it.mid it.back l' (none_after hs it.front it.back it.whole none) it.second in
+    let are = are_bytes request (effects_of outcome) bytes it.mid it.back l' (none_after hs it.front it.back it.whole none) it.second in
     (are.0, bytes, is, are.2, one_event moment event outcome are.0 l hs l' none whole are.1 came)
 
 is_served : (moment : ℕ) (asked : ParsedRequest) (served answer : Given) (l : Ledger) (hs : List Happening) (l' : Ledger) → has_refusal hs ≡ false → answer ≡ served → BodyAsks moment asked served l hs l' → IsServed moment asked answer l.core hs l'.core

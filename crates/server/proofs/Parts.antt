@@ -22,7 +22,7 @@ use Rattle.dispatcher.specs.declared.observer.DeviceRefusal.TheVariants as why
 use Rattle.dispatcher.specs.declared.observer.AllocationSite.{AllocationSite}
 use Rattle.dispatcher.specs.declared.observer.AllocationSite.TheVariants as At
 use Rattle.dispatcher.specs.Notes.{Note, DeviceRefused, Refused}
-use Rattle.dispatcher.specs.Run.{reply_of, Handles}
+use Rattle.dispatcher.specs.Run.{effects_of, Handles}
 use Rattle.ipp_operations.specs.declared.parsed_request.ParsedRequest.{ParsedRequest}
 use Rattle.ipp_operations.specs.declared.parsed_request.ParsedRequest.TheVariants as asks
 use Rattle.ipp_operations.specs.QueueText.{ack_of, text_of}
@@ -251,9 +251,9 @@ module _ (moment : ℕ) (P : Rel) (k : Holds moment P) where
 
   -- P holds for an event and its reply, if the observer is notified of an event that was dropped
   answered_in : (event : Event) (Q : Option Effects → Rel) → ((reply : Option Effects) → Calmly (Q reply)) → ((l : Ledger) (hs : List Happening) (l' : Ledger) → Q None l hs l' → has_refusal hs ≡ true)
-      → (outcome : Outcome) → Within P (Then (Happens moment event outcome) (Q (reply_of outcome)))
+      → (outcome : Outcome) → Within P (Then (Happens moment event outcome) (Q (effects_of outcome)))
   answered_in event Q calm notified outcome l hs l' it =
-      let came = happened_then moment event outcome (Q (reply_of outcome)) (calm (reply_of outcome)) l hs l' it in
+      let came = happened_then moment event outcome (Q (effects_of outcome)) (calm (effects_of outcome)) l hs l' it in
       k.event l hs l' (event_as moment event outcome l hs l' (λ none. whole_notified moment event outcome Q notified l hs l' it came none) came)
 
   reported_in : (device : ℕ) (report : Report) → Within P (Unanswered moment (Is.Report device report))

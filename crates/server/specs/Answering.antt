@@ -13,7 +13,7 @@ use Rattle.dispatcher.specs.declared.outcome.Outcome.{Outcome}
 use Rattle.dispatcher.specs.declared.observer.AllocationSite.{AllocationSite}
 use Rattle.dispatcher.specs.declared.observer.AllocationSite.TheVariants as At
 use Rattle.dispatcher.specs.Notes.{Refused}
-use Rattle.dispatcher.specs.Run.{reply_of}
+use Rattle.dispatcher.specs.Run.{effects_of}
 use Rattle.ipp_operations.specs.Reply.{IsReply}
 use Rattle.ipp_operations.specs.QueueText.{ack_of, text_of}
 use Rattle.ipp_operations.specs.declared.queue_text.TheConstants.{REFUSED}
@@ -94,4 +94,4 @@ Answers key id client.LpdCommand query reply = Responds key id reply
 -- the event of a client comes, and then its reply becomes due
 abbrev pub IsAnswered : ℕ → ℕ → ℕ → Client → Event → Rel
 IsAnswered moment key id who event l hs l' =
-    (outcome : Outcome) × Then (Happens moment event outcome) (Answers key id who (is_query event) (reply_of outcome)) l hs l'
+    (outcome : Outcome) × Then (Happens moment event outcome) (Answers key id who (is_query event) (effects_of outcome)) l hs l'

@@ -13,7 +13,7 @@ use Rattle.dispatcher.specs.declared.observer.AllocationSite.TheVariants as At
 use Rattle.dispatcher.specs.declared.run.Timed.{Timed}
 use Rattle.dispatcher.specs.declared.outcome.Outcome.{Outcome}
 use Rattle.dispatcher.specs.declared.outcome.Outcome.TheVariants.{Dropped, Queried, Undispatched, Idle, Dispatched}
-use Rattle.dispatcher.specs.Run.{reply_of, Handles, Run}
+use Rattle.dispatcher.specs.Run.{effects_of, Handles, Run}
 use Rattle.ipp_operations.specs.declared.parsed_request.ParsedRequest.{ParsedRequest}
 use Rattle.ipp_operations.specs.declared.parsed_request.ParsedRequest.TheVariants as asks
 use Rattle.ipp_operations.specs.ParsedRequest.{Asks}
@@ -103,7 +103,7 @@ pub record IsOneRun (trace : Trace) (old new : State) : Type 0 where
 pub record IsOneEvent (moment : ℕ) (event : Event) (reply : Effects) (old : State) (hs : List Happening) (new : State) : Type 0 where
   pub outcome : Outcome
   pub notes : List Note
-  pub answered : reply_of outcome ≡ Some reply
+  pub answered : effects_of outcome ≡ Some reply
   pub whole : IsWhole outcome
   pub handled : Handles moment event old outcome notes new
   pub notified : seen hs ≡ map Notified notes

@@ -28,7 +28,7 @@ impl<P: Planner + Drop> Engine<P> {
     {
         let query = event.is_query();
         let handled = self.handle(moment, event, notes);
-        self.answer(origin, client, query, handled.outcome.into_reply(), notes);
+        self.answer(origin, client, query, handled.outcome.into_effects(), notes);
     }
 
     /// Enqueues the reply to an event of a client. `reply` is `None` if the event was dropped, out of memory.

@@ -95,7 +95,7 @@ impl<P: Planner + Drop> Engine<P> {
         ensures { AnswersBody N.notified (BodyBrings moment request event) notes.old self.old notes.new self.new result }
     {
         let Handled { outcome, refused } = self.handle(moment, event, notes);
-        let bytes = self.bytes_of(outcome.into_reply(), request, notes);
+        let bytes = self.bytes_of(outcome.into_effects(), request, notes);
         answered(bytes, refused)
     }
 

@@ -25,8 +25,8 @@ returns-clause-steps g c =
       expires = c.documents_stay.ensures.expires;
       reports = c.documents_stay.ensures.reports;
     } in
-    subst (λ (t : State). (event : Event) (moment : ℕ) (reply : Effects) (new : State) → Step t event moment reply new → StepKeeps event t reply.documents.items new) c.self.view_is
-    (λ event moment reply new step. step_keeps s law event (max moment s.last) reply new step)
+    subst (λ (t : State). (event : Event) (moment : ℕ) (effects : Effects) (new : State) → Step t event moment effects new → StepKeeps event t effects.documents.items new) c.self.view_is
+    (λ event moment effects new step. step_keeps s law event (max moment s.last) effects new step)
 
 pub returns-clause-dispatches : goal.returns-clause-dispatches
 returns-clause-dispatches g c =
