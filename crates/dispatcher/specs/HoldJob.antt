@@ -14,13 +14,13 @@ use Rattle.events.specs.Effects.{Replies}
 use Rattle.dispatcher.specs.Answers.{Refuses, taken_with}
 use Rattle.dispatcher.specs.Checks.{named_job, unrefused}
 use Rattle.print_room.specs.State.{State}
-use Rattle.print_room.specs.Jobs.{checked_refusal, changing}
+use Rattle.print_room.specs.Jobs.{asked_refusal, changing}
 
 -- the id of the changed job, or the rejection of the first check that fails
 abbrev pub changed_of : JobRequest → JobChange → ℕ → State → Result ℕ Rejection
 changed_of request change now old =
     named_job request.target old >>= (λ job.
-    unrefused (checked_refusal job.id request.user change now old) >>= (λ _.
+    unrefused (asked_refusal job.id request.user change now old) >>= (λ _.
     Ok job.id))
 
 -- the job is changed, and the response has the unsupported attributes
