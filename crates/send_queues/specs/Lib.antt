@@ -1,2 +1,3 @@
 pub mod SendQueue
 pub mod Reply
+pub mod Outgoing

@@ -1,16 +1,16 @@
 //! The queue of bytes that a connection sends.
-ghost use Rattle.std.specs.Prelude.{◌≡◌, ◌<◌, ◌≤◌, ◌+◌, ◌++◌, [], IfOk, OnOk, OnErr, ◌==◌, nat_lt, length, drop, slice_index_or, vec_len, vec_capacity};
+ghost use Rattle.std.specs.Prelude.{◌≡◌, false, ◌<◌, ◌≤◌, ◌+◌, ◌++◌, [], IfOk, OnOk, OnErr, ◌==◌, nat_lt, length, drop, slice_index_or, vec_len, vec_capacity};
 ghost use Rattle.std.specs.List.{flat_map, All};
-ghost use Rattle.device_link.specs.Orders.{cancel_line, job_line};
 ghost use Rattle.std.specs.Io.Slices.{io_slice_bytes, io_slices_bytes};
 ghost use Rattle.octets.specs.Document.{IsFrontOf};
+ghost use Rattle.send_queues.specs.Outgoing.{bytes_of, is_job};
 ghost use Rattle.send_queues.specs.Reply.{http_reply, refusal_head};
 ghost use Rattle.send_queues.specs.SendQueue.{OffersFront, IsSome, joined};
 
-use base_types::{JobId, Needs};
+use crate::outgoing::{Outgoing, OutgoingJob};
 use device_link::{write_cancel, write_job};
 use http::StatusCode;
-use http_front::{HttpRejection, write_head};
+use http_front::{HttpRejection, continue_head, write_head};
 use octets::{Document, Octets, Pages};
 use std::alloc::{AllocError, Global};
 use std::io::IoSlice;
@@ -160,70 +160,36 @@ impl SendQueue {
         room < self.text.len()
     }
 
-    /// Appends bytes. The only error is out of memory, and nothing is appended then.
-    pub fn push(&mut self, bytes: &[u8]) -> Result<(), AllocError>
-        ensures ok { OnOk result (self.new ≡ self.old ++ bytes.now) }
+    /// Appends a message. The only error is out of memory, and nothing is appended then. It occurs only for a
+    /// job, or if more than [`RESERVED_BYTES`] would wait.
+    pub fn push(&mut self, outgoing: &Outgoing<'_>) -> Result<(), AllocError>
+        ensures ok { OnOk result (self.new ≡ self.old ++ bytes_of outgoing.now) }
         ensures err { OnErr result (self.new ≡ self.old) }
-        ensures full { OnErr result (RESERVED_BYTES < length (self.old ++ bytes.now)) }
+        ensures full { is_job outgoing.now ≡ false → OnErr result (RESERVED_BYTES < length (self.old ++ bytes_of outgoing.now)) }
     {
-        self.text.extend_from_slice(bytes)
+        match outgoing {
+            Outgoing::Bytes(bytes) => self.text.extend_from_slice(bytes),
+            Outgoing::Continue => self.text.extend_from_slice(continue_head()),
+            Outgoing::Refusal(refusal) => append_refusal(&mut self.text, *refusal),
+            Outgoing::Reply { closes, body } => append_reply(&mut self.text, *closes, body),
+            Outgoing::Cancel(job) => write_cancel(*job, &mut self.text),
+            Outgoing::Job(job) => self.push_job(job),
+        }
     }
 
-    /// Appends a line and then documents. The only error is out of memory, and nothing is appended then.
-    fn push_documents(&mut self, line: &[u8], documents: &[Document]) -> Result<(), AllocError>
-        ensures ok { OnOk result (self.new ≡ self.old ++ (line.now ++ flat_map (λ d. d.contents) documents.now)) }
-        ensures err { OnErr result (self.new ≡ self.old) }
-    {
-        let mut added = Vec::new(self.alloc);
-        add(&mut added, text_of(self.alloc, &self.text, line)?)?;
-        add_all(&mut added, documents)?;
-        self.shared.append(&mut added)?;
-        self.text.clear();
-        Ok(())
-    }
-
-    /// Appends an IPP reply. The only error is out of memory, and nothing is appended then.
-    pub fn push_reply(&mut self, closes: bool, bytes: &[u8]) -> Result<(), AllocError>
-        ensures ok { OnOk result (self.new ≡ self.old ++ http_reply closes bytes.now) }
-        ensures err { OnErr result (self.new ≡ self.old) }
-        ensures full { OnErr result (RESERVED_BYTES < length (self.old ++ http_reply closes bytes.now)) }
-    {
-        append_reply(&mut self.text, closes, bytes)
-    }
-
-    /// Appends the reply to a refused request. The only error is out of memory, and nothing is appended then.
-    pub fn push_refusal(&mut self, refusal: HttpRejection) -> Result<(), AllocError>
-        ensures ok { OnOk result (self.new ≡ self.old ++ refusal_head refusal) }
-        ensures err { OnErr result (self.new ≡ self.old) }
-        ensures full { OnErr result (RESERVED_BYTES < length (self.old ++ refusal_head refusal)) }
-    {
-        append_refusal(&mut self.text, refusal)
-    }
-
-    /// Appends the line that cancels a job. The only error is out of memory, and nothing is appended then.
-    pub fn push_cancel(&mut self, job: JobId) -> Result<(), AllocError>
-        ensures ok { OnOk result (self.new ≡ self.old ++ cancel_line job) }
-        ensures err { OnErr result (self.new ≡ self.old) }
-        ensures full { OnErr result (RESERVED_BYTES < length (self.old ++ cancel_line job)) }
-    {
-        write_cancel(job, &mut self.text)
-    }
-
-    /// Appends the line of a job of this many octets, and then its documents. The only error is out of
-    /// memory, and nothing is appended then.
-    pub fn push_job(
-        &mut self,
-        job: JobId,
-        octets: usize,
-        needs: &Needs,
-        documents: &[Document],
-    ) -> Result<(), AllocError>
-        ensures ok { OnOk result (self.new ≡ self.old ++ (job_line job octets needs.now ++ flat_map (λ d. d.contents) documents.now)) }
+    /// Appends a job. The only error is out of memory, and nothing is appended then.
+    fn push_job(&mut self, job: &OutgoingJob<'_>) -> Result<(), AllocError>
+        ensures ok { OnOk result (self.new ≡ self.old ++ job.now) }
         ensures err { OnErr result (self.new ≡ self.old) }
     {
         let mut line = Vec::new(self.alloc);
-        write_job(self.alloc, job, octets, needs, &mut line)?;
-        self.push_documents(&line, documents)
+        write_job(self.alloc, job.job, job.octets, job.needs, &mut line)?;
+        let mut added = Vec::new(self.alloc);
+        add(&mut added, text_of(self.alloc, &self.text, &line)?)?;
+        add_all(&mut added, job.documents)?;
+        self.shared.append(&mut added)?;
+        self.text.clear();
+        Ok(())
     }
 
     /// Offers a prefix of the waiting bytes to the wire, which may take some of them.
