@@ -1,10 +1,6 @@
 -- A connection as plain data, and the change that each call makes of it.
 use Rattle.std.specs.Prelude.{ℕ, ◌≡◌, ◌⊎◌, ◌||◌, ◌&&◌, ◌==◌, ◌+◌, ◌<◌, not, nat_lt, Bool, true, false, List, ◌++◌, length, if◌then◌else◌}
-use Rattle.std.specs.List.{flat_map}
 use Rattle.base_types.specs.declared.limits.TheConstants.Limits.{WAITING_OUTPUT_BYTES}
-use Rattle.base_types.specs.Needs.{JobNeeds}
-use Rattle.octets.specs.Document.{DocumentRecord}
-use Rattle.device_link.specs.Orders.{job_line}
 use Rattle.send_queues.specs.declared.queue.TheConstants.{RESERVED_BYTES}
 use Rattle.connections.specs.Steps.{due_bytes}
 use Rattle.connections.specs.Peers.{work, unnamed}
@@ -69,10 +65,6 @@ Takes (step.Breaks asked) c what d = (what ≡ asked) × (d ≡ is_broken c)
 -- the waiting bytes with these bytes exceed what a connection reserves
 abbrev pub OutgrowsReserve : List ℕ → ConnectionState → Type 0
 OutgrowsReserve bytes c = RESERVED_BYTES < length (c.output ++ bytes)
-
--- the bytes by which a job is sent to a device: the job's line, and its documents one after the other
-abbrev pub sent_job : ℕ → ℕ → JobNeeds → List DocumentRecord → List ℕ
-sent_job job octets needs documents = job_line job octets needs ++ flat_map (λ d. d.contents) documents
 
 -- the result of enqueueing bytes: a broken connection is unchanged; else the bytes wait, or the connection breaks
 abbrev pub EnqueuesAs : List ℕ → Bool → ConnectionState → ConnectionState → Type 0

@@ -4,10 +4,6 @@ use Rattle.std.specs.Option.{option_map_or}
 use Rattle.settings_file.specs.Settings.{ServerSettings}
 use Rattle.wires.specs.Poll.{Poll, Closes}
 use Rattle.wires.specs.declared.wire.Door.{Door}
-use Rattle.job_objects.specs.Job.{JobRecord}
-use Rattle.octets.specs.Document.{DocumentRecord}
-use Rattle.events.specs.declared.status.Status.{Status}
-use Rattle.send_queues.specs.Reply.{http_reply}
 use Rattle.send_queues.specs.SendQueue.{OffersFront}
 use Rattle.send_queues.specs.declared.queue.TheConstants.{RESERVED_BYTES}
 use Rattle.send_queues.specs.declared.queue.Offered.{Offered}
@@ -15,10 +11,9 @@ use Rattle.send_queues.specs.declared.queue.Offered.TheVariants as offer
 use Rattle.connections.specs.declared.table.ConnectionAsk.{ConnectionAsk}
 use Rattle.connections.specs.declared.connection.Fed.{Fed}
 use Rattle.connections.specs.Entry.{opening_entry}
-use Rattle.connections.specs.Steps.{http_status}
 use Rattle.connections.specs.Peers.{closes_of, device_of}
 use Rattle.connections.specs.Asking.{Asking, Feeds}
-use Rattle.connections.specs.Connections.{ConnectionState, load, is_read, sent_job, EnqueuesAs}
+use Rattle.connections.specs.Connections.{ConnectionState, load, is_read, EnqueuesAs}
 use Rattle.connections.specs.Representation.{RepresentsConnection, Becomes}
 
 abbrev pub Slots : Type 0
@@ -55,26 +50,6 @@ output_at key slots = option_map_or (λ c. c.output) (slice_index_or slots key N
 -- whether the connection under a key closes after the reply to its last request
 abbrev pub closes_at : ℕ → List (Option ConnectionState) → Bool
 closes_at key slots = option_map_or (λ c. closes_of c.peer) (slice_index_or slots key None) false
-
--- an IPP response of these bytes, as the connection under a key is sent it
-abbrev pub reply_at : ℕ → List ℕ → List (Option ConnectionState) → List ℕ
-reply_at key bytes slots = http_reply (closes_at key slots) bytes
-
--- an IPP response of a status alone, as the connection under a key is sent it
-abbrev pub status_at : ℕ → Status → ℕ → List (Option ConnectionState) → List ℕ
-status_at key status request slots = http_status (closes_at key slots) status request
-
--- the result of enqueueing an IPP response
-abbrev pub EnqueuesReply : ℕ → List ℕ → Option ℕ → List (Option ConnectionState) → List (Option ConnectionState) → Type 0
-EnqueuesReply key bytes broke old new = EnqueuesAt key (reply_at key bytes old) broke old new
-
--- the result of enqueueing an IPP response of a status alone
-abbrev pub EnqueuesStatus : ℕ → Status → ℕ → Option ℕ → List (Option ConnectionState) → List (Option ConnectionState) → Type 0
-EnqueuesStatus key status request broke old new = EnqueuesAt key (status_at key status request old) broke old new
-
--- the result of enqueueing a job for a device
-abbrev pub EnqueuesJob : ℕ → ℕ → JobRecord → List DocumentRecord → Option ℕ → List (Option ConnectionState) → List (Option ConnectionState) → Type 0
-EnqueuesJob key id job documents broke old new = EnqueuesAt key (sent_job id job.octets job.needs documents) broke old new
 
 -- memory for bytes is refused only where they exceed, with the waiting bytes, what a connection reserves
 abbrev pub IsGrowth : ℕ → List ℕ → Option ℕ → List (Option ConnectionState) → Type 0

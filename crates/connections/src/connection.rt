@@ -1,25 +1,21 @@
 //! A connection with its peer and its waiting bytes.
-ghost use Rattle.std.specs.Prelude.{◌≡◌, ◌<◌, ◌++◌, IfOk, IfSome, IsTrue, OnOk, OnErr, length};
-ghost use Rattle.device_link.specs.Orders.{cancel_line};
-ghost use Rattle.send_queues.specs.Reply.{http_reply};
+ghost use Rattle.std.specs.Prelude.{◌≡◌, ◌<◌, ◌++◌, false, IfOk, IfSome, IsTrue, OnOk, OnErr, length};
+ghost use Rattle.send_queues.specs.Outgoing.{bytes_of, is_job};
 ghost use Rattle.send_queues.specs.declared.queue.TheConstants.{RESERVED_BYTES};
 ghost use Rattle.send_queues.specs.SendQueue.{OffersFront};
 ghost use Rattle.connections.specs.Entry.{opening_entry, ending, broken, superseded_entry};
-ghost use Rattle.connections.specs.Steps.{due_bytes, http_status};
+ghost use Rattle.connections.specs.Steps.{due_bytes};
 ghost use Rattle.connections.specs.Asking.{Asking, Feeds};
 ghost use Rattle.connections.specs.Peers.{device_of, closes_of};
-ghost use Rattle.connections.specs.Connections.{load, is_read, is_done, is_ended, is_broken, superseded, Takes, Enqueues, OutgrowsReserve, sent_job, EnqueuesAs};
+ghost use Rattle.connections.specs.Connections.{load, is_read, is_done, is_ended, is_broken, superseded, Takes, Enqueues, OutgrowsReserve, EnqueuesAs};
 ghost use Rattle.connections.specs.Representation.{RepresentsConnection, Becomes};
 
 use crate::ask::{AllocFailure, Ask};
 use crate::peer::Peer;
 use crate::step::{Due, Step};
-use base_types::{DeviceId, JobId, Limits, Needs};
-use events::Status;
-use http_front::continue_head;
+use base_types::{DeviceId, Limits};
 use ipp_operations::ipp_refusal;
-use octets::Document;
-use send_queues::{Offered, SendQueue};
+use send_queues::{Offered, Outgoing, SendQueue};
 use settings_file::Settings;
 use std::alloc::{AllocError, Global};
 use std::marker::Model;
@@ -92,6 +88,13 @@ impl Connection {
         ensures { result ≡ device_of self.now.peer }
     {
         self.peer.device()
+    }
+
+    /// Returns whether the connection closes after the reply to the last request.
+    pub fn closes(&self) -> bool
+        ensures { result ≡ closes_of self.now.peer }
+    {
+        self.peer.closes()
     }
 
     /// Returns whether the input of the connection has ended.
@@ -216,73 +219,16 @@ impl Connection {
         }
     }
 
-    /// Enqueues bytes, unless the connection is broken. Returns whether the connection broke, since memory
+    /// Enqueues a message, unless the connection is broken. Returns whether the connection broke, since memory
     /// was refused.
-    pub fn enqueue(&mut self, bytes: &[u8]) -> bool
-        ensures enqueues { EnqueuesAs bytes.now result self.old self.new }
-        ensures full { IsTrue result → OutgrowsReserve bytes.now self.old }
+    pub fn enqueue(&mut self, outgoing: &Outgoing<'_>) -> bool
+        ensures enqueues { EnqueuesAs (bytes_of outgoing.now) result self.old self.new }
+        ensures full { is_job outgoing.now ≡ false → IsTrue result → OutgrowsReserve (bytes_of outgoing.now) self.old }
     {
         if self.broken {
             return false;
         }
-        let kept = self.output.push(bytes);
-        self.broken = kept.is_err();
-        self.broken
-    }
-
-    /// Enqueues the reply to an IPP request, unless the connection is broken. Returns whether the
-    /// connection broke, since memory was refused.
-    pub fn enqueue_response(&mut self, bytes: &[u8]) -> bool
-        ensures enqueues { EnqueuesAs (http_reply (closes_of self.old.peer) bytes.now) result self.old self.new }
-        ensures full { IsTrue result → OutgrowsReserve (http_reply (closes_of self.old.peer) bytes.now) self.old }
-    {
-        if self.broken {
-            return false;
-        }
-        let kept = self.output.push_reply(self.peer.closes(), bytes);
-        self.broken = kept.is_err();
-        self.broken
-    }
-
-    /// Enqueues a reply of a status without attributes, unless the connection is broken. Returns whether
-    /// the connection broke, since memory was refused.
-    #[tactic(auto, unfolding(crate::specs::Steps::http_status))]
-    pub fn enqueue_status(&mut self, status: Status, request: u32) -> bool
-        ensures enqueues { EnqueuesAs (http_status (closes_of self.old.peer) status request) result self.old self.new }
-        ensures full { IsTrue result → OutgrowsReserve (http_status (closes_of self.old.peer) status request) self.old }
-    {
-        self.enqueue_response(&ipp_refusal(status, request))
-    }
-
-    /// Enqueues the line that cancels a job, unless the connection is broken. Returns whether the
-    /// connection broke, since memory was refused.
-    pub fn enqueue_cancel(&mut self, job: JobId) -> bool
-        ensures enqueues { EnqueuesAs (cancel_line job) result self.old self.new }
-        ensures full { IsTrue result → OutgrowsReserve (cancel_line job) self.old }
-    {
-        if self.broken {
-            return false;
-        }
-        let kept = self.output.push_cancel(job);
-        self.broken = kept.is_err();
-        self.broken
-    }
-
-    /// Enqueues the line of a job of this many octets and then its documents, unless the connection is
-    /// broken. Returns whether the connection broke, since memory was refused.
-    pub fn enqueue_job(
-        &mut self,
-        job: JobId,
-        octets: usize,
-        needs: &Needs,
-        documents: &[Document],
-    ) -> bool
-        ensures { EnqueuesAs (sent_job job octets needs.now documents.now) result self.old self.new }
-    {
-        if self.broken {
-            return false;
-        }
-        let kept = self.output.push_job(job, octets, needs, documents);
+        let kept = self.output.push(outgoing);
         self.broken = kept.is_err();
         self.broken
     }
@@ -305,13 +251,16 @@ fn push(output: &mut SendQueue, due: Due) -> Result<(), AllocError>
 {
     match due {
         Due::Nothing => Ok(()),
-        Due::Byte(byte) => output.push(&[byte]),
-        Due::Continue => output.push(continue_head()),
-        Due::Refusal(refusal) => output.push_refusal(refusal),
+        Due::Byte(byte) => output.push(&Outgoing::Bytes(&[byte])),
+        Due::Continue => output.push(&Outgoing::Continue),
+        Due::Refusal(refusal) => output.push(&Outgoing::Refusal(refusal)),
         Due::Status {
             closes,
             status,
             request,
-        } => output.push_reply(closes, &ipp_refusal(status, request)),
+        } => output.push(&Outgoing::Reply {
+            closes,
+            body: &ipp_refusal(status, request),
+        }),
     }
 }

@@ -2,17 +2,14 @@
 ghost use Rattle.std.specs.Prelude.{◌≡◌, ◌≢◌, ◌≤◌, ◌<◌, ℕ, true, false, None, Some, IsTrue, IsFalse, IfSome, IfNone};
 ghost use Rattle.std.specs.Option.{option_map_or};
 ghost use Rattle.slab.specs.Slab.{get};
-ghost use Rattle.device_link.specs.Orders.{cancel_line};
+ghost use Rattle.send_queues.specs.Outgoing.{bytes_of, is_job};
 ghost use Rattle.connections.specs.Connections.{ConnectionState, is_broken, is_ended, superseded, is_read, is_done};
-ghost use Rattle.connections.specs.Slots.{EnqueuesAt, EnqueuesReply, EnqueuesStatus, EnqueuesJob, IsGrowth, reply_at, status_at, IsReadAt, AsksAt, FeedsAt, changed_at, device_at, is_of, broken_at, ended_at, IsIn, LeavesAs, OffersAt};
+ghost use Rattle.connections.specs.Slots.{EnqueuesAt, IsGrowth, closes_at, IsReadAt, AsksAt, FeedsAt, changed_at, device_at, is_of, broken_at, ended_at, IsIn, LeavesAs, OffersAt};
 
 use crate::ask::Ask;
 use crate::connection::{Connection, Fed};
-use base_types::{DeviceId, JobId};
-use events::Status;
-use job_objects::Job;
-use octets::Document;
-use send_queues::Offered;
+use base_types::DeviceId;
+use send_queues::{Offered, Outgoing};
 use settings_file::Settings;
 use slab::Slab;
 use std::alloc::Global;
@@ -42,79 +39,17 @@ pub fn next(
     }
 }
 
-/// Enqueues bytes on the connection under a key. Returns its number if it broke, since memory was refused.
-pub fn enqueue(connections: &mut Slab<Connection>, key: usize, bytes: &[u8]) -> Option<WireId>
-    ensures enqueues { EnqueuesAt key bytes.now result connections.old.slots connections.new.slots }
-    ensures full { IsGrowth key bytes.now result connections.old.slots }
-{
-    let connection = connections.get_mut(key)?;
-    if connection.enqueue(bytes) {
-        return Some(connection.id());
-    }
-    None
-}
-
-/// Enqueues an IPP reply on the connection under a key. Returns its number if it broke, since memory was
-/// refused.
-pub fn enqueue_response(
+/// Enqueues a message on the connection under a key. Returns its number if it broke, since memory was refused.
+pub fn enqueue(
     connections: &mut Slab<Connection>,
     key: usize,
-    bytes: &[u8],
+    outgoing: &Outgoing<'_>,
 ) -> Option<WireId>
-    ensures enqueues { EnqueuesReply key bytes.now result connections.old.slots connections.new.slots }
-    ensures full { IsGrowth key (reply_at key bytes.now connections.old.slots) result connections.old.slots }
+    ensures enqueues { EnqueuesAt key (bytes_of outgoing.now) result connections.old.slots connections.new.slots }
+    ensures full { is_job outgoing.now ≡ false → IsGrowth key (bytes_of outgoing.now) result connections.old.slots }
 {
     let connection = connections.get_mut(key)?;
-    if connection.enqueue_response(bytes) {
-        return Some(connection.id());
-    }
-    None
-}
-
-/// Enqueues a reply of a status without attributes on the connection under a key. Returns its number if it
-/// broke, since memory was refused.
-pub fn enqueue_status(
-    connections: &mut Slab<Connection>,
-    key: usize,
-    status: Status,
-    request: u32,
-) -> Option<WireId>
-    ensures enqueues { EnqueuesStatus key status request result connections.old.slots connections.new.slots }
-    ensures full { IsGrowth key (status_at key status request connections.old.slots) result connections.old.slots }
-{
-    let connection = connections.get_mut(key)?;
-    if connection.enqueue_status(status, request) {
-        return Some(connection.id());
-    }
-    None
-}
-
-/// Enqueues the line that cancels a job on the connection under a key. Returns its number if it broke, since
-/// memory was refused.
-pub fn enqueue_cancel(connections: &mut Slab<Connection>, key: usize, job: JobId) -> Option<WireId>
-    ensures enqueues { EnqueuesAt key (cancel_line job) result connections.old.slots connections.new.slots }
-    ensures full { IsGrowth key (cancel_line job) result connections.old.slots }
-{
-    let connection = connections.get_mut(key)?;
-    if connection.enqueue_cancel(job) {
-        return Some(connection.id());
-    }
-    None
-}
-
-/// Enqueues the line of a job and its documents on the connection under a key. Returns its number if it
-/// broke, since memory was refused.
-pub fn enqueue_job(
-    connections: &mut Slab<Connection>,
-    key: usize,
-    id: JobId,
-    job: &Job,
-    documents: &[Document],
-) -> Option<WireId>
-    ensures { EnqueuesJob key id job.now documents.now result connections.old.slots connections.new.slots }
-{
-    let connection = connections.get_mut(key)?;
-    if connection.enqueue_job(id, job.octets, &job.needs, documents) {
+    if connection.enqueue(outgoing) {
         return Some(connection.id());
     }
     None
@@ -152,6 +87,16 @@ pub fn supersede(connections: &mut Slab<Connection>, key: usize)
 {
     if let Some(connection) = connections.get_mut(key) {
         connection.supersede();
+    }
+}
+
+/// Returns whether the connection under a key closes after the reply to its last request.
+pub fn closes(connections: &Slab<Connection>, key: usize) -> bool
+    ensures { result ≡ closes_at key connections.now.slots }
+{
+    match connections.get(key) {
+        Some(connection) => connection.closes(),
+        None => false,
     }
 }
 
