@@ -51,8 +51,8 @@ TakesOver moment old device name = Then (IsSuperseded old) (Then (IsGone moment 
 -- A device gives its name on the connection under a key. If the device has no other connection, the name is an event of
 -- the core. If the input of the other connection has ended, the other connection is superseded, and the name is an event
 -- too. Else the new connection is superseded and is refused, and no event comes.
-abbrev pub Greets : ℕ → ℕ → ℕ → ℕ → List ℕ → Rel
-Greets moment key id device name l hs l' =
+abbrev pub HandlesHello : ℕ → ℕ → ℕ → ℕ → List ℕ → Rel
+HandlesHello moment key id device name l hs l' =
     (IsAlone device key l × SaysName moment device name l hs l')
     ⊎ (((other : ℕ) × HasOther true device key other l × TakesOver moment other device name l hs l')
     ⊎ ((other : ℕ) × HasOther false device key other l × Then (IsSuperseded key) (Notifies (DeviceRefused id (why.Connected device))) l hs l'))
