@@ -4,19 +4,22 @@ use Rattle.std.specs.Prelude.{slice_index_or, slice_set, nat_lt, is_some, ◌||�
 use Rattle.std.specs.Option.{option_map_or}
 use Rattle.std.proofs.lemmas.Bool.Decides.{nat_tests}
 use Rattle.send_queues.specs.declared.queue.TheConstants.{RESERVED_BYTES}
+use Rattle.events.specs.declared.status.Status.{Status}
 use Rattle.dispatcher.specs.declared.observer.AllocationSite.TheVariants.{Enqueue}
 use Rattle.dispatcher.specs.Notes.{Note, Refused}
+use Rattle.ipp_operations.specs.Reply.{refusal_bytes}
 use Rattle.connections.specs.declared.peer.Peer.{Peer}
 use Rattle.connections.specs.declared.peer.Peer.TheVariants as of
 use Rattle.connections.specs.Entry.{PeerRecord, Entry, waiting, broken, owing, needs_memory, unnamed, superseded_entry, closes_of}
 use Rattle.connections.specs.Peers.{work, closes_of as closes_in, unnamed as has_no_name}
+use Rattle.connections.specs.Steps.{http_status}
 use Rattle.connections.specs.Connections.{ConnectionState, EnqueuesAs, is_kept, is_broken, superseded, load}
 use Rattle.connections.specs.Representation.{FitsPeer, RepresentsConnection}
 use Rattle.connections.specs.Slots.{EnqueuesAt as EnqueuesSlot, IsGrowth, output_at, closes_at}
 use Rattle.server.specs.Polls.{Happening, Notified, Chosen, Found, seen, alone}
 use Rattle.server.specs.Ledger.{Ledger, with_entry}
 use Rattle.server.specs.Rel.{Nothing}
-use Rattle.server.specs.Enqueuing.{Sets, EnqueuesOpen, EnqueuesAt, EnqueuesWhere, Enqueues, EnqueuesReplyAt}
+use Rattle.server.specs.Enqueuing.{Sets, EnqueuesOpen, EnqueuesAt, EnqueuesWhere, Enqueues, EnqueuesReplyAt, EnqueuesResponse, EnqueuesStatus}
 use Rattle.server.specs.State.{EngineState, slot_at, with_slots}
 use Rattle.server.specs.Refinement.{RepresentsOpen, RefinesQuietly, RefinesReporting, NotifiedOf}
 use Rattle.server.proofs.Steps.{quietly_same, quietly_as, reporting_flag, if_true, if_false, chosen_first}
@@ -180,12 +183,17 @@ enqueues_reply_from bytes key l a hs l' None y there fits it = subst (λ (o : Op
 enqueues_reply_from bytes key l a hs l' (Some e) None there fits it = absurd fits
 enqueues_reply_from bytes key l a hs l' (Some e) (Some c) there fits it = subst (λ (closes : Bool). Enqueues key (bytes closes) l hs l') (closes_as e c fits) it
 
-pub enqueues_reply : {N : Type 0} (notified : N → Note → N → Type 0) (n n' : N) (a : EngineState) (slots : List (Option ConnectionState)) (key : ℕ) (bytes : Bool → List ℕ) (broke : Option ℕ)
-    → EnqueuesSlot key (bytes (closes_at key a.slots)) broke a.slots slots → IsGrowth key (bytes (closes_at key a.slots)) broke a.slots → NotifiedOf notified broke n n' → RefinesQuietly (alone notified) (λ l hs l'. EnqueuesReplyAt bytes key (l.entries key) l hs l') n a n' (with_slots slots a)
-enqueues_reply notified n n' a slots key bytes broke enqueue full notifies =
-    quietly_as (alone notified) (Enqueues key (bytes (closes_at key a.slots))) (λ l hs l'. EnqueuesReplyAt bytes key (l.entries key) l hs l') n n' a (with_slots slots a)
-    (λ l hs l' fits fits' it. enqueues_reply_from bytes key l a hs l' (l.entries key) (slot_at a key) refl (fits.each key) it)
-    (enqueues notified n n' a slots key (bytes (closes_at key a.slots)) broke enqueue full notifies)
+pub enqueues_reply : {S : Type 0} {moves : S → Happening → S → Type 0} {u v : S} {a b : EngineState} (key : ℕ) (bytes : Bool → List ℕ) (closes : Bool) → closes ≡ closes_at key a.slots
+    → RefinesQuietly moves (Enqueues key (bytes closes)) u a v b → RefinesQuietly moves (λ l hs l'. EnqueuesReplyAt bytes key (l.entries key) l hs l') u a v b
+enqueues_reply {S} {moves} {u} {v} {a} {b} key bytes closes is enqueue =
+    quietly_as moves (Enqueues key (bytes closes)) (λ l hs l'. EnqueuesReplyAt bytes key (l.entries key) l hs l') u v a b
+    (λ l hs l' fits fits' it. enqueues_reply_from bytes key l a hs l' (l.entries key) (slot_at a key) refl (fits.each key) (subst (λ (x : Bool). Enqueues key (bytes x) l hs l') is it)) enqueue
+
+-- a reply of the bytes of a status alone
+pub enqueues_status : {S : Type 0} {moves : S → Happening → S → Type 0} {u v : S} {a b : EngineState} {bytes : List ℕ} (key : ℕ) (status : Status) (request : ℕ) → bytes ≡ refusal_bytes status request
+    → RefinesQuietly moves (EnqueuesResponse key bytes) u a v b → RefinesQuietly moves (EnqueuesStatus key status request) u a v b
+unfolding http_status
+enqueues_status {S} {moves} {u} {v} {a} {b} key status request is reply = subst (λ (xs : List ℕ). RefinesQuietly moves (EnqueuesResponse key xs) u a v b) is reply
 
 kept_openly : {N : Type 0} (notified : N → Note → N → Type 0) (n n' : N) (a : EngineState) (slots : List (Option ConnectionState)) (key : ℕ) (bytes : List ℕ) (grows : Entry → Bool) (c d : ConnectionState)
     → slice_index_or a.slots key None ≡ Some c → slots ≡ slice_set a.slots key (Some d) → EnqueuesAs bytes false c d → n' ≡ n → RefinesReporting (alone notified) (EnqueuesWhere grows key bytes) n a n' (with_slots slots a) false

@@ -11,8 +11,9 @@ use connections::Client;
 use connections::table::break_off;
 use dispatcher::{AllocationSite, Observer};
 use events::{Effects, Event, IppResponse, LpdResponse, Response, Status};
-use ipp_operations::{REFUSED, ipp_response, lpd_ack, lpd_queue_text};
+use ipp_operations::{REFUSED, ipp_refusal, ipp_response, lpd_ack, lpd_queue_text};
 use plan_prices::Planner;
+use send_queues::Outgoing;
 
 impl<P: Planner + Drop> Engine<P> {
     /// Handles an event of a client, and enqueues its reply.
@@ -72,7 +73,6 @@ impl<P: Planner + Drop> Engine<P> {
 
     /// Notifies the observer that a request was dropped, out of memory, and enqueues the status of a temporary
     /// error.
-    #[tactic(auto, using(crate::proofs::Joins::notifies_then))]
     pub(crate) fn drop_request<N: Observer>(
         &mut self,
         origin: EventOrigin,
@@ -82,7 +82,8 @@ impl<P: Planner + Drop> Engine<P> {
         ensures { RefinesNotified N.notified (Drops origin.key origin.id request) notes.old self.old notes.new self.new }
     {
         notes.refused(AllocationSite::Event, Some(origin.id));
-        self.enqueue_status(origin.key, Status::TemporaryError, request, notes);
+        let body = ipp_refusal(Status::TemporaryError, request);
+        self.enqueue_reply(origin.key, &body, notes);
     }
 
     /// Enqueues the bytes of a response to an IPP request. Any other response has none.
@@ -100,7 +101,7 @@ impl<P: Planner + Drop> Engine<P> {
             return;
         };
         match ipp_response(self.alloc, answer, request) {
-            Ok(bytes) => self.enqueue_response(origin.key, &bytes, notes),
+            Ok(bytes) => self.enqueue_reply(origin.key, &bytes, notes),
             Err(_) => self.lose_reply(origin, request, query, notes),
         }
     }
@@ -118,7 +119,8 @@ impl<P: Planner + Drop> Engine<P> {
     {
         notes.refused(AllocationSite::Reply, Some(origin.id));
         if query {
-            self.enqueue_status(origin.key, Status::TemporaryError, request, notes);
+            let body = ipp_refusal(Status::TemporaryError, request);
+            self.enqueue_reply(origin.key, &body, notes);
         } else {
             break_off(&mut self.connections, origin.key);
         }
@@ -153,7 +155,7 @@ impl<P: Planner + Drop> Engine<P> {
         ensures { RefinesNotified N.notified (Declines place origin.key origin.id) notes.old self.old notes.new self.new }
     {
         notes.refused(place, Some(origin.id));
-        self.enqueue(origin.key, &[REFUSED], notes);
+        self.enqueue(origin.key, &Outgoing::Bytes(&[REFUSED]), notes);
     }
 
     /// Enqueues the response to a command. If its event was dropped, the observer is notified and the
@@ -192,7 +194,11 @@ impl<P: Planner + Drop> Engine<P> {
         ensures { RefinesNotified N.notified (SendsLpd origin.key origin.id answer.now) notes.old self.old notes.new self.new }
     {
         match answer {
-            LpdResponse::Taken(_) => self.enqueue(origin.key, &[lpd_ack(answer)], notes),
+            LpdResponse::Taken(_) => self.enqueue(
+                origin.key,
+                &Outgoing::Bytes(&[lpd_ack(answer)]),
+                notes,
+            ),
             LpdResponse::Queue(_) => self.show(origin, answer, notes),
             LpdResponse::NoQueue => self.show(origin, answer, notes),
         }
@@ -204,7 +210,7 @@ impl<P: Planner + Drop> Engine<P> {
         ensures { RefinesNotified N.notified (Shows origin.key origin.id (text_of answer.now)) notes.old self.old notes.new self.new }
     {
         match lpd_queue_text(self.alloc, answer) {
-            Ok(text) => self.enqueue(origin.key, &text, notes),
+            Ok(text) => self.enqueue(origin.key, &Outgoing::Bytes(&text), notes),
             Err(_) => {
                 notes.refused(AllocationSite::Reply, Some(origin.id));
                 break_off(&mut self.connections, origin.key);

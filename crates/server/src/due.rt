@@ -1,47 +1,40 @@
 //! The bytes that become due on a connection.
-ghost use Rattle.std.specs.Prelude.{◌≡◌};
+ghost use Rattle.std.specs.Prelude.{◌≡◌, false};
 ghost use Rattle.std.specs.Option.{is_some};
-ghost use Rattle.server.specs.Enqueuing.{Enqueues, EnqueuesResponse, EnqueuesStatus};
+ghost use Rattle.send_queues.specs.Outgoing.{bytes_of, is_job};
+ghost use Rattle.server.specs.Enqueuing.{Enqueues, EnqueuesResponse};
 ghost use Rattle.server.specs.Refinement.{RefinesNotified, NotifiedOf};
 
 use crate::engine::Engine;
-use connections::table::{enqueue, enqueue_response, enqueue_status};
+use connections::table::{closes, enqueue};
 use dispatcher::{AllocationSite, Observer};
-use events::Status;
 use plan_prices::Planner;
+use send_queues::Outgoing;
 use wires::WireId;
 
-/// Functions that enqueue bytes. If memory for the bytes is refused, the observer is notified and the
+/// Functions that enqueue messages. If memory for the bytes is refused, the observer is notified and the
 /// connection breaks.
 impl<P: Planner + Drop> Engine<P> {
-    /// Enqueues bytes on the connection under a key.
-    pub(crate) fn enqueue<N: Observer>(&mut self, key: usize, bytes: &[u8], notes: &mut N)
-        ensures { RefinesNotified N.notified (Enqueues key bytes.now) notes.old self.old notes.new self.new }
+    /// Enqueues a message other than a job on the connection under a key.
+    pub(crate) fn enqueue<N: Observer>(
+        &mut self,
+        key: usize,
+        outgoing: &Outgoing<'_>,
+        notes: &mut N,
+    )
+        requires { is_job outgoing.now ≡ false }
+        ensures { RefinesNotified N.notified (Enqueues key (bytes_of outgoing.now)) notes.old self.old notes.new self.new }
     {
-        let broke = enqueue(&mut self.connections, key, bytes);
+        let broke = enqueue(&mut self.connections, key, outgoing);
         notify(broke, notes);
     }
 
     /// Enqueues an IPP reply on the connection under a key.
-    pub(crate) fn enqueue_response<N: Observer>(&mut self, key: usize, bytes: &[u8], notes: &mut N)
-        ensures { RefinesNotified N.notified (EnqueuesResponse key bytes.now) notes.old self.old notes.new self.new }
+    pub(crate) fn enqueue_reply<N: Observer>(&mut self, key: usize, body: &[u8], notes: &mut N)
+        ensures { RefinesNotified N.notified (EnqueuesResponse key body.now) notes.old self.old notes.new self.new }
     {
-        let broke = enqueue_response(&mut self.connections, key, bytes);
-        notify(broke, notes);
-    }
-
-    /// Enqueues an IPP reply of a status alone on the connection under a key.
-    pub(crate) fn enqueue_status<N: Observer>(
-        &mut self,
-        key: usize,
-        status: Status,
-        request: u32,
-        notes: &mut N,
-    )
-        ensures { RefinesNotified N.notified (EnqueuesStatus key status request) notes.old self.old notes.new self.new }
-    {
-        let broke = enqueue_status(&mut self.connections, key, status, request);
-        notify(broke, notes);
+        let closes = closes(&self.connections, key);
+        self.enqueue(key, &Outgoing::Reply { closes, body }, notes);
     }
 }
 

@@ -8,10 +8,11 @@ use crate::due::notify;
 use crate::engine::Engine;
 use crate::starting::start_all;
 use base_types::Moment;
-use connections::table::{enqueue_cancel, key_of};
+use connections::table::{enqueue, key_of};
 use dispatcher::{Observer, Outcome, Timed};
 use events::{Cancel, Event};
 use plan_prices::Planner;
+use send_queues::Outgoing;
 
 /// The result of an event.
 #[derive(Drop)]
@@ -94,7 +95,7 @@ impl<P: Planner + Drop> Engine<P> {
         let Some(key) = key_of(&self.connections, device) else {
             return false;
         };
-        let broke = enqueue_cancel(&mut self.connections, key, job);
+        let broke = enqueue(&mut self.connections, key, &Outgoing::Cancel(job));
         notify(broke, notes)
     }
 }

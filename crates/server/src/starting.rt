@@ -1,17 +1,18 @@
 //! The bytes of the jobs that begin.
+ghost use Rattle.std.specs.Prelude.{◌≡◌};
+ghost use Rattle.send_queues.specs.Outgoing.{bytes_of};
 ghost use Rattle.server.specs.Ledger.{job_bytes};
 ghost use Rattle.server.specs.Happening.{Starts, StartsAll};
-ghost use Rattle.connections.specs.Slots.{EnqueuesAt};
 ghost use Rattle.server.specs.Refinement.{ReportsAmong};
 
 use crate::due::notify;
 use base_types::JobId;
 use connections::Connection;
-use connections::table::{enqueue, enqueue_job, key_of};
+use connections::table::{enqueue, key_of};
 use dispatcher::{Core, Observer, Started};
 use plan_prices::Planner;
+use send_queues::{Outgoing, OutgoingJob};
 use slab::Slab;
-use wires::WireId;
 
 /// Enqueues the bytes of the jobs that began with the last plan, by device. Returns whether memory was
 /// refused.
@@ -42,25 +43,19 @@ fn start<P: Planner + Drop, N: Observer>(
     let Some(key) = key_of(connections, started.device) else {
         return false;
     };
-    let broke = enqueue_started(core, connections, key, started.job);
+    let broke = enqueue(connections, key, &job_message(core, started.job));
     notify(broke, notes)
 }
 
-/// Enqueues the bytes of the job of an id on the connection under a key. Returns the number of the connection
-/// if it broke, since memory was refused.
-fn enqueue_started<P: Planner + Drop>(
-    core: &Core<P>,
-    connections: &mut Slab<Connection>,
-    key: usize,
-    id: JobId,
-) -> Option<WireId>
-    ensures { EnqueuesAt key (job_bytes core.now id) result connections.old.slots connections.new.slots }
+/// The message that sends the job of an id to a device.
+fn job_message<P: Planner + Drop>(core: &Core<P>, id: JobId) -> Outgoing<'_>
+    ensures { bytes_of result ≡ job_bytes core.now id }
 {
     let Some(job) = core.job(id) else {
-        return enqueue(connections, key, &[]);
+        return Outgoing::Bytes(&[]);
     };
     let Some(documents) = core.documents(id) else {
-        return enqueue(connections, key, &[]);
+        return Outgoing::Bytes(&[]);
     };
-    enqueue_job(connections, key, id, job, documents)
+    Outgoing::Job(OutgoingJob::new(id, job.octets, &job.needs, documents))
 }
