@@ -16,6 +16,13 @@ use crate::vacancy::vacate;
 use base_types::JobId;
 use std::alloc::{AllocError, Global};
 
+/// The first job of a device: the job with the most places after its own.
+#[derive(Clone, Copy)]
+struct First {
+    after: u64,
+    job: usize,
+}
+
 /// The most jobs that are taken out one by one. If more have left, taking them out takes more time than it
 /// saves.
 const MOST_TAKEN: usize = 2;
@@ -35,8 +42,9 @@ pub(crate) fn recall(alloc: Global, kept: Option<Kept>, entries: &Entries) -> Hi
 fn recalled(alloc: Global, kept: &mut Kept, entries: &Entries) -> Result<Hint, AllocError> {
     let numbers = numbers_now(alloc, &kept.ids, &entries.ids)?;
     let waits = &entries.costs.waits;
-    let gone = time_gone(alloc, kept, &numbers, waits)?;
-    take_begun(kept, &numbers, waits, gone);
+    let firsts = first_jobs(alloc, &kept.matching, waits.len())?;
+    let gone = time_gone(alloc, kept, &numbers, &firsts, waits)?;
+    take_begun(kept, &numbers, &firsts, waits, gone);
     take_left(alloc, kept, &numbers)?;
     hint_after(alloc, kept, &numbers, entries, gone)
 }
@@ -86,12 +94,13 @@ fn time_gone(
     alloc: Global,
     kept: &Kept,
     numbers: &[Option<usize>],
+    firsts: &[Option<First>],
     waits: &[u64],
 ) -> Result<u64, AllocError> {
     let mut falls = Vec::new(alloc);
-    for device in 0..waits.len() {
-        if let Some(job) = first_job(&kept.matching, device) {
-            let before = wait_with(kept, numbers, device, job);
+    for (device, first) in firsts.iter().enumerate() {
+        if let Some(first) = first {
+            let before = wait_with(kept, numbers, device, first.job);
             falls.push(before.saturating_sub(on_device(waits, device)))?;
         }
     }
@@ -108,46 +117,60 @@ fn wait_with(kept: &Kept, numbers: &[Option<usize>], device: usize, job: usize) 
     }
 }
 
-/// The first column of a device: the column with the most places after it.
-fn first_column(matching: &Matching, device: usize) -> Option<usize> {
-    let mut first = None;
-    let mut most = 0;
-    for (column, place) in matching.columns.iter().enumerate() {
-        if place.device == device && place.after >= most {
-            most = place.after;
-            first = Some(column);
-        }
+/// The first job of each device.
+fn first_jobs(
+    alloc: Global,
+    matching: &Matching,
+    devices: usize,
+) -> Result<Vec<Option<First>>, AllocError> {
+    let mut firsts = vec![in alloc; None; devices]?;
+    for (place, job) in matching.columns.iter().zip(matching.jobs.iter()) {
+        note_first(&mut firsts, *place, *job);
     }
-    first
+    Ok(firsts)
 }
 
-/// The first job of a device.
-fn first_job(matching: &Matching, device: usize) -> Option<usize> {
-    matching.jobs.get(first_column(matching, device)?).copied()
+/// Notes the job at a place as the first of its device, unless one is known with more places after it.
+fn note_first(firsts: &mut [Option<First>], place: Place, job: usize) {
+    let after = place.after;
+    if let Some(first) = firsts.get_mut(place.device) {
+        *first = match *first {
+            Some(known) if known.after > after => Some(known),
+            _ => Some(First { after, job }),
+        };
+    }
 }
 
 /// Takes out each job that began: the first job of a device whose wait has grown.
-fn take_begun(kept: &mut Kept, numbers: &[Option<usize>], waits: &[u64], gone: u64) {
-    for device in 0..waits.len() {
-        let Some(column) = first_column(&kept.matching, device) else {
+fn take_begun(
+    kept: &mut Kept,
+    numbers: &[Option<usize>],
+    firsts: &[Option<First>],
+    waits: &[u64],
+    gone: u64,
+) {
+    for (device, first) in firsts.iter().enumerate() {
+        let Some(first) = first else {
             continue;
         };
-        let job = kept.matching.jobs.get(column).copied().unwrap_or(0);
         let grown = on_device(waits, device).saturating_add(gone);
-        if number_now(numbers, job).is_none() && grown > on_device(&kept.costs.waits, device) {
-            begin(kept, device, column, job);
+        let before = on_device(&kept.costs.waits, device);
+        if number_now(numbers, first.job).is_none() && grown > before {
+            begin(kept, device, first.job);
         }
     }
 }
 
 /// Takes out the first job of a device, and adds the job's time to the device's wait.
-fn begin(kept: &mut Kept, device: usize, column: usize, job: usize) {
+fn begin(kept: &mut Kept, device: usize, job: usize) {
     let time = on_device(kept.costs.row(job), device);
     if let Some(wait) = kept.costs.waits.get_mut(device) {
         *wait = (*wait).saturating_add(time);
     }
     lower_duals(&mut kept.matching, device, time);
-    drop_column(&mut kept.matching, column);
+    if let Some(column) = kept.matching.jobs.iter().position(|one| *one == job) {
+        drop_column(&mut kept.matching, column);
+    }
 }
 
 /// Lowers the duals of a device's columns by the same amount.
