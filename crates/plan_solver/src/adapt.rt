@@ -1,80 +1,84 @@
-//! The columns of the last plan under the next waits. The functions have no contracts: they only make a hint
+//! The columns of the last plan under the next costs. The functions have no contracts: they only make a hint
 //! better.
 //!
 //! The prices fall by the time that has passed, or by as much more or less as makes them fair. A device that
-//! is late gives up its first jobs, whose duals would be negative. The next place of a device that is early
-//! may be better for a job than its own place: then jobs move, as if a job at the next place had left.
+//! is late gives up its first jobs, whose duals would be negative. A column becomes vacant if its device can't
+//! print its job any more, or if it is better for another job than that job's own place.
 
-use crate::costs::{Costs, Place, cost, on_device};
+use crate::costs::{Costs, Place, UNABLE, cost, on_device};
+use crate::filling::{dual_wanted, next_place};
 use crate::matching::Matching;
 use crate::recall::drop_column;
-use crate::vacancy::vacate;
+use crate::vacancy::{VACANT, lower_by, set};
 use std::alloc::{AllocError, Global};
 
-/// The most devices whose next place is filled. If more devices are early, filling takes more time than it
-/// saves.
-const MOST_FILLED: usize = 2;
-
-/// Lowers the prices by about the time that has passed, to make them fair under the costs, and moves or gives
-/// up jobs where that isn't enough. `before` are the waits of the last plan.
+/// Lowers the prices by about the time that has passed, to make them fair under the costs, and gives up jobs
+/// where that isn't enough. The next places of better devices may stay unfair, and are to be filled.
 pub(crate) fn adapt(
     alloc: Global,
     costs: &Costs,
     matching: &mut Matching,
-    before: &[u64],
     gone: u64,
+    better: &[bool],
 ) -> Result<(), AllocError> {
-    let mut early = next_places(alloc, costs, matching)?;
-    early.retain(|place| is_early(costs, before, place.device, gone));
-    lower_prices(costs, matching, &early, gone);
+    vacate_unable(costs, matching);
+    let next = better_places(alloc, matching, better)?;
+    lower_prices(costs, matching, &next, gone);
     let most = kept_places(alloc, costs, matching)?;
     drop_before(matching, &most);
-    set_duals(costs, matching);
-    fill_early(alloc, costs, matching, &early)
+    Ok(())
 }
 
-/// Lowers the prices by about the time that has passed.
-fn lower_prices(costs: &Costs, matching: &mut Matching, early: &[Place], gone: u64) {
-    let less = fall(costs, matching, early, gone);
-    for price in matching.prices.iter_mut() {
-        *price = (*price).saturating_sub(less);
-    }
-}
-
-/// Returns whether a device is free sooner than in the last plan, with the time that has passed taken off.
-fn is_early(costs: &Costs, before: &[u64], device: usize, gone: u64) -> bool {
-    on_device(&costs.waits, device).saturating_add(gone) < on_device(before, device)
-}
-
-/// The next place of each device.
-fn next_places(
+/// The next places of better devices.
+fn better_places(
     alloc: Global,
-    costs: &Costs,
     matching: &Matching,
+    better: &[bool],
 ) -> Result<Vec<Place>, AllocError> {
-    let mut places = Vec::with_capacity(alloc, costs.waits.len())?;
-    for device in 0..costs.waits.len() {
-        places.push(Place { device, after: 0 })?;
-    }
-    for place in &matching.columns {
-        if let Some(next) = places.get_mut(place.device) {
-            next.after = next.after.saturating_add(1);
+    let mut places = Vec::new(alloc);
+    for (device, is_better) in better.iter().enumerate() {
+        if *is_better {
+            places.push(next_place(matching, device))?;
         }
     }
     Ok(places)
 }
 
-/// The amount by which the prices fall: the time that has passed, unless the places that are free early need
-/// more, or the duals allow less.
-fn fall(costs: &Costs, matching: &Matching, early: &[Place], gone: u64) -> u64 {
+/// Makes each column vacant whose device can't print its job.
+fn vacate_unable(costs: &Costs, matching: &mut Matching) {
+    for column in 0..matching.columns.len() {
+        if cost_of_column(costs, matching, column) >= UNABLE {
+            let dual = matching.duals.get(column).copied().unwrap_or(0);
+            make_vacant(matching, column, dual);
+        }
+    }
+}
+
+/// Makes a column vacant, with a dual.
+fn make_vacant(matching: &mut Matching, column: usize, dual: u64) {
+    set(&mut matching.duals, column, dual);
+    set(&mut matching.jobs, column, VACANT);
+    set(&mut matching.prices, column, 0);
+}
+
+/// Lowers the prices and duals by about the time that has passed.
+fn lower_prices(costs: &Costs, matching: &mut Matching, next: &[Place], gone: u64) {
+    let less = fall(costs, matching, next, gone);
+    lower_by(&mut matching.duals, less);
+    lower_by(&mut matching.prices, less);
+}
+
+/// The amount by which the prices fall: the time that has passed, unless the next places of better devices
+/// need more, or the duals allow less.
+fn fall(costs: &Costs, matching: &Matching, next: &[Place], gone: u64) -> u64 {
     let mut least = 0;
     let mut most = u64::MAX;
-    for (column, place) in matching.columns.iter().enumerate() {
-        let job = matching.jobs.get(column).copied().unwrap_or(0);
+    for (column, job) in matching.jobs.iter().enumerate() {
         let price = matching.prices.get(column).copied().unwrap_or(0);
-        let row = costs.row(job);
-        most = most.min(price.saturating_sub(cost(&costs.waits, row, *place)));
-        least = least.max(excess(costs, row, price, early));
+        if *job != VACANT {
+            most = most.min(price.saturating_sub(cost_of_column(costs, matching, column)));
+        }
+        least = least.max(excess(costs, costs.row(*job), price, next));
     }
     if least <= most {
         gone.max(least).min(most)
@@ -92,10 +96,12 @@ fn excess(costs: &Costs, row: &[u64], price: u64, places: &[Place]) -> u64 {
     most
 }
 
-/// The cost of a column's job at a place.
-fn cost_at_column(costs: &Costs, matching: &Matching, column: usize, place: Place) -> u64 {
-    let job = matching.jobs.get(column).copied().unwrap_or(0);
-    cost(&costs.waits, costs.row(job), place)
+/// The cost of a column's job there; [`UNABLE`] if the column is vacant.
+fn cost_of_column(costs: &Costs, matching: &Matching, column: usize) -> u64 {
+    match (matching.jobs.get(column), matching.columns.get(column)) {
+        (Some(job), Some(place)) => cost(&costs.waits, costs.row(*job), *place),
+        _ => UNABLE,
+    }
 }
 
 /// The number of places that each device keeps, if each job whose place costs more than its charge is given
@@ -104,7 +110,8 @@ fn kept_places(alloc: Global, costs: &Costs, matching: &Matching) -> Result<Vec<
     let mut most = vec![in alloc; u64::MAX; costs.waits.len()]?;
     for (column, place) in matching.columns.iter().enumerate() {
         let price = matching.prices.get(column).copied().unwrap_or(0);
-        if price < cost_at_column(costs, matching, column, *place) {
+        let cost = cost_of_column(costs, matching, column);
+        if cost < UNABLE && price < cost {
             lower_to(&mut most, *place);
         }
     }
@@ -130,56 +137,25 @@ fn drop_before(matching: &mut Matching, most: &[u64]) {
     }
 }
 
-/// Sets each dual to the amount by which the charge exceeds the cost.
-fn set_duals(costs: &Costs, matching: &mut Matching) {
+/// Makes each column of a faster device vacant that is better for a job than its own, with the least dual at
+/// which it isn't.
+pub(crate) fn vacate_better(costs: &Costs, matching: &mut Matching, faster: &[bool]) {
     for column in 0..matching.columns.len() {
         let Some(place) = matching.columns.get(column).copied() else {
             return;
         };
-        let price = matching.prices.get(column).copied().unwrap_or(0);
-        let charge = cost_at_column(costs, matching, column, place);
-        if let Some(dual) = matching.duals.get_mut(column) {
-            *dual = price.saturating_sub(charge);
+        if faster.get(place.device) == Some(&true) {
+            raise_dual(costs, matching, column, place);
         }
     }
 }
 
-/// Fills next places of early devices that are better for a job than its own, at most [`MOST_FILLED`].
-fn fill_early(
-    alloc: Global,
-    costs: &Costs,
-    matching: &mut Matching,
-    early: &[Place],
-) -> Result<(), AllocError> {
-    let mut filled = 0;
-    for place in early {
-        let dual = dual_wanted(costs, matching, *place);
-        if dual > 0 && filled < MOST_FILLED {
-            filled += 1;
-            fill(alloc, costs, matching, *place, dual)?;
-        }
+/// Makes a column vacant with the least dual at which it isn't better for a job than its own, if its dual is
+/// less.
+fn raise_dual(costs: &Costs, matching: &mut Matching, column: usize, place: Place) {
+    let dual = matching.duals.get(column).copied().unwrap_or(0);
+    let wanted = dual_wanted(costs, matching, place);
+    if wanted > dual {
+        make_vacant(matching, column, wanted);
     }
-    Ok(())
-}
-
-/// The least dual of a free place at which no job would be better off there.
-fn dual_wanted(costs: &Costs, matching: &Matching, place: Place) -> u64 {
-    let mut dual: u64 = 0;
-    for (column, price) in matching.prices.iter().enumerate() {
-        dual = dual.max((*price).saturating_sub(cost_at_column(costs, matching, column, place)));
-    }
-    dual
-}
-
-/// Fills a free place as if a job had been matched to it at a dual, and had left.
-fn fill(
-    alloc: Global,
-    costs: &Costs,
-    matching: &mut Matching,
-    place: Place,
-    dual: u64,
-) -> Result<(), AllocError> {
-    let column = matching.columns.len();
-    matching.push(place, dual, usize::MAX, 0)?;
-    vacate(alloc, costs, matching, column)
 }

@@ -57,7 +57,7 @@ pub(crate) fn begin_by(alloc: Global, costs: &Costs, hint: &Hint) -> Result<Begu
 fn is_worth(begun: &Begun) -> bool {
     let columns = begun.matching.columns.len();
     let left = begun.left.len();
-    left <= columns / 4 && left <= columns / 48 + 3
+    left <= columns / 4 && left <= columns / 32 + 6
 }
 
 /// The empty matching, with these jobs left.

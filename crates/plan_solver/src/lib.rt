@@ -17,6 +17,7 @@ mod begun;
 mod costs;
 mod device_columns;
 mod equals;
+mod filling;
 mod fit;
 mod free_places;
 mod hint;

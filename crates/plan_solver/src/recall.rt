@@ -4,15 +4,20 @@
 //! If printing goes as estimated, the rest of a best plan is the best plan of the rest. A job that began was
 //! the first of its device's list, and its time is part of the device's wait now. The waits of all busy
 //! devices fall by the time that has passed, and all prices with them.
+//!
+//! A job that left otherwise, or that its device can't print any more, leaves a vacant column. A device that
+//! has become able to print jobs has next places that are better for them. Both are filled by searches, which
+//! move few jobs; the other jobs stay.
 
-use crate::adapt::adapt;
-use crate::costs::{Place, on_device};
+use crate::adapt::{adapt, vacate_better};
+use crate::costs::{Costs, Place, on_device};
 use crate::equals::order_equal;
+use crate::filling::fill;
 use crate::hint::{Guess, Hint};
 use crate::kept::Kept;
 use crate::matching::Matching;
 use crate::times::Entries;
-use crate::vacancy::vacate;
+use crate::vacancy::VACANT;
 use base_types::JobId;
 use std::alloc::{AllocError, Global};
 
@@ -22,10 +27,6 @@ struct First {
     after: u64,
     job: usize,
 }
-
-/// The most jobs that are taken out one by one. If more have left, taking them out takes more time than it
-/// saves.
-const MOST_TAKEN: usize = 2;
 
 /// The hint for the next class by its last plan. If memory is refused, the hint is empty.
 pub(crate) fn recall(alloc: Global, kept: Option<Kept>, entries: &Entries) -> Hint {
@@ -38,28 +39,19 @@ pub(crate) fn recall(alloc: Global, kept: Option<Kept>, entries: &Entries) -> Hi
     }
 }
 
-/// The hint by the last plan, from which the jobs that left are taken out. The only error is out of memory.
+/// The hint by the last plan, with the jobs that began taken out. The only error is out of memory.
 fn recalled(alloc: Global, kept: &mut Kept, entries: &Entries) -> Result<Hint, AllocError> {
     let numbers = numbers_now(alloc, &kept.ids, &entries.ids)?;
     let waits = &entries.costs.waits;
     let firsts = first_jobs(alloc, &kept.matching, waits.len())?;
     let gone = time_gone(alloc, kept, &numbers, &firsts, waits)?;
     take_begun(kept, &numbers, &firsts, waits, gone);
-    take_left(alloc, kept, &numbers)?;
-    hint_after(alloc, kept, &numbers, entries, gone)
-}
-
-/// The hint by what is left of the last plan, after a time. The only error is out of memory.
-fn hint_after(
-    alloc: Global,
-    kept: &Kept,
-    numbers: &[Option<usize>],
-    entries: &Entries,
-    gone: u64,
-) -> Result<Hint, AllocError> {
-    let mut matching = renumbered(alloc, &kept.matching, numbers)?;
-    let before = &kept.costs.waits;
-    adapt(alloc, &entries.costs, &mut matching, before, gone)?;
+    let faster = faster_devices(alloc, kept, &numbers, &entries.costs)?;
+    let better = better_devices(alloc, &faster, &kept.costs.waits, waits, gone)?;
+    let mut matching = renumbered(alloc, kept, &numbers, waits)?;
+    adapt(alloc, &entries.costs, &mut matching, gone, &better)?;
+    vacate_better(&entries.costs, &mut matching, &faster);
+    fill(alloc, &entries.costs, &mut matching, &better)?;
     hint_by(alloc, &matching, entries)
 }
 
@@ -197,38 +189,67 @@ fn drop_at<T: Drop>(items: &mut Vec<T>, at: usize) {
     }
 }
 
-/// Takes out jobs that left in another way, at most [`MOST_TAKEN`].
-fn take_left(alloc: Global, kept: &mut Kept, numbers: &[Option<usize>]) -> Result<(), AllocError> {
-    for _ in 0..MOST_TAKEN {
-        let Some(column) = left_column(&kept.matching, numbers) else {
-            return Ok(());
-        };
-        vacate(alloc, &kept.costs, &mut kept.matching, column)?;
+/// For each device whether it takes less time for a job than in the last plan, or has become able to print it.
+fn faster_devices(
+    alloc: Global,
+    kept: &Kept,
+    numbers: &[Option<usize>],
+    costs: &Costs,
+) -> Result<Vec<bool>, AllocError> {
+    let mut faster = vec![in alloc; false; costs.waits.len()]?;
+    for (job, number) in numbers.iter().enumerate() {
+        if let Some(number) = number {
+            note_faster(&mut faster, kept.costs.row(job), costs.row(*number));
+        }
     }
-    Ok(())
+    Ok(faster)
 }
 
-/// A column whose job isn't there any more.
-fn left_column(matching: &Matching, numbers: &[Option<usize>]) -> Option<usize> {
-    matching
-        .jobs
-        .iter()
-        .position(|job| number_now(numbers, *job).is_none())
+/// Notes each device that takes less time for a job than before.
+fn note_faster(faster: &mut [bool], before: &[u64], now: &[u64]) {
+    for (is_faster, (before, now)) in faster.iter_mut().zip(before.iter().zip(now.iter())) {
+        if *now < *before {
+            *is_faster = true;
+        }
+    }
 }
 
-/// The columns whose jobs are still there, with the numbers of the jobs in the next class.
+/// For each device whether it may be better for a job than in the last plan: if it is faster, or free sooner,
+/// with the time that has passed taken off.
+fn better_devices(
+    alloc: Global,
+    faster: &[bool],
+    before: &[u64],
+    now: &[u64],
+    gone: u64,
+) -> Result<Vec<bool>, AllocError> {
+    let mut better = Vec::with_capacity(alloc, now.len())?;
+    for (device, wait) in now.iter().enumerate() {
+        let is_sooner = (*wait).saturating_add(gone) < on_device(before, device);
+        better.push(is_sooner || faster.get(device) == Some(&true))?;
+    }
+    Ok(better)
+}
+
+/// The columns of the last plan, with the numbers of the jobs in the next class; a column is vacant if its
+/// job isn't there any more. What is added to the wait of a place is taken off its dual, so that the charge
+/// stays the same.
 fn renumbered(
     alloc: Global,
-    before: &Matching,
+    kept: &Kept,
     numbers: &[Option<usize>],
+    waits: &[u64],
 ) -> Result<Matching, AllocError> {
+    let before = &kept.matching;
     let mut matching = Matching::with_capacity(alloc, before.columns.len())?;
     for (column, place) in before.columns.iter().enumerate() {
         let job = before.jobs.get(column).copied().unwrap_or(0);
-        if let Some(number) = number_now(numbers, job) {
-            let price = before.prices.get(column).copied().unwrap_or(0);
-            matching.push(*place, 0, number, price)?;
-        }
+        let price = before.prices.get(column).copied().unwrap_or(0);
+        let dual = before.duals.get(column).copied().unwrap_or(0);
+        let charge = dual.saturating_add(on_device(&kept.costs.waits, place.device));
+        let dual = charge.saturating_sub(on_device(waits, place.device));
+        let number = number_now(numbers, job).unwrap_or(VACANT);
+        matching.push(*place, dual, number, price)?;
     }
     Ok(matching)
 }

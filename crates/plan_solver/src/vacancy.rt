@@ -1,27 +1,31 @@
-//! The vacancy of a column whose job has left. The column's dual is lowered to 0 along the shortest way to
-//! the first place of a device; jobs move along the way towards the column. The functions have no contracts:
-//! they only make a hint better.
+//! The vacancy of a column without a job. Duals are lowered along the shortest way from the column to one whose
+//! dual becomes 0; jobs move along the way towards the vacant column, and the end of the way is removed. The
+//! functions have no contracts: they only make a hint better.
 
 use crate::costs::{Costs, on_device};
 use crate::matching::Matching;
 use crate::recall::drop_column;
 use std::alloc::{AllocError, Global};
 
+/// The job of a vacant column.
+pub(crate) const VACANT: usize = usize::MAX;
+
 /// A length above that of any column.
 const FAR: u64 = u64::MAX / 4;
 
-/// The ways so far: for each column its length, the column from which it was reached and whether it is
-/// settled; and the end of the shortest way so far with its length.
+/// The ways so far: for each column its length and the column from which it was reached; the lengths again,
+/// but [`FAR`] for a settled column; and the end of the shortest way so far with its length.
 #[derive(Drop)]
 struct Ways {
     lengths: Vec<u64>,
     froms: Vec<usize>,
-    settled: Vec<bool>,
+    unsettled: Vec<u64>,
     least: u64,
     end: usize,
 }
 
-/// Takes out the job of a column, and moves others to keep the prices fair.
+/// Ends a vacancy: removes the column at the end of the shortest way, and moves the jobs on the way. Returns
+/// the number of columns that were settled.
 ///
 /// First all duals and prices are lowered by the least dual, which leaves them as fair as they were.
 /// Therefore a way may end where the dual is 0, and the search needn't settle all columns that are no farther
@@ -31,57 +35,58 @@ pub(crate) fn vacate(
     costs: &Costs,
     matching: &mut Matching,
     hole: usize,
-) -> Result<(), AllocError> {
+) -> Result<usize, AllocError> {
     lower_all(matching);
     let mut ways = Ways::from(alloc, matching, hole)?;
-    find_end(alloc, costs, matching, &mut ways)?;
+    let settled = find_end(alloc, costs, matching, &mut ways)?;
     lower(&mut matching.duals, &ways);
     lower(&mut matching.prices, &ways);
     move_jobs(matching, &ways, hole);
     drop_column(matching, ways.end);
-    Ok(())
+    Ok(settled)
 }
 
 impl Ways {
-    /// The ways from a column whose job has left, before any other is reached.
+    /// The ways from a vacant column, before any other is reached.
     fn from(alloc: Global, matching: &Matching, hole: usize) -> Result<Ways, AllocError> {
         let columns = matching.columns.len();
         let mut lengths = vec![in alloc; FAR; columns]?;
         set(&mut lengths, hole, 0);
         Ok(Ways {
+            unsettled: lengths.clone()?,
             lengths,
             froms: vec![in alloc; hole; columns]?,
-            settled: vec![in alloc; false; columns]?,
             least: matching.duals.get(hole).copied().unwrap_or(0),
             end: hole,
         })
     }
 }
 
-/// Finds the end of the shortest way: settles columns, the nearest first.
+/// Finds the end of the shortest way: settles columns, the nearest first. Returns their number.
 fn find_end(
     alloc: Global,
     costs: &Costs,
     matching: &Matching,
     ways: &mut Ways,
-) -> Result<(), AllocError> {
+) -> Result<usize, AllocError> {
     let mut times = no_times(alloc, costs.waits.len())?;
-    for _ in 0..matching.columns.len() {
+    let columns = matching.columns.len();
+    for settled in 0..columns {
         let Some(column) = nearest(ways) else {
-            return Ok(());
+            return Ok(settled);
         };
         read_times(costs, matching, &mut times, column)?;
         settle(costs, matching, &times, ways, column);
     }
-    Ok(())
+    Ok(columns)
 }
 
 /// The nearest column that isn't settled, if it is nearer than the end.
 fn nearest(ways: &Ways) -> Option<usize> {
     let mut nearest = None;
     let mut least = ways.least;
-    for (column, length) in ways.lengths.iter().enumerate() {
-        if *length < least && ways.settled.get(column) == Some(&false) {
+    for (column, length) in ways.unsettled.iter().enumerate() {
+        if *length < least {
             nearest = Some(column);
             least = *length;
         }
@@ -123,7 +128,7 @@ fn read_times(
 
 /// Settles a column: each other job may move there.
 fn settle(costs: &Costs, matching: &Matching, times: &[Vec<u64>], ways: &mut Ways, column: usize) {
-    set(&mut ways.settled, column, true);
+    set(&mut ways.unsettled, column, FAR);
     let Some(place) = matching.columns.get(column) else {
         return;
     };
@@ -168,6 +173,7 @@ fn reach(matching: &Matching, ways: &mut Ways, other: usize, column: usize, leng
         return;
     }
     set(&mut ways.lengths, other, length);
+    set(&mut ways.unsettled, other, length);
     set(&mut ways.froms, other, column);
     let end = length.saturating_add(matching.duals.get(other).copied().unwrap_or(0));
     if end < ways.least {
@@ -193,7 +199,7 @@ fn lower_all(matching: &mut Matching) {
 }
 
 /// Lowers each value by the same amount.
-fn lower_by(values: &mut [u64], less: u64) {
+pub(crate) fn lower_by(values: &mut [u64], less: u64) {
     for value in values.iter_mut() {
         *value = (*value).saturating_sub(less);
     }
@@ -231,7 +237,7 @@ fn exchange<T: Copy>(items: &mut [T], at: usize, value: &mut T) {
 }
 
 /// Sets an element, if there is one.
-fn set<T: Copy>(items: &mut [T], at: usize, value: T) {
+pub(crate) fn set<T: Copy>(items: &mut [T], at: usize, value: T) {
     if let Some(item) = items.get_mut(at) {
         *item = value;
     }
