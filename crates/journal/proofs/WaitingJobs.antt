@@ -17,7 +17,7 @@ use Rattle.job_objects.specs.JobState.{is_finished}
 use Rattle.job_objects.specs.Job.{JobRecord}
 use Rattle.job_objects.specs.JobStep.{ended, changed_from, stepped}
 use Rattle.octets.specs.Document.{DocumentRecord}
-use Rattle.spool.specs.Spooled.{SpooledRecord, notified, marked}
+use Rattle.spool.specs.Spooled.{SpooledRecord, told, marked}
 use Rattle.spool.specs.Jobs.{spooled_at, with_job}
 use Rattle.spool.specs.Kept.{is_kept, later_jobs}
 use Rattle.spool.specs.Calls.{is_ready, marked_by}
@@ -112,7 +112,7 @@ failed_id Is.Aborted now job = refl
 failed_id Is.Completed now job = refl
 
 -- the change of a job whose device is gone leaves the id
-fail_keeps_id : (now : ℕ) → KeepsId (notified Fail now)
+fail_keeps_id : (now : ℕ) → KeepsId (told Fail now)
 fail_keeps_id now s = either s.on_device
   where
     either : (on : Bool) → (cond on (record s { job = stepped Fail now s.job; documents = []; on_device = false }) s).job.id ≡ s.job.id
@@ -127,8 +127,8 @@ unfinished_kept jobs s is = ap (λ (t : Bool). not (t && not s.on_device) || nat
 found_after : (now id : ℕ) (s : SpooledRecord) (had : Option ℕ) (jobs : List SpooledRecord) → spooled_at id jobs ≡ Some s → is_finished s.job.state ≡ false → had ≢ Some id → spooled_at id (jobs_after now had (Some Fail) jobs) ≡ Some s
 found_after now id s None jobs found unfinished apart = found
 found_after now id s (Some one) jobs found unfinished apart =
-    let rest : List SpooledRecord = with_job one (notified Fail now) jobs in
-    found_kept id (is_kept rest) rest s (found_other id one (notified Fail now) (fail_keeps_id now) (λ same. apart (ap (λ (n : ℕ). Some n) (sym same))) jobs ∙ found) (unfinished_kept rest s unfinished)
+    let rest : List SpooledRecord = with_job one (told Fail now) jobs in
+    found_kept id (is_kept rest) rest s (found_other id one (told Fail now) (fail_keeps_id now) (λ same. apart (ap (λ (n : ℕ). Some n) (sym same))) jobs ∙ found) (unfinished_kept rest s unfinished)
 
 -- a job that waits isn't finished
 is_unfinished : (s : SpooledRecord) → (s.job.state ≡ Is.Pending) ⊎ (s.job.state ≡ Is.PendingHeld) → is_finished s.job.state ≡ false

@@ -11,7 +11,7 @@ use types.Run.{enter, returns, of_opd, unit_lit}
 use types.ByLocal.{alloc_all, pass_all, free_all, look_at, sets}
 use denote.Exit.{yes}
 use denote.RattleType.{RattleType, owns}
-use denote.Ref.{mut_vals, mut_Notifies, shr_vals, shr_Notifies}
+use denote.Ref.{mut_vals, mut_Tells, shr_vals, shr_Tells}
 use denote.Signature.{plain, named_lft, types_at}
 use denote.Steps.{opens, closes}
 use denote.Triple.Walked.{says, Stays, walk_of, stay_ref, Goes-ref, stay_none_ref, Goes-none_ref, ends_at}
@@ -32,7 +32,7 @@ push_spec 𝓤 𝓛 𝓜 𝓡 wired =
     let c = f.clauses 𝓛 𝓜.mem 𝓡.returns in
     proved 𝓛 f.ended stayed c 𝓜 𝓡 (Goes-ref 𝓛 3 0 tt (plain (λ _. Stored.the_row)), (Goes-none_ref 𝓛 3 (1 ∷ []) tt (plain appended_at) yes, tt))
     f.Key.name code.function (code.unfolded 𝓤 𝓛.H 𝓜 𝓡 wired)
-    (λ κs. (mut_vals, (shr_vals, tt))) (λ κs. (mut_Notifies (named 0) κs.0 Stored.the_row, (shr_Notifies (named 1) κs.1.0 (appended_at κs), tt)))
+    (λ κs. (mut_vals, (shr_vals, tt))) (λ κs. (mut_Tells (named 0) κs.0 Stored.the_row, (shr_Tells (named 1) κs.1.0 (appended_at κs), tt)))
     (λ κs qs bounds a g are.
     let b = a.0.ref_ptr.0 in let o = a.0.ref_ptr.1 in let vs = mut_vals a.0 in
     let h : Stored.the_row.Denot = record { lines = a.0.now.lines ++ a.1.0.now.lines.now } in
