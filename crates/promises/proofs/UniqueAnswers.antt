@@ -21,7 +21,7 @@ use Rattle.dispatcher.specs.declared.observer.AllocationSite.{AllocationSite}
 use Rattle.dispatcher.specs.declared.observer.AllocationSite.TheVariants as At
 use Rattle.dispatcher.specs.Notes.{Refused}
 use Rattle.dispatcher.specs.OneStep.{SameListing, SameLpdAnswer, SameIppAnswer, SameAnswer, SameReply}
-use Rattle.ipp_operations.specs.Reply.{IsReply, effects_of, unsupported_of, message_of}
+use Rattle.ipp_operations.specs.Reply.{IsReply, reply_of, unsupported_of, message_of}
 use Rattle.ipp_operations.specs.QueueText.{printer_word, lines_of, queue_text, ack_of, text_of}
 use Rattle.events.specs.SameEvent.{SameEvent}
 use Rattle.connections.specs.declared.ask.Client.{Client}
@@ -41,9 +41,9 @@ use Rattle.promises.proofs.UniqueEvents.{answered_alike}
 
 same_message : (one other : IppResponse) (id : ℕ) → SameIppAnswer one other → message_of one id ≡ message_of other id
 same_message one other id same =
-    ap (λ (status : Status). effects_of status id (unsupported_of status one.unsupported ++ one.groups)) same.status
-    ∙ (ap (λ (attributes : List IppAttribute). effects_of other.status id (unsupported_of other.status attributes ++ one.groups)) same.unsupported
-    ∙ ap (λ (groups : List IppGroup). effects_of other.status id (unsupported_of other.status other.unsupported ++ groups)) same.groups)
+    ap (λ (status : Status). reply_of status id (unsupported_of status one.unsupported ++ one.groups)) same.status
+    ∙ (ap (λ (attributes : List IppAttribute). reply_of other.status id (unsupported_of other.status attributes ++ one.groups)) same.unsupported
+    ∙ ap (λ (groups : List IppGroup). reply_of other.status id (unsupported_of other.status other.unsupported ++ groups)) same.groups)
 
 pub same_bytes : (one other : IppResponse) (id : ℕ) (bytes said : List ℕ) → SameIppAnswer one other → IsReply one id bytes → IsReply other id said → bytes ≡ said
 same_bytes one other id bytes said same p q = p.spelt ∙ (ap spelling (same_message one other id same) ∙ sym q.spelt)

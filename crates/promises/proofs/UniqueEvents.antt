@@ -97,7 +97,7 @@ module _ (steps : StepsOnce) where
   handled_one moment event other old (Dispatched reply) Dropped notes heard new after rest more same query kept enqueues e p q = absurd enqueues
   handled_one moment event other old (Queried reply) (Queried answer) notes heard new after rest more same query kept enqueues e (asks, step, is) (asked, stepped, its) =
       let end = steps old event other moment reply new answer after same step stepped in
-      record { outcome = end.reply_is; notes_are = is ∙ (notified_same reply answer end.reply_is ∙ sym its); state = end.state }
+      record { outcome = end.effects_are; notes_are = is ∙ (notified_same reply answer end.effects_are ∙ sym its); state = end.state }
   handled_one moment event other old (Queried reply) (Undispatched answer) notes heard new after rest more same query kept enqueues e p q = not_both (is_query event) (is_query other) query p.0 q.0
   handled_one moment event other old (Queried reply) (Idle answer) notes heard new after rest more same query kept enqueues e p q = not_both (is_query event) (is_query other) query p.0 q.0
   handled_one moment event other old (Queried reply) (Dispatched answer) notes heard new after rest more same query kept enqueues e p q = not_both (is_query event) (is_query other) query p.0 q.0
@@ -106,43 +106,43 @@ module _ (steps : StepsOnce) where
   handled_one moment event other old (Dispatched reply) (Queried answer) notes heard new after rest more same query kept enqueues e p q = not_both (is_query other) (is_query event) (sym query) q.0 p.0
   handled_one moment event other old (Undispatched reply) (Undispatched answer) notes heard new after rest more same query kept enqueues e (asks, step, ready, is) (asked, stepped, able, its) =
       let end = steps old event other moment reply new answer after same step stepped in
-      record { outcome = end.reply_is; notes_are = both_notified reply answer notes heard (Refused At.Dispatch None) (Refused At.Dispatch None) end.reply_is is its refl; state = end.state }
+      record { outcome = end.effects_are; notes_are = both_notified reply answer notes heard (Refused At.Dispatch None) (Refused At.Dispatch None) end.effects_are is its refl; state = end.state }
   handled_one moment event other old (Undispatched reply) (Idle answer) notes heard new after rest more same query kept enqueues e (asks, step, ready, is) (asked, mid, stepped, made, its) =
       let end = steps old event other moment reply new answer mid same step stepped in
-      let last : Refused At.Dispatch None ≡ Planned None [] = notified_last reply answer notes heard (Refused At.Dispatch None) (Planned None []) rest more end.reply_is is its e in
+      let last : Refused At.Dispatch None ≡ Planned None [] = notified_last reply answer notes heard (Refused At.Dispatch None) (Planned None []) rest more end.effects_are is its e in
       absurd (cc)
   handled_one moment event other old (Undispatched reply) (Dispatched answer) notes heard new after rest more same query kept enqueues e (asks, step, ready, is) (asked, mid, stepped, plan, made, its) =
       let end = steps old event other moment reply new answer mid same step stepped in
-      let last : Refused At.Dispatch None ≡ Planned (Some plan) after.begun = notified_last reply answer notes heard (Refused At.Dispatch None) (Planned (Some plan) after.begun) rest more end.reply_is is its e in
+      let last : Refused At.Dispatch None ≡ Planned (Some plan) after.begun = notified_last reply answer notes heard (Refused At.Dispatch None) (Planned (Some plan) after.begun) rest more end.effects_are is its e in
       absurd (cc)
   handled_one moment event other old (Idle reply) (Undispatched answer) notes heard new after rest more same query kept enqueues e (asks, mid, step, made, is) (asked, stepped, able, its) =
       let end = steps old event other moment reply mid answer after same step stepped in
-      let last : Planned None [] ≡ Refused At.Dispatch None = notified_last reply answer notes heard (Planned None []) (Refused At.Dispatch None) rest more end.reply_is is its e in
+      let last : Planned None [] ≡ Refused At.Dispatch None = notified_last reply answer notes heard (Planned None []) (Refused At.Dispatch None) rest more end.effects_are is its e in
       absurd (cc)
   handled_one moment event other old (Idle reply) (Idle answer) notes heard new after rest more same query kept enqueues e (asks, mid, step, made, is) (asked, next, stepped, found, its) =
       let end = steps old event other moment reply mid answer next same step stepped in
-      record { outcome = end.reply_is; notes_are = both_notified reply answer notes heard (Planned None []) (Planned None []) end.reply_is is its refl; state = made.2 ∙ (end.state ∙ sym found.2) }
+      record { outcome = end.effects_are; notes_are = both_notified reply answer notes heard (Planned None []) (Planned None []) end.effects_are is its refl; state = made.2 ∙ (end.state ∙ sym found.2) }
   handled_one moment event other old (Idle reply) (Dispatched answer) notes heard new after rest more same query kept enqueues e (asks, mid, step, made, is) (asked, next, stepped, plan, found, its) =
       let end = steps old event other moment reply mid answer next same step stepped in
-      let last : Planned None [] ≡ Planned (Some plan) after.begun = notified_last reply answer notes heard (Planned None []) (Planned (Some plan) after.begun) rest more end.reply_is is its e in
+      let last : Planned None [] ≡ Planned (Some plan) after.begun = notified_last reply answer notes heard (Planned None []) (Planned (Some plan) after.begun) rest more end.effects_are is its e in
       absurd (cc)
   handled_one moment event other old (Dispatched reply) (Undispatched answer) notes heard new after rest more same query kept enqueues e (asks, mid, step, plan, made, is) (asked, stepped, able, its) =
       let end = steps old event other moment reply mid answer after same step stepped in
-      let last : Planned (Some plan) new.begun ≡ Refused At.Dispatch None = notified_last reply answer notes heard (Planned (Some plan) new.begun) (Refused At.Dispatch None) rest more end.reply_is is its e in
+      let last : Planned (Some plan) new.begun ≡ Refused At.Dispatch None = notified_last reply answer notes heard (Planned (Some plan) new.begun) (Refused At.Dispatch None) rest more end.effects_are is its e in
       absurd (cc)
   handled_one moment event other old (Dispatched reply) (Idle answer) notes heard new after rest more same query kept enqueues e (asks, mid, step, plan, made, is) (asked, next, stepped, found, its) =
       let end = steps old event other moment reply mid answer next same step stepped in
-      let last : Planned (Some plan) new.begun ≡ Planned None [] = notified_last reply answer notes heard (Planned (Some plan) new.begun) (Planned None []) rest more end.reply_is is its e in
+      let last : Planned (Some plan) new.begun ≡ Planned None [] = notified_last reply answer notes heard (Planned (Some plan) new.begun) (Planned None []) rest more end.effects_are is its e in
       absurd (cc)
   handled_one moment event other old (Dispatched reply) (Dispatched answer) notes heard new after rest more same query kept enqueues e (asks, mid, step, plan, made, is) (asked, next, stepped, chosen, found, its) =
       let end = steps old event other moment reply mid answer next same step stepped in
-      let last : Planned (Some plan) new.begun ≡ Planned (Some chosen) after.begun = notified_last reply answer notes heard (Planned (Some plan) new.begun) (Planned (Some chosen) after.begun) rest more end.reply_is is its e in
+      let last : Planned (Some plan) new.begun ≡ Planned (Some chosen) after.begun = notified_last reply answer notes heard (Planned (Some plan) new.begun) (Planned (Some chosen) after.begun) rest more end.effects_are is its e in
       let one = same_plan plan chosen new.begun after.begun last in
       let left : new ≡ planned_state (max moment mid.last) mid plan new.begun = made.3 in
       let right : after ≡ planned_state (max moment next.last) next chosen after.begun = found.3 in
       record {
-        outcome = end.reply_is;
-        notes_are = both_notified reply answer notes heard (Planned (Some plan) new.begun) (Planned (Some chosen) after.begun) end.reply_is is its last;
+        outcome = end.effects_are;
+        notes_are = both_notified reply answer notes heard (Planned (Some plan) new.begun) (Planned (Some chosen) after.begun) end.effects_are is its last;
         state = left ∙ (ap (λ (s : State). planned_state (max moment s.last) s plan new.begun) end.state
             ∙ (ap (λ (x : PlanRecord). planned_state (max moment next.last) next x new.begun) one.0
             ∙ (ap (λ (begun : List Started). planned_state (max moment next.last) next chosen begun) one.1 ∙ sym right)));
