@@ -21,7 +21,7 @@ use Rattle.events.specs.declared.event.HoldUntil.TheVariants.{NoHold, Indefinite
 use Rattle.events.specs.Effects.{IsResponse, Replies}
 use Rattle.dispatcher.specs.Answers.{Refuses, Shows}
 use Rattle.dispatcher.specs.Checks.{named_job, named_printer}
-use Rattle.dispatcher.specs.PrintJob.{TakesJob, asked_of}
+use Rattle.dispatcher.specs.PrintJob.{TakesJob, checked_of}
 use Rattle.dispatcher.specs.ValidateJob.{Validates, validated_of}
 use Rattle.dispatcher.specs.CreateJob.{CreatesIt, created_of}
 use Rattle.dispatcher.specs.SendDocument.{SendsIt, sent_of}
@@ -106,7 +106,7 @@ shown_answer groups now old reply new asked step =
     answers (λ a. Shows now old (groups a) reply new) now old reply new (λ a is. says_something _ _ _ reply is.replies) asked step
 
 stepped_answer : (event : Event) (now : ℕ) (old : State) (reply : Effects) (new : State) → IsRequest event → StepAt event now old reply new → IsOfIpp reply.answer
-stepped_answer (Is.PrintJob request) now old reply new is step = answers (λ accepted. TakesJob now old accepted reply new) now old reply new (λ accepted done. says_something _ _ _ reply done.replies) (asked_of request now old) step
+stepped_answer (Is.PrintJob request) now old reply new is step = answers (λ accepted. TakesJob now old accepted reply new) now old reply new (λ accepted done. says_something _ _ _ reply done.replies) (checked_of request now old) step
 stepped_answer (Is.ValidateJob request) now old reply new is step = answers (λ unsupported. Validates now old unsupported reply new) now old reply new (λ unsupported done. says_something _ _ _ reply done.replies) (validated_of request old) step
 stepped_answer (Is.CreateJob request) now old reply new is step = answers (λ accepted. CreatesIt now old accepted reply new) now old reply new (λ accepted done. says_something _ _ _ reply done.replies) (created_of request now old) step
 stepped_answer (Is.SendDocument request) now old reply new is step = answers (λ sent. SendsIt now old request sent reply new) now old reply new (λ sent done. says_something _ _ _ reply done.replies) (sent_of request old) step
