@@ -49,9 +49,22 @@ pub fn serve<W: Write, T: Tape>(
 ) -> io::Result<()>
     requires { MeetsLimits settings }
 {
+    let mut server = dated(alloc, clock, sockets, settings)?;
+    run(alloc, clock, &mut server, turns, log, recording)
+}
+
+/// Creates a server whose first moment is now.
+fn dated(
+    alloc: Global,
+    clock: &impl Clock,
+    sockets: Sockets,
+    settings: Settings,
+) -> io::Result<Server>
+    requires { MeetsLimits settings }
+{
     let mut server = Server::new(alloc, sockets, settings)?;
     server.date(clock, Moment::start())?;
-    run(alloc, clock, &mut server, turns, log, recording)
+    Ok(server)
 }
 
 /// Takes the turns, with a log and a recording if they are given.
