@@ -3,6 +3,7 @@ use Rattle.std.proofs.Common.{◌≡◌, ◌≤◌, ◌<◌, ◌+◌, arith, ℕ
 use Rattle.std.specs.Prelude.{slice_index_or, slice_set, nat_lt, is_some, ◌||◌, if◌then◌else◌}
 use Rattle.std.specs.Option.{option_map_or}
 use Rattle.std.proofs.lemmas.Bool.Decides.{nat_tests}
+use Rattle.send_queues.specs.Reply.{http_reply}
 use Rattle.send_queues.specs.declared.queue.TheConstants.{RESERVED_BYTES}
 use Rattle.events.specs.declared.status.Status.{Status}
 use Rattle.dispatcher.specs.declared.observer.AllocationSite.TheVariants.{Enqueue}
@@ -183,11 +184,11 @@ enqueues_reply_from bytes key l a hs l' None y there fits it = subst (λ (o : Op
 enqueues_reply_from bytes key l a hs l' (Some e) None there fits it = absurd fits
 enqueues_reply_from bytes key l a hs l' (Some e) (Some c) there fits it = subst (λ (closes : Bool). Enqueues key (bytes closes) l hs l') (closes_as e c fits) it
 
-pub enqueues_reply : {S : Type 0} {moves : S → Happening → S → Type 0} {u v : S} {a b : EngineState} (key : ℕ) (bytes : Bool → List ℕ) (closes : Bool) → closes ≡ closes_at key a.slots
-    → RefinesQuietly moves (Enqueues key (bytes closes)) u a v b → RefinesQuietly moves (λ l hs l'. EnqueuesReplyAt bytes key (l.entries key) l hs l') u a v b
-enqueues_reply {S} {moves} {u} {v} {a} {b} key bytes closes is enqueue =
-    quietly_as moves (Enqueues key (bytes closes)) (λ l hs l'. EnqueuesReplyAt bytes key (l.entries key) l hs l') u v a b
-    (λ l hs l' fits fits' it. enqueues_reply_from bytes key l a hs l' (l.entries key) (slot_at a key) refl (fits.each key) (subst (λ (x : Bool). Enqueues key (bytes x) l hs l') is it)) enqueue
+pub enqueues_reply : {S : Type 0} {moves : S → Happening → S → Type 0} {u v : S} {a b : EngineState} {key : ℕ} (body : List ℕ) (closes : Bool) → closes ≡ closes_at key a.slots
+    → RefinesQuietly moves (Enqueues key (http_reply closes body)) u a v b → RefinesQuietly moves (EnqueuesResponse key body) u a v b
+enqueues_reply {S} {moves} {u} {v} {a} {b} {key} body closes is enqueue =
+    quietly_as moves (Enqueues key (http_reply closes body)) (EnqueuesResponse key body) u v a b
+    (λ l hs l' fits fits' it. enqueues_reply_from (λ closes. http_reply closes body) key l a hs l' (l.entries key) (slot_at a key) refl (fits.each key) (subst (λ (x : Bool). Enqueues key (http_reply x body) l hs l') is it)) enqueue
 
 -- a reply of the bytes of a status alone
 pub enqueues_status : {S : Type 0} {moves : S → Happening → S → Type 0} {u v : S} {a b : EngineState} {bytes : List ℕ} (key : ℕ) (status : Status) (request : ℕ) → bytes ≡ refusal_bytes status request

@@ -1,5 +1,3 @@
-use Rattle.std.proofs.Common.{ℕ, List, subst}
-use Rattle.connections.specs.Slots.{EnqueuesAt}
 use Rattle.server.proofs.Happening.{starts_nowhere, starts_there}
 use Rattle.server.proofs.starting.start.Goals as goal
 
@@ -8,4 +6,4 @@ returns-in_default g c = λ a core same. starts_nowhere _ _ a c.args.connections
 
 pub returns : goal.returns
 returns g c = λ a core same.
-    starts_there _ _ _ a c.args.core.now c.args.connections.now.slots c.enqueue-broke.new.connections.slots c.args.started c.in-Some.key c.enqueue-broke.result c.notify.result core same c.in-Some.ensures.some c.in-Some.ensures.lowest (subst (λ (bytes : List ℕ). EnqueuesAt c.in-Some.key bytes c.enqueue-broke.result c.args.connections.now.slots c.enqueue-broke.new.connections.slots) c.job_message.ensures c.enqueue-broke.ensures.enqueues) c.notify.ensures.notified c.notify.ensures.refused
+    starts_there _ _ _ a c.args.core.now c.args.connections.now.slots c.enqueue-broke.new.connections.slots c.args.started c.in-Some.key c.enqueue-broke.result c.notify.result core same c.in-Some.ensures.some c.in-Some.ensures.lowest (rw c.job_message.ensures at c.enqueue-broke.ensures.enqueues) c.notify.ensures.notified c.notify.ensures.refused

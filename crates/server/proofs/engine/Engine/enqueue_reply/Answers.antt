@@ -1,11 +1,8 @@
 use Rattle.std.proofs.Common.{ap, ◌∙◌}
-use Rattle.send_queues.specs.Reply.{http_reply}
 use Rattle.connections.specs.Slots.{closes_at}
 use Rattle.server.specs.State.{EngineState}
 use Rattle.server.proofs.Enqueuing.{enqueues_reply}
 use Rattle.server.proofs.engine.Engine.enqueue_reply.Goals as goal
 
 pub returns : goal.returns
-returns g c =
-    enqueues_reply c.args.key (λ closes. http_reply closes c.args.body.now) c.closes-closes.result
-    (c.closes-closes.ensures ∙ ap (λ (e : EngineState). closes_at c.args.key e.slots) c.self.view_is) c.enqueue.ensures
+returns g c = enqueues_reply c.args.body.now c.closes-closes.result (c.closes-closes.ensures ∙ ap (λ (e : EngineState). closes_at c.args.key e.slots) c.self.view_is) c.enqueue.ensures
