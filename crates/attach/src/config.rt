@@ -179,21 +179,43 @@ fn read_url(alloc: Global, url: &Url) -> Result<Target, WordFault> {
         return Err(WordFault::To);
     }
     let path = url.path().strip_prefix('/').unwrap_or(url.path());
-    let scheme = url.scheme();
-    if scheme == "socket" && path.is_empty() {
-        let port = url.port().unwrap_or(APP_SOCKET);
-        Ok(Target::AppSocket(HostPort::new(alloc, host, port)?))
-    } else if scheme == "lpd" && !path.is_empty() && !path.contains('/') {
-        let port = url.port().unwrap_or(LPD);
-        let queue = String::from_str(alloc, path)?;
-        Ok(Target::Lpd(HostPort::new(alloc, host, port)?, queue))
-    } else if scheme == "ipp" {
-        let port = url.port().unwrap_or(IPP);
-        let address = read_address(alloc, host, port, path)?;
-        Ok(Target::Ipp(HostPort::new(alloc, host, port)?, address))
-    } else {
-        Err(WordFault::To)
+    let port = url.port();
+    match url.scheme() {
+        "socket" => read_app_socket(alloc, host, port, path),
+        "lpd" => read_lpd(alloc, host, port, path),
+        "ipp" => read_ipp(alloc, host, port, path),
+        _ => Err(WordFault::To),
     }
+}
+
+/// Reads the target of AppSocket, whose URL has no path.
+fn read_app_socket(
+    alloc: Global,
+    host: &str,
+    port: Option<u16>,
+    path: &str,
+) -> Result<Target, WordFault> {
+    if !path.is_empty() {
+        return Err(WordFault::To);
+    }
+    let place = HostPort::new(alloc, host, port.unwrap_or(APP_SOCKET))?;
+    Ok(Target::AppSocket(place))
+}
+
+/// Reads the target of LPD: the path is the queue.
+fn read_lpd(alloc: Global, host: &str, port: Option<u16>, path: &str) -> Result<Target, WordFault> {
+    if path.is_empty() || path.contains('/') {
+        return Err(WordFault::To);
+    }
+    let queue = String::from_str(alloc, path)?;
+    Ok(Target::Lpd(HostPort::new(alloc, host, port.unwrap_or(LPD))?, queue))
+}
+
+/// Reads the target of IPP.
+fn read_ipp(alloc: Global, host: &str, port: Option<u16>, path: &str) -> Result<Target, WordFault> {
+    let port = port.unwrap_or(IPP);
+    let address = read_address(alloc, host, port, path)?;
+    Ok(Target::Ipp(HostPort::new(alloc, host, port)?, address))
 }
 
 /// The address of a printer of IPP, from its host, port, and path without the first slash.

@@ -92,31 +92,48 @@ impl Lpd {
 
     /// Begins to write the next part. The only error is out of memory.
     fn go_on(&mut self, part: LpdStage) -> Result<(), AllocError> {
-        self.output = self.text_of(part)?;
+        self.output = self.bytes_of(part)?;
         self.part = part;
         Ok(())
     }
 
     /// The bytes of a part, if it isn't the data. The only error is out of memory.
-    fn text_of(&self, part: LpdStage) -> Result<Vec<u8>, AllocError> {
-        let queue = self.queue.as_str();
-        let number = self.job % 1000;
-        let octets = self.octets;
-        let text = match part {
-            LpdStage::Queue => format!(in self.alloc; "\x02{queue}\n")?,
-            LpdStage::ControlHead => {
-                let length = self.control()?.len();
-                format!(in self.alloc; "\x02{length} cfA{number:03}{HOST}\n")?
-            }
-            LpdStage::Control => {
-                let control = self.control()?;
-                format!(in self.alloc; "{control}\0")?
-            }
-            LpdStage::DataHead => format!(in self.alloc; "\x03{octets} dfA{number:03}{HOST}\n")?,
-            LpdStage::Data => String::new(self.alloc),
-            LpdStage::End => format!(in self.alloc; "\0")?,
-        };
+    fn bytes_of(&self, part: LpdStage) -> Result<Vec<u8>, AllocError> {
+        let text = self.text_of(part)?;
         Vec::from_slice(self.alloc, text.as_bytes())
+    }
+
+    /// The text of a part, if it isn't the data.
+    fn text_of(&self, part: LpdStage) -> Result<String, AllocError> {
+        let queue = self.queue.as_str();
+        match part {
+            LpdStage::Queue => format!(in self.alloc; "\x02{queue}\n"),
+            LpdStage::ControlHead => self.control_head(),
+            LpdStage::Control => self.ended_control(),
+            LpdStage::DataHead => self.data_head(),
+            LpdStage::Data => Ok(String::new(self.alloc)),
+            LpdStage::End => format!(in self.alloc; "\0"),
+        }
+    }
+
+    /// The subcommand for the control file.
+    fn control_head(&self) -> Result<String, AllocError> {
+        let length = self.control()?.len();
+        let number = self.job % 1000;
+        format!(in self.alloc; "\x02{length} cfA{number:03}{HOST}\n")
+    }
+
+    /// The subcommand for the data file.
+    fn data_head(&self) -> Result<String, AllocError> {
+        let octets = self.octets;
+        let number = self.job % 1000;
+        format!(in self.alloc; "\x03{octets} dfA{number:03}{HOST}\n")
+    }
+
+    /// The control file, and its end.
+    fn ended_control(&self) -> Result<String, AllocError> {
+        let control = self.control()?;
+        format!(in self.alloc; "{control}\0")
     }
 
     /// The control file: the name of the job's owner, in at most 31 octets (RFC 1179, section 7.8), and a
