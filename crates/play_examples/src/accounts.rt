@@ -21,22 +21,13 @@ pub const ACCOUNTED: [Accounted; 2] = [
     },
 ];
 
-/// The follower of a day that has been played, if it can be played.
-fn followed(alloc: Global, day: &[u8]) -> Option<Follower> {
+/// The table of a day.
+fn table_of(alloc: Global, day: &[u8]) -> Option<Vec<u8>> {
     let mut follower = Follower::new(alloc);
     follower.keep_accounts();
     follower.add(day).ok()?;
-    for _ in 0..u64::MAX {
-        if follower.turn().ok()?.is_none() {
-            break;
-        }
-    }
-    Some(follower)
-}
-
-/// The table of a day.
-fn table_of(alloc: Global, day: &[u8]) -> Option<Vec<u8>> {
-    let accounts = followed(alloc, day)?.into_accounts().ok()??;
+    follower.turns().ok()?;
+    let accounts = follower.into_accounts().ok()??;
     let mut table = AccountTable::new(alloc).ok()?;
     table.add_day(&accounts).ok()?;
     table.finish().ok()

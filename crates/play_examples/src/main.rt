@@ -246,15 +246,15 @@ fn write_accounts(rt: &HostRuntime) -> io::Result<bool> {
 
 /// Plays them all: whether each is as it must be.
 fn play_all(rt: &HostRuntime) -> io::Result<bool> {
-    let files = play_files(rt)?;
-    let days = play_days(rt)?;
-    let compared = compare_sets(rt)?;
-    let drawn = draw_days(rt)?;
-    let pages = write_pages(rt)?;
-    let accounts = write_accounts(rt)?;
-    let crowds = play_crowds(rt)?;
-    let cuts = play_cuts(rt)?;
-    Ok(files && days && compared && drawn && pages && accounts && crowds && cuts)
+    let mut all = play_files(rt)?;
+    all &= play_days(rt)?;
+    all &= compare_sets(rt)?;
+    all &= draw_days(rt)?;
+    all &= write_pages(rt)?;
+    all &= write_accounts(rt)?;
+    all &= play_crowds(rt)?;
+    all &= play_cuts(rt)?;
+    Ok(all)
 }
 
 fn main(rt: HostRuntime) -> ExitCode {

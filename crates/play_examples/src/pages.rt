@@ -55,11 +55,7 @@ fn followed(alloc: Global, day: &[u8], at: Option<Moment>) -> Option<Follower> {
         follower.stop_after(at);
     }
     follower.add(day).ok()?;
-    for _ in 0..u64::MAX {
-        if follower.turn().ok()?.is_none() {
-            break;
-        }
-    }
+    follower.turns().ok()?;
     Some(follower)
 }
 

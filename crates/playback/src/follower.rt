@@ -137,6 +137,18 @@ impl Follower {
         Ok(None)
     }
 
+    /// Plays the turns that have arrived whole. Returns whether there were any. After a fault nothing more can be played.
+    pub fn turns(&mut self) -> Result<bool, DayFault> {
+        let mut has_turned = false;
+        for _ in 0..u64::MAX {
+            if self.turn()?.is_none() {
+                break;
+            }
+            has_turned = true;
+        }
+        Ok(has_turned)
+    }
+
     /// The server, once the line after the settings was played.
     pub fn engine(&self) -> Option<&JournaledEngine> {
         match &self.stage {
