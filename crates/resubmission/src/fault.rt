@@ -4,7 +4,7 @@ use journal::FilingFault;
 use std::alloc::{AllocError, AllocFailed};
 
 /// Why jobs aren't submitted again. The engine and the storage aren't to be used any more.
-#[derive(Clone, Copy, PartialEq, Eq)]
+#[derive(Clone, Copy)]
 pub enum ResubmissionFault {
     OutOfMemory,
     /// The storage takes no lines.

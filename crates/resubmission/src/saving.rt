@@ -12,7 +12,7 @@ use spool::SpooledJob;
 use std::alloc::{AllocError, Global};
 
 /// Which jobs of a server are saved.
-#[derive(Clone, Copy, PartialEq, Eq)]
+#[derive(Clone, Copy)]
 pub enum Which {
     /// Those that wait: unfinished, and no device has begun them.
     Waiting,

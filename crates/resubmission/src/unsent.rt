@@ -3,7 +3,7 @@ use ipp_codec::EncodeFault;
 use std::alloc::{AllocError, AllocFailed};
 
 /// Why a client isn't made.
-#[derive(Clone, Copy, PartialEq, Eq)]
+#[derive(Clone, Copy)]
 pub(crate) enum Unsent {
     /// A request has no spelling.
     Unspellable,
