@@ -156,6 +156,19 @@ impl<'a> Directory<'a> {
         }
     }
 
+    /// What the system gave. That it refuses to do `what` with a file or a directory is a fault.
+    pub(crate) fn or_refused<T>(
+        &self,
+        what: &'static str,
+        path: &str,
+        given: io::Result<T>,
+    ) -> Result<T, SpoolFault> {
+        match given {
+            Ok(value) => Ok(value),
+            Err(error) => Err(self.refused(what, path, error)),
+        }
+    }
+
     /// As [`Directory::refused`], for the file of the journal with a number.
     pub(crate) fn refused_trace(
         &self,

@@ -1,11 +1,10 @@
 //! Why a spool directory is refused.
 use crate::system_error::SystemError;
 use base_types::JobId;
-use std::error::Error;
 use std::fmt;
 
 /// What is wrong with a file of a journal.
-#[derive(Debug, Drop)]
+#[derive(Drop)]
 pub enum Why {
     /// The line isn't one of a journal, or is where none of its kind may be.
     BadLine,
@@ -23,7 +22,7 @@ pub enum Why {
 }
 
 /// A fault of a file.
-#[derive(Debug, Drop)]
+#[derive(Drop)]
 pub struct FileFault {
     /// The path of the file.
     pub file: String,
@@ -33,7 +32,7 @@ pub struct FileFault {
 }
 
 /// Why a spool directory can't be used. What is displayed is a sentence for the operator.
-#[derive(Debug, Drop)]
+#[derive(Drop)]
 pub enum SpoolFault {
     /// Another server has locked the directory of this path.
     InUse(String),
@@ -135,5 +134,3 @@ impl SpoolFault {
         }
     }
 }
-
-impl Error for SpoolFault {}

@@ -57,27 +57,31 @@ fn orphan(alloc: Global, listing: &Listing, file: &mut File) -> Result<(), ReadT
 
 impl Directory<'_> {
     /// Opens the file of the journal with a number.
-    fn open_trace(&self, number: u32) -> Result<File, SpoolFault> {
+    pub(crate) fn open_trace(&self, number: u32) -> Result<File, SpoolFault> {
         match self.open(number) {
             Ok(file) => Ok(file),
             Err(error) => Err(self.refused_trace("open", number, error)),
         }
     }
 
+    /// What was read of the file of the journal with a number. What went wrong is a fault.
+    fn or_fault<T>(&self, number: u32, read: Result<T, ReadTrouble>) -> Result<T, SpoolFault> {
+        match read {
+            Ok(value) => Ok(value),
+            Err(trouble) => Err(self.fault(number, trouble)),
+        }
+    }
+
     /// Returns whether the file with a number is a base.
     fn is_base(&self, number: u32) -> Result<bool, SpoolFault> {
-        let directory = *self;
-        let mut file = directory.open_trace(number)?;
-        is_base(directory.alloc(), &mut file).map_err(|trouble| directory.fault(number, trouble))
+        let mut file = self.open_trace(number)?;
+        self.or_fault(number, is_base(self.alloc(), &mut file))
     }
 
     /// The fault of the first file, which goes on after a file although there is no base.
     fn refuse_orphan(&self, listing: &Listing, number: u32) -> Result<(), SpoolFault> {
-        let directory = *self;
-        let mut file = directory.open_trace(number)?;
-        orphan(directory.alloc(), listing, &mut file).map_err(|trouble| directory.fault(
-            number, trouble,
-        ))
+        let mut file = self.open_trace(number)?;
+        self.or_fault(number, orphan(self.alloc(), listing, &mut file))
     }
 
     /// The number of the last base; `None` if the directory has no file of a journal.

@@ -36,6 +36,7 @@ mod trouble;
 mod watching;
 mod writer;
 
+pub use clock::{day_of, millis_of, now};
 pub use fault::{FileFault, SpoolFault, Why};
 pub use opening::SpoolDirectory;
 pub use spool_files::{SpoolFiles, SpoolOptions};

@@ -7,7 +7,7 @@ use text::decimal;
 const DIGITS: usize = 6;
 
 /// The kind of a file, by its name.
-#[derive(Clone, Copy, PartialEq, Eq)]
+#[derive(Clone, Copy)]
 pub(crate) enum Named {
     /// A file of the journal with this number.
     Trace(u32),

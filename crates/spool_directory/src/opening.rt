@@ -43,11 +43,11 @@ impl<'a> SpoolDirectory<'a> {
     /// there.
     pub fn open(rt: &'a HostRuntime, path: &'a str) -> Result<SpoolDirectory<'a>, SpoolFault> {
         let directory = Directory { rt, path };
-        make(rt, path).map_err(|error| directory.refused("make", path, error))?;
+        directory.or_refused("make", path, make(rt, path))?;
         let Ok(name) = directory.path_of("lock") else {
             return Err(SpoolFault::OutOfMemory);
         };
-        let lock = open_lock(rt, &name).map_err(|error| directory.refused("open", &name, error))?;
+        let lock = directory.or_refused("open", &name, open_lock(rt, &name))?;
         match lock.try_lock() {
             Ok(()) => Ok(SpoolDirectory { directory, lock }),
             Err(TryLockError::WouldBlock) => Err(in_use(directory)),

@@ -146,9 +146,7 @@ impl Directory<'_> {
         let Ok(path) = directory.trace_path(number) else {
             return Err(SpoolFault::OutOfMemory);
         };
-        let mut file = directory
-            .open(number)
-            .map_err(|error| directory.refused("open", &path, error))?;
+        let mut file = directory.open_trace(number)?;
         match play_base(directory.alloc(), &path, number, &mut file) {
             Ok(played) => Ok(played),
             Err(trouble) => Err(directory.fault(number, trouble)),

@@ -121,14 +121,11 @@ impl Directory<'_> {
         version: &str,
     ) -> Result<DraftFile<'_>, SpoolFault> {
         let directory = *self;
-        cut(directory, place).map_err(|error| directory.refused_trace(
-            "cut off the end of",
-            place.last,
-            error,
-        ))?;
-        DraftFile::next(directory, listing.last, place.last, text, version).map_err(|error| {
-            directory.refused("write to", directory.path, error)
-        })
+        if let Err(error) = cut(directory, place) {
+            return Err(directory.refused_trace("cut off the end of", place.last, error));
+        }
+        let next = DraftFile::next(directory, listing.last, place.last, text, version);
+        directory.or_refused("write to", directory.path, next)
     }
 }
 
@@ -161,9 +158,7 @@ impl<'a> SpoolDirectory<'a> {
             text: settings_text,
             options,
         };
-        let listing = directory
-            .list()
-            .map_err(|error| directory.refused("list", directory.path, error))?;
+        let listing = directory.or_refused("list", directory.path, directory.list())?;
         match directory.last_base(&listing)? {
             Some(base) => self.start_behind(&listing, base, settings, given),
             None => {

@@ -3,7 +3,7 @@ use std::fmt;
 use std::io::{Error, ErrorKind};
 
 /// An error of the system, as words with its number.
-#[derive(Clone, Copy, Debug)]
+#[derive(Clone, Copy)]
 pub struct SystemError(pub Error);
 
 /// The system's reason, in words.
