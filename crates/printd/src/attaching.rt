@@ -25,7 +25,10 @@ pub(crate) fn run_attach(
         measures: attaching.measure,
         until_closed: attaching.until_closed,
     };
-    let plan = read_config(rt.alloc(), words).map_err(|fault| refuse(rt, fault, words))?;
+    let plan = match read_config(rt.alloc(), words) {
+        Ok(plan) => plan,
+        Err(fault) => return Err(refuse(rt, fault, words)),
+    };
     if let Err(error) = try_target(rt.alloc(), rt, &plan) {
         return Err(cannot_with(rt, "write to", words.to, error));
     }

@@ -1,6 +1,7 @@
 //! Reports about failures of the program.
 use program::ExitStatus;
 use quotes::Escaped;
+use std::alloc::AllocError;
 use std::fmt::Display;
 use std::io;
 use std::io::{ErrorKind, Write};
@@ -67,10 +68,66 @@ pub(crate) fn cannot_with(
     }
 }
 
+/// The value of what was done. An error is reported as [`cannot`] does, and its exit status returned.
+pub(crate) fn or_cannot<T>(
+    rt: &HostRuntime,
+    what: &str,
+    done: io::Result<T>,
+) -> Result<T, ExitStatus> {
+    match done {
+        Ok(value) => Ok(value),
+        Err(error) => Err(cannot(rt, what, error)),
+    }
+}
+
+/// As [`or_cannot`], for an object with a name.
+pub(crate) fn or_cannot_with<T>(
+    rt: &HostRuntime,
+    what: &str,
+    name: &str,
+    done: io::Result<T>,
+) -> Result<T, ExitStatus> {
+    match done {
+        Ok(value) => Ok(value),
+        Err(error) => Err(cannot_with(rt, what, name, error)),
+    }
+}
+
+/// As [`or_cannot`], where the only error is out of memory.
+pub(crate) fn or_no_memory<T>(
+    rt: &HostRuntime,
+    what: &str,
+    done: Result<T, AllocError>,
+) -> Result<T, ExitStatus> {
+    match done {
+        Ok(value) => Ok(value),
+        Err(_) => Err(cannot(rt, what, out_of_memory())),
+    }
+}
+
+/// As [`or_cannot_with`], where the only error is out of memory.
+pub(crate) fn or_no_memory_with<T>(
+    rt: &HostRuntime,
+    what: &str,
+    name: &str,
+    done: Result<T, AllocError>,
+) -> Result<T, ExitStatus> {
+    match done {
+        Ok(value) => Ok(value),
+        Err(_) => Err(cannot_with(rt, what, name, out_of_memory())),
+    }
+}
+
+/// Ends a command whose output was written. An error is reported, and its exit status returned.
+pub(crate) fn end_written(
+    rt: &HostRuntime,
+    written: io::Result<()>,
+) -> Result<ExitStatus, ExitStatus> {
+    or_cannot(rt, "write to standard output", written)?;
+    Ok(ExitStatus::Done)
+}
+
 /// Writes a text to standard output. An error is reported, and its exit status returned.
 pub(crate) fn write_text(rt: &HostRuntime, text: &str) -> Result<ExitStatus, ExitStatus> {
-    match io::writer(rt).write_all(text.as_bytes()) {
-        Ok(()) => Ok(ExitStatus::Done),
-        Err(error) => Err(cannot(rt, "write to standard output", error)),
-    }
+    end_written(rt, io::writer(rt).write_all(text.as_bytes()))
 }

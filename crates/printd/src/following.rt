@@ -1,16 +1,18 @@
 //! `printd page --follow`: the queue of a recording that grows.
 use crate::chain::FileChain;
-use crate::failure::{cannot, cannot_with};
-use crate::page::{add_read, no_memory, put_file, put_metrics, refused};
+use crate::failure::{cannot, cannot_with, or_cannot, or_cannot_with, or_no_memory, out_of_memory};
+use crate::page::{WRITE, add_read, put_file, put_metrics, refused};
 use command_line::Paging;
 use jiff::tz::TimeZone;
 use playback::Follower;
 use program::ExitStatus;
 use queue_reports::{PageOptions, write_page};
 use recordings::fill;
+use spool_directory::{millis_of, now};
+use std::alloc::AllocError;
 use std::fs::File;
 use std::os::unix::fs::MetadataExt;
-use std::time::{Duration, Instant, SystemTime};
+use std::time::{Duration, Instant};
 use std::{io, thread};
 
 /// The number of bytes that one read asks for.
@@ -74,14 +76,6 @@ struct FollowedRecording<'a> {
     written: Option<WrittenPage>,
 }
 
-/// The ms since the beginning of 1970; 0 where the clock is before 1970.
-fn time_now(rt: &HostRuntime) -> io::Result<u64> {
-    match SystemTime::now(rt)?.duration_since(SystemTime::UNIX_EPOCH) {
-        Ok(passed) => Ok(u64::try_from(passed.as_millis()).unwrap_or(0)),
-        Err(_) => Ok(0),
-    }
-}
-
 /// When a file was last written to, in ms since the beginning of 1970.
 fn time_written(file: &File) -> io::Result<u64> {
     let found = file.metadata()?;
@@ -94,6 +88,13 @@ fn time_written(file: &File) -> io::Result<u64> {
     )
 }
 
+/// The follower of a day that begins with the file of a name. The only error is out of memory.
+fn follower_of(rt: &HostRuntime, name: &str) -> Result<Follower, AllocError> {
+    let mut follower = Follower::new(rt.alloc());
+    follower.begin_file(name)?;
+    Ok(follower)
+}
+
 impl<'a> FollowedRecording<'a> {
     /// Begins to follow a recording or a spool, of which nothing was read.
     fn new(
@@ -103,8 +104,7 @@ impl<'a> FollowedRecording<'a> {
     ) -> io::Result<FollowedRecording<'a>> {
         let chain = FileChain::new(rt, path)?;
         let number = chain.first()?;
-        let mut follower = Follower::new(rt.alloc());
-        follower.begin_file(&chain.name(number)?)?;
+        let follower = follower_of(rt, &chain.name(number)?)?;
         Ok(FollowedRecording {
             rt,
             chain,
@@ -124,13 +124,16 @@ impl<'a> FollowedRecording<'a> {
     fn unread(&self, error: io::Error) -> ExitStatus {
         match self.chain.name(self.number) {
             Ok(name) => cannot_with(self.rt, "read", &name, error),
-            Err(error) => no_memory(self.rt, error),
+            Err(_) => cannot(self.rt, WRITE, out_of_memory()),
         }
     }
 
-    /// Reports that the clock can't be read, and returns the exit status.
-    fn no_clock(&self, error: io::Error) -> ExitStatus {
-        cannot(self.rt, "read the clock", error)
+    /// What was read of the recording. An error is reported, and its exit status returned.
+    fn or_unread<T>(&self, read: io::Result<T>) -> Result<T, ExitStatus> {
+        match read {
+            Ok(value) => Ok(value),
+            Err(error) => Err(self.unread(error)),
+        }
     }
 
     /// Reads and plays what has come, at most a few chunks, and writes the page if it is due. Returns whether all that
@@ -148,10 +151,8 @@ impl<'a> FollowedRecording<'a> {
     /// Reads and plays at most a few chunks. Returns whether all that has come was read.
     fn read(&mut self) -> Result<bool, ExitStatus> {
         for _ in 0..MOST_READS {
-            let count = match fill(&mut self.file, &mut self.chunk) {
-                Ok(count) => count,
-                Err(error) => return Err(self.unread(error)),
-            };
+            let read = fill(&mut self.file, &mut self.chunk);
+            let count = self.or_unread(read)?;
             if count == 0 {
                 return Ok(true);
             }
@@ -163,27 +164,25 @@ impl<'a> FollowedRecording<'a> {
     /// Plays this number of bytes that were read.
     fn play(&mut self, count: usize) -> Result<(), ExitStatus> {
         let rt = self.rt;
-        add_read(&mut self.follower, &self.chunk, count).map_err(|error| no_memory(rt, error))?;
-        for _ in 0..u64::MAX {
-            match self.follower.turn() {
-                Ok(Some(_)) => self.is_changed = true,
-                Ok(None) => break,
-                Err(fault) => return Err(refused(rt, &fault)),
+        or_no_memory(rt, WRITE, add_read(&mut self.follower, &self.chunk, count))?;
+        match self.follower.turns() {
+            Ok(has_turned) => {
+                self.is_changed = self.is_changed || has_turned;
+                Ok(())
             }
+            Err(fault) => Err(refused(rt, &fault)),
         }
-        Ok(())
     }
 
     /// Goes on to the next file, if there is one and all of this file was read. Returns whether it did, or whether more
     /// of this file is to be read first.
     fn go_on(&mut self) -> Result<bool, ExitStatus> {
-        let next = match self.chain.next(self.number, &self.file) {
-            Ok(Some(next)) => next,
-            Ok(None) => return Ok(false),
-            Err(error) => return Err(self.unread(error)),
+        let Some(next) = self.or_unread(self.chain.next(self.number, &self.file))? else {
+            return Ok(false);
         };
         if self.read()? {
-            self.begin(next).map_err(|error| self.unread(error))?;
+            let begun = self.begin(next);
+            self.or_unread(begun)?;
         }
         Ok(true)
     }
@@ -204,7 +203,7 @@ impl<'a> FollowedRecording<'a> {
     /// The time since which nothing was written to the file, in ms since the beginning of 1970, if that is long ago.
     fn quiet_since(&self) -> io::Result<Option<u64>> {
         let written = time_written(&self.file)?;
-        let passed = time_now(self.rt)?.saturating_sub(written);
+        let passed = millis_of(now(self.rt)?).saturating_sub(written);
         if passed > QUIET {
             Ok(Some(written))
         } else {
@@ -231,8 +230,8 @@ impl<'a> FollowedRecording<'a> {
 
     /// Writes the page and the metrics, if they are due.
     fn write_if_due(&mut self) -> Result<(), ExitStatus> {
-        let now = self.now().map_err(|error| self.no_clock(error))?;
-        let quiet_since = self.quiet_since().map_err(|error| self.unread(error))?;
+        let now = or_cannot(self.rt, "read the clock", self.now())?;
+        let quiet_since = self.or_unread(self.quiet_since())?;
         let is_old = quiet_since.is_some();
         if !self.is_due(now, is_old) {
             return Ok(());
@@ -246,10 +245,8 @@ impl<'a> FollowedRecording<'a> {
     /// Writes the page and the metrics, once the recording has begun.
     fn write(&self, quiet_since: Option<u64>) -> Result<(), ExitStatus> {
         let rt = self.rt;
-        let view = match self.follower.view() {
-            Ok(Some(view)) => view,
-            Ok(None) => return Ok(()),
-            Err(error) => return Err(no_memory(rt, error)),
+        let Some(view) = or_no_memory(rt, WRITE, self.follower.view())? else {
+            return Ok(());
         };
         let options = PageOptions {
             zone: self.outputs.zone,
@@ -257,7 +254,7 @@ impl<'a> FollowedRecording<'a> {
             refresh: Some(REFRESH),
             quiet_since,
         };
-        let page = write_page(rt.alloc(), &view, &options).map_err(|error| no_memory(rt, error))?;
+        let page = or_no_memory(rt, WRITE, write_page(rt.alloc(), &view, &options))?;
         put_metrics(rt, self.outputs.metrics, &view)?;
         put_file(rt, self.outputs.page, &page)
     }
@@ -278,9 +275,8 @@ pub(crate) fn follow(
         names: paging.names,
         zone,
     };
-    let mut following = FollowedRecording::new(rt, path, outputs).map_err(|error| cannot_with(
-        rt, "follow", path, error,
-    ))?;
+    let followed = FollowedRecording::new(rt, path, outputs);
+    let mut following = or_cannot_with(rt, "follow", path, followed)?;
     for _ in 0..u64::MAX {
         if following.step()? {
             thread::sleep(rt, Duration::from_millis(PAUSE));

@@ -1,5 +1,5 @@
 //! The input of a command: a file, or standard input.
-use crate::failure::{cannot, cannot_with, out_of_memory, say};
+use crate::failure::{cannot, or_cannot_with, out_of_memory, say};
 use program::ExitStatus;
 use std::alloc::AllocError;
 use std::fmt::Display;
@@ -10,7 +10,7 @@ pub(crate) const INPUT: &str = "<standard input>";
 
 /// Opens a file for reading. An error is reported, and its exit status returned.
 pub(crate) fn open(rt: &HostRuntime, file: &str) -> Result<File, ExitStatus> {
-    File::open(rt, file).map_err(|error| cannot_with(rt, "read", file, error))
+    or_cannot_with(rt, "read", file, File::open(rt, file))
 }
 
 /// The name of an input in a sentence about reading it.

@@ -1,5 +1,5 @@
 //! `printd jobs`: the jobs of recorded days.
-use crate::failure::{cannot, cannot_with, out_of_memory, say};
+use crate::failure::{cannot_with, or_cannot, or_no_memory, out_of_memory, say};
 use crate::input::open;
 use playback::{DayFault, Follower, peek};
 use program::ExitStatus;
@@ -12,6 +12,9 @@ use std::{io, mem};
 
 /// The number of bytes that one read asks for.
 const CHUNK: usize = 65_536;
+
+/// The work of the command, in reports.
+const WRITE: &str = "write the jobs";
 
 /// Why the jobs of a file aren't written.
 #[derive(Drop)]
@@ -70,11 +73,7 @@ impl JobDays<'_> {
     /// Plays the turns of these bytes.
     fn play(&mut self, bytes: &[u8]) -> Result<(), DayFault> {
         self.follower.add(bytes)?;
-        for _ in 0..u64::MAX {
-            if self.follower.turn()?.is_none() {
-                break;
-            }
-        }
+        self.follower.turns()?;
         Ok(())
     }
 
@@ -150,19 +149,16 @@ fn play_all(
     Ok(ExitStatus::Done)
 }
 
-/// Reports refused memory, and returns the exit status.
-fn no_memory(rt: &HostRuntime, _error: AllocError) -> ExitStatus {
-    cannot(rt, "write the jobs", out_of_memory())
-}
-
 /// Writes the jobs of the days of some files, up to the first line that can't be played. An error is reported, and its
 /// exit status returned.
 pub(crate) fn run_jobs(rt: &HostRuntime, files: &[&str]) -> Result<ExitStatus, ExitStatus> {
-    let mut days = JobDays::new(rt).map_err(|error| no_memory(rt, error))?;
+    let mut days = or_no_memory(rt, WRITE, JobDays::new(rt))?;
     let status = play_all(rt, &mut days, files)?;
-    let table = days.finish().map_err(|error| no_memory(rt, error))?;
-    match io::writer(rt).write_all(&table) {
-        Ok(()) => Ok(status),
-        Err(error) => Err(cannot(rt, "write to standard output", error)),
-    }
+    let table = or_no_memory(rt, WRITE, days.finish())?;
+    or_cannot(
+        rt,
+        "write to standard output",
+        io::writer(rt).write_all(&table),
+    )?;
+    Ok(status)
 }

@@ -29,7 +29,7 @@ mod tape;
 mod zone;
 
 use crate::attaching::run_attach;
-use crate::failure::{cannot, out_of_memory};
+use crate::failure::{cannot, or_no_memory, out_of_memory};
 use crate::jobs::run_jobs;
 use crate::judging::check;
 use crate::page::run_page;
@@ -110,12 +110,11 @@ fn run(rt: &HostRuntime, asked: &Subcommand<'_>) -> Result<ExitStatus, ExitStatu
 /// Runs the program, and returns its exit status. Where the words can't be read or the subcommand fails, the
 /// error is reported, and its exit status returned.
 fn run_words(rt: &HostRuntime) -> Result<ExitStatus, ExitStatus> {
-    let words = words_of(rt).map_err(|error| unread(rt, error))?;
-    let texts = lent(rt, &words).map_err(|error| cannot(
-        rt,
-        "read the command line",
-        io::Error::from(error),
-    ))?;
+    let words = match words_of(rt) {
+        Ok(words) => words,
+        Err(error) => return Err(unread(rt, error)),
+    };
+    let texts = or_no_memory(rt, "read the command line", lent(rt, &words))?;
     match read_words(rt.alloc(), &texts) {
         Ok(asked) => run(rt, &asked),
         Err(error) => Ok(tell(rt, &error)),

@@ -1,5 +1,5 @@
 //! `printd page`: the queue of a recorded day, as a page of HTML.
-use crate::failure::{cannot, cannot_with, out_of_memory, say, write_text};
+use crate::failure::{cannot, or_cannot_with, or_no_memory, out_of_memory, say, write_text};
 use crate::following::follow;
 use crate::input::{INPUT, open};
 use crate::zone::{When, is_fixed, zone_of};
@@ -12,11 +12,14 @@ use queue_reports::{PageOptions, metrics_of, write_page};
 use queue_views::QueueView;
 use recordings::fill;
 use std::alloc::AllocError;
-use std::io::{ErrorKind, Input, Read};
+use std::io::{Input, Read};
 use std::{fs, io};
 
 /// The number of bytes that one read asks for.
 const PIECE: usize = 65_536;
+
+/// The work of the command, in reports.
+pub(crate) const WRITE: &str = "write the page";
 
 /// A day that is read up to a moment.
 #[derive(Drop)]
@@ -29,11 +32,6 @@ struct Reading<'a> {
     /// The moment as a moment of the server, once it is known.
     at: Option<Moment>,
     piece: Vec<u8>,
-}
-
-/// Reports refused memory, and returns the exit status.
-pub(crate) fn no_memory(rt: &HostRuntime, _error: AllocError) -> ExitStatus {
-    cannot(rt, "write the page", out_of_memory())
 }
 
 /// Reports the fault of a day, and returns the exit status.
@@ -52,11 +50,10 @@ pub(crate) fn zones(rt: &HostRuntime, text: &str) -> Result<TimeZoneDatabase, Ex
     if is_fixed(text) {
         return Ok(TimeZoneDatabase::new(rt.alloc()));
     }
-    TimeZoneDatabase::from_env(rt).map_err(|_error| cannot(
-        rt,
-        "read the time zones",
-        out_of_memory(),
-    ))
+    match TimeZoneDatabase::from_env(rt) {
+        Ok(database) => Ok(database),
+        Err(_) => Err(cannot(rt, "read the time zones", out_of_memory())),
+    }
 }
 
 /// The zone of a text. An unknown zone is reported, and its exit status returned.
@@ -108,10 +105,7 @@ impl<'a> Reading<'a> {
         when: Option<When>,
         zone: TimeZone<'a>,
     ) -> Result<Reading<'a>, ExitStatus> {
-        let piece = match vec![in rt.alloc(); 0; PIECE] {
-            Ok(piece) => piece,
-            Err(_) => return Err(cannot(rt, "write the page", out_of_memory())),
-        };
+        let piece = or_no_memory(rt, WRITE, vec![in rt.alloc(); 0; PIECE])?;
         Ok(Reading {
             rt,
             follower: Follower::new(rt.alloc()),
@@ -139,13 +133,9 @@ impl<'a> Reading<'a> {
     /// Reads a file of this name.
     fn read_from<R: Read>(&mut self, name: &str, reader: &mut R) -> Result<(), ExitStatus> {
         let rt = self.rt;
-        self.follower
-            .begin_file(name)
-            .map_err(|error| no_memory(rt, error))?;
+        or_no_memory(rt, WRITE, self.follower.begin_file(name))?;
         for _ in 0..u64::MAX {
-            let count = fill(reader, &mut self.piece).map_err(|error| cannot_with(
-                rt, "read", name, error,
-            ))?;
+            let count = or_cannot_with(rt, "read", name, fill(reader, &mut self.piece))?;
             if count == 0 || self.follower.is_past() {
                 break;
             }
@@ -157,7 +147,7 @@ impl<'a> Reading<'a> {
     /// Takes this number of bytes that were read.
     fn take(&mut self, count: usize) -> Result<(), ExitStatus> {
         let rt = self.rt;
-        add_read(&mut self.follower, &self.piece, count).map_err(|error| no_memory(rt, error))?;
+        or_no_memory(rt, WRITE, add_read(&mut self.follower, &self.piece, count))?;
         for _ in 0..u64::MAX {
             self.look();
             match self.follower.turn() {
@@ -209,7 +199,7 @@ impl<'a> Reading<'a> {
         let moment = self.moment()?;
         match self.follower.view_at(moment) {
             Ok(Some(view)) => Ok(view),
-            Ok(None) | Err(_) => Err(cannot(rt, "write the page", out_of_memory())),
+            Ok(None) | Err(_) => Err(cannot(rt, WRITE, out_of_memory())),
         }
     }
 }
@@ -217,17 +207,12 @@ impl<'a> Reading<'a> {
 /// Writes a text to a file, in place of what is there: at each moment the file is whole. An error is reported, and its
 /// exit status returned.
 pub(crate) fn put_file(rt: &HostRuntime, file: &str, text: &str) -> Result<(), ExitStatus> {
-    match replace(rt, file, text) {
-        Ok(()) => Ok(()),
-        Err(error) => Err(cannot_with(rt, "write to", file, error)),
-    }
+    or_cannot_with(rt, "write to", file, replace(rt, file, text))
 }
 
 /// Writes a text to `FILE.new`, and renames that to the file.
 fn replace(rt: &HostRuntime, file: &str, text: &str) -> io::Result<()> {
-    let beside = format!(in rt.alloc(); "{file}.new").map_err(|_error| io::Error::from(
-        ErrorKind::OutOfMemory,
-    ))?;
+    let beside = format!(in rt.alloc(); "{file}.new")?;
     fs::write(rt, &beside, text.as_bytes())?;
     fs::rename(rt, &beside, file)
 }
@@ -241,7 +226,7 @@ pub(crate) fn put_metrics(
     let Some(file) = file else {
         return Ok(());
     };
-    let text = metrics_of(rt.alloc(), view).map_err(|error| no_memory(rt, error))?;
+    let text = or_no_memory(rt, WRITE, metrics_of(rt.alloc(), view))?;
     put_file(rt, file, &text)
 }
 
@@ -256,23 +241,32 @@ pub(crate) fn run_page(rt: &HostRuntime, paging: &Paging<'_>) -> Result<ExitStat
     }
 }
 
+/// The view of a recorded day at the moment of its page. An error is reported, and its exit status returned.
+fn view_of_day(
+    rt: &HostRuntime,
+    paging: &Paging<'_>,
+    zone: TimeZone<'_>,
+) -> Result<QueueView, ExitStatus> {
+    let when = when_of(rt, paging.at)?;
+    let mut reading = Reading::new(rt, when, zone)?;
+    reading.read(&paging.files)?;
+    reading.view()
+}
+
 /// Writes the page of a recorded day. An error is reported, and its exit status returned.
 fn write_day(
     rt: &HostRuntime,
     paging: &Paging<'_>,
     zone: TimeZone<'_>,
 ) -> Result<ExitStatus, ExitStatus> {
-    let when = when_of(rt, paging.at)?;
-    let mut reading = Reading::new(rt, when, zone)?;
-    reading.read(&paging.files)?;
-    let view = reading.view()?;
+    let view = view_of_day(rt, paging, zone)?;
     let options = PageOptions {
         zone,
         names: paging.names,
         refresh: None,
         quiet_since: None,
     };
-    let page = write_page(rt.alloc(), &view, &options).map_err(|error| no_memory(rt, error))?;
+    let page = or_no_memory(rt, WRITE, write_page(rt.alloc(), &view, &options))?;
     put_metrics(rt, paging.metrics, &view)?;
     match paging.to {
         Some(file) => put_file(rt, file, &page).map(|()| ExitStatus::Done),

@@ -39,13 +39,25 @@ fn draw_plan(rt: &HostRuntime, file: Option<&str>, form: Form) -> Result<ExitSta
 }
 
 /// Reports why a trace has no day, and returns the exit status.
-pub(crate) fn refuse_day(rt: &HostRuntime, what: &str, fault: &DayFault) -> ExitStatus {
+fn refuse_day(rt: &HostRuntime, what: &str, fault: &DayFault) -> ExitStatus {
     match fault {
         DayFault::Refused { sentence } => {
             say(rt, sentence);
             ExitStatus::Refused
         }
         DayFault::OutOfMemory => cannot(rt, what, out_of_memory()),
+    }
+}
+
+/// What a day gave. A fault is reported, and its exit status returned.
+pub(crate) fn or_refused<T>(
+    rt: &HostRuntime,
+    what: &str,
+    played: Result<T, DayFault>,
+) -> Result<T, ExitStatus> {
+    match played {
+        Ok(value) => Ok(value),
+        Err(fault) => Err(refuse_day(rt, what, &fault)),
     }
 }
 
@@ -83,7 +95,7 @@ pub(crate) fn written_trace(
 fn draw_trace(rt: &HostRuntime, file: &str, form: Form) -> Result<ExitStatus, ExitStatus> {
     let trace = written_trace(rt, file, read_file(rt, file)?)?;
     let drawn = draw_day(rt.alloc(), file, &trace.text, trace.first, form);
-    let picture = drawn.map_err(|fault| refuse_day(rt, "draw the day", &fault))?;
+    let picture = or_refused(rt, "draw the day", drawn)?;
     write_text(rt, &picture)
 }
 

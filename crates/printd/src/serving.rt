@@ -1,7 +1,7 @@
 //! The server over the system's sockets.
 ghost use Rattle.settings_file.specs.Settings.{MeetsLimits};
 
-use crate::failure::{cannot, cannot_with};
+use crate::failure::{cannot, cannot_with, or_cannot};
 use crate::log_output::{LogFile, LogOutput};
 use crate::settings::{built_in_text, read_file, settings_in};
 use crate::spooling::{SettingsText, serve_spooled};
@@ -36,9 +36,9 @@ fn listen_at(
             door,
             address: *address,
         };
-        sockets
-            .listen(rt, listening)
-            .map_err(|error| cannot_listen(rt, listening, error))?;
+        if let Err(error) = sockets.listen(rt, listening) {
+            return Err(cannot_listen(rt, listening, error));
+        }
     }
     Ok(())
 }
@@ -69,16 +69,13 @@ fn announce_all(rt: &HostRuntime, sockets: &Sockets) -> io::Result<()> {
 
 /// Writes where all doors listen. An error is reported, and its exit status returned.
 pub(crate) fn announce_doors(rt: &HostRuntime, sockets: &Sockets) -> Result<(), ExitStatus> {
-    announce_all(rt, sockets).map_err(|error| cannot(rt, "write to standard output", error))
+    or_cannot(rt, "write to standard output", announce_all(rt, sockets))
 }
 
 /// Opens the sockets of all doors. An error is reported, and its exit status returned.
 fn open(rt: &HostRuntime, serving: &Serving<'_>) -> Result<Sockets, ExitStatus> {
-    let mut sockets = Sockets::new(rt.alloc(), rt).map_err(|error| cannot(
-        rt,
-        "ask the system what happens at sockets",
-        error,
-    ))?;
+    let made = Sockets::new(rt.alloc(), rt);
+    let mut sockets = or_cannot(rt, "ask the system what happens at sockets", made)?;
     listen_at(rt, &mut sockets, Door::Ipp, &serving.ipp)?;
     listen_at(rt, &mut sockets, Door::Lpd, &serving.lpd)?;
     listen_at(rt, &mut sockets, Door::Devices, &serving.devices)?;

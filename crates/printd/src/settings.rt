@@ -2,7 +2,9 @@
 ghost use Rattle.std.specs.Prelude.{IfOk};
 ghost use Rattle.settings_file.specs.Settings.{MeetsLimits};
 
-use crate::failure::{cannot, cannot_with};
+use crate::failure::{
+    cannot, end_written, or_cannot, or_cannot_with, or_no_memory, or_no_memory_with, write_text,
+};
 use announcements::{Ports, ipp_port, only_printer, printer_named, write_service};
 use command_line::AboutSettings;
 use program::{BUILT_IN_SETTINGS, ExitStatus, read_or_refuse};
@@ -15,17 +17,13 @@ use std::{fs, io};
 /// Reports the fault in the settings of a file, if there is a fault. An error is reported, and its exit
 /// status returned.
 fn say_fault(rt: &HostRuntime, file: &str, bytes: &[u8]) -> Result<(), ExitStatus> {
-    let told = explain(rt.alloc(), file, bytes).map_err(|error| cannot_with(
-        rt,
-        "read",
-        file,
-        io::Error::from(error),
-    ))?;
-    if let Some(sentence) = told {
-        let sentence = Escaped(sentence.as_bytes());
-        eprintln!(rt; "{sentence}").map_err(|error| cannot(rt, "write to standard error", error))?;
+    match or_no_memory_with(rt, "read", file, explain(rt.alloc(), file, bytes))? {
+        Some(sentence) => {
+            let sentence = Escaped(sentence.as_bytes());
+            or_cannot(rt, "write to standard error", eprintln!(rt; "{sentence}"))
+        }
+        None => Ok(()),
     }
-    Ok(())
 }
 
 /// The settings of the text of a file. The first fault of a refused text is reported in a sentence, and then
@@ -51,45 +49,27 @@ pub(crate) fn settings_of(rt: &HostRuntime, file: &str) -> Result<Settings, Exit
 
 /// The bytes of a file. An error is reported, and its exit status returned.
 pub(crate) fn read_file(rt: &HostRuntime, file: &str) -> Result<Vec<u8>, ExitStatus> {
-    fs::read(rt, file).map_err(|error| cannot_with(rt, "read", file, error))
+    or_cannot_with(rt, "read", file, fs::read(rt, file))
 }
 
 /// The text of the built-in settings. An error is reported, and its exit status returned.
 pub(crate) fn built_in_text(rt: &HostRuntime) -> Result<Vec<u8>, ExitStatus> {
-    let mut text = Vec::new(rt.alloc());
-    match text.extend_from_slice(BUILT_IN_SETTINGS.as_bytes()) {
-        Ok(()) => Ok(text),
-        Err(error) => Err(cannot(
-            rt,
-            "read the settings that are built in",
-            io::Error::from(error),
-        )),
-    }
+    let text = Vec::from_slice(rt.alloc(), BUILT_IN_SETTINGS.as_bytes());
+    or_no_memory(rt, "read the settings that are built in", text)
 }
 
 /// Shows the built-in settings.
 fn show_built_in(rt: &HostRuntime) -> Result<ExitStatus, ExitStatus> {
-    match print!(rt; "{BUILT_IN_SETTINGS}") {
-        Ok(()) => Ok(ExitStatus::Done),
-        Err(error) => Err(cannot(rt, "write to standard output", error)),
-    }
+    write_text(rt, BUILT_IN_SETTINGS)
 }
 
 /// Writes what the settings of a file allow and hardly mean, in a line of standard error for each.
 fn advise(rt: &HostRuntime, file: &str, settings: &Settings) -> Result<(), ExitStatus> {
-    let advice = advice_on(rt.alloc(), settings).map_err(|error| cannot_with(
-        rt,
-        "read",
-        file,
-        io::Error::from(error),
-    ))?;
+    let advice = or_no_memory_with(rt, "read", file, advice_on(rt.alloc(), settings))?;
     let file = Escaped(file.as_bytes());
     for one in &advice {
-        eprintln!(rt; "printd: {file}: warning: {one}").map_err(|error| cannot(
-            rt,
-            "write to standard error",
-            error,
-        ))?;
+        let said = eprintln!(rt; "printd: {file}: warning: {one}");
+        or_cannot(rt, "write to standard error", said)?;
     }
     Ok(())
 }
@@ -98,10 +78,7 @@ fn advise(rt: &HostRuntime, file: &str, settings: &Settings) -> Result<(), ExitS
 fn judge(rt: &HostRuntime, file: &str) -> Result<ExitStatus, ExitStatus> {
     let settings = settings_of(rt, file)?;
     advise(rt, file, &settings)?;
-    match println!(rt; "ok") {
-        Ok(()) => Ok(ExitStatus::Done),
-        Err(error) => Err(cannot(rt, "write to standard output", error)),
-    }
+    end_written(rt, println!(rt; "ok"))
 }
 
 /// Reports that no printer is announced, and why, in a line of standard error. Returns the exit status.
@@ -140,16 +117,9 @@ fn announce(
         lpd,
     };
     let mut text = Vec::new(rt.alloc());
-    write_service(rt.alloc(), &settings, found, ports, &mut text).map_err(|error| cannot_with(
-        rt,
-        "announce",
-        file,
-        io::Error::from(error),
-    ))?;
-    match io::writer(rt).write_all(&text) {
-        Ok(()) => Ok(ExitStatus::Done),
-        Err(error) => Err(cannot(rt, "write to standard output", error)),
-    }
+    let made = write_service(rt.alloc(), &settings, found, ports, &mut text);
+    or_no_memory_with(rt, "announce", file, made)?;
+    end_written(rt, io::writer(rt).write_all(&text))
 }
 
 /// Runs `printd settings`. An error is reported, and its exit status returned.

@@ -1,7 +1,7 @@
 //! `printd simulate`.
 
-use crate::failure::{cannot, out_of_memory, say, write_text};
-use crate::pictures::{WrittenTrace, form_of, refuse_day, written_trace};
+use crate::failure::{cannot, or_no_memory, out_of_memory, write_text};
+use crate::pictures::{WrittenTrace, form_of, or_refused, written_trace};
 use crate::settings::{read_file, settings_of};
 use command_line::Simulating;
 use drawing::Form;
@@ -81,10 +81,12 @@ fn added_of<'a>(
 
 /// The policy with this name; `None` for any other name.
 fn policy_named(name: &str) -> Option<Policy> {
-    Policy::ALL
-        .iter()
-        .copied()
-        .find(|policy| policy.name() == name)
+    for &policy in &Policy::ALL {
+        if policy.name() == name {
+            return Some(policy);
+        }
+    }
+    None
 }
 
 /// The policies with these names. The only error is out of memory.
@@ -202,7 +204,7 @@ fn jobs_of(
     let text = read_file(rt, file)?;
     if split_settings(&text).is_some() {
         let trace = written_trace(rt, file, text)?;
-        jobs_of_trace(rt, file, &trace, settings).map_err(|fault| refuse_day(rt, PLAY, &fault))
+        or_refused(rt, PLAY, jobs_of_trace(rt, file, &trace, settings))
     } else {
         jobs_of_list(rt, file, &text, settings, reports)
     }
@@ -269,7 +271,7 @@ fn play_one(
     let mut progress = DayProgress::new(rt);
     let played = run_simulation(rt.alloc(), settings, &jobs, question, &mut progress);
     progress.end();
-    played.map_err(|fault| refuse_day(rt, PLAY, &fault))
+    or_refused(rt, PLAY, played)
 }
 
 /// Adds the figures of the day of a file on a set of devices, whose settings are in another. An error is reported,
@@ -292,7 +294,7 @@ fn compare_one(
     let mut progress = DayProgress::new(rt);
     let played = comparison.play(round, settings, &jobs, question, &mut progress);
     progress.end();
-    played.map_err(|fault| refuse_day(rt, PLAY, &fault))
+    or_refused(rt, PLAY, played)
 }
 
 /// The sets of devices that are played: for each file of settings one or, with `--each`, the settings as they
@@ -412,13 +414,13 @@ fn compare(
     sets: &[DeviceSet<'_>],
 ) -> Result<String, ExitStatus> {
     let comparison = compare_all(rt, simulating, policies, sets)?;
-    let names = names_of(rt, sets).map_err(|_| cannot(rt, PLAY, out_of_memory()))?;
+    let names = or_no_memory(rt, PLAY, names_of(rt, sets))?;
     let text = if simulating.csv {
         comparison.csv(&names, &simulating.jobs, simulating.load)
     } else {
         comparison.table(&names)
     };
-    text.map_err(|_| cannot(rt, PLAY, out_of_memory()))
+    or_no_memory(rt, PLAY, text)
 }
 
 /// Plays the days, and returns the text of the results. An error is reported, and its exit status returned.
@@ -442,9 +444,9 @@ pub(crate) fn run_simulate(
     rt: &HostRuntime,
     simulating: &Simulating<'_>,
 ) -> Result<ExitStatus, ExitStatus> {
-    let added = added_of(rt, simulating).map_err(|_| cannot(rt, PLAY, out_of_memory()))?;
-    let policies = policies_of(rt, simulating).map_err(|_| cannot(rt, PLAY, out_of_memory()))?;
-    let sets = sets_of(rt, simulating, &added).map_err(|_| cannot(rt, PLAY, out_of_memory()))?;
+    let added = or_no_memory(rt, PLAY, added_of(rt, simulating))?;
+    let policies = or_no_memory(rt, PLAY, policies_of(rt, simulating))?;
+    let sets = or_no_memory(rt, PLAY, sets_of(rt, simulating, &added))?;
     let text = play(rt, simulating, &policies, &sets)?;
     write_text(rt, &text)
 }

@@ -1,7 +1,7 @@
 //! The server whose queue survives a restart.
 ghost use Rattle.settings_file.specs.Settings.{MeetsLimits};
 
-use crate::failure::{cannot, out_of_memory, say};
+use crate::failure::{cannot, or_cannot, or_no_memory, out_of_memory, say};
 use crate::log_output::LogOutput;
 use crate::serving::announce_doors;
 use crate::settings::settings_in;
@@ -15,11 +15,12 @@ use server::Engine;
 use settings_file::Settings;
 use sockets::Sockets;
 use spool_directory::{SpoolDirectory, SpoolFault, SpoolFiles, SpoolOptions, StartingServer};
-use std::alloc::{AllocError, Global};
-use std::io;
 
 /// The ms of a day.
 const DAY: u64 = 86_400_000;
+
+/// The work of the server, in reports.
+const SERVE: &str = "go on serving";
 
 /// The settings of a server: the name of their file in reports, and their text.
 #[derive(Clone, Copy)]
@@ -39,15 +40,15 @@ struct SpooledDay {
     turns: u64,
 }
 
-/// Reports the fault of a directory, and returns the exit status.
-fn refused(rt: &HostRuntime, fault: &SpoolFault) -> ExitStatus {
-    say(rt, fault);
-    ExitStatus::Failed
-}
-
-/// Reports refused memory, and returns the exit status.
-fn no_memory(rt: &HostRuntime, _error: AllocError) -> ExitStatus {
-    cannot(rt, "go on serving", out_of_memory())
+/// What a directory gave. A fault is reported, and its exit status returned.
+fn or_refused<T>(rt: &HostRuntime, given: Result<T, SpoolFault>) -> Result<T, ExitStatus> {
+    match given {
+        Ok(value) => Ok(value),
+        Err(fault) => {
+            say(rt, &fault);
+            Err(ExitStatus::Failed)
+        }
+    }
 }
 
 /// Opens the directory, and starts from its journal. A fault is reported, and its exit status returned.
@@ -65,13 +66,8 @@ fn start_in<'a>(
         reprint: spooling.reprint,
         version: VERSION,
     };
-    let directory = SpoolDirectory::open(rt, spooling.directory).map_err(|fault| refused(
-        rt, &fault,
-    ))?;
-    match directory.start(text, settings, options) {
-        Ok(start) => Ok(start),
-        Err(fault) => Err(refused(rt, &fault)),
-    }
+    let directory = or_refused(rt, SpoolDirectory::open(rt, spooling.directory))?;
+    or_refused(rt, directory.start(text, settings, options))
 }
 
 /// The moment at which the journal is a day old, where the last turn was at another.
@@ -90,7 +86,7 @@ fn fresh_engine(
     let alloc = rt.alloc();
     let given = settings_in(rt, settings.file, settings.text)?;
     let planner = Pausable::new(AugmentingPaths::new(alloc));
-    Engine::starting_at(alloc, given, planner, first).map_err(|error| no_memory(rt, error))
+    or_no_memory(rt, SERVE, Engine::starting_at(alloc, given, planner, first))
 }
 
 /// Begins the journal anew. An error is reported, and its exit status returned.
@@ -101,14 +97,12 @@ fn begin_anew(
     server: Server,
     turns: u64,
 ) -> Result<SpooledDay, ExitStatus> {
-    let first = server
-        .engine()
-        .next_job_id()
-        .ok_or_else(|| cannot(rt, "begin the journal anew", out_of_memory()))?;
+    let Some(first) = server.engine().next_job_id() else {
+        return Err(cannot(rt, "begin the journal anew", out_of_memory()));
+    };
     let mut engine = fresh_engine(rt, settings, first)?;
-    files
-        .begin_anew(settings.text, first, server.engine(), &mut engine)
-        .map_err(|fault| refused(rt, &fault))?;
+    let begun = files.begin_anew(settings.text, first, server.engine(), &mut engine);
+    or_refused(rt, begun)?;
     Ok(SpooledDay {
         sockets: server.into_sockets(),
         engine,
@@ -136,22 +130,18 @@ fn serve_day(
     } = day;
     let end = end_of_day(files, last);
     let mut server = Server::journaled(alloc, sockets, engine, names);
-    server
-        .date(rt, last)
-        .map_err(|error| cannot(rt, "read the clock", error))?;
+    or_cannot(rt, "read the clock", server.date(rt, last))?;
     match serve_journaled(alloc, rt, &mut server, turns, last, end, log, files) {
         Ok(Ended::Served) => Ok(None),
         Ok(Ended::Quiet { left }) => Ok(Some(begin_anew(rt, settings, files, server, left)?)),
-        Err(error) => Err(cannot(rt, "go on serving", error)),
+        Err(error) => Err(cannot(rt, SERVE, error)),
     }
 }
 
 /// The names of the devices of settings. An error is reported, and its exit status returned.
 fn names_in(rt: &HostRuntime, settings: SettingsText<'_>) -> Result<Vec<Text>, ExitStatus> {
     let given = settings_in(rt, settings.file, settings.text)?;
-    given
-        .device_names(rt.alloc())
-        .map_err(|error| no_memory(rt, error))
+    or_no_memory(rt, SERVE, given.device_names(rt.alloc()))
 }
 
 /// Serves with these settings over these sockets, and keeps the queue in a directory. An error is reported, and its

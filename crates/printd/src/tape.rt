@@ -1,22 +1,18 @@
 //! The files of a recording.
-use crate::failure::{cannot_with, out_of_memory};
+use crate::failure::{cannot_with, or_cannot_with, out_of_memory};
 use command_line::VERSION;
 use daemon::Tape;
 use program::ExitStatus;
 use recordings::{put_goes_on, put_start};
-use spool_directory::leads_to;
+use spool_directory::{day_of, leads_to, millis_of, now};
 use std::alloc::AllocError;
 use std::fs::{File, OpenOptions, metadata};
 use std::io;
 use std::io::{ErrorKind, Write};
 use std::os::unix::fs::OpenOptionsExt;
-use std::time::{Duration, SystemTime};
 
 /// The most files of one name.
 pub(crate) const MOST_FILES: u32 = 1_000_000;
-
-/// The seconds of a day.
-const DAY: u64 = 86_400;
 
 /// The files of a recording: the first file, and a further file for each day that begins. Only its owner can
 /// read a file.
@@ -35,14 +31,6 @@ pub(crate) struct TapeFiles<'a> {
     day: u64,
     /// Whether the path of the open file was seen to lead to it no more.
     missing: bool,
-}
-
-/// The time since the beginning of 1970; 0 where the clock is before 1970.
-fn now(rt: &HostRuntime) -> io::Result<Duration> {
-    match SystemTime::now(rt)?.duration_since(SystemTime::UNIX_EPOCH) {
-        Ok(passed) => Ok(passed),
-        Err(_) => Ok(Duration::from_millis(0)),
-    }
 }
 
 /// The place of the point before the last part of a file's name; the end of the path where the name has
@@ -90,11 +78,6 @@ fn make(rt: &HostRuntime, name: &str) -> io::Result<Option<File>> {
     }
 }
 
-/// The time in ms, since the beginning of 1970.
-fn millis_of(time: Duration) -> u64 {
-    u64::try_from(time.as_millis()).unwrap_or(0)
-}
-
 impl<'a> TapeFiles<'a> {
     /// Creates a recording without any open file.
     pub(crate) fn new(
@@ -117,10 +100,7 @@ impl<'a> TapeFiles<'a> {
 
     /// Begins the first file. An error is reported, and its exit status returned.
     pub(crate) fn begin(&mut self) -> Result<(), ExitStatus> {
-        match self.open_first() {
-            Ok(()) => Ok(()),
-            Err(error) => Err(cannot_with(self.rt, "record to", self.path, error)),
-        }
+        or_cannot_with(self.rt, "record to", self.path, self.open_first())
     }
 
     /// Opens the first file, and writes its start. The error is the system's, or that the path leads to a folder.
@@ -139,7 +119,7 @@ impl<'a> TapeFiles<'a> {
             VERSION,
             self.heads,
         )?;
-        self.day = began.as_secs() / DAY;
+        self.day = day_of(began);
         self.open_next()?;
         self.write(&text)
     }
@@ -165,7 +145,7 @@ impl<'a> TapeFiles<'a> {
 
     /// Goes on in another file where another day has begun.
     fn turn_over(&mut self) -> io::Result<()> {
-        let day = now(self.rt)?.as_secs() / DAY;
+        let day = day_of(now(self.rt)?);
         if day == self.day {
             return Ok(());
         }

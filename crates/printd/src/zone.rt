@@ -1,6 +1,6 @@
 //! The zone of clock times, and the moments that people write.
 use jiff::Timestamp;
-use jiff::civil::{DateTime, Time};
+use jiff::civil::{Date, DateTime, Time};
 use jiff::tz::{Offset, TimeZone, TimeZoneDatabase};
 use queue_views::Clock;
 use std::str::FromStr;
@@ -96,15 +96,19 @@ impl When {
     }
 }
 
+/// The instant at which a clock in the zone shows a time on a day.
+fn instant_of(day: Date, time: Time, zone: TimeZone<'_>) -> Option<Timestamp> {
+    zone.to_timestamp(DateTime::from_parts(day, time)).ok()
+}
+
 /// The first instant after the start at which a clock in the zone shows a time.
 fn first_at(time: Time, clock: &Clock, zone: TimeZone<'_>) -> Option<Timestamp> {
     let start = i64::try_from(clock.time_at(0)?).ok()?;
     let began = Timestamp::from_millisecond(start).ok()?;
     let today = zone.to_datetime(began).date();
-    let first = zone.to_timestamp(DateTime::from_parts(today, time)).ok()?;
+    let first = instant_of(today, time, zone)?;
     if first >= began {
         return Some(first);
     }
-    let tomorrow = today.tomorrow().ok()?;
-    zone.to_timestamp(DateTime::from_parts(tomorrow, time)).ok()
+    instant_of(today.tomorrow().ok()?, time, zone)
 }
