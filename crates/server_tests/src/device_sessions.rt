@@ -74,7 +74,7 @@ const SESSIONS: [DeviceSession; 8] = [
 ];
 
 /// A wire with a client that prints, and devices that write these octets.
-fn print_room(
+pub(crate) fn print_room(
     alloc: Global,
     printed: &[u8],
     written: &[&[u8]],

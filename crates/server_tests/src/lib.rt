@@ -1,4 +1,5 @@
-//! Tests of the core's runs, of the engine over a wire in memory, and of a server over the system's sockets.
+//! Tests of the core's runs, of the engine over a wire in memory, of its restarts from a journal, and of a server over
+//! the system's sockets.
 #![tactic(auto)]
 
 #[cfg(test)]
@@ -17,3 +18,5 @@ mod in_memory;
 mod lpd_sessions;
 #[cfg(test)]
 mod over_sockets;
+#[cfg(test)]
+mod restarts;
