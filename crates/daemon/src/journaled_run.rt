@@ -59,7 +59,7 @@ pub fn serve_journaled<W: Write, T: Storage>(
                 left: turns - taken,
             });
         }
-        server.rest(pace.time_left(server.kept(), moment, PAUSE))?;
+        server.wait_for_work(pace.time_left(server.kept(), moment, PAUSE))?;
     }
     store_all(server, storage)?;
     Ok(Ended::Served)

@@ -123,7 +123,7 @@ fn take_turns<W: Write, T: Tape>(
         let moment = moment_since(clock, &start)?;
         take_turn(server, moment, log);
         let pause = write_recording(server, recorder, moment);
-        server.rest(pause)?;
+        server.wait_for_work(pause)?;
     }
     finish(server, recorder);
     Ok(())

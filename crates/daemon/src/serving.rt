@@ -365,7 +365,7 @@ impl Server {
     /// Waits until the poll reports an event, a peer has been silent for too long, or `most` ms have passed.
     /// It doesn't wait if the turns since the last call had work to do. Then the system is asked for events,
     /// but while bytes are left to read, only once in a ms.
-    pub fn rest(&mut self, most: u64) -> io::Result<()>
+    pub fn wait_for_work(&mut self, most: u64) -> io::Result<()>
         ensures { Rests self.old self.new }
     {
         let sockets = &mut self.wire.wire.wire;

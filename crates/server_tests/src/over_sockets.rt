@@ -71,7 +71,7 @@ fn connect(rt: &HostRuntime, server: &Server) -> io::Result<TcpStream> {
 fn turns(server: &mut Server, count: usize) -> io::Result<()> {
     for _turn in 0..count {
         server.turn(Moment::start());
-        server.rest(2)?;
+        server.wait_for_work(2)?;
     }
     Ok(())
 }
@@ -149,7 +149,7 @@ fn one_waits_for_a_place(rt: &HostRuntime, server: &mut Server) -> io::Result<bo
 fn turns_at(server: &mut Server, millis: u64) -> io::Result<()> {
     for _turn in 0..3 {
         server.turn(Moment::new(millis).unwrap_or(Moment::start()));
-        server.rest(2)?;
+        server.wait_for_work(2)?;
     }
     Ok(())
 }
@@ -213,7 +213,7 @@ fn log_turns(server: &mut Server, log: &mut Vec<u8>) -> io::Result<()> {
     for _turn in 0..TURNS {
         let lines = server.turn_logged(Moment::start())?;
         log.extend_from_slice(&lines)?;
-        server.rest(2)?;
+        server.wait_for_work(2)?;
     }
     Ok(())
 }

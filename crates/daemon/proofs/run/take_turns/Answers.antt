@@ -12,18 +12,18 @@ pub loop-preserved : goal.loop-preserved
 loop-preserved g c =
     let (moments, served, count) = c.loop.invariant in
     let moment = c.in_ok-moment.moment in
-    let idles = idles_then c.take_turn.new.server c.write_recording-pause.new.server c.rest.new.self c.write_recording-pause.ensures c.rest.ensures.0 in
-    (moments ++ moment ∷ [], one_more moments moment c.args.server.now c.loop.server c.take_turn.new.server c.rest.new.self served c.take_turn.ensures idles, omega (arith, length-append moments (moment ∷ [])))
+    let idles = idles_then c.take_turn.new.server c.write_recording-pause.new.server c.wait_for_work.new.self c.write_recording-pause.ensures c.wait_for_work.ensures.0 in
+    (moments ++ moment ∷ [], one_more moments moment c.args.server.now c.loop.server c.take_turn.new.server c.wait_for_work.new.self served c.take_turn.ensures idles, omega (arith, length-append moments (moment ∷ [])))
 
 pub returns-in_err-moment : goal.returns-in_err-moment
 returns-in_err-moment g c = let (moments, served, count) = c.loop.invariant in (moments, served, search rules)
 
-pub returns-in_err-rest : goal.returns-in_err-rest
-returns-in_err-rest g c =
+pub returns-in_err-wait_for_work : goal.returns-in_err-wait_for_work
+returns-in_err-wait_for_work g c =
     let (moments, served, count) = c.loop.invariant in
     let moment = c.in_ok-moment.moment in
-    let idles = idles_then c.take_turn.new.server c.write_recording-pause.new.server c.rest.new.self c.write_recording-pause.ensures c.rest.ensures.0 in
-    (moments ++ moment ∷ [], one_more moments moment c.args.server.now c.loop.server c.take_turn.new.server c.rest.new.self served c.take_turn.ensures idles, search rules)
+    let idles = idles_then c.take_turn.new.server c.write_recording-pause.new.server c.wait_for_work.new.self c.write_recording-pause.ensures c.wait_for_work.ensures.0 in
+    (moments ++ moment ∷ [], one_more moments moment c.args.server.now c.loop.server c.take_turn.new.server c.wait_for_work.new.self served c.take_turn.ensures idles, search rules)
 
 pub returns : goal.returns
 returns g c =
