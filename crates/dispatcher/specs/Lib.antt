@@ -20,5 +20,5 @@ pub mod Step
 pub mod OneStep
 pub mod Keeping
 pub mod Notes
-pub mod Plans
+pub mod Following
 pub mod Run

@@ -1,36 +1,22 @@
-//! The outcome of an event.
-ghost use Rattle.std.specs.Prelude.{◌≡◌};
-ghost use Rattle.dispatcher.specs.Run.{effects_of};
-
+//! What the core did on an event.
 use events::Effects;
 
-/// The outcome of an event.
-#[derive(Drop)]
-pub enum Outcome {
-    /// Memory was refused: the event was dropped, and nothing changed. A tick, a device's report and a
-    /// rejected request are never dropped.
-    Dropped,
-    /// The event was a query. Its effects.
-    Queried(Effects),
-    /// The event's effects. Memory for the dispatch after it was refused, and the dispatch changed nothing.
-    Undispatched(Effects),
-    /// The event's effects. No job is ready, and no plan was made.
-    Idle(Effects),
-    /// The event's effects. A plan was made; [`crate::Core::begun`] has the jobs that began with it.
-    Dispatched(Effects),
+/// The dispatch after an event.
+#[derive(Clone, Copy)]
+pub enum Dispatch {
+    /// The event was a query, which no dispatch follows.
+    Query,
+    /// Memory was refused, and the dispatch changed nothing.
+    OutOfMemory,
+    /// No job is ready, and no plan was made.
+    Idle,
+    /// A plan was made; [`crate::Core::begun`] has the jobs that began with it.
+    Planned,
 }
 
-impl Outcome {
-    /// The effects, unless the event was dropped.
-    pub fn into_effects(self) -> Option<Effects>
-        ensures { result ≡ effects_of self }
-    {
-        match self {
-            Outcome::Dropped => None,
-            Outcome::Queried(effects) => Some(effects),
-            Outcome::Undispatched(effects) => Some(effects),
-            Outcome::Idle(effects) => Some(effects),
-            Outcome::Dispatched(effects) => Some(effects),
-        }
-    }
+/// An event that was handled: the effects of its step, and the dispatch after it.
+#[derive(Drop)]
+pub struct Handled {
+    pub effects: Effects,
+    pub dispatch: Dispatch,
 }

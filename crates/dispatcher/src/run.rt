@@ -3,10 +3,10 @@
 ghost use Rattle.std.specs.Prelude.{◌≡◌, max, IfOk, OnErr, map};
 ghost use Rattle.dispatcher.specs.Notes.{Canceled, Notifies};
 ghost use Rattle.dispatcher.specs.Run.{Comes, Run};
-ghost use Rattle.dispatcher.specs.Plans.{PlansAs};
+ghost use Rattle.dispatcher.specs.Following.{FollowsNotified};
 
+use crate::handled::{Dispatch, Handled};
 use crate::observer::{AllocationSite, Observer};
-use crate::outcome::Outcome;
 use crate::server_core::Core;
 use base_types::Moment;
 use events::{Cancel, Event};
@@ -20,66 +20,58 @@ pub struct Timed {
     pub moment: Moment,
 }
 
-/// The result of a dispatch.
-#[derive(Clone, Copy)]
-enum Made {
-    /// Memory was refused.
-    Refused,
-    /// No job is ready.
-    Idle,
-    /// A plan was made, and jobs may have begun.
-    Planned,
-}
-
 impl<P: Planner + Drop> Core<P> {
     /// Takes the step of an event, and dispatches unless the event is a query. The observer is notified of
-    /// the cancels and of the dispatch.
+    /// the cancels and of the dispatch. `None` if memory was refused: the event was dropped, and nothing changed.
+    /// A tick, a device's report and a rejected request are never dropped.
     ///
     /// Whenever a plan is made, its priority classes are planned from the highest down. Given when the classes
     /// above leave each device free, each class has the least total of estimated completion times among all
     /// ways to assign its ready jobs to capable devices and order them. The plan's prices prove that to the
     /// checker, which reads the plan alone. Each ready job without a capable device is named.
-    pub fn handle<L: Observer>(&mut self, timed: Timed, observer: &mut L) -> Outcome
+    pub fn handle<L: Observer>(&mut self, timed: Timed, observer: &mut L) -> Option<Handled>
         ensures { Comes L.notified self.old observer.old timed result self.new observer.new }
     {
         let Timed { event, moment } = timed;
         let is_query = event.is_query();
         let Ok(effects) = self.apply(event, moment) else {
-            return Outcome::Dropped;
+            return None;
         };
         notify_cancels(&effects.cancels, observer);
-        if is_query {
-            return Outcome::Queried(effects);
-        }
-        match self.plan(moment, observer) {
-            Made::Refused => Outcome::Undispatched(effects),
-            Made::Idle => Outcome::Idle(effects),
-            Made::Planned => Outcome::Dispatched(effects),
-        }
+        let dispatch = self.dispatch_after(is_query, moment, observer);
+        Some(Handled { effects, dispatch })
     }
 
-    /// Dispatches, and notifies the observer.
-    fn plan<L: Observer>(&mut self, moment: Moment, observer: &mut L) -> Made
-        ensures { PlansAs L.notified (max moment self.old.last) self.old observer.old result self.new observer.new }
+    /// Dispatches after an event, unless the event is a query, and notifies the observer.
+    fn dispatch_after<L: Observer>(
+        &mut self,
+        is_query: bool,
+        moment: Moment,
+        observer: &mut L,
+    ) -> Dispatch
+        ensures { FollowsNotified L.notified is_query (max moment self.old.last) self.old observer.old result self.new observer.new }
     {
+        if is_query {
+            return Dispatch::Query;
+        }
         match self.dispatch(moment) {
             Ok(true) => {
                 observer.dispatched(&self.dispatched(true));
-                Made::Planned
+                Dispatch::Planned
             }
             Ok(false) => {
                 observer.dispatched(&self.dispatched(false));
-                Made::Idle
+                Dispatch::Idle
             }
             Err(_) => {
                 observer.refused(AllocationSite::Dispatch, None);
-                Made::Refused
+                Dispatch::OutOfMemory
             }
         }
     }
 
     /// Takes the steps of events, one after the other, each with a dispatch after it unless it is a query.
-    /// Returns the outcome of each event. The observer is notified of the cancels and of each plan with the jobs
+    /// Returns what was done on each. The observer is notified of the cancels and of each plan with the jobs
     /// that began.
     ///
     /// For each list of requests, moments and device reports, whenever a plan is made, its priority classes are
@@ -88,21 +80,21 @@ impl<P: Planner + Drop> Core<P> {
     /// and order them. The plan's prices prove that to the checker, which reads the plan alone. Each ready job
     /// without a capable device is named.
     ///
-    /// The only error is out of memory for the outcomes, before any event.
+    /// The only error is out of memory for the result, before any event.
     pub fn run<L: Observer>(
         &mut self,
         alloc: Global,
         events: Vec<Timed>,
         observer: &mut L,
-    ) -> Result<Vec<Outcome>, AllocError>
-        ensures ok { IfOk result (λ outcomes. Run L.notified self.old observer.old events.items outcomes.items self.new observer.new) }
+    ) -> Result<Vec<Option<Handled>>, AllocError>
+        ensures ok { IfOk result (λ handled. Run L.notified self.old observer.old events.items handled.items self.new observer.new) }
         ensures err { OnErr result ((self.new ≡ self.old) × (observer.new ≡ observer.old)) }
     {
-        let mut outcomes = Vec::with_capacity(alloc, events.len())?;
+        let mut handled = Vec::with_capacity(alloc, events.len())?;
         for timed in events {
-            outcomes.push_reserved(self.handle(timed, observer));
+            handled.push_reserved(self.handle(timed, observer));
         }
-        Ok(outcomes)
+        Ok(handled)
     }
 }
 

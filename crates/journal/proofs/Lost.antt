@@ -10,11 +10,12 @@ use Rattle.plan_prices.specs.Plan.{PlanRecord}
 use Rattle.events.specs.declared.event.Event.TheVariants as Is
 use Rattle.events.specs.declared.effects.Effects.{Effects}
 use Rattle.events.specs.declared.effects.Cancel.{Cancel}
-use Rattle.dispatcher.specs.declared.outcome.Outcome.{Outcome}
-use Rattle.dispatcher.specs.declared.outcome.Outcome.TheVariants.{Dropped, Queried, Undispatched, Idle, Dispatched}
 use Rattle.dispatcher.specs.declared.observer.AllocationSite.TheVariants.{Enqueue}
 use Rattle.dispatcher.specs.Notes.{Note, Planned}
-use Rattle.dispatcher.specs.Run.{Handles, cancel_notes}
+use Rattle.dispatcher.specs.declared.handled.Dispatch.{Dispatch}
+use Rattle.dispatcher.specs.declared.handled.Dispatch.TheVariants as dispatch
+use Rattle.dispatcher.specs.Following.{Follows}
+use Rattle.dispatcher.specs.Run.{Outcome, Handles, cancel_notes}
 use Rattle.wires.specs.Poll.{Poll, Accepts, Reads, Writes}
 use Rattle.wires.specs.declared.wire.Progress.{Progress}
 use Rattle.wires.specs.declared.wire.Progress.TheVariants as wire
@@ -26,7 +27,7 @@ use Rattle.server.specs.Polls.{Happening, Polled, Notified, Chosen, Choice, Foun
 use Rattle.server.specs.Ledger.{Ledger, Fate, Drained, Broken, with_entry, without, job_bytes}
 use Rattle.server.specs.Rel.{Rel, Nothing, Polls, Chooses, Then, If, Or, Times, Each, EachOf}
 use Rattle.server.specs.Enqueuing.{Sets, Breaks, BreaksAt, Drops, EnqueuesOpen, EnqueuesAt, EnqueuesOn}
-use Rattle.server.specs.Happening.{Decides, Sends, Starts, StartsAll, SendsAll, Orders, found_by}
+use Rattle.server.specs.Happening.{Decides, Sends, Starts, StartsAll, StartsBy, SendsAll, Orders, found_by}
 use Rattle.server.specs.Closing.{Leaves, IsGone, ClosesAs, ClosesFirst, IsBroken, NoneBroken, ClosesBroken}
 use Rattle.server.specs.Polling.{AcceptsAs, AcceptsOne, AcceptsAt, Fails, ReadsAs, ReadsOpen, ReadsAt, is_read, ReadsOne, WritesAs, WritesOpen, WritesAt, WritesOne, is_done, EndsAt, EndsOne}
 use Rattle.server.specs.Turn.{is_tick_due, Ticks, TicksIfDue, Covers, Round, Turn}
@@ -61,11 +62,6 @@ loses_apart [] back lost = (tt, lost)
 loses_apart (Polled poll ∷ front) back (is, rest) = let parts = loses_apart front back rest in ((is, parts.0), parts.1)
 loses_apart (Notified note ∷ front) back (is, rest) = let parts = loses_apart front back rest in ((is, parts.0), parts.1)
 loses_apart (Chosen choice ∷ front) back rest = loses_apart front back rest
-
--- the last note begins no job
-last_begins : (notes : List Note) (note : Note) → Loses (map Notified (notes ++ note ∷ [])) → BeginsNone note
-last_begins [] note lost = lost.0
-last_begins (other ∷ notes) note lost = last_begins notes note lost.1
 
 -- ---- the parts of such a turn
 
@@ -151,12 +147,15 @@ starts_all_in l hs l' it = each_of_in l.core.begun Starts starts_in l hs l' it
 sends_all_in : (reply : Effects) → Within (SendsAll reply)
 sends_all_in reply = each_of_in reply.cancels.items Sends sends_in
 
+starts_by_in : (made : Dispatch) → Within (StartsBy made)
+starts_by_in dispatch.Query = nothing_in
+starts_by_in dispatch.OutOfMemory = nothing_in
+starts_by_in dispatch.Idle = nothing_in
+starts_by_in dispatch.Planned = starts_all_in
+
 orders_in : (outcome : Outcome) → Within (Orders outcome)
-orders_in Dropped = nothing_in
-orders_in (Queried reply) = sends_all_in reply
-orders_in (Undispatched reply) = sends_all_in reply
-orders_in (Idle reply) = sends_all_in reply
-orders_in (Dispatched reply) = then_in (sends_all_in reply) starts_all_in
+orders_in (Some handled) = then_in (sends_all_in handled.effects) (starts_by_in handled.dispatch)
+orders_in None = nothing_in
 
 -- ---- a device is gone
 
@@ -167,26 +166,32 @@ dispatched_stay now old plan started new none it =
     it.3 ∙ ap (λ (starts : List Started). record (beginning_all now starts (marked_state now plan old)) { begun = started }) none in
     subst (λ (s : State). WaitingStay old s) (sym plain) (stay_marked now plan started old)
 
+-- the dispatch after an event, under which no job begins
+follows_in : (query : Bool) (now : ℕ) (old : State) (made : Dispatch) (notes : List Note) (new : State) → Follows query now old made notes new → Loses (map Notified notes) → WaitingStay old new
+follows_in query now old dispatch.Query notes new (is, same, none) lost = stay_is old new same
+follows_in query now old dispatch.OutOfMemory notes new (is, ready, same, one) lost = stay_is old new same
+follows_in query now old dispatch.Idle notes new (is, dispatches, one) lost = stay_is old new dispatches.2
+follows_in query now old dispatch.Planned notes new (is, plan, dispatches, one) lost =
+    let none : new.begun ≡ [] = (subst (λ (ns : List Note). Loses (map Notified ns)) one lost).0 in
+    dispatched_stay now old plan new.begun new none dispatches
+
+-- the notes after others are among the happenings
+loses_later : (notes later : List Note) → Loses (map Notified (notes ++ later)) → Loses (map Notified later)
+loses_later [] later lost = lost
+loses_later (note ∷ notes) later lost = loses_later notes later lost.1
+
 -- the core handles the report that a device is gone
 handles_in : (moment device : ℕ) (outcome : Outcome) (old : State) (notes : List Note) (new : State) → Handles moment (Is.Report device Gone) old outcome notes new → Loses (map Notified notes) → WaitingStay old new
-handles_in moment device Dropped old notes new it lost = stay_is old new it.0
-handles_in moment device (Queried reply) old notes new it lost = stay_reported (max moment old.last) device old reply.documents.items new it.1.reports
-handles_in moment device (Undispatched reply) old notes new it lost = stay_reported (max moment old.last) device old reply.documents.items new it.1.reports
-handles_in moment device (Idle reply) old notes new (query, mid, step, dispatches, notified) lost =
-    subst (λ (s : State). WaitingStay old s) (sym dispatches.2) (stay_reported (max moment old.last) device old reply.documents.items mid step.reports)
-handles_in moment device (Dispatched reply) old notes new (query, mid, step, plan, dispatches, notified) lost =
-    let none : new.begun ≡ [] = last_begins (cancel_notes reply) (Planned (Some plan) new.begun) (subst (λ (ns : List Note). Loses (map Notified ns)) notified lost) in
-    stay_then old mid new
-    (stay_reported (max moment old.last) device old reply.documents.items mid step.reports)
-    (dispatched_stay (max moment mid.last) mid plan new.begun new none dispatches)
+handles_in moment device (Some handled) old notes new it lost =
+    stay_then old it.mid new
+    (stay_reported (max moment old.last) device old handled.effects.documents.items it.mid it.step.reports)
+    (follows_in _ (max moment it.mid.last) it.mid handled.dispatch it.later new it.follows (loses_later (cancel_notes handled.effects) it.later (subst (λ (ns : List Note). Loses (map Notified ns)) it.notes_are lost)))
+handles_in moment device None old notes new it lost = stay_is old new it.0
 
 -- the notes are among the happenings
 loses_notes : (outcome : Outcome) (notes : List Note) → Loses (found_by outcome ++ map Notified notes) → Loses (map Notified notes)
-loses_notes Dropped notes lost = lost
-loses_notes (Queried reply) notes lost = lost
-loses_notes (Undispatched reply) notes lost = lost
-loses_notes (Idle reply) notes lost = lost
-loses_notes (Dispatched reply) notes lost = lost
+loses_notes (Some handled) notes lost = lost
+loses_notes None notes lost = lost
 
 decides_in : (moment device : ℕ) (outcome : Outcome) → Within (Decides moment (Is.Report device Gone) outcome)
 decides_in moment device outcome l hs l' it lost =

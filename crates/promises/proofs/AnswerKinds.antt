@@ -32,10 +32,8 @@ use Rattle.dispatcher.specs.HoldJob.{HoldsUntil, ChangesIt}
 use Rattle.dispatcher.specs.PausePrinter.{PausesIt}
 use Rattle.dispatcher.specs.SubmitFiles.{FilesJob, FilesNothing}
 use Rattle.dispatcher.specs.ListQueue.{IsListed, ListsIt, ListsNothing}
-use Rattle.dispatcher.specs.declared.outcome.Outcome.{Outcome}
-use Rattle.dispatcher.specs.declared.outcome.Outcome.TheVariants.{Dropped, Queried, Undispatched, Idle, Dispatched}
 use Rattle.dispatcher.specs.Notes.{Note}
-use Rattle.dispatcher.specs.Run.{effects_of, Handles}
+use Rattle.dispatcher.specs.Run.{Outcome, effects_of, Handles}
 use Rattle.dispatcher.specs.Step.{StepAt}
 use Rattle.ipp_operations.specs.declared.parsed_request.ParsedRequest.TheVariants as asked
 use Rattle.ipp_operations.specs.ParsedRequest.{header_of, operation_of, Requests, AsksBy, AsksUnder, Asks}
@@ -404,8 +402,5 @@ IsTypedReply who None = Unit {0}
 IsTypedReply who (Some reply) = IsTyped who reply.answer
 
 pub typed : (who : Client) (moment : ℕ) (event : Event) (old : State) (outcome : Outcome) (notes : List Note) (new : State) → EventOf who event → Handles moment event old outcome notes new → IsTypedReply who (effects_of outcome)
-typed who moment event old Dropped notes new of it = tt
-typed who moment event old (Queried reply) notes new of it = typed_step who event _ old reply new of it.1
-typed who moment event old (Undispatched reply) notes new of it = typed_step who event _ old reply new of it.1
-typed who moment event old (Idle reply) notes new of (asks, mid, step, rest, notified) = typed_step who event _ old reply mid of step
-typed who moment event old (Dispatched reply) notes new of (asks, mid, step, plan, rest, notified) = typed_step who event _ old reply mid of step
+typed who moment event old (Some handled) notes new of it = typed_step who event _ old handled.effects it.mid of it.step
+typed who moment event old None notes new of it = tt

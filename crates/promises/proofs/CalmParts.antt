@@ -13,12 +13,12 @@ use Rattle.events.specs.declared.effects.LpdResponse.{LpdResponse}
 use Rattle.events.specs.declared.effects.LpdResponse.TheVariants as shown
 use Rattle.events.specs.declared.status.Status.{Status}
 use Rattle.events.specs.declared.status.Status.TheVariants.{TemporaryError}
-use Rattle.dispatcher.specs.declared.outcome.Outcome.{Outcome}
-use Rattle.dispatcher.specs.declared.outcome.Outcome.TheVariants.{Dropped, Queried, Undispatched, Idle, Dispatched}
 use Rattle.dispatcher.specs.declared.observer.AllocationSite.{AllocationSite}
 use Rattle.dispatcher.specs.declared.observer.AllocationSite.TheVariants as At
 use Rattle.dispatcher.specs.Notes.{Note, Refused}
-use Rattle.dispatcher.specs.Run.{Handles}
+use Rattle.dispatcher.specs.declared.handled.Dispatch.{Dispatch}
+use Rattle.dispatcher.specs.declared.handled.Dispatch.TheVariants as dispatch
+use Rattle.dispatcher.specs.Run.{Outcome, Handles}
 use Rattle.ipp_operations.specs.QueueText.{ack_of, text_of}
 use Rattle.send_queues.specs.Reply.{http_reply}
 use Rattle.wires.specs.Poll.{Poll}
@@ -30,7 +30,7 @@ use Rattle.server.specs.Polls.{Happening, Notified, Choice, Found}
 use Rattle.server.specs.Ledger.{Ledger, at_key, with_entry, job_bytes}
 use Rattle.server.specs.Rel.{Rel, Nothing, Polls, Notifies, Chooses, Then, If, Or, EachOf}
 use Rattle.server.specs.Enqueuing.{BreaksAt, Breaks, EnqueuesOpen, EnqueuesAt, EnqueuesWhere, Enqueues, EnqueuesOn, EnqueuesReplyAt, EnqueuesResponse, EnqueuesStatus}
-use Rattle.server.specs.Happening.{found_by, Sends, SendsAll, Starts, StartsAll, Orders, Happens}
+use Rattle.server.specs.Happening.{found_by, Sends, SendsAll, Starts, StartsAll, StartsBy, Orders, Happens}
 use Rattle.server.specs.Answering as Ans
 use Rattle.server.specs.Turn as Between
 use Rattle.server.specs.Turn.{Turn}
@@ -47,11 +47,8 @@ notified_notes : (moment : ℕ) (event : Event) (old : State) (outcome : Outcome
 notified_notes moment event old outcome notes new it = notified_all core_note (λ cancel. refl) (λ plan started. refl) refl moment event old outcome notes new it
 
 found_silent : (outcome : Outcome) → core_notes (found_by outcome) ≡ []
-found_silent Dropped = refl
-found_silent (Queried reply) = refl
-found_silent (Undispatched reply) = refl
-found_silent (Idle reply) = refl
-found_silent (Dispatched reply) = refl
+found_silent (Some handled) = refl
+found_silent None = refl
 
 -- ---- parts that bring no event and no report
 
@@ -179,12 +176,15 @@ each_started (start ∷ started) = calms_then (starts start) (each_started start
 pub all_started : Calms StartsAll
 all_started l hs l' it = each_started l.core.begun l hs l' it
 
+calms_starts : (made : Dispatch) → Calms (StartsBy made)
+calms_starts dispatch.Query = calms_nothing
+calms_starts dispatch.OutOfMemory = calms_nothing
+calms_starts dispatch.Idle = calms_nothing
+calms_starts dispatch.Planned = all_started
+
 pub calms_orders : (outcome : Outcome) → Calms (Orders outcome)
-calms_orders Dropped = calms_nothing
-calms_orders (Queried reply) = each_sent reply.cancels.items
-calms_orders (Undispatched reply) = each_sent reply.cancels.items
-calms_orders (Idle reply) = each_sent reply.cancels.items
-calms_orders (Dispatched reply) = calms_then {R = SendsAll reply} {S = StartsAll} (each_sent reply.cancels.items) all_started
+calms_orders (Some handled) = calms_then {R = SendsAll handled.effects} {S = StartsBy handled.dispatch} (each_sent handled.effects.cancels.items) (calms_starts handled.dispatch)
+calms_orders None = calms_nothing
 
 -- ---- answers
 

@@ -15,13 +15,13 @@ use Rattle.events.specs.declared.status.Status.{Status}
 use Rattle.events.specs.declared.status.Status.TheVariants.{TemporaryError}
 use Rattle.events.specs.Event.{is_query}
 use Rattle.device_link.specs.Orders.{cancel_line}
-use Rattle.dispatcher.specs.declared.outcome.Outcome.{Outcome}
-use Rattle.dispatcher.specs.declared.outcome.Outcome.TheVariants.{Dropped, Queried, Undispatched, Idle, Dispatched}
 use Rattle.dispatcher.specs.declared.observer.DeviceRefusal.TheVariants as why
 use Rattle.dispatcher.specs.declared.observer.AllocationSite.{AllocationSite}
 use Rattle.dispatcher.specs.declared.observer.AllocationSite.TheVariants as At
 use Rattle.dispatcher.specs.Notes.{Note, DeviceRefused, Refused}
-use Rattle.dispatcher.specs.Run.{effects_of}
+use Rattle.dispatcher.specs.declared.handled.Dispatch.{Dispatch}
+use Rattle.dispatcher.specs.declared.handled.Dispatch.TheVariants as dispatch
+use Rattle.dispatcher.specs.Run.{Outcome, effects_of}
 use Rattle.ipp_operations.specs.declared.parsed_request.ParsedRequest.{ParsedRequest}
 use Rattle.ipp_operations.specs.declared.parsed_request.ParsedRequest.TheVariants as asked
 use Rattle.ipp_operations.specs.QueueText.{ack_of, text_of}
@@ -46,7 +46,7 @@ use Rattle.server.specs.Ledger.{Ledger, Fate, Drained, Broken, at_key, with_entr
 use Rattle.print_room.specs.State.{State}
 use Rattle.server.specs.Rel.{Rel, Nothing, Polls, Notifies, Chooses, Then, If, Or, Times, Many, Each, EachOf}
 use Rattle.server.specs.Enqueuing.{Sets, BreaksAt, Breaks, Drops, EnqueuesOpen, EnqueuesAt, EnqueuesWhere, Enqueues, EnqueuesReplyAt, EnqueuesResponse, EnqueuesStatus, EnqueuesOn}
-use Rattle.server.specs.Happening.{now_at, found_by, Decides, Sends, Starts, StartsAll, SendsAll, Orders, Happens, Unanswered}
+use Rattle.server.specs.Happening.{now_at, found_by, Decides, Sends, Starts, StartsAll, StartsBy, SendsAll, Orders, Happens, Unanswered}
 use Rattle.server.specs.Closing.{Leaves, IsGone, ClosesAs, ClosesFirst, ClosesBroken}
 use Rattle.server.specs.Answering as Ans
 use Rattle.server.specs.Hello.{IsSupersededAt, IsSuperseded, SaysName, TakesOver, HandlesHello}
@@ -329,23 +329,23 @@ carries_sends reply = carries_each_of reply.cancels.items Sends (λ cancel. carr
 carries_starts : Carries StartsAll
 carries_starts c l hs l' a new it = carries_each_of l.core.begun Starts (λ start d m ks n b fresh one. carries_on (λ e. true) start.device (job_bytes m.core start.job) d m ks n b fresh one) c l hs l' a new it
 
+carries_starts_by : (made : Dispatch) → Carries (StartsBy made)
+carries_starts_by dispatch.Query = carries_nothing
+carries_starts_by dispatch.OutOfMemory = carries_nothing
+carries_starts_by dispatch.Idle = carries_nothing
+carries_starts_by dispatch.Planned = carries_starts
+
 carries_orders : (outcome : Outcome) → Carries (Orders outcome)
-carries_orders Dropped = carries_nothing
-carries_orders (Queried reply) = carries_sends reply
-carries_orders (Undispatched reply) = carries_sends reply
-carries_orders (Idle reply) = carries_sends reply
-carries_orders (Dispatched reply) = carries_then (SendsAll reply) StartsAll (carries_sends reply) carries_starts
+carries_orders (Some handled) = carries_then (SendsAll handled.effects) (StartsBy handled.dispatch) (carries_sends handled.effects) (carries_starts_by handled.dispatch)
+carries_orders None = carries_nothing
 
 notified_carried : (c : Carried) (notes : List Note) → carried c (map Notified notes) ≡ c
 notified_carried c [] = refl
 notified_carried c (note ∷ notes) = notified_carried c notes
 
 found_carried : (c : Carried) (outcome : Outcome) (hs : List Happening) → carried c (found_by outcome ++ hs) ≡ carried c hs
-found_carried c Dropped hs = refl
-found_carried c (Queried reply) hs = refl
-found_carried c (Undispatched reply) hs = refl
-found_carried c (Idle reply) hs = refl
-found_carried c (Dispatched reply) hs = refl
+found_carried c (Some handled) hs = refl
+found_carried c None hs = refl
 
 carries_decides : (moment : ℕ) (event : Event) (outcome : Outcome) → Carries (Decides moment event outcome)
 carries_decides moment event outcome c l hs l' a new it = carries_quiet c l hs l' a (ap (carried c) it.notified ∙ (found_carried c outcome (map Notified it.notes) ∙ notified_carried c it.notes)) (follow_same l l' (ap (λ (x : Ledger). x.entries) it.after))

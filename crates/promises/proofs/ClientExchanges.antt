@@ -24,7 +24,7 @@ use Rattle.lpd.specs.Session.{SessionState}
 use Rattle.settings_file.specs.Settings.{ServerSettings}
 use Rattle.server.specs.Ledger.{Ledger, Fate}
 use Rattle.server.specs.Turn.{Trace}
-use Rattle.promises.specs.Orders.{Handled}
+use Rattle.promises.specs.Orders.{RunPart}
 use Rattle.promises.specs.Answers.{Act, NextIpp, IsNext, IsOwed, AreActs, IsAnswered, IsLast, IsCutOff, ClientTalk, AreAnswered, WasAnswered, WasCutOff}
 use Rattle.promises.specs.Exchanges.{Exchange, says_begun, says_exchange, IsAnswerTo, IsExchange, invitation, due_in, Front, Nothing, Begun, says_front, due_front, says_refusal, due_refusal, AreExchanges, ActsAreExchanges, ByExchanges, IsOneMore, UntilBroken, IsByExchanges, WasByExchanges, AreByExchanges}
 
@@ -111,13 +111,13 @@ leads_on mode now said more leads step later = ap (λ (xs : List HttpElement). i
 -- ---- one item
 
 -- the exchange isn't whole yet
-record Grows (mode now : Mode) (more : List HttpElement) (asked : List Handled) (bytes : List ℕ) : Type 0 where
+record Grows (mode now : Mode) (more : List HttpElement) (asked : List RunPart) (bytes : List ℕ) : Type 0 where
   says : says_mode mode ++ more ≡ says_mode now
   due : due_mode mode ++ bytes ≡ due_mode now
   none : asked ≡ []
 
 -- the exchange becomes whole
-record Completes (id : ℕ) (mode now : Mode) (more : List HttpElement) (asked : List Handled) (bytes : List ℕ) : Type 0 where
+record Completes (id : ℕ) (mode now : Mode) (more : List HttpElement) (asked : List RunPart) (bytes : List ℕ) : Type 0 where
   whole : Exchange
   is : IsExchange id whole
   says : says_mode mode ++ more ≡ says_exchange whole
@@ -126,14 +126,14 @@ record Completes (id : ℕ) (mode now : Mode) (more : List HttpElement) (asked :
   says_none : says_mode now ≡ []
   due_none : due_mode now ≡ []
 
-record Stepped (id : ℕ) (mode : Mode) (said more : List HttpElement) (closes : Bool) (body : List ℕ) (asked : List Handled) (bytes : List ℕ) : Type 0 where
+record Stepped (id : ℕ) (mode : Mode) (said more : List HttpElement) (closes : Bool) (body : List ℕ) (asked : List RunPart) (bytes : List ℕ) : Type 0 where
   now : Mode
   leads : Leads now (said ++ more)
   fits : Fits now closes body
   comes : Grows mode now more asked bytes ⊎ Completes id mode now more asked bytes
 
 -- a head
-head_comes : (id : ℕ) (mode : Mode) (said : List HttpElement) (next : Bool) (asked : List Handled) (bytes : List ℕ) → Leads mode said → goes mode (HasHead next ∷ []) ≡ true → asked ≡ [] → bytes ≡ [] → Stepped id mode said (HasHead next ∷ []) next [] asked bytes
+head_comes : (id : ℕ) (mode : Mode) (said : List HttpElement) (next : Bool) (asked : List RunPart) (bytes : List ℕ) → Leads mode said → goes mode (HasHead next ∷ []) ≡ true → asked ≡ [] → bytes ≡ [] → Stepped id mode said (HasHead next ∷ []) next [] asked bytes
 head_comes id (Goes Nothing) said next asked bytes leads ok none quiet = record {
   now = Goes (Begun next false []);
   leads = leads_on (Goes Nothing) (Goes (Begun next false [])) said (HasHead next ∷ []) leads (λ later. refl);
@@ -146,7 +146,7 @@ head_comes id (Goes (Begun closes false (byte ∷ body))) said next asked bytes 
 head_comes id (Over front refusal) said next asked bytes leads ok none quiet = absurd (no_false ok)
 
 -- an invitation
-invitation_comes : (id : ℕ) (mode : Mode) (said : List HttpElement) (closes : Bool) (body : List ℕ) (asked : List Handled) (bytes : List ℕ) → Leads mode said → Fits mode closes body → goes mode (Invites ∷ []) ≡ true → asked ≡ [] → bytes ≡ continue_head → Stepped id mode said (Invites ∷ []) closes body asked bytes
+invitation_comes : (id : ℕ) (mode : Mode) (said : List HttpElement) (closes : Bool) (body : List ℕ) (asked : List RunPart) (bytes : List ℕ) → Leads mode said → Fits mode closes body → goes mode (Invites ∷ []) ≡ true → asked ≡ [] → bytes ≡ continue_head → Stepped id mode said (Invites ∷ []) closes body asked bytes
 invitation_comes id (Goes Nothing) said closes body asked bytes leads fits ok none is = absurd (no_false ok)
 invitation_comes id (Goes (Begun also true octets)) said closes body asked bytes leads fits ok none is = absurd (no_false ok)
 invitation_comes id (Goes (Begun also false (byte ∷ octets))) said closes body asked bytes leads fits ok none is = absurd (no_false ok)
@@ -176,7 +176,7 @@ says_more closes front body part =
     ∙ sym (append-nil (HasHead closes ∷ (front ++ map HasByte (body ++ part)))))
 
 -- a part of a body, which may be empty
-part_comes : (id : ℕ) (mode : Mode) (part : List ℕ) (said : List HttpElement) (closes : Bool) (body after : List ℕ) (asked : List Handled) (bytes : List ℕ) → Leads mode said → Fits mode closes body → goes mode (map HasByte part) ≡ true → after ≡ body ++ part → asked ≡ [] → bytes ≡ [] → Stepped id mode said (map HasByte part) closes after asked bytes
+part_comes : (id : ℕ) (mode : Mode) (part : List ℕ) (said : List HttpElement) (closes : Bool) (body after : List ℕ) (asked : List RunPart) (bytes : List ℕ) → Leads mode said → Fits mode closes body → goes mode (map HasByte part) ≡ true → after ≡ body ++ part → asked ≡ [] → bytes ≡ [] → Stepped id mode said (map HasByte part) closes after asked bytes
 part_comes id (Goes Nothing) [] said closes body after asked bytes leads fits ok grows none quiet = record {
   now = Goes Nothing;
   leads = leads_on (Goes Nothing) (Goes Nothing) said [] leads (λ later. refl);
@@ -207,12 +207,12 @@ part_comes id (Over front refusal) [] said closes body after asked bytes leads f
 part_comes id (Over front refusal) (byte ∷ part) said closes body after asked bytes leads fits ok grows none quiet = absurd (no_false ok)
 
 -- the end of a body
-answered_by : (id : ℕ) (closes : Bool) (it : ParsedRequest) (asked : List Handled) (bytes : List ℕ) → IsOwed id closes (asked_step closes it) asked bytes → IsAnswerTo id closes it asked bytes
+answered_by : (id : ℕ) (closes : Bool) (it : ParsedRequest) (asked : List RunPart) (bytes : List ℕ) → IsOwed id closes (asked_step closes it) asked bytes → IsAnswerTo id closes it asked bytes
 answered_by id closes asks.TooShort asked bytes owed = owed
 answered_by id closes (asks.Refused status request) asked bytes owed = owed
 answered_by id closes (asks.Event request event) asked bytes owed = owed
 
-is_exchange : (id : ℕ) (closes invites : Bool) (body : List ℕ) (what : Step) (asked : List Handled) (bytes : List ℕ) → Ends closes body what → IsOwed id closes what asked bytes → IsExchange id (record { closes = closes; invites = invites; body = body; asked = asked; answer = bytes })
+is_exchange : (id : ℕ) (closes invites : Bool) (body : List ℕ) (what : Step) (asked : List RunPart) (bytes : List ℕ) → Ends closes body what → IsOwed id closes what asked bytes → IsExchange id (record { closes = closes; invites = invites; body = body; asked = asked; answer = bytes })
 is_exchange id closes invites body what asked bytes (inl (it, asks, is)) owed = inl (it, asks, answered_by id closes it asked bytes (subst (λ (s : Step). IsOwed id closes s asked bytes) is owed))
 is_exchange id closes invites body what asked bytes (inr (request, has, is)) owed = (let it = subst (λ (s : Step). IsOwed id closes s asked bytes) is owed in inr (request, has, it.0, it.1))
 
@@ -221,7 +221,7 @@ ends_on closes true body later = refl
 ends_on closes false [] later = refl
 ends_on closes false (byte ∷ body) later = refl
 
-module _ (id : ℕ) (also invites : Bool) (octets : List ℕ) (said : List HttpElement) (closes : Bool) (body : List ℕ) (asked : List Handled) (bytes : List ℕ) where
+module _ (id : ℕ) (also invites : Bool) (octets : List ℕ) (said : List HttpElement) (closes : Bool) (body : List ℕ) (asked : List RunPart) (bytes : List ℕ) where
   whole : Exchange
   whole = record { closes = also; invites = invites; body = octets; asked = asked; answer = bytes }
 
@@ -247,7 +247,7 @@ module _ (id : ℕ) (also invites : Bool) (octets : List ℕ) (said : List HttpE
     comes = inr (record { whole = record { closes = also; invites = invites; body = octets; asked = asked; answer = bytes }; is = is; says = end_says; due = end_due; its = refl; says_none = refl; due_none = refl });
   }
 
-body_ends : (id : ℕ) (mode : Mode) (said : List HttpElement) (closes : Bool) (body : List ℕ) (what : Step) (asked : List Handled) (bytes : List ℕ) → Leads mode said → Fits mode closes body → goes mode (EndsBody ∷ []) ≡ true → Ends closes body what → IsOwed id closes what asked bytes → Stepped id mode said (EndsBody ∷ []) closes [] asked bytes
+body_ends : (id : ℕ) (mode : Mode) (said : List HttpElement) (closes : Bool) (body : List ℕ) (what : Step) (asked : List RunPart) (bytes : List ℕ) → Leads mode said → Fits mode closes body → goes mode (EndsBody ∷ []) ≡ true → Ends closes body what → IsOwed id closes what asked bytes → Stepped id mode said (EndsBody ∷ []) closes [] asked bytes
 body_ends id (Goes Nothing) said closes body what asked bytes leads fits ok ends owed = absurd (no_false ok)
 body_ends id (Goes (Begun also invites octets)) said closes body what asked bytes leads fits ok ends owed =
     end_comes id also invites octets said closes [] asked bytes
@@ -260,7 +260,7 @@ refused_on Between refusal later = refl
 refused_on (Headed closes) refusal later = refl
 refused_on (Within closes count) refusal later = refl
 
-refusal_comes : (id : ℕ) (mode : Mode) (said : List HttpElement) (refusal : HttpRejection) (closes : Bool) (body : List ℕ) (asked : List Handled) (bytes : List ℕ) → Leads mode said → goes mode (IsRefused refusal ∷ []) ≡ true → asked ≡ [] → bytes ≡ refusal_head refusal → Stepped id mode said (IsRefused refusal ∷ []) closes body asked bytes
+refusal_comes : (id : ℕ) (mode : Mode) (said : List HttpElement) (refusal : HttpRejection) (closes : Bool) (body : List ℕ) (asked : List RunPart) (bytes : List ℕ) → Leads mode said → goes mode (IsRefused refusal ∷ []) ≡ true → asked ≡ [] → bytes ≡ refusal_head refusal → Stepped id mode said (IsRefused refusal ∷ []) closes body asked bytes
 refusal_comes id (Goes front) said refusal closes body asked bytes leads ok none is = record {
   now = Over front (Some refusal);
   leads = leads_on (Goes front) (Over front (Some refusal)) said (IsRefused refusal ∷ []) leads (λ later. refused_on (place_of front) refusal later);
@@ -274,7 +274,7 @@ refusal_comes id (Goes front) said refusal closes body asked bytes leads ok none
 refusal_comes id (Over front other) said refusal closes body asked bytes leads ok none is = absurd (no_false ok)
 
 -- any
-stepped : (id : ℕ) (what_item : HttpItem) (part : List ℕ) (mode : Mode) (said : List HttpElement) (closes : Bool) (body : List ℕ) (what : Step) (asked : List Handled) (bytes : List ℕ) → Leads mode said → Fits mode closes body → goes mode (elements_of what_item part) ≡ true → StepsIpp what_item closes body what
+stepped : (id : ℕ) (what_item : HttpItem) (part : List ℕ) (mode : Mode) (said : List HttpElement) (closes : Bool) (body : List ℕ) (what : Step) (asked : List RunPart) (bytes : List ℕ) → Leads mode said → Fits mode closes body → goes mode (elements_of what_item part) ≡ true → StepsIpp what_item closes body what
     → IsOwed id (closes_after what_item closes) what asked bytes → Stepped id mode said (elements_of what_item part) (closes_after what_item closes) (body_after what_item what part body) asked bytes
 stepped id (item.Head next) part mode said closes body what asked bytes leads fits ok comes owed =
     let it = subst (λ (s : Step). IsOwed id next s asked bytes) comes owed in head_comes id mode said next asked bytes leads ok it.0 it.1
@@ -349,7 +349,7 @@ walked_more id mode said more closes body a acts heard s w = by s.comes
       more = more ++ w.more;
       to = w.to ∙ append_assoc said more w.more;
       says = joined (says_mode mode) more w.more (says_mode s.now) (flat_map says_exchange w.exchanges ++ (says_front w.front ++ says_refusal w.refusal)) g.says w.says;
-      asked = ap (λ (its : List Handled). its ++ flat_map (λ (b : Act). b.asked) acts) g.none ∙ w.asked;
+      asked = ap (λ (its : List RunPart). its ++ flat_map (λ (b : Act). b.asked) acts) g.none ∙ w.asked;
       due = joined (due_mode mode) a.bytes (flat_map (λ (b : Act). b.bytes) acts) (due_mode s.now) (flat_map due_in w.exchanges ++ (due_front w.front ++ due_refusal w.refusal)) g.due w.due;
       ordered = w.ordered;
     }
@@ -361,7 +361,7 @@ walked_more id mode said more closes body a acts heard s w = by s.comes
       more = more ++ w.more;
       to = w.to ∙ append_assoc said more w.more;
       says = parted (says_mode mode) more w.more (says_mode s.now) (says_exchange c.whole) (flat_map says_exchange w.exchanges) (says_front w.front ++ says_refusal w.refusal) c.says c.says_none w.says;
-      asked = ap (λ (its : List Handled). its ++ flat_map (λ (b : Act). b.asked) acts) c.its ∙ ap (λ (its : List Handled). c.whole.asked ++ its) w.asked;
+      asked = ap (λ (its : List RunPart). its ++ flat_map (λ (b : Act). b.asked) acts) c.its ∙ ap (λ (its : List RunPart). c.whole.asked ++ its) w.asked;
       due = parted (due_mode mode) a.bytes (flat_map (λ (b : Act). b.bytes) acts) (due_mode s.now) (due_in c.whole) (flat_map due_in w.exchanges) (due_front w.front ++ due_refusal w.refusal) c.due c.due_none w.due;
       ordered = w.ordered;
     }
@@ -425,18 +425,18 @@ module _ (ordered : ElementsInOrder) (some : SomeParse) (stays : FirstStays) whe
   by_door id Lpd acts said closes body are = absurd (lpd_acts id acts [] None said closes body are)
   by_door id Devices acts said closes body are = absurd (device_acts id acts said closes body are)
 
-  answered_so : (opening : State) (key : ℕ) (handled : List Handled) (e : Entry) (said : List HttpElement) (closes : Bool) (body : List ℕ) → e.progress ≡ Http said closes body → IsAnswered opening key handled e → ByExchanges key handled said e
+  answered_so : (opening : State) (key : ℕ) (handled : List RunPart) (e : Entry) (said : List HttpElement) (closes : Bool) (body : List ℕ) → e.progress ≡ Http said closes body → IsAnswered opening key handled e → ByExchanges key handled said e
   answered_so opening key handled e said closes body is a =
       let are = by_door e.id a.door a.acts said closes body (subst (λ (t : PeerRecord). AreActs e.id (opening_peer a.door) a.acts t) is a.are) in
       record {
         earlier = a.earlier;
         since = a.since;
         whole = a.whole;
-        are = subst (λ (its : List Handled). AreExchanges e.id said its e.due) (sym a.asked) (subst (λ (bytes : List ℕ). AreExchanges e.id said (flat_map (λ (x : Act). x.asked) a.acts) bytes) (sym a.due) are);
+        are = subst (λ (its : List RunPart). AreExchanges e.id said its e.due) (sym a.asked) (subst (λ (bytes : List ℕ). AreExchanges e.id said (flat_map (λ (x : Act). x.asked) a.acts) bytes) (sym a.due) are);
       }
 
   -- the result of an IPP client's acts before its connection broke
-  last_http : (opening : State) (handled : List Handled) (whole : List ℕ) (after : PeerRecord) (said : List HttpElement) (closes : Bool) (body : List ℕ) → IsLast opening handled whole after (Http said closes body) → (until : List HttpElement) × (last : Bool) × (left : List ℕ) × (after ≡ Http until last left) × IsOneMore until said
+  last_http : (opening : State) (handled : List RunPart) (whole : List ℕ) (after : PeerRecord) (said : List HttpElement) (closes : Bool) (body : List ℕ) → IsLast opening handled whole after (Http said closes body) → (until : List HttpElement) × (last : Bool) × (left : List ℕ) × (after ≡ Http until last left) × IsOneMore until said
   last_http opening handled whole (Http until last left) said closes body (inl is) = (until, last, left, refl, inl (sym (same_said until said last closes left body is)))
   last_http opening handled whole (Http until last left) said closes body (inr (state, read, what, of, front, next)) =
       (until, last, left, refl, inr (next.item, next.part, same_said said (until ++ elements_of next.item next.part) closes (closes_after next.item last) body (body_after next.item what next.part left) next.is))
@@ -446,7 +446,7 @@ module _ (ordered : ElementsInOrder) (some : SomeParse) (stays : FirstStays) whe
   last_http opening handled whole (Link reports device) said closes body (inl is) = cc
   last_http opening handled whole (Link reports device) said closes body (inr (state, read, what, of, front, next)) = absurd next
 
-  cut_so : (opening : State) (key : ℕ) (handled : List Handled) (e : Entry) (said : List HttpElement) (closes : Bool) (body : List ℕ) → e.progress ≡ Http said closes body → IsCutOff opening key handled e → UntilBroken key handled said e
+  cut_so : (opening : State) (key : ℕ) (handled : List RunPart) (e : Entry) (said : List HttpElement) (closes : Bool) (body : List ℕ) → e.progress ≡ Http said closes body → IsCutOff opening key handled e → UntilBroken key handled said e
   cut_so opening key handled e said closes body is cut =
       let b = cut.until in
       let it = last_http opening handled e.read b.after said closes body (subst (λ (t : PeerRecord). IsLast opening handled e.read b.after t) is b.last) in
@@ -463,13 +463,13 @@ module _ (ordered : ElementsInOrder) (some : SomeParse) (stays : FirstStays) whe
         are = subst (λ (bytes : List ℕ). AreExchanges e.id it.0 (flat_map (λ (x : Act). x.asked) b.acts) bytes) (sym b.due) (by_door e.id cut.door b.acts it.0 it.1 it.2 (subst (λ (t : PeerRecord). AreActs e.id (opening_peer cut.door) b.acts t) it.3 b.are));
       }
 
-  so : (opening : State) (key : ℕ) (handled : List Handled) (e : Entry) (progress : PeerRecord) → e.progress ≡ progress → (ClientTalk progress → e.broken ≡ false → IsAnswered opening key handled e) → (ClientTalk progress → e.broken ≡ true → IsCutOff opening key handled e) → IsByExchanges key handled progress e
+  so : (opening : State) (key : ℕ) (handled : List RunPart) (e : Entry) (progress : PeerRecord) → e.progress ≡ progress → (ClientTalk progress → e.broken ≡ false → IsAnswered opening key handled e) → (ClientTalk progress → e.broken ≡ true → IsCutOff opening key handled e) → IsByExchanges key handled progress e
   so opening key handled e (Http said closes body) is answered cut = (λ sound. answered_so opening key handled e said closes body is (answered tt sound), λ broken. cut_so opening key handled e said closes body is (cut tt broken))
   so opening key handled e (Queue items session) is answered cut = tt
   so opening key handled e (Link reports device) is answered cut = tt
 
   -- of a connection that was closed
-  was_so : (opening : State) (handled : List Handled) (e : Entry) (progress : PeerRecord) → e.progress ≡ progress → (t : Bool) → e.broken ≡ t → WasAnswered opening handled e → WasCutOff opening handled e → WasByExchanges handled e
+  was_so : (opening : State) (handled : List RunPart) (e : Entry) (progress : PeerRecord) → e.progress ≡ progress → (t : Bool) → e.broken ≡ t → WasAnswered opening handled e → WasCutOff opening handled e → WasByExchanges handled e
   was_so opening handled e (Http said closes body) is false sound answered cut =
       let it = answered (subst ClientTalk (sym is) tt) sound in
       (it.0, it.1, it.2, it.3, so opening it.0 it.1 e e.progress refl (λ client unbroken. it.4) (λ client broken. absurd (no_false (sym sound ∙ broken))))
@@ -479,7 +479,7 @@ module _ (ordered : ElementsInOrder) (some : SomeParse) (stays : FirstStays) whe
   was_so opening handled e (Queue items session) is t broke answered cut = (0, [], handled, refl, subst (λ (progress : PeerRecord). IsByExchanges 0 [] progress e) (sym is) tt)
   was_so opening handled e (Link reports device) is t broke answered cut = (0, [], handled, refl, subst (λ (progress : PeerRecord). IsByExchanges 0 [] progress e) (sym is) tt)
 
-  all_so : (opening : State) (handled : List Handled) (closed : List (Entry × Fate)) → All (λ (it : Entry × Fate). WasAnswered opening handled it.0) closed → All (λ (it : Entry × Fate). WasCutOff opening handled it.0) closed → All (λ (it : Entry × Fate). WasByExchanges handled it.0) closed
+  all_so : (opening : State) (handled : List RunPart) (closed : List (Entry × Fate)) → All (λ (it : Entry × Fate). WasAnswered opening handled it.0) closed → All (λ (it : Entry × Fate). WasCutOff opening handled it.0) closed → All (λ (it : Entry × Fate). WasByExchanges handled it.0) closed
   all_so opening handled [] answered cut = All-nil (λ (it : Entry × Fate). WasByExchanges handled it.0)
   all_so opening handled (one ∷ closed) answered cut =
       All-cons (λ (it : Entry × Fate). WasByExchanges handled it.0) one closed

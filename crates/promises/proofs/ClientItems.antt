@@ -7,7 +7,9 @@ use Rattle.print_room.specs.State.{State}
 use Rattle.events.specs.declared.event.Event.{Event}
 use Rattle.events.specs.declared.event.Event.TheVariants as Is
 use Rattle.events.specs.declared.effects.Effects.{Effects}
-use Rattle.dispatcher.specs.Run.{effects_of}
+use Rattle.dispatcher.specs.declared.handled.Dispatch.{Dispatch}
+use Rattle.dispatcher.specs.declared.handled.Dispatch.TheVariants as dispatch
+use Rattle.dispatcher.specs.Run.{Outcome, effects_of}
 use Rattle.ipp_operations.specs.declared.parsed_request.ParsedRequest.{ParsedRequest}
 use Rattle.ipp_operations.specs.declared.parsed_request.ParsedRequest.TheVariants as asked
 use Rattle.wires.specs.Poll.{Poll, Accepts, Reads, Writes}
@@ -30,8 +32,6 @@ use Rattle.lpd.specs.declared.reader.Awaited.TheVariants.{Command}
 use Rattle.lpd.proofs.Streams.{leads_more as items_more}
 use Rattle.std.proofs.lemmas.List.Elements.{All-nil, All-push}
 use Rattle.device_link.specs.Orders.{cancel_line}
-use Rattle.dispatcher.specs.declared.outcome.Outcome.{Outcome}
-use Rattle.dispatcher.specs.declared.outcome.Outcome.TheVariants.{Dropped, Queried, Undispatched, Idle, Dispatched}
 use Rattle.settings_file.specs.Settings.{ServerSettings}
 use Rattle.events.specs.declared.effects.Response.{Response}
 use Rattle.events.specs.declared.effects.Response.TheVariants as answered
@@ -53,7 +53,7 @@ use Rattle.server.specs.Polls.{Happening, Choice, Found, Rested}
 use Rattle.server.specs.Ledger.{Ledger, Fate, Drained, Broken, at_key, job_bytes, opening_ledger}
 use Rattle.server.specs.Rel.{Rel, Nothing, Polls, Notifies, Chooses, Then, If, Or, Times, Many, Each, EachOf}
 use Rattle.server.specs.Enqueuing.{Sets, BreaksAt, Breaks, Drops, EnqueuesOpen, EnqueuesAt, EnqueuesWhere, Enqueues, EnqueuesReplyAt, EnqueuesResponse, EnqueuesStatus, EnqueuesOn}
-use Rattle.server.specs.Happening.{now_at, Decides, Sends, Starts, StartsAll, SendsAll, Orders, Happens, Unanswered}
+use Rattle.server.specs.Happening.{now_at, Decides, Sends, Starts, StartsAll, StartsBy, SendsAll, Orders, Happens, Unanswered}
 use Rattle.server.specs.Closing.{Leaves, IsGone, ClosesAs, ClosesFirst, ClosesBroken}
 use Rattle.server.specs.Polling.{Opens, AcceptsAs, AcceptsOne, AcceptsAt, Acts, Serves, FedWhole, FeedsAt, Fails, ReadsAs, ReadsOpen, ReadsAt, is_read, ReadsOne, WritesAs, WritesOpen, WritesAt, WritesOne, is_done, EndsAt, EndsOne}
 use Rattle.server.specs.Turn as Between
@@ -210,12 +210,15 @@ keeps_sends reply = keeps_each_of reply.cancels.items Sends (λ cancel. keeps_on
 keeps_starts : Keeps StartsAll
 keeps_starts l hs l' first it = keeps_each_of l.core.begun Starts (λ start a ks b all one. keeps_on (λ e. true) start.device (job_bytes a.core start.job) a ks b all one) l hs l' first it
 
+keeps_starts_by : (made : Dispatch) → Keeps (StartsBy made)
+keeps_starts_by dispatch.Query = keeps_nothing
+keeps_starts_by dispatch.OutOfMemory = keeps_nothing
+keeps_starts_by dispatch.Idle = keeps_nothing
+keeps_starts_by dispatch.Planned = keeps_starts
+
 keeps_orders : (outcome : Outcome) → Keeps (Orders outcome)
-keeps_orders Dropped = keeps_nothing
-keeps_orders (Queried reply) = keeps_sends reply
-keeps_orders (Undispatched reply) = keeps_sends reply
-keeps_orders (Idle reply) = keeps_sends reply
-keeps_orders (Dispatched reply) = keeps_then (SendsAll reply) StartsAll (keeps_sends reply) keeps_starts
+keeps_orders (Some handled) = keeps_then (SendsAll handled.effects) (StartsBy handled.dispatch) (keeps_sends handled.effects) (keeps_starts_by handled.dispatch)
+keeps_orders None = keeps_nothing
 
 keeps_happens : (moment : ℕ) (event : Event) (outcome : Outcome) → Keeps (Happens moment event outcome)
 keeps_happens moment event outcome =

@@ -30,7 +30,7 @@ use Rattle.server.specs.Closing.{ClosesBroken}
 use Rattle.server.specs.Answering as Ans
 use Rattle.server.specs.Acting.{place_of, place_of_part, Asks, ActsOn, ActsNext}
 use Rattle.server.specs.Polling.{Acts, Serves}
-use Rattle.promises.specs.Orders.{MemoryRefused, Handled, AreHandled, named_by, IsAt, AreAt, run_notes, due_by}
+use Rattle.promises.specs.Orders.{MemoryRefused, RunPart, AreHandled, named_by, IsAt, AreAt, run_notes, due_by}
 use Rattle.promises.proofs.AnswerKinds.{EventOf, typed}
 use Rattle.promises.specs.Answers.{Act, ClientTalk, drains, IsFrontOf, IsNext, IsOwed, IsStateOf, asked_by, IsLast, BrokeAfter, IsOneAtMost}
 use Rattle.promises.proofs.SentToDevices.{Counts, due_at, FreshTalk, IsFresh, IsClient, same_key, other_key, is_key, Ordered, notes_append, calm_sets, Good, one_entry, not_key, client_none, client_fresh, no_true, counts_device, ordered_then, sent_by, IsLost, lost_device, breaks_same, ReadsOn, reads_still, reads_then}
@@ -51,16 +51,16 @@ not_broken true is none = cc
 not_broken false is none = none
 
 -- if the connection broke, none of the step's bytes are due, or all of them
-abbrev pub HaltsAs : Step → Entry → List ℕ → List Handled → Entry → Type 0
+abbrev pub HaltsAs : Step → Entry → List ℕ → List RunPart → Entry → Type 0
 HaltsAs comes new base asked e = (e.due ≡ base) ⊎ ((bytes : List ℕ) × IsOwed new.id (closes_of new.progress) comes asked bytes × (e.due ≡ base ++ bytes))
 
 -- the result of a client's step: the events that the core handled, and the bytes that are due by the step after the earlier bytes
 pub record Acted (moment key : ℕ) (comes : Step) (new : Entry) (base : List ℕ) (l : Ledger) (hs : List Happening) (l' : Ledger) : Type 0 where
-  pub handled : List Handled
+  pub handled : List RunPart
   pub sent : ℕ → List ℕ
   pub run : AreHandled l.core handled l'.core
   pub timed : AreAt true moment handled
-  pub notified : run_notes hs ≡ flat_map (λ (it : Handled). it.notes) handled
+  pub notified : run_notes hs ≡ flat_map (λ (it : RunPart). it.notes) handled
   pub sends : (device : ℕ) (before : List ℕ) → due_by device before handled ≡ before ++ sent device
   pub others : (k : ℕ) → k ≢ key → Ordered sent (l.entries k) (l'.entries k)
   pub aside : (k : ℕ) → k ≢ key → asked_by k handled ≡ []
@@ -70,7 +70,7 @@ pub record Acted (moment key : ℕ) (comes : Step) (new : Entry) (base : List �
   pub here : (e : Entry) → l'.entries key ≡ Some e → ClientTalk e.progress → e.broken ≡ false → (e.progress ≡ new.progress) × ((bytes : List ℕ) × IsOwed new.id (closes_of new.progress) comes (asked_by key handled) bytes × (e.due ≡ base ++ bytes)) × ReadsOn new e
   pub halts : (e : Entry) → l'.entries key ≡ Some e → ClientTalk e.progress → e.broken ≡ true → (e.progress ≡ new.progress) × HaltsAs comes new base (asked_by key handled) e × ReadsOn new e
 
-halts_due : (comes : Step) (new d e : Entry) (base : List ℕ) (asked : List Handled) → d.due ≡ e.due → HaltsAs comes new base asked d → HaltsAs comes new base asked e
+halts_due : (comes : Step) (new d e : Entry) (base : List ℕ) (asked : List RunPart) → d.due ≡ e.due → HaltsAs comes new base asked d → HaltsAs comes new base asked e
 halts_due comes new d e base asked same (inl is) = inl (sym same ∙ is)
 halts_due comes new d e base asked same (inr (bytes, owed, is)) = inr (bytes, owed, sym same ∙ is)
 
@@ -84,7 +84,7 @@ refusal_timed moment id key None core = All-nil (IsAt true moment)
 refusal_timed moment id key (Some place) core =
     All-cons (IsAt true moment) (record { moment = moment; what = MemoryRefused place (Some id); notes = Refused place (Some id) ∷ []; state = core; named = None; asked = Some key }) [] (refl, refl) (All-nil (IsAt true moment))
 
-pub refusal_notified : (moment id key : ℕ) (lost : Option AllocationSite) (core : State) → notified_of id lost ≡ flat_map (λ (it : Handled). it.notes) (refusal_at moment id key core lost)
+pub refusal_notified : (moment id key : ℕ) (lost : Option AllocationSite) (core : State) → notified_of id lost ≡ flat_map (λ (it : RunPart). it.notes) (refusal_at moment id key core lost)
 refusal_notified moment id key None core = refl
 refusal_notified moment id key (Some place) core = refl
 
@@ -124,14 +124,14 @@ acted_calm moment key lost comes new base Q l hs l' there client owed halted g =
       let this : new ≡ it.0 = one_entry new it.0 (sym there ∙ it.1) in
       let given = owed it.4.0 (ap (λ (x : Entry). x.broken) this ∙ it.3) (subst (λ (x : Entry). Q (closes_of x.progress) it.4.0) (sym this) it.4.1) in (
         sym it.2 ∙ ap (λ (x : Entry). x.progress) (sym this),
-        (given.0, subst (λ (its : List Handled). IsOwed new.id (closes_of new.progress) comes its given.0) (sym (refusal_asked moment new.id key lost l'.core)) given.1, it.4.2 ∙ (ap (λ (x : Entry). x.due ++ it.4.0) (sym this) ∙ given.2)),
+        (given.0, subst (λ (its : List RunPart). IsOwed new.id (closes_of new.progress) comes its given.0) (sym (refusal_asked moment new.id key lost l'.core)) given.1, it.4.2 ∙ (ap (λ (x : Entry). x.due ++ it.4.0) (sym this) ∙ given.2)),
         subst (λ (x : Entry). ReadsOn x e) (sym this) it.5,
       );
   halts = λ e is of broken.
       let it = g.halts e is of broken in
       let this : new ≡ it.0 = one_entry new it.0 (sym there ∙ it.1) in (
         sym it.2 ∙ ap (λ (x : Entry). x.progress) (sym this),
-        subst (λ (its : List Handled). HaltsAs comes new base its e) (sym (refusal_asked moment new.id key lost l'.core)) (halts_due comes new new e base (refusal_at moment new.id key l'.core lost) (ap (λ (x : Entry). x.due) this ∙ it.3) halted),
+        subst (λ (its : List RunPart). HaltsAs comes new base its e) (sym (refusal_asked moment new.id key lost l'.core)) (halts_due comes new new e base (refusal_at moment new.id key l'.core lost) (ap (λ (x : Entry). x.due) this ∙ it.3) halted),
         subst (λ (x : Entry). ReadsOn x e) (sym this) it.4,
       );
 }
@@ -148,7 +148,7 @@ pub acted_event : (moment key : ℕ) (who : Client) (event : Event) (last : Bool
     → Acted moment key (step.Asks (ask.Event who event) last) new new.due l hs l'
 acted_event moment key who event last new l hs l' own good there client (outcome, it) = by (gives_answers key new.id who (is_query event) (effects_of outcome) it.mid it.back l' it.second)
   where
-    h : Handled
+    h : RunPart
     h = one_handled moment event outcome it.front it.mid None (Some key)
 
     more : (k : ℕ) → Ordered (λ device. sent_by outcome it.mid.core device ++ []) (l.entries k) (l'.entries k) → Ordered (sent_by outcome it.mid.core) (l.entries k) (l'.entries k)
@@ -168,9 +168,9 @@ acted_event moment key who event last new l hs l' own good there client (outcome
     by : (given : (lost : Option AllocationSite) × Gave (notified_of new.id lost) key (λ closes bytes. Loose closes who (is_query event) (effects_of outcome) lost bytes) it.mid it.back l') → Acted moment key (step.Asks (ask.Event who event) last) new new.due l hs l'
     by (lost, g) =
         let one = happened moment event outcome l it.front it.mid good it.first in
-        let refused : List Handled = refusal_at moment new.id key l'.core lost in
+        let refused : List RunPart = refusal_at moment new.id key l'.core lost in
         let asked : asked_by key (one_handled moment event outcome it.front it.mid None (Some key) ∷ refusal_at moment new.id key l'.core lost) ≡ one_handled moment event outcome it.front it.mid None (Some key) ∷ refusal_at moment new.id key l'.core lost =
-        ap (λ (t : Bool). (if t then h ∷ [] else []) ++ asked_by key (refusal_at moment new.id key l'.core lost)) (is_key key) ∙ ap (λ (its : List Handled). h ∷ its) (refusal_asked moment new.id key lost l'.core) in
+        ap (λ (t : Bool). (if t then h ∷ [] else []) ++ asked_by key (refusal_at moment new.id key l'.core lost)) (is_key key) ∙ ap (λ (its : List RunPart). h ∷ its) (refusal_asked moment new.id key lost l'.core) in
         record {
           handled = h ∷ refusal_at moment new.id key l'.core lost;
           sent = sent_by outcome it.mid.core;
@@ -269,10 +269,10 @@ steps_read (step.Due due last) mid new what (inr is) = (ap (λ (x : Entry). x.id
 steps_read (step.Asks it last) mid new what is = (ap (λ (x : Entry). x.id) is.1, ap (λ (x : Entry). x.read) is.1, λ ends. ap (λ (x : Entry). x.draining) is.1 ∙ ends)
 steps_read (step.Breaks it) mid new what is = (ap (λ (x : Entry). x.id) is.1, ap (λ (x : Entry). x.read) is.1, λ ends. cc)
 
-pub not_given : (id : ℕ) (closes : Bool) (asked : List Handled) (bytes : List ℕ) (comes : Step) → comes ≡ no_memory → IsOwed id closes comes asked bytes → ⊥
+pub not_given : (id : ℕ) (closes : Bool) (asked : List RunPart) (bytes : List ℕ) (comes : Step) → comes ≡ no_memory → IsOwed id closes comes asked bytes → ⊥
 not_given id closes asked bytes comes is owed = subst (λ (s : Step). IsOwed id closes s asked bytes) is owed
 
-pub same_state : (core : State) (handled : List Handled) → IsStateOf core core handled
+pub same_state : (core : State) (handled : List RunPart) → IsStateOf core core handled
 same_state core [] = refl
 same_state core (it ∷ later) = inl refl
 

@@ -34,7 +34,7 @@ use Rattle.server.specs.Polling.{Opens, AcceptsAs, AcceptsOne, AcceptsAt, FedWho
 use Rattle.server.specs.Turn as Between
 use Rattle.server.specs.Turn.{Ticks, Notes, is_tick_due, TicksIfDue, Covers, Round, Turn, BodyAsks, BodyComes, Action, Turned, Served_body, Reported, Ticked, Trace, DoesAction, Runs}
 use Rattle.server.specs.Law.{moment_of, happenings_of, happenings_in}
-use Rattle.promises.specs.Orders.{Handled, AreHandled, hello_in, named_by, is_turn, AreOf, run_notes, due_by, AreSent, WasSent, IsFrontSent, WasHalted}
+use Rattle.promises.specs.Orders.{RunPart, AreHandled, hello_in, named_by, is_turn, AreOf, run_notes, due_by, AreSent, WasSent, IsFrontSent, WasHalted}
 use Rattle.promises.specs.Answers.{Act, ClientTalk, IsFrontOf, IsStateOf, IsAnswered, WasAnswered, IsFirst, AreAnswered, IsCutOff, WasCutOff}
 use Rattle.promises.proofs.SentToDevices.{Counts, due_at, Ordered, ordered_still, ordered_keeps, Calm, notes_append, calm_still, calm_sets, breaking, Good, one_entry, IsLost, no_true, ReadsOn, reads_still, reads_same}
 use Rattle.promises.proofs.HandledEvents.{Plain, goes_plain, CameAs, Goes, handled_append, came_then, goes_then, goes_calm, TalkedAs, progressed_then, progressed_still, ClosedAs, AllClosed, none_closed, all_closed_then, goes_refused, LostAs, lost_then, CameWith, StopsAs, stops_still, stops_then}
@@ -252,11 +252,11 @@ moves_action (Ticked moment hs) l l' good it = moves_ticks false moment l hs l' 
 -- ---- traces
 
 pub record GoesOn_in (trace : Trace) (l l' : Ledger) : Type 0 where
-  pub handled : List Handled
+  pub handled : List RunPart
   pub good : Good l'
   pub timed : AreOf trace handled
   pub run : AreHandled l.core handled l'.core
-  pub notified : run_notes (happenings_in trace) ≡ flat_map (λ (it : Handled). it.notes) handled
+  pub notified : run_notes (happenings_in trace) ≡ flat_map (λ (it : RunPart). it.notes) handled
   pub came : (key device : ℕ) → Counts device (l'.entries key) → CameAs device handled (l.entries key) (l'.entries key)
   pub lost : (key device : ℕ) → IsLost device (l'.entries key) → LostAs device handled (l.entries key) (l'.entries key)
   pub progresses : (key : ℕ) (e : Entry) → l'.entries key ≡ Some e → ClientTalk e.progress → e.broken ≡ false → TalkedAs l.core key handled (l.entries key) e
@@ -285,7 +285,7 @@ goes_on (action ∷ actions) l l' good (mid, does, runs) =
       timed = (first.handled, later.handled, refl, first.timed, first.notified, later.timed);
       run = handled_append l.core mid.core l'.core first.handled later.handled first.run later.run;
       notified = notes_append (happenings_of action) (happenings_in actions)
-          ∙ (ap (λ (ns : List Note). ns ++ run_notes (happenings_in actions)) first.notified ∙ (ap (λ (ns : List Note). flat_map (λ (it : Handled). it.notes) first.handled ++ ns) later.notified ∙ sym (flat_map-append (λ (it : Handled). it.notes) first.handled later.handled)));
+          ∙ (ap (λ (ns : List Note). ns ++ run_notes (happenings_in actions)) first.notified ∙ (ap (λ (ns : List Note). flat_map (λ (it : RunPart). it.notes) first.handled ++ ns) later.notified ∙ sym (flat_map-append (λ (it : RunPart). it.notes) first.handled later.handled)));
       came = λ key device counts. came_then device first.handled later.handled (l.entries key) (mid.entries key) (l'.entries key) (later.came key device counts) (first.came key device);
       lost = λ key device is. lost_then device first.handled later.handled (l.entries key) (mid.entries key) (l'.entries key) (later.lost key device is) (first.lost key device) (first.came key device);
       progresses = λ key e is of sound. progressed_then l.core mid.core key first.handled later.handled (l.entries key) (mid.entries key) e first.run (later.progresses key e is of sound) (λ d there client unbroken. first.progresses key d there client unbroken);
@@ -302,18 +302,18 @@ module _ (opening : State) (trace : Trace) (l : Ledger) (runs : Runs trace (open
   all : GoesOn_in trace (opening_ledger opening) l
   all = goes_on trace (opening_ledger opening) l (opening_good opening) runs
 
-  due_since : (x o : Option Entry) (handled : List Handled) (device : ℕ) → x ≡ None → CameAs device handled x o → due_at o ≡ due_by device [] handled
+  due_since : (x o : Option Entry) (handled : List RunPart) (device : ℕ) → x ≡ None → CameAs device handled x o → due_at o ≡ due_by device [] handled
   due_since x o handled device none (inl (counts, due)) = absurd (subst (λ (y : Option Entry). Counts device y) none counts)
   due_since x o handled device none (inr (called, due)) = due
 
   no_entry : (y : Option Entry) (d : Entry) → y ≡ None → y ≡ Some d → ⊥
   no_entry y d p q = cc
 
-  answered_since : (x : Option Entry) (key : ℕ) (handled : List Handled) (e : Entry) → x ≡ None → TalkedAs opening key handled x e → IsAnswered opening key handled e
+  answered_since : (x : Option Entry) (key : ℕ) (handled : List RunPart) (e : Entry) → x ≡ None → TalkedAs opening key handled x e → IsAnswered opening key handled e
   answered_since x key handled e none (inl went) = absurd (no_entry x went.before none went.there)
   answered_since x key handled e none (inr answered) = answered
 
-  halted_since : (x o : Option Entry) (handled : List Handled) (device : ℕ) → x ≡ None → LostAs device handled x o → IsFrontSent handled device (due_at o)
+  halted_since : (x o : Option Entry) (handled : List RunPart) (device : ℕ) → x ≡ None → LostAs device handled x o → IsFrontSent handled device (due_at o)
   halted_since x o handled device none (inl (was, same)) = absurd (subst (λ (y : Option Entry). IsLost device y) none was)
   halted_since x o handled device none (inr h) = (h.before, h.behind, h.whole, h.rest, by h.came)
     where
@@ -322,10 +322,10 @@ module _ (opening : State) (trace : Trace) (l : Ledger) (runs : Runs trace (open
       by (inr (called, due)) = due
 
   -- a prefix of the bytes sent until an earlier event
-  front_more : (handled before behind : List Handled) (device : ℕ) (due : List ℕ) → handled ≡ before ++ behind → IsFrontSent before device due → IsFrontSent handled device due
-  front_more handled before behind device due whole (first, later, same, rest, is) = (first, later ++ behind, whole ∙ (ap (λ (its : List Handled). its ++ behind) same ∙ append_assoc first later behind), rest, is)
+  front_more : (handled before behind : List RunPart) (device : ℕ) (due : List ℕ) → handled ≡ before ++ behind → IsFrontSent before device due → IsFrontSent handled device due
+  front_more handled before behind device due whole (first, later, same, rest, is) = (first, later ++ behind, whole ∙ (ap (λ (its : List RunPart). its ++ behind) same ∙ append_assoc first later behind), rest, is)
 
-  cut_since : (x : Option Entry) (key : ℕ) (handled : List Handled) (e : Entry) → x ≡ None → StopsAs opening key handled x e → IsCutOff opening key handled e
+  cut_since : (x : Option Entry) (key : ℕ) (handled : List RunPart) (e : Entry) → x ≡ None → StopsAs opening key handled x e → IsCutOff opening key handled e
   cut_since x key handled e none (inl (d, there, broken, progress, due, silent, reads)) = absurd (no_entry x d none there)
   cut_since x key handled e none (inr (inl (d, there, client, sound, until, reads, quiet))) = absurd (no_entry x d none there)
   cut_since x key handled e none (inr (inr cut)) = cut

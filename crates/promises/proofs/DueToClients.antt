@@ -25,7 +25,7 @@ use Rattle.server.specs.Rel.{Rel, Nothing, Notifies, Chooses, Then, If}
 use Rattle.server.specs.Enqueuing.{BreaksAt, Breaks, EnqueuesOpen, EnqueuesAt, Enqueues, EnqueuesReplyAt, EnqueuesResponse, EnqueuesStatus}
 use Rattle.server.specs.Answering as Ans
 use Rattle.promises.proofs.AnswerKinds.{IsTyped, IsTypedReply}
-use Rattle.promises.specs.Orders.{Handled, MemoryRefused, run_notes}
+use Rattle.promises.specs.Orders.{RunPart, MemoryRefused, run_notes}
 use Rattle.promises.specs.Answers.{ClientTalk, IsRefusal, GivenIpp, GivenJob, GivenCommand, Given}
 use Rattle.promises.proofs.SentToDevices.{IsClient, is_key, Ordered, ordered_still, Calm, notes_append, sent_then, calm_still, calm_sets, breaking, one_entry, not_key, no_true, ReadsOn, reads_still, reads_same}
 
@@ -239,7 +239,7 @@ Loose closes client.LpdCommand query (Some reply) lost bytes = (lost ≡ None) �
 Loose closes client.LpdCommand query None lost bytes = ⊥
 
 -- the refusal of memory at a place, as a part of the run: it is asked on the connection under a key
-abbrev pub refusal_at : ℕ → ℕ → ℕ → State → Option AllocationSite → List Handled
+abbrev pub refusal_at : ℕ → ℕ → ℕ → State → Option AllocationSite → List RunPart
 refusal_at moment id key state None = []
 refusal_at moment id key state (Some place) = record { moment = moment; what = MemoryRefused place (Some id); notes = Refused place (Some id) ∷ []; state = state; named = None; asked = Some key } ∷ []
 

@@ -4,7 +4,6 @@ use Rattle.std.proofs.lemmas.List.Elements.{All-cons, All-nil}
 use Rattle.base_types.specs.declared.report.Report.TheVariants as report
 use Rattle.events.specs.declared.event.Event.{Event}
 use Rattle.events.specs.declared.event.Event.TheVariants as Is
-use Rattle.dispatcher.specs.declared.outcome.Outcome.{Outcome}
 use Rattle.connections.specs.Entry.{Entry, device_of}
 use Rattle.server.specs.Polls.{Happening}
 use Rattle.server.specs.Ledger.{Ledger, Fate, Broken}
@@ -15,6 +14,7 @@ use Rattle.promises.specs.Orders.{named_by, run_notes}
 use Rattle.promises.proofs.SentToDevices.{Counts, due_at, Good, IsLost, reads_same}
 use Rattle.promises.proofs.HandledEvents.{goes_plain, happened, Goes, goes_then, goes_calm, goes_event, progressed_still, ClosedAs, stops_still}
 use Rattle.promises.proofs.DueToClients.{Calms, calms_nothing}
+use Rattle.dispatcher.specs.Run.{Outcome}
 
 -- ---- parts at which events come
 

@@ -19,11 +19,12 @@ use Rattle.octets.specs.Document.{DocumentRecord}
 use Rattle.events.specs.declared.event.Event.{Event}
 use Rattle.events.specs.declared.event.Event.TheVariants as Is
 use Rattle.events.specs.declared.effects.Cancel.{Cancel}
-use Rattle.dispatcher.specs.declared.outcome.Outcome.{Outcome}
-use Rattle.dispatcher.specs.declared.outcome.Outcome.TheVariants.{Dropped, Queried, Undispatched, Idle, Dispatched}
 use Rattle.dispatcher.specs.declared.observer.AllocationSite.{AllocationSite}
 use Rattle.dispatcher.specs.Notes.{Note, Refused}
-use Rattle.dispatcher.specs.Run.{Handles}
+use Rattle.dispatcher.specs.declared.handled.Dispatch.{Dispatch}
+use Rattle.dispatcher.specs.declared.handled.Dispatch.TheVariants as dispatch
+use Rattle.dispatcher.specs.Following.{Follows}
+use Rattle.dispatcher.specs.Run.{Outcome, Handles}
 use Rattle.connections.specs.Entry.{PeerRecord, Entry, opening_peer, device_of}
 use Rattle.server.specs.Polls.{Happening, Notified}
 use Rattle.server.specs.Ledger.{Ledger, at_key, job_bytes, Fate}
@@ -31,7 +32,7 @@ use Rattle.server.specs.Rel.{Notifies}
 use Rattle.server.specs.Enqueuing.{IsDevice}
 use Rattle.server.specs.Happening.{Happens, found_by}
 use Rattle.promises.specs.Answers.{Act, ClientTalk, drains, drained, AreActs, IsFrontOf, IsStateOf, is_asked, asked_by, IsAnswered, IsLast, BrokeAfter, IsCutOff}
-use Rattle.promises.specs.Orders.{EventComes, MemoryRefused, Handled, AreHandled, named_by, IsAt, AreAt, run_note, run_notes, cancel_for, start_for, orders_of, names, due_by}
+use Rattle.promises.specs.Orders.{EventComes, MemoryRefused, RunPart, began_by, AreHandled, named_by, IsAt, AreAt, run_note, run_notes, cancel_for, start_for, orders_of, names, due_by}
 use Rattle.promises.proofs.EventNotes.{notified_all}
 use Rattle.promises.proofs.SentToDevices.{Counts, due_at, IsFresh, counts_device, same_key, not_key, Ordered, Calm, Good, good_sent, notes_append, sent_by, orders, Stays, IsLost, BreaksAs, lost_device, ReadsOn, reads_same, reads_then}
 
@@ -41,11 +42,8 @@ notified_notes : (moment : ℕ) (event : Event) (old : State) (outcome : Outcome
 notified_notes moment event old outcome notes new it = notified_all run_note (λ cancel. refl) (λ plan started. refl) refl moment event old outcome notes new it
 
 found_silent : (outcome : Outcome) → run_notes (found_by outcome) ≡ []
-found_silent Dropped = refl
-found_silent (Queried reply) = refl
-found_silent (Undispatched reply) = refl
-found_silent (Idle reply) = refl
-found_silent (Dispatched reply) = refl
+found_silent (Some handled) = refl
+found_silent None = refl
 
 -- ---- an event
 
@@ -76,31 +74,31 @@ happened moment event outcome l hs l' good it =
 -- ---- several
 
 -- whether a device gave its name on a connection by one of these events
-abbrev pub has_named : ℕ → List Handled → Bool
+abbrev pub has_named : ℕ → List RunPart → Bool
 has_named device [] = false
 has_named device (it ∷ later) = names device it.named || has_named device later
 
 -- the bytes due on a device's connection: the earlier bytes and the bytes sent since; or all bytes sent since its name
-abbrev pub CameWith : ℕ → List Handled → Option Entry → List ℕ → Type 0
+abbrev pub CameWith : ℕ → List RunPart → Option Entry → List ℕ → Type 0
 CameWith device handled x due = (Counts device x × (due ≡ due_by device (due_at x) handled)) ⊎ ((has_named device handled ≡ true) × (due ≡ due_by device [] handled))
 
-abbrev pub CameAs : ℕ → List Handled → Option Entry → Option Entry → Type 0
+abbrev pub CameAs : ℕ → List RunPart → Option Entry → Option Entry → Type 0
 CameAs device handled x y = CameWith device handled x (due_at y)
 
 -- the connection broke at one of these events: the bytes due on it are a prefix of the bytes that would be due by then
-pub record Halted (device : ℕ) (handled : List Handled) (x : Option Entry) (due : List ℕ) : Type 0 where
-  pub before : List Handled
-  pub behind : List Handled
+pub record Halted (device : ℕ) (handled : List RunPart) (x : Option Entry) (due : List ℕ) : Type 0 where
+  pub before : List RunPart
+  pub behind : List RunPart
   pub whole : handled ≡ before ++ behind
   pub rest : List ℕ
   pub came : CameWith device before x (due ++ rest)
 
 -- the connection broke at one of these events, or it had broken before
-abbrev pub LostAs : ℕ → List Handled → Option Entry → Option Entry → Type 0
+abbrev pub LostAs : ℕ → List RunPart → Option Entry → Option Entry → Type 0
 LostAs device handled x y = (IsLost device x × (due_at y ≡ due_at x)) ⊎ Halted device handled x (due_at y)
 
 -- at one event, by which this is sent
-pub lost_by : (device : ℕ) (handled : List Handled) (sent : ℕ → List ℕ) (x y : Option Entry) → due_by device (due_at x) handled ≡ due_at x ++ sent device → BreaksAs sent device x y → LostAs device handled x y
+pub lost_by : (device : ℕ) (handled : List RunPart) (sent : ℕ → List ℕ) (x y : Option Entry) → due_by device (due_at x) handled ≡ due_at x ++ sent device → BreaksAs sent device x y → LostAs device handled x y
 lost_by device handled sent x y sends (inl was) = inl was
 lost_by device handled sent x y sends (inr (counts, rest, due)) = inr (record {
   before = handled;
@@ -113,7 +111,7 @@ lost_by device handled sent x y sends (inr (counts, rest, due)) = inr (record {
 -- ---- the answers to clients by these events
 
 -- a client's connection went on from another by these acts
-pub record Went (core : State) (key : ℕ) (handled : List Handled) (x : Option Entry) (e : Entry) : Type 0 where
+pub record Went (core : State) (key : ℕ) (handled : List RunPart) (x : Option Entry) (e : Entry) : Type 0 where
   pub before : Entry
   pub there : x ≡ Some before
   pub client : ClientTalk before.progress
@@ -129,7 +127,7 @@ pub record Went (core : State) (key : ℕ) (handled : List Handled) (x : Option 
   pub due : e.due ≡ before.due ++ flat_map (λ (a : Act). a.bytes) acts
 
 -- the connection went on by these acts, or it was accepted since
-abbrev pub TalkedAs : State → ℕ → List Handled → Option Entry → Entry → Type 0
+abbrev pub TalkedAs : State → ℕ → List RunPart → Option Entry → Entry → Type 0
 TalkedAs core key handled x e = Went core key handled x e ⊎ IsAnswered core key handled e
 
 or_right : (x y : Bool) → y ≡ true → x || y ≡ true
@@ -180,41 +178,41 @@ fronts_more d e acts reads all = All-weaker (λ (a : Act). IsFrontOf a.read d.re
 fronts_joined : (d e : Entry) (acts more : List Act) → ReadsOn d e → All (λ (a : Act). IsFrontOf a.read d.read) acts → All (λ (a : Act). IsFrontOf a.read e.read) more → All (λ (a : Act). IsFrontOf a.read e.read) (acts ++ more)
 fronts_joined d e acts more reads first later = All-append (λ (a : Act). IsFrontOf a.read e.read) acts more (fronts_more d e acts reads first) later
 
-asked_append : (key : ℕ) (first later : List Handled) → asked_by key (first ++ later) ≡ asked_by key first ++ asked_by key later
+asked_append : (key : ℕ) (first later : List RunPart) → asked_by key (first ++ later) ≡ asked_by key first ++ asked_by key later
 asked_append key [] later = refl
 asked_append key (it ∷ first) later =
-    ap (λ (its : List Handled). (if is_asked key it.asked then it ∷ [] else []) ++ its) (asked_append key first later) ∙ sym (append_assoc (if is_asked key it.asked then it ∷ [] else []) (asked_by key first) (asked_by key later))
+    ap (λ (its : List RunPart). (if is_asked key it.asked then it ∷ [] else []) ++ its) (asked_append key first later) ∙ sym (append_assoc (if is_asked key it.asked then it ∷ [] else []) (asked_by key first) (asked_by key later))
 
 -- a state of a run is one of a longer run
-state_more : (state core : State) (first later : List Handled) → IsStateOf state core first → IsStateOf state core (first ++ later)
+state_more : (state core : State) (first later : List RunPart) → IsStateOf state core first → IsStateOf state core (first ++ later)
 state_more state core [] [] is = is
 state_more state core [] (it ∷ later) is = inl is
 state_more state core (it ∷ first) later (inl is) = inl is
 state_more state core (it ∷ first) later (inr is) = inr (state_more state it.state first later is)
 
-state_behind : (state core mid : State) (first later : List Handled) → AreHandled core first mid → IsStateOf state mid later → IsStateOf state core (first ++ later)
+state_behind : (state core mid : State) (first later : List RunPart) → AreHandled core first mid → IsStateOf state mid later → IsStateOf state core (first ++ later)
 state_behind state core mid [] later same is = subst (λ (s : State). IsStateOf state s later) same is
 state_behind state core mid (it ∷ first) later (handles, run) is = inr (state_behind state it.state mid first later run is)
 
-states_more : (core : State) (first later : List Handled) (acts : List Act) → All (λ (a : Act). IsStateOf a.state core first) acts → All (λ (a : Act). IsStateOf a.state core (first ++ later)) acts
+states_more : (core : State) (first later : List RunPart) (acts : List Act) → All (λ (a : Act). IsStateOf a.state core first) acts → All (λ (a : Act). IsStateOf a.state core (first ++ later)) acts
 states_more core first later acts all = All-weaker (λ (a : Act). IsStateOf a.state core first) (λ (a : Act). IsStateOf a.state core (first ++ later)) (λ a is. state_more a.state core first later is) acts all
 
-states_behind : (core mid : State) (first later : List Handled) (acts : List Act) → AreHandled core first mid → All (λ (a : Act). IsStateOf a.state mid later) acts → All (λ (a : Act). IsStateOf a.state core (first ++ later)) acts
+states_behind : (core mid : State) (first later : List RunPart) (acts : List Act) → AreHandled core first mid → All (λ (a : Act). IsStateOf a.state mid later) acts → All (λ (a : Act). IsStateOf a.state core (first ++ later)) acts
 states_behind core mid first later acts run all = All-weaker (λ (a : Act). IsStateOf a.state mid later) (λ (a : Act). IsStateOf a.state core (first ++ later)) (λ a is. state_behind a.state core mid first later run is) acts all
 
-asked_joined : (key : ℕ) (first later : List Handled) (acts more : List Act) → asked_by key first ≡ flat_map (λ (a : Act). a.asked) acts → asked_by key later ≡ flat_map (λ (a : Act). a.asked) more → asked_by key (first ++ later) ≡ flat_map (λ (a : Act). a.asked) (acts ++ more)
+asked_joined : (key : ℕ) (first later : List RunPart) (acts more : List Act) → asked_by key first ≡ flat_map (λ (a : Act). a.asked) acts → asked_by key later ≡ flat_map (λ (a : Act). a.asked) more → asked_by key (first ++ later) ≡ flat_map (λ (a : Act). a.asked) (acts ++ more)
 asked_joined key first later acts more p q =
-    asked_append key first later ∙ (ap (λ (its : List Handled). its ++ asked_by key later) p ∙ (ap (λ (its : List Handled). flat_map (λ (a : Act). a.asked) acts ++ its) q ∙ sym (flat_map-append (λ (a : Act). a.asked) acts more)))
+    asked_append key first later ∙ (ap (λ (its : List RunPart). its ++ asked_by key later) p ∙ (ap (λ (its : List RunPart). flat_map (λ (a : Act). a.asked) acts ++ its) q ∙ sym (flat_map-append (λ (a : Act). a.asked) acts more)))
 
 due_joined : (before mid after : List ℕ) (acts more : List Act) → mid ≡ before ++ flat_map (λ (a : Act). a.bytes) acts → after ≡ mid ++ flat_map (λ (a : Act). a.bytes) more → after ≡ before ++ flat_map (λ (a : Act). a.bytes) (acts ++ more)
 due_joined before mid after acts more p q =
     q ∙ (ap (λ (bytes : List ℕ). bytes ++ flat_map (λ (a : Act). a.bytes) more) p ∙ (append_assoc before (flat_map (λ (a : Act). a.bytes) acts) (flat_map (λ (a : Act). a.bytes) more) ∙ ap (λ (bytes : List ℕ). before ++ bytes) (sym (flat_map-append (λ (a : Act). a.bytes) acts more))))
 
-pub progressed_then : (core mid : State) (key : ℕ) (first later : List Handled) (x y : Option Entry) (e : Entry) → AreHandled core first mid → TalkedAs mid key later y e → ((d : Entry) → y ≡ Some d → ClientTalk d.progress → d.broken ≡ false → TalkedAs core key first x d) → TalkedAs core key (first ++ later) x e
+pub progressed_then : (core mid : State) (key : ℕ) (first later : List RunPart) (x y : Option Entry) (e : Entry) → AreHandled core first mid → TalkedAs mid key later y e → ((d : Entry) → y ≡ Some d → ClientTalk d.progress → d.broken ≡ false → TalkedAs core key first x d) → TalkedAs core key (first ++ later) x e
 progressed_then core mid key first later x y e run (inr a) before = inr (record {
   earlier = first ++ a.earlier;
   since = a.since;
-  whole = ap (λ (its : List Handled). first ++ its) a.whole ∙ sym (append_assoc first a.earlier a.since);
+  whole = ap (λ (its : List RunPart). first ++ its) a.whole ∙ sym (append_assoc first a.earlier a.since);
   door = a.door;
   acts = a.acts;
   are = a.are;
@@ -249,7 +247,7 @@ progressed_then core mid key first later x y e run (inl w) before = by (before w
     by (inr b) = inr (record {
       earlier = b.earlier;
       since = b.since ++ later;
-      whole = ap (λ (its : List Handled). its ++ later) b.whole ∙ append_assoc b.earlier b.since later;
+      whole = ap (λ (its : List RunPart). its ++ later) b.whole ∙ append_assoc b.earlier b.since later;
       door = b.door;
       acts = b.acts ++ w.acts;
       are = acts_append e.id (opening_peer b.door) w.before.progress e.progress b.acts w.acts (acts_on w.before e (opening_peer b.door) w.before.progress b.acts w.reads b.are) (λ last. w.quiet (b.over last)) w.are;
@@ -263,25 +261,25 @@ progressed_then core mid key first later x y e run (inl w) before = by (before w
 -- ---- where it broke
 
 -- if the connection drained before, it took no acts and asked nothing until it broke
-abbrev pub QuietFrom : Bool → List Act → List Handled → PeerRecord → PeerRecord → Type 0
+abbrev pub QuietFrom : Bool → List Act → List RunPart → PeerRecord → PeerRecord → Type 0
 QuietFrom draining acts unanswered before after = draining ≡ true → (acts ≡ []) × (unanswered ≡ []) × (after ≡ before)
 
 -- the connection had broken before; or it went on, and broke; or it was accepted since, and broke
-abbrev pub StopsAs : State → ℕ → List Handled → Option Entry → Entry → Type 0
+abbrev pub StopsAs : State → ℕ → List RunPart → Option Entry → Entry → Type 0
 StopsAs core key handled x e =
     ((d : Entry) × (x ≡ Some d) × (d.broken ≡ true) × (d.progress ≡ e.progress) × (d.due ≡ e.due) × (asked_by key handled ≡ []) × ReadsOn d e)
     ⊎ (((d : Entry) × (x ≡ Some d) × ClientTalk d.progress × (d.broken ≡ false) × (until : BrokeAfter core key handled handled d.progress d.due e) × ReadsOn d e × QuietFrom d.draining until.acts until.unanswered d.progress e.progress) ⊎ IsCutOff core key handled e)
 
-last_more : (core : State) (first later : List Handled) (d e : Entry) (after progress : PeerRecord) → ReadsOn d e → IsLast core first d.read after progress → IsLast core (first ++ later) e.read after progress
+last_more : (core : State) (first later : List RunPart) (d e : Entry) (after progress : PeerRecord) → ReadsOn d e → IsLast core first d.read after progress → IsLast core (first ++ later) e.read after progress
 last_more core first later d e after progress reads (inl is) = inl is
 last_more core first later d e after progress reads (inr (state, read, what, of, front, next)) = inr (state, read, what, state_more state core first later of, front_more d e read reads front, next)
 
-last_behind : (core mid : State) (first later : List Handled) (whole : List ℕ) (after progress : PeerRecord) → AreHandled core first mid → IsLast mid later whole after progress → IsLast core (first ++ later) whole after progress
+last_behind : (core mid : State) (first later : List RunPart) (whole : List ℕ) (after progress : PeerRecord) → AreHandled core first mid → IsLast mid later whole after progress → IsLast core (first ++ later) whole after progress
 last_behind core mid first later whole after progress run (inl is) = inl is
 last_behind core mid first later whole after progress run (inr (state, read, what, of, front, next)) = inr (state, read, what, state_behind state core mid first later run of, front, next)
 
 -- more comes, which it doesn't ask for
-abbrev broke_more : (core : State) (key : ℕ) (first later since : List Handled) (before : PeerRecord) (base : List ℕ) (d e : Entry) → BrokeAfter core key first since before base d → d.progress ≡ e.progress → d.due ≡ e.due → asked_by key later ≡ [] → ReadsOn d e → BrokeAfter core key (first ++ later) (since ++ later) before base e
+abbrev broke_more : (core : State) (key : ℕ) (first later since : List RunPart) (before : PeerRecord) (base : List ℕ) (d e : Entry) → BrokeAfter core key first since before base d → d.progress ≡ e.progress → d.due ≡ e.due → asked_by key later ≡ [] → ReadsOn d e → BrokeAfter core key (first ++ later) (since ++ later) before base e
 broke_more core key first later since before base d e b progress due none reads = record {
   acts = b.acts;
   after = b.after;
@@ -290,19 +288,19 @@ broke_more core key first later since before base d e b progress due none reads 
   states = states_more core first later b.acts b.states;
   unanswered = b.unanswered;
   one = b.one;
-  asked = asked_append key since later ∙ (ap (λ (its : List Handled). asked_by key since ++ its) none ∙ (append-nil (asked_by key since) ∙ b.asked));
+  asked = asked_append key since later ∙ (ap (λ (its : List RunPart). asked_by key since ++ its) none ∙ (append-nil (asked_by key since) ∙ b.asked));
   last = subst (λ (t : PeerRecord). IsLast core (first ++ later) e.read b.after t) progress (last_more core first later d e b.after d.progress reads b.last);
   over = λ last. let it = b.over last in (sym progress ∙ it.0, it.1);
   due = sym due ∙ b.due;
 }
 
-broke_ended : (mid : State) (key : ℕ) (later : List Handled) (d e : Entry) (acts : List Act) (b : BrokeAfter mid key later later d.progress d.due e) → (drained acts ≡ true → d.draining ≡ true) → QuietFrom d.draining b.acts b.unanswered d.progress e.progress
+broke_ended : (mid : State) (key : ℕ) (later : List RunPart) (d e : Entry) (acts : List Act) (b : BrokeAfter mid key later later d.progress d.due e) → (drained acts ≡ true → d.draining ≡ true) → QuietFrom d.draining b.acts b.unanswered d.progress e.progress
     → (drained acts ≡ true) ⊎ (drained b.acts ≡ true) → (e.progress ≡ b.after) × (b.unanswered ≡ [])
 broke_ended mid key later d e acts b over quiet (inl last) = let it = quiet (over last) in (it.2 ∙ sym (acts_none e.id d.progress b.after b.acts it.0 b.are), it.1)
 broke_ended mid key later d e acts b over quiet (inr last) = b.over last
 
 -- the connection had gone on by other acts before
-abbrev broke_behind : (core mid : State) (key : ℕ) (first later since : List Handled) (before : PeerRecord) (base : List ℕ) (d e : Entry) (acts : List Act) → AreHandled core first mid → AreActs d.id before acts d.progress → (drained acts ≡ true → d.draining ≡ true) → All (λ (a : Act). IsFrontOf a.read d.read) acts → All (λ (a : Act). IsStateOf a.state core first) acts → asked_by key since ≡ flat_map (λ (a : Act). a.asked) acts
+abbrev broke_behind : (core mid : State) (key : ℕ) (first later since : List RunPart) (before : PeerRecord) (base : List ℕ) (d e : Entry) (acts : List Act) → AreHandled core first mid → AreActs d.id before acts d.progress → (drained acts ≡ true → d.draining ≡ true) → All (λ (a : Act). IsFrontOf a.read d.read) acts → All (λ (a : Act). IsStateOf a.state core first) acts → asked_by key since ≡ flat_map (λ (a : Act). a.asked) acts
     → d.due ≡ base ++ flat_map (λ (a : Act). a.bytes) acts → (b : BrokeAfter mid key later later d.progress d.due e) → ReadsOn d e → QuietFrom d.draining b.acts b.unanswered d.progress e.progress → BrokeAfter core key (first ++ later) (since ++ later) before base e
 broke_behind core mid key first later since before base d e acts run are over fronts states asked due b reads quiet = record {
   acts = acts ++ b.acts;
@@ -313,26 +311,26 @@ broke_behind core mid key first later since before base d e acts run are over fr
   unanswered = b.unanswered;
   one = b.one;
   asked = asked_append key since later
-      ∙ (ap (λ (its : List Handled). its ++ asked_by key later) asked
-      ∙ (ap (λ (its : List Handled). flat_map (λ (a : Act). a.asked) acts ++ its) b.asked
-      ∙ (sym (append_assoc (flat_map (λ (a : Act). a.asked) acts) (flat_map (λ (a : Act). a.asked) b.acts) b.unanswered) ∙ ap (λ (its : List Handled). its ++ b.unanswered) (sym (flat_map-append (λ (a : Act). a.asked) acts b.acts)))));
+      ∙ (ap (λ (its : List RunPart). its ++ asked_by key later) asked
+      ∙ (ap (λ (its : List RunPart). flat_map (λ (a : Act). a.asked) acts ++ its) b.asked
+      ∙ (sym (append_assoc (flat_map (λ (a : Act). a.asked) acts) (flat_map (λ (a : Act). a.asked) b.acts) b.unanswered) ∙ ap (λ (its : List RunPart). its ++ b.unanswered) (sym (flat_map-append (λ (a : Act). a.asked) acts b.acts)))));
   last = last_behind core mid first later e.read b.after e.progress run b.last;
   over = λ last. broke_ended mid key later d e acts b over quiet (drained_either acts b.acts last);
   due = due_joined base d.due e.due acts b.acts due b.due;
 }
 
-pub stops_then : (core mid : State) (key : ℕ) (first later : List Handled) (x y : Option Entry) (e : Entry) → AreHandled core first mid → ClientTalk e.progress → StopsAs mid key later y e → ((d : Entry) → y ≡ Some d → ClientTalk d.progress → d.broken ≡ false → TalkedAs core key first x d)
+pub stops_then : (core mid : State) (key : ℕ) (first later : List RunPart) (x y : Option Entry) (e : Entry) → AreHandled core first mid → ClientTalk e.progress → StopsAs mid key later y e → ((d : Entry) → y ≡ Some d → ClientTalk d.progress → d.broken ≡ false → TalkedAs core key first x d)
     → ((d : Entry) → y ≡ Some d → ClientTalk d.progress → d.broken ≡ true → StopsAs core key first x d) → StopsAs core key (first ++ later) x e
 stops_then core mid key first later x y e run client (inl (d, there, broken, progress, due, none, reads)) progressed stopped = by (stopped d there (subst ClientTalk (sym progress) client) broken)
   where
     by : StopsAs core key first x d → StopsAs core key (first ++ later) x e
-    by (inl (f, is, was, same, more, silent, read)) = inl (f, is, was, same ∙ progress, more ∙ due, asked_append key first later ∙ (ap (λ (its : List Handled). its ++ asked_by key later) silent ∙ none), reads_then f d e read reads)
+    by (inl (f, is, was, same, more, silent, read)) = inl (f, is, was, same ∙ progress, more ∙ due, asked_append key first later ∙ (ap (λ (its : List RunPart). its ++ asked_by key later) silent ∙ none), reads_then f d e read reads)
     by (inr (inl (f, is, of, sound, b, read, quiet))) =
         inr (inl (f, is, of, sound, broke_more core key first later first f.progress f.due d e b progress due none reads, reads_then f d e read reads, λ drains. let it = quiet drains in (it.0, it.1, sym progress ∙ it.2)))
     by (inr (inr c)) = inr (inr (record {
       earlier = c.earlier;
       since = c.since ++ later;
-      whole = ap (λ (its : List Handled). its ++ later) c.whole ∙ append_assoc c.earlier c.since later;
+      whole = ap (λ (its : List RunPart). its ++ later) c.whole ∙ append_assoc c.earlier c.since later;
       door = c.door;
       until = broke_more core key first later c.since (opening_peer c.door) [] d e c.until progress due none reads;
     }))
@@ -354,14 +352,14 @@ stops_then core mid key first later x y e run client (inr (inl (d, there, of, so
     by (inr a) = inr (inr (record {
       earlier = a.earlier;
       since = a.since ++ later;
-      whole = ap (λ (its : List Handled). its ++ later) a.whole ∙ append_assoc a.earlier a.since later;
+      whole = ap (λ (its : List RunPart). its ++ later) a.whole ∙ append_assoc a.earlier a.since later;
       door = a.door;
       until = broke_behind core mid key first later a.since (opening_peer a.door) [] d e a.acts run a.are a.over a.fronts a.states a.asked a.due b reads quiet;
     }))
 stops_then core mid key first later x y e run client (inr (inr c)) progressed stopped = inr (inr (record {
   earlier = first ++ c.earlier;
   since = c.since;
-  whole = ap (λ (its : List Handled). first ++ its) c.whole ∙ sym (append_assoc first c.earlier c.since);
+  whole = ap (λ (its : List RunPart). first ++ its) c.whole ∙ sym (append_assoc first c.earlier c.since);
   door = c.door;
   until = record {
     acts = c.until.acts;
@@ -379,7 +377,7 @@ stops_then core mid key first later x y e run client (inr (inr c)) progressed st
 }))
 
 -- the connection broke, or had broken; these events weren't asked on it
-pub stops_still : (core : State) (key : ℕ) (handled : List Handled) (x y : Option Entry) → Stays x y → asked_by key handled ≡ [] → (e : Entry) → y ≡ Some e → ClientTalk e.progress → e.broken ≡ true → StopsAs core key handled x e
+pub stops_still : (core : State) (key : ℕ) (handled : List RunPart) (x y : Option Entry) → Stays x y → asked_by key handled ≡ [] → (e : Entry) → y ≡ Some e → ClientTalk e.progress → e.broken ≡ true → StopsAs core key handled x e
 stops_still core key handled x y stays none e is client broken =
     let d = stays e is client in
     by d.0 d.1 d.2 d.4 d.5 d.0.broken refl
@@ -409,7 +407,7 @@ stops_still core key handled x y stays none e is client broken =
     ))
 
 -- the connection is unchanged if these events weren't asked on it
-pub progressed_still : (core : State) (key : ℕ) (handled : List Handled) (x y : Option Entry) → Stays x y → asked_by key handled ≡ [] → (e : Entry) → y ≡ Some e → ClientTalk e.progress → e.broken ≡ false → TalkedAs core key handled x e
+pub progressed_still : (core : State) (key : ℕ) (handled : List RunPart) (x y : Option Entry) → Stays x y → asked_by key handled ≡ [] → (e : Entry) → y ≡ Some e → ClientTalk e.progress → e.broken ≡ false → TalkedAs core key handled x e
 progressed_still core key handled x y stays none e is client sound =
     let d = stays e is client in
     inl (record {
@@ -431,43 +429,43 @@ progressed_still core key handled x y stays none e is client sound =
 -- ---- connections that were closed
 
 -- the bytes due on a connection when it was closed, unless it broke: by the events until then
-pub record ClosedAs (l : Ledger) (handled : List Handled) (e : Entry) : Type 0 where
+pub record ClosedAs (l : Ledger) (handled : List RunPart) (e : Entry) : Type 0 where
   pub key : ℕ
-  pub before : List Handled
-  pub behind : List Handled
+  pub before : List RunPart
+  pub behind : List RunPart
   pub whole : handled ≡ before ++ behind
   pub came : (device : ℕ) → device_of e.progress ≡ Some device → e.broken ≡ false → CameAs device before (l.entries key) (Some e)
   pub lost : (device : ℕ) → device_of e.progress ≡ Some device → e.broken ≡ true → LostAs device before (l.entries key) (Some e)
   pub progresses : ClientTalk e.progress → e.broken ≡ false → TalkedAs l.core key before (l.entries key) e
   pub stops : ClientTalk e.progress → e.broken ≡ true → StopsAs l.core key before (l.entries key) e
 
-pub record AllClosed (l : Ledger) (handled : List Handled) (l' : Ledger) : Type 0 where
+pub record AllClosed (l : Ledger) (handled : List RunPart) (l' : Ledger) : Type 0 where
   pub more : List (Entry × Fate)
   pub closed : l'.closed ≡ l.closed ++ more
   pub each : All (λ (it : Entry × Fate). ClosedAs l handled it.0) more
 
 -- no connection was closed
-pub none_closed : (l : Ledger) (handled : List Handled) (l' : Ledger) → l'.closed ≡ l.closed → AllClosed l handled l'
+pub none_closed : (l : Ledger) (handled : List RunPart) (l' : Ledger) → l'.closed ≡ l.closed → AllClosed l handled l'
 none_closed l handled l' same = record { more = []; closed = same ∙ sym (append-nil l.closed); each = All-nil (λ (it : Entry × Fate). ClosedAs l handled it.0) }
 
 -- the core handled these, at one moment, in a turn or not
 pub record Goes (turn : Bool) (moment : ℕ) (l : Ledger) (hs : List Happening) (l' : Ledger) : Type 0 where
-  pub handled : List Handled
+  pub handled : List RunPart
   pub good : Good l'
   pub run : AreHandled l.core handled l'.core
   pub timed : AreAt turn moment handled
-  pub notified : run_notes hs ≡ flat_map (λ (it : Handled). it.notes) handled
+  pub notified : run_notes hs ≡ flat_map (λ (it : RunPart). it.notes) handled
   pub came : (key device : ℕ) → Counts device (l'.entries key) → CameAs device handled (l.entries key) (l'.entries key)
   pub lost : (key device : ℕ) → IsLost device (l'.entries key) → LostAs device handled (l.entries key) (l'.entries key)
   pub progresses : (key : ℕ) (e : Entry) → l'.entries key ≡ Some e → ClientTalk e.progress → e.broken ≡ false → TalkedAs l.core key handled (l.entries key) e
   pub stops : (key : ℕ) (e : Entry) → l'.entries key ≡ Some e → ClientTalk e.progress → e.broken ≡ true → StopsAs l.core key handled (l.entries key) e
   pub closed : AllClosed l handled l'
 
-pub due_append : (device : ℕ) (before : List ℕ) (first later : List Handled) → due_by device before (first ++ later) ≡ due_by device (due_by device before first) later
+pub due_append : (device : ℕ) (before : List ℕ) (first later : List RunPart) → due_by device before (first ++ later) ≡ due_by device (due_by device before first) later
 due_append device before [] later = refl
 due_append device before (it ∷ first) later = due_append device ((if names device it.named then [] else before) ++ orders_of device it) first later
 
-pub named_append : (device : ℕ) (first later : List Handled) → has_named device (first ++ later) ≡ has_named device first || has_named device later
+pub named_append : (device : ℕ) (first later : List RunPart) → has_named device (first ++ later) ≡ has_named device first || has_named device later
 named_append device [] later = refl
 named_append device (it ∷ first) later = ap (λ (t : Bool). names device it.named || t) (named_append device first later) ∙ or_assoc (names device it.named) (has_named device first) (has_named device later)
   where
@@ -476,7 +474,7 @@ named_append device (it ∷ first) later = ap (λ (t : Bool). names device it.na
     or_assoc false y z = refl
 
 -- once a device gave its name, the bytes due before don't count
-pub due_named : (device : ℕ) (before other : List ℕ) (handled : List Handled) → has_named device handled ≡ true → due_by device before handled ≡ due_by device other handled
+pub due_named : (device : ℕ) (before other : List ℕ) (handled : List RunPart) → has_named device handled ≡ true → due_by device before handled ≡ due_by device other handled
 due_named device before other [] is = cc
 due_named device before other (it ∷ later) is = by_name (names device it.named) (λ rest. due_named device (before ++ orders_of device it) (other ++ orders_of device it) later rest) is
   where
@@ -484,7 +482,7 @@ due_named device before other (it ∷ later) is = by_name (names device it.named
     by_name true rest is = refl
     by_name false rest is = rest is
 
-pub came_with : (device : ℕ) (first later : List Handled) (x y : Option Entry) (all : List ℕ) → CameWith device later y all → (Counts device y → CameAs device first x y) → CameWith device (first ++ later) x all
+pub came_with : (device : ℕ) (first later : List RunPart) (x y : Option Entry) (all : List ℕ) → CameWith device later y all → (Counts device y → CameAs device first x y) → CameWith device (first ++ later) x all
 came_with device first later x y all (inr (named, due)) before =
     inr (named_append device first later ∙ or_right (has_named device first) (has_named device later) named, due ∙ (due_named device [] (due_by device [] first) later named ∙ sym (due_append device [] first later)))
 came_with device first later x y all (inl (counts, due)) before = by_first (before counts)
@@ -494,14 +492,14 @@ came_with device first later x y all (inl (counts, due)) before = by_first (befo
     by_first (inr (named, is)) =
         inr (named_append device first later ∙ or_left (has_named device first) (has_named device later) named, due ∙ (ap (λ (bytes : List ℕ). due_by device bytes later) is ∙ sym (due_append device [] first later)))
 
-pub came_then : (device : ℕ) (first later : List Handled) (x y z : Option Entry) → CameAs device later y z → (Counts device y → CameAs device first x y) → CameAs device (first ++ later) x z
+pub came_then : (device : ℕ) (first later : List RunPart) (x y z : Option Entry) → CameAs device later y z → (Counts device y → CameAs device first x y) → CameAs device (first ++ later) x z
 came_then device first later x y z came before = came_with device first later x y (due_at z) came before
 
-pub lost_then : (device : ℕ) (first later : List Handled) (x y z : Option Entry) → LostAs device later y z → (IsLost device y → LostAs device first x y) → (Counts device y → CameAs device first x y) → LostAs device (first ++ later) x z
+pub lost_then : (device : ℕ) (first later : List RunPart) (x y z : Option Entry) → LostAs device later y z → (IsLost device y → LostAs device first x y) → (Counts device y → CameAs device first x y) → LostAs device (first ++ later) x z
 lost_then device first later x y z (inr h) lost came = inr (record {
   before = first ++ h.before;
   behind = h.behind;
-  whole = ap (λ (its : List Handled). first ++ its) h.whole ∙ sym (append_assoc first h.before h.behind);
+  whole = ap (λ (its : List RunPart). first ++ its) h.whole ∙ sym (append_assoc first h.before h.behind);
   rest = h.rest;
   came = came_with device first h.before x y (due_at z ++ h.rest) h.came came;
 })
@@ -512,29 +510,29 @@ lost_then device first later x y z (inl (is, same)) lost came = by (lost is)
     by (inr h) = inr (record {
       before = h.before;
       behind = h.behind ++ later;
-      whole = ap (λ (its : List Handled). its ++ later) h.whole ∙ append_assoc h.before h.behind later;
+      whole = ap (λ (its : List RunPart). its ++ later) h.whole ∙ append_assoc h.before h.behind later;
       rest = h.rest;
       came = subst (λ (bytes : List ℕ). CameWith device h.before x (bytes ++ h.rest)) (sym same) h.came;
     })
 
-pub handled_append : (old mid new : State) (first later : List Handled) → AreHandled old first mid → AreHandled mid later new → AreHandled old (first ++ later) new
+pub handled_append : (old mid new : State) (first later : List RunPart) → AreHandled old first mid → AreHandled mid later new → AreHandled old (first ++ later) new
 handled_append old mid new [] later same rest = subst (λ (s : State). AreHandled s later new) same rest
 handled_append old mid new (it ∷ first) later (handles, more) rest = (handles, handled_append it.state mid new first later more rest)
 
 -- closed before more comes, or after this
-closed_more : (l : Ledger) (first later : List Handled) (e : Entry) → ClosedAs l first e → ClosedAs l (first ++ later) e
+closed_more : (l : Ledger) (first later : List RunPart) (e : Entry) → ClosedAs l first e → ClosedAs l (first ++ later) e
 closed_more l first later e c = record {
   key = c.key;
   before = c.before;
   behind = c.behind ++ later;
-  whole = ap (λ (its : List Handled). its ++ later) c.whole ∙ append_assoc c.before c.behind later;
+  whole = ap (λ (its : List RunPart). its ++ later) c.whole ∙ append_assoc c.before c.behind later;
   came = c.came;
   lost = c.lost;
   progresses = c.progresses;
   stops = c.stops;
 }
 
-closed_behind : (l mid : Ledger) (first later : List Handled) (e : Entry) → AreHandled l.core first mid.core → ((key device : ℕ) → Counts device (mid.entries key) → CameAs device first (l.entries key) (mid.entries key))
+closed_behind : (l mid : Ledger) (first later : List RunPart) (e : Entry) → AreHandled l.core first mid.core → ((key device : ℕ) → Counts device (mid.entries key) → CameAs device first (l.entries key) (mid.entries key))
     → ((key device : ℕ) → IsLost device (mid.entries key) → LostAs device first (l.entries key) (mid.entries key))
     → ((key : ℕ) (d : Entry) → mid.entries key ≡ Some d → ClientTalk d.progress → d.broken ≡ false → TalkedAs l.core key first (l.entries key) d)
     → ((key : ℕ) (d : Entry) → mid.entries key ≡ Some d → ClientTalk d.progress → d.broken ≡ true → StopsAs l.core key first (l.entries key) d) → ClosedAs mid later e → ClosedAs l (first ++ later) e
@@ -542,14 +540,14 @@ closed_behind l mid first later e run came lost progresses stops c = record {
   key = c.key;
   before = first ++ c.before;
   behind = c.behind;
-  whole = ap (λ (its : List Handled). first ++ its) c.whole ∙ sym (append_assoc first c.before c.behind);
+  whole = ap (λ (its : List RunPart). first ++ its) c.whole ∙ sym (append_assoc first c.before c.behind);
   came = λ device named sound. came_then device first c.before (l.entries c.key) (mid.entries c.key) (Some e) (c.came device named sound) (came c.key device);
   lost = λ device named is. lost_then device first c.before (l.entries c.key) (mid.entries c.key) (Some e) (c.lost device named is) (lost c.key device) (came c.key device);
   progresses = λ client sound. progressed_then l.core mid.core c.key first c.before (l.entries c.key) (mid.entries c.key) e run (c.progresses client sound) (λ d there of unbroken. progresses c.key d there of unbroken);
   stops = λ client broken. stops_then l.core mid.core c.key first c.before (l.entries c.key) (mid.entries c.key) e run client (c.stops client broken) (progresses c.key) (stops c.key);
 }
 
-pub all_closed_then : (l mid l' : Ledger) (first later : List Handled) → AreHandled l.core first mid.core → ((key device : ℕ) → Counts device (mid.entries key) → CameAs device first (l.entries key) (mid.entries key))
+pub all_closed_then : (l mid l' : Ledger) (first later : List RunPart) → AreHandled l.core first mid.core → ((key device : ℕ) → Counts device (mid.entries key) → CameAs device first (l.entries key) (mid.entries key))
     → ((key device : ℕ) → IsLost device (mid.entries key) → LostAs device first (l.entries key) (mid.entries key))
     → ((key : ℕ) (d : Entry) → mid.entries key ≡ Some d → ClientTalk d.progress → d.broken ≡ false → TalkedAs l.core key first (l.entries key) d)
     → ((key : ℕ) (d : Entry) → mid.entries key ≡ Some d → ClientTalk d.progress → d.broken ≡ true → StopsAs l.core key first (l.entries key) d) → AllClosed l first mid → AllClosed mid later l' → AllClosed l (first ++ later) l'
@@ -567,7 +565,7 @@ goes_then turn moment l front mid back l' hs whole p q = record {
   good = q.good;
   run = handled_append l.core mid.core l'.core p.handled q.handled p.run q.run;
   timed = All-append (IsAt turn moment) p.handled q.handled p.timed q.timed;
-  notified = ap run_notes whole ∙ (notes_append front back ∙ (ap (λ (ns : List Note). ns ++ run_notes back) p.notified ∙ (ap (λ (ns : List Note). flat_map (λ (it : Handled). it.notes) p.handled ++ ns) q.notified ∙ sym (flat_map-append (λ (it : Handled). it.notes) p.handled q.handled))));
+  notified = ap run_notes whole ∙ (notes_append front back ∙ (ap (λ (ns : List Note). ns ++ run_notes back) p.notified ∙ (ap (λ (ns : List Note). flat_map (λ (it : RunPart). it.notes) p.handled ++ ns) q.notified ∙ sym (flat_map-append (λ (it : RunPart). it.notes) p.handled q.handled))));
   came = λ key device counts. came_then device p.handled q.handled (l.entries key) (mid.entries key) (l'.entries key) (q.came key device counts) (p.came key device);
   lost = λ key device is. lost_then device p.handled q.handled (l.entries key) (mid.entries key) (l'.entries key) (q.lost key device is) (p.lost key device) (p.came key device);
   progresses = λ key e is client sound. progressed_then l.core mid.core key p.handled q.handled (l.entries key) (mid.entries key) e p.run (q.progresses key e is client sound) (λ d there of unbroken. p.progresses key d there of unbroken);
@@ -635,7 +633,7 @@ goes_plain turn moment key o l hs l' good silent core after here progresses unbr
     each k = subst (λ (entries : ℕ → Option Entry). Plain (l.entries k) (entries k)) (sym after) (plain_at key o l.entries here k)
 
 -- one event, as the core has it
-abbrev pub one_handled : (moment : ℕ) (event : Event) (outcome : Outcome) (hs : List Happening) (l' : Ledger) (named asked : Option ℕ) → Handled
+abbrev pub one_handled : (moment : ℕ) (event : Event) (outcome : Outcome) (hs : List Happening) (l' : Ledger) (named asked : Option ℕ) → RunPart
 one_handled moment event outcome hs l' named asked = record { moment = moment; what = EventComes event outcome; notes = run_notes hs; state = l'.core; named = named; asked = asked }
 
 good_one : (moment : ℕ) (event : Event) (outcome : Outcome) (l : Ledger) (hs : List Happening) (l' : Ledger) → Good l → Handles_one moment event outcome l hs l' → Good l'
@@ -673,18 +671,18 @@ goes_refused turn moment place id l hs l' good notifies it = subst (λ (x : Ledg
   closed = none_closed l (one ∷ []) l refl;
 })
   where
-    one : Handled
+    one : RunPart
     one = record { moment = moment; what = MemoryRefused place id; notes = Refused place id ∷ []; state = l.core; named = None; asked = None }
 
 -- ---- a device's name
 
 -- The device of a connection is to say its name: nothing is due on it, and of all others it is as it was or grew.
 pub record Awaits (moment device key : ℕ) (l : Ledger) (hs : List Happening) (l' : Ledger) : Type 0 where
-  pub handled : List Handled
+  pub handled : List RunPart
   pub good : Good l'
   pub run : AreHandled l.core handled l'.core
   pub timed : AreAt true moment handled
-  pub notified : run_notes hs ≡ flat_map (λ (it : Handled). it.notes) handled
+  pub notified : run_notes hs ≡ flat_map (λ (it : RunPart). it.notes) handled
   pub only : (other : ℕ) → IsDevice device (l'.entries other) → other ≡ key
   pub due : Counts device (l'.entries key) → due_at (l'.entries key) ≡ []
   pub lost_due : IsLost device (l'.entries key) → due_at (l'.entries key) ≡ []
@@ -713,7 +711,7 @@ awaits_event moment device key event outcome l front mid back l' hs whole p it n
       good = q.good;
       run = handled_append l.core mid.core l'.core p.handled q.handled p.run q.run;
       timed = All-append (IsAt true moment) p.handled q.handled p.timed q.timed;
-      notified = ap run_notes whole ∙ (notes_append front back ∙ (ap (λ (ns : List Note). ns ++ run_notes back) p.notified ∙ (ap (λ (ns : List Note). flat_map (λ (h : Handled). h.notes) p.handled ++ ns) q.notified ∙ sym (flat_map-append (λ (h : Handled). h.notes) p.handled q.handled))));
+      notified = ap run_notes whole ∙ (notes_append front back ∙ (ap (λ (ns : List Note). ns ++ run_notes back) p.notified ∙ (ap (λ (ns : List Note). flat_map (λ (h : RunPart). h.notes) p.handled ++ ns) q.notified ∙ sym (flat_map-append (λ (h : RunPart). h.notes) p.handled q.handled))));
       only = λ other is. p.only other ((it.each other).device device is);
       due = λ counts.
           let was = (it.each key).counts device counts in
@@ -734,7 +732,7 @@ awaits_named moment device key name outcome l front mid back l' hs whole p it = 
   good = good_one moment (Is.Report device (report.Hello name)) outcome mid back l' p.good it;
   run = handled_append l.core mid.core l'.core p.handled (last ∷ []) p.run (it.handles, refl);
   timed = All-append (IsAt true moment) p.handled (last ∷ []) p.timed (All-cons (IsAt true moment) last [] (refl, refl) (All-nil (IsAt true moment)));
-  notified = ap run_notes whole ∙ (notes_append front back ∙ (ap (λ (ns : List Note). ns ++ run_notes back) p.notified ∙ (ap (λ (ns : List Note). flat_map (λ (h : Handled). h.notes) p.handled ++ ns) (sym (append-nil (run_notes back))) ∙ sym (flat_map-append (λ (h : Handled). h.notes) p.handled (last ∷ [])))));
+  notified = ap run_notes whole ∙ (notes_append front back ∙ (ap (λ (ns : List Note). ns ++ run_notes back) p.notified ∙ (ap (λ (ns : List Note). flat_map (λ (h : RunPart). h.notes) p.handled ++ ns) (sym (append-nil (run_notes back))) ∙ sym (flat_map-append (λ (h : RunPart). h.notes) p.handled (last ∷ [])))));
   came = λ other of counts. by other of counts (device == of) refl;
   lost = λ other of is. lost_at other of (device == of) refl ((it.each other).breaks of is);
   progresses = λ other e is client sound.
@@ -746,7 +744,7 @@ awaits_named moment device key name outcome l front mid back l' hs whole p it = 
   closed = none_closed l (p.handled ++ last ∷ []) l' (it.closed ∙ p.closed);
 }
   where
-    last : Handled
+    last : RunPart
     last = one_handled moment (Is.Report device (report.Hello name)) outcome back l' (Some device) None
 
     -- the name is this device's, or another's
@@ -865,11 +863,15 @@ gone_begins state now later device classes old mid documents is = by (slice_get 
 no_cancel : (device : ℕ) (cancels : List Cancel) (starts : List Started) (state : State) → cancels ≡ [] → flat_map (start_for device state) starts ≡ [] → flat_map (cancel_for device) cancels ++ flat_map (start_for device state) starts ≡ []
 no_cancel device cancels starts state none begins = ap (λ (xs : List Cancel). flat_map (cancel_for device) xs ++ flat_map (start_for device state) starts) none ∙ begins
 
+gone_starts_none : (moment now device : ℕ) (query : Bool) (old mid : State) (documents : List DocumentRecord) (made : Dispatch) (notes : List Note) (new : State) → Reports (max moment old.last) device report.Gone old documents mid → Follows query now mid made notes new → flat_map (start_for device new) (began_by made new) ≡ []
+gone_starts_none moment now device query old mid documents dispatch.Query notes new gone it = refl
+gone_starts_none moment now device query old mid documents dispatch.OutOfMemory notes new gone it = refl
+gone_starts_none moment now device query old mid documents dispatch.Idle notes new gone it = refl
+gone_starts_none moment now device query old mid documents dispatch.Planned notes new gone (is, plan, made, one) =
+    subst (λ (starts : List Started). flat_map (start_for device new) starts ≡ []) (sym made.2) (gone_begins new (max moment old.last) now device plan.classes old mid documents gone)
+
 pub gone_sends_none : (moment device : ℕ) (old : State) (outcome : Outcome) (notes : List Note) (new : State) → Handles moment (Is.Report device report.Gone) old outcome notes new → sent_by outcome new device ≡ []
-gone_sends_none moment device old Dropped notes new it = refl
-gone_sends_none moment device old (Queried reply) notes new it = no_cancel device reply.cancels.items [] new it.1.cancels refl
-gone_sends_none moment device old (Undispatched reply) notes new it = no_cancel device reply.cancels.items [] new it.1.cancels refl
-gone_sends_none moment device old (Idle reply) notes new (asks, mid, step, rest, same) = no_cancel device reply.cancels.items [] new step.cancels refl
-gone_sends_none moment device old (Dispatched reply) notes new (asks, mid, step, plan, rest, same) =
-    no_cancel device reply.cancels.items new.begun new step.cancels
-    (subst (λ (starts : List Started). flat_map (start_for device new) starts ≡ []) (sym rest.2) (gone_begins new (max moment old.last) (max moment mid.last) device plan.classes old mid reply.documents.items step.reports))
+gone_sends_none moment device old (Some handled) notes new it =
+    no_cancel device handled.effects.cancels.items (began_by handled.dispatch new) new it.step.cancels
+    (gone_starts_none moment _ device _ old it.mid handled.effects.documents.items handled.dispatch it.later new it.step.reports it.follows)
+gone_sends_none moment device old None notes new it = refl

@@ -21,15 +21,16 @@ use Rattle.events.specs.declared.effects.LpdResponse.TheVariants as shown
 use Rattle.events.specs.declared.status.Status.{Status}
 use Rattle.events.specs.declared.status.Status.TheVariants.{TemporaryError}
 use Rattle.events.specs.Event.{is_query}
-use Rattle.dispatcher.specs.declared.outcome.Outcome.{Outcome}
-use Rattle.dispatcher.specs.declared.outcome.Outcome.TheVariants.{Dropped, Queried, Undispatched, Idle, Dispatched}
 use Rattle.dispatcher.specs.declared.observer.DeviceRefusal.{DeviceRefusal}
 use Rattle.dispatcher.specs.declared.observer.DeviceRefusal.TheVariants as why
 use Rattle.dispatcher.specs.declared.observer.AllocationSite.{AllocationSite}
 use Rattle.dispatcher.specs.declared.observer.AllocationSite.TheVariants as At
 use Rattle.dispatcher.specs.declared.run.Timed.{Timed}
 use Rattle.dispatcher.specs.Notes.{Note, Planned, Canceled, DeviceRefused, Refused, Notifies as Leads}
-use Rattle.dispatcher.specs.Run.{effects_of, cancel_notes, Handles, Run}
+use Rattle.dispatcher.specs.declared.handled.Dispatch.{Dispatch}
+use Rattle.dispatcher.specs.declared.handled.Dispatch.TheVariants as dispatch
+use Rattle.dispatcher.specs.Following.{Follows}
+use Rattle.dispatcher.specs.Run.{Outcome, effects_of, cancel_notes, Handles, Run}
 use Rattle.dispatcher.specs.Step.{TakesNoMemory}
 use Rattle.ipp_operations.specs.declared.parsed_request.ParsedRequest.{ParsedRequest}
 use Rattle.ipp_operations.specs.declared.parsed_request.ParsedRequest.TheVariants as asks
@@ -55,7 +56,7 @@ use Rattle.server.specs.Polls.{Happening, Polled, Notified, Choice, Found, Asked
 use Rattle.server.specs.Ledger.{Ledger, Fate, Drained, Broken, with_entry, job_bytes}
 use Rattle.server.specs.Rel.{Rel, Nothing, Polls, Notifies, Chooses, Then, If, Or, Many, Each, EachOf}
 use Rattle.server.specs.Enqueuing.{Sets, BreaksAt, Breaks, Drops, EnqueuesOpen, EnqueuesAt, EnqueuesWhere, Enqueues, EnqueuesOn, EnqueuesReplyAt, EnqueuesResponse, EnqueuesStatus}
-use Rattle.server.specs.Happening.{found_by, Sends, SendsAll, Starts, StartsAll, Orders, Happens, Unanswered}
+use Rattle.server.specs.Happening.{found_by, Sends, SendsAll, Starts, StartsAll, StartsBy, Orders, Happens, Unanswered}
 use Rattle.server.specs.Closing as Closing
 use Rattle.server.specs.Closing.{Leaves, ClosesAs, ClosesFirst, ClosesBroken}
 use Rattle.server.specs.Answering as Answering
@@ -69,6 +70,7 @@ use Rattle.server.proofs.Steps.{refusals_append}
 use Rattle.server.proofs.Happening.{refused_of}
 use Rattle.server.proofs.LaterNotes.{notes_append, never, none_before, none_after}
 use Rattle.promises.specs.Dropped.{brings_event, event_note, event_notes, begins_event, events_notified, IsNotifiedOf, AreNotifiedOf, NotifiesDropped}
+use Rattle.promises.proofs.EventNotes.{notified_all}
 use Rattle.promises.proofs.CombinedParts.{or_within, if_within, many_within, each_within}
 
 -- ---- the notes of events
@@ -191,12 +193,15 @@ each_started (start ∷ started) = quiet_then (starts start) (each_started start
 all_started : Quietly StartsAll
 all_started l hs l' it = each_started l.core.begun l hs l' it
 
+quiet_starts : (made : Dispatch) → Quietly (StartsBy made)
+quiet_starts dispatch.Query = quiet_nothing
+quiet_starts dispatch.OutOfMemory = quiet_nothing
+quiet_starts dispatch.Idle = quiet_nothing
+quiet_starts dispatch.Planned = all_started
+
 quiet_orders : (outcome : Outcome) → Quietly (Orders outcome)
-quiet_orders Dropped = quiet_nothing
-quiet_orders (Queried reply) = each_sent reply.cancels.items
-quiet_orders (Undispatched reply) = each_sent reply.cancels.items
-quiet_orders (Idle reply) = each_sent reply.cancels.items
-quiet_orders (Dispatched reply) = quiet_then {R = SendsAll reply} {S = StartsAll} (each_sent reply.cancels.items) all_started
+quiet_orders (Some handled) = quiet_then {R = SendsAll handled.effects} {S = StartsBy handled.dispatch} (each_sent handled.effects.cancels.items) (quiet_starts handled.dispatch)
+quiet_orders None = quiet_nothing
 
 -- ---- answers to events that weren't dropped
 
@@ -318,35 +323,29 @@ notified_last (cancel ∷ cancels) last is came = ap (λ (ns : List Note). Cance
 notified_by : (notes : List Note) (reply : Effects) (last : List Note) → notes ≡ cancel_notes reply ++ last → IsRead last → IsRead notes
 notified_by notes reply last is notified = subst IsRead (sym is) (notified_last reply.cancels.items last notified)
 
+follows_read : (query : Bool) (now : ℕ) (old : State) (made : Dispatch) (notes : List Note) (new : State) → Follows query now old made notes new → IsRead notes
+follows_read query now old dispatch.Query notes new (is, same, none) = subst IsRead (sym none) (λ came. refl)
+follows_read query now old dispatch.OutOfMemory notes new (is, ready, same, one) = subst IsRead (sym one) (λ came. refl)
+follows_read query now old dispatch.Idle notes new (is, made, one) = subst IsRead (sym one) (λ came. refl)
+follows_read query now old dispatch.Planned notes new (is, plan, made, one) = subst IsRead (sym one) (λ came. refl)
+
 -- all notes of the core are notes of its event
 notified_back : (moment : ℕ) (event : Event) (old : State) (outcome : Outcome) (notes : List Note) (new : State) → Handles moment event old outcome notes new → IsRead notes
-notified_back moment event old Dropped notes new (same, none, heavy) = subst IsRead (sym none) (λ came. refl)
-notified_back moment event old (Queried reply) notes new (query, step, is) = notified_by notes reply [] (is ∙ sym (append-nil (cancel_notes reply))) (λ came. refl)
-notified_back moment event old (Undispatched reply) notes new (query, step, ready, is) = notified_by notes reply (Refused At.Dispatch None ∷ []) is (λ came. refl)
-notified_back moment event old (Idle reply) notes new (query, mid, step, made, is) = notified_by notes reply (Planned None [] ∷ []) is (λ came. refl)
-notified_back moment event old (Dispatched reply) notes new (query, mid, step, plan, made, is) = notified_by notes reply (Planned (Some plan) new.begun ∷ []) is (λ came. refl)
+notified_back moment event old (Some handled) notes new it = notified_by notes handled.effects it.later it.notes_are (follows_read (is_query event) _ it.mid handled.dispatch it.later new it.follows)
+notified_back moment event old None notes new (same, none, heavy) = subst IsRead (sym none) (λ came. refl)
 
 -- the event wasn't dropped
 abbrev IsKept : Outcome → Type 0
-IsKept Dropped = ⊥
-IsKept (Queried reply) = Unit {0}
-IsKept (Undispatched reply) = Unit {0}
-IsKept (Idle reply) = Unit {0}
-IsKept (Dispatched reply) = Unit {0}
+IsKept (Some handled) = Unit {0}
+IsKept None = ⊥
 
 found_notes : (outcome : Outcome) (came : Bool) (notes : List Note) → IsKept outcome → IsRead notes → event_notes came (found_by outcome ++ map Notified notes) ≡ notes
-found_notes Dropped came notes kept is = absurd kept
-found_notes (Queried reply) came notes kept is = is true
-found_notes (Undispatched reply) came notes kept is = is true
-found_notes (Idle reply) came notes kept is = is true
-found_notes (Dispatched reply) came notes kept is = is true
+found_notes (Some handled) came notes kept is = is true
+found_notes None came notes kept is = absurd kept
 
 kept_notified : (timed : Timed) (old : State) (outcome : Outcome) (notes : List Note) (new : State) → IsKept outcome → Handles timed.moment timed.event old outcome notes new → IsNotifiedOf timed old outcome notes new
-kept_notified timed old Dropped notes new kept it = absurd kept
-kept_notified timed old (Queried reply) notes new kept it = it
-kept_notified timed old (Undispatched reply) notes new kept it = it
-kept_notified timed old (Idle reply) notes new kept it = it
-kept_notified timed old (Dispatched reply) notes new kept it = it
+kept_notified timed old (Some handled) notes new kept it = it
+kept_notified timed old None notes new kept it = absurd kept
 
 -- an event that wasn't dropped, and the part after it
 kept_then : (came : Bool) (moment : ℕ) (event : Event) (outcome : Outcome) (Q : Rel) → IsKept outcome → Quietly Q → (l : Ledger) (hs : List Happening) (l' : Ledger) → Then (Happens moment event outcome) Q l hs l' → NotifiedFrom came moment l hs l'
@@ -364,7 +363,7 @@ kept_then came moment event outcome Q kept quiet l hs l' it =
     (subst (λ (s : State). Handles moment event l.core outcome made.notes s) (sym core) made.handles))
 
 -- a dropped event changes nothing
-dropped_nothing : (moment : ℕ) (event : Event) (l : Ledger) (hs : List Happening) (l' : Ledger) → Happens moment event Dropped l hs l' → (hs ≡ []) × (l'.core ≡ l.core)
+dropped_nothing : (moment : ℕ) (event : Event) (l : Ledger) (hs : List Happening) (l' : Ledger) → Happens moment event None l hs l' → (hs ≡ []) × (l'.core ≡ l.core)
 dropped_nothing moment event l hs l' it =
     let none : it.front ≡ [] = it.first.notified ∙ ap (λ (ns : List Note). map Notified ns) it.first.handles.1 in (
       it.whole ∙ (ap (λ (ks : List Happening). ks ++ it.back) none ∙ it.second.0),
@@ -373,30 +372,24 @@ dropped_nothing moment event l hs l' it =
 
 -- the refusal of a dropped event is notified after it
 dropped_then : (moment : ℕ) (event : Event) (Q : Rel) → ((l : Ledger) (hs : List Happening) (l' : Ledger) → Q l hs l' → Refuses l hs l')
-    → (l : Ledger) (hs : List Happening) (l' : Ledger) → Then (Happens moment event Dropped) Q l hs l' → NotifiedFrom true moment l hs l'
+    → (l : Ledger) (hs : List Happening) (l' : Ledger) → Then (Happens moment event None) Q l hs l' → NotifiedFrom true moment l hs l'
 dropped_then moment event Q refuses l hs l' it =
     let none = dropped_nothing moment event l it.front it.mid it.first in
     let rest = refuses it.mid it.back l' it.second in
     let whole : hs ≡ Notified (Refused At.Event rest.id) ∷ rest.later = it.whole ∙ (ap (λ (ks : List Happening). ks ++ it.back) none.0 ∙ rest.whole) in
-    one_event true moment event Dropped l hs l' (Refused At.Event rest.id ∷ [])
+    one_event true moment event None l hs l' (Refused At.Event rest.id ∷ [])
     (ap (event_notes true) whole ∙ ap (λ (ns : List Note). Refused At.Event rest.id ∷ ns) (rest.silent true))
     (rest.id, refl, (rest.core ∙ none.1, refl, it.first.first.handles.2))
 
 answered_then : (moment : ℕ) (event : Event) (Q : Option Effects → Rel) → ((reply : Effects) → Quietly (Q (Some reply))) → ((l : Ledger) (hs : List Happening) (l' : Ledger) → Q None l hs l' → Refuses l hs l')
     → (outcome : Outcome) (l : Ledger) (hs : List Happening) (l' : Ledger) → Then (Happens moment event outcome) (Q (effects_of outcome)) l hs l' → NotifiedFrom true moment l hs l'
-answered_then moment event Q quiet refuses Dropped l hs l' it = dropped_then moment event (Q None) refuses l hs l' it
-answered_then moment event Q quiet refuses (Queried reply) l hs l' it = kept_then true moment event (Queried reply) (Q (Some reply)) tt (quiet reply) l hs l' it
-answered_then moment event Q quiet refuses (Undispatched reply) l hs l' it = kept_then true moment event (Undispatched reply) (Q (Some reply)) tt (quiet reply) l hs l' it
-answered_then moment event Q quiet refuses (Idle reply) l hs l' it = kept_then true moment event (Idle reply) (Q (Some reply)) tt (quiet reply) l hs l' it
-answered_then moment event Q quiet refuses (Dispatched reply) l hs l' it = kept_then true moment event (Dispatched reply) (Q (Some reply)) tt (quiet reply) l hs l' it
+answered_then moment event Q quiet refuses (Some handled) l hs l' it = kept_then true moment event (Some handled) (Q (Some handled.effects)) tt (quiet handled.effects) l hs l' it
+answered_then moment event Q quiet refuses None l hs l' it = dropped_then moment event (Q None) refuses l hs l' it
 
 -- an event that takes no memory isn't dropped
 light_kept : (moment : ℕ) (event : Event) (outcome : Outcome) (l : Ledger) (hs : List Happening) (l' : Ledger) → TakesNoMemory event moment l.core → Happens moment event outcome l hs l' → IsKept outcome
-light_kept moment event Dropped l hs l' light it = it.first.handles.2 light
-light_kept moment event (Queried reply) l hs l' light it = tt
-light_kept moment event (Undispatched reply) l hs l' light it = tt
-light_kept moment event (Idle reply) l hs l' light it = tt
-light_kept moment event (Dispatched reply) l hs l' light it = tt
+light_kept moment event (Some handled) l hs l' light it = tt
+light_kept moment event None l hs l' light it = it.first.handles.2 light
 
 nothing_behind : (R : Rel) (l : Ledger) (hs : List Happening) (l' : Ledger) → R l hs l' → Then R Nothing l hs l'
 nothing_behind R l hs l' it = record { mid = l'; front = hs; back = []; whole = sym (append-nil hs); first = it; second = (refl, refl) }
@@ -703,23 +696,11 @@ trace_core (action ∷ actions) =
     ∙ sym (notes_append (happenings_of action) (happenings_in actions)))
 
 -- of one event
-core_last : (cancels : List Cancel) (last : List Note) → core_notes (map Notified last) ≡ last → core_notes (map Notified (map Canceled cancels ++ last)) ≡ map Canceled cancels ++ last
-core_last [] last is = is
-core_last (cancel ∷ cancels) last is = ap (λ (ns : List Note). Canceled cancel ∷ ns) (core_last cancels last is)
-
-core_by : (notes : List Note) (reply : Effects) (last : List Note) → notes ≡ cancel_notes reply ++ last → core_notes (map Notified last) ≡ last → core_notes (map Notified notes) ≡ notes
-core_by notes reply last is notified = subst (λ (ns : List Note). core_notes (map Notified ns) ≡ ns) (sym is) (core_last reply.cancels.items last notified)
-
 handled_core : (timed : Timed) (old : State) (outcome : Outcome) (notified : List Note) (new : State) → IsNotifiedOf timed old outcome notified new → Handles timed.moment timed.event old outcome (core_notes (map Notified notified)) new
-handled_core timed old Dropped notified new (id, is, it) = subst (λ (ns : List Note). Handles timed.moment timed.event old Dropped ns new) (sym (ap (λ (ns : List Note). core_notes (map Notified ns)) is)) it
-handled_core timed old (Queried reply) notified new it =
-    subst (λ (ns : List Note). Handles timed.moment timed.event old (Queried reply) ns new) (sym (core_by notified reply [] (it.2 ∙ sym (append-nil (cancel_notes reply))) refl)) it
-handled_core timed old (Undispatched reply) notified new it =
-    subst (λ (ns : List Note). Handles timed.moment timed.event old (Undispatched reply) ns new) (sym (core_by notified reply (Refused At.Dispatch None ∷ []) it.3 refl)) it
-handled_core timed old (Idle reply) notified new it =
-    subst (λ (ns : List Note). Handles timed.moment timed.event old (Idle reply) ns new) (sym (core_by notified reply (Planned None [] ∷ []) it.4 refl)) it
-handled_core timed old (Dispatched reply) notified new it =
-    subst (λ (ns : List Note). Handles timed.moment timed.event old (Dispatched reply) ns new) (sym (core_by notified reply (Planned (Some it.3) new.begun ∷ []) it.5 refl)) it
+handled_core timed old (Some handled) notified new it =
+    subst (λ (ns : List Note). Handles timed.moment timed.event old (Some handled) ns new)
+    (sym (notified_all core_note (λ cancel. refl) (λ plan started. refl) refl timed.moment timed.event old (Some handled) notified new it)) it
+handled_core timed old None notified new (id, is, it) = subst (λ (ns : List Note). Handles timed.moment timed.event old None ns new) (sym (ap (λ (ns : List Note). core_notes (map Notified ns)) is)) it
 
 collected : (before notes : List Note) → Leads Collects before notes (before ++ notes)
 collected before [] = append-nil before
@@ -766,11 +747,8 @@ trace_free (action ∷ actions) none =
     (trace_free actions (none_after (happenings_of action ++ happenings_in actions) (happenings_of action) (happenings_in actions) refl none))
 
 event_whole : (timed : Timed) (old : State) (outcome : Outcome) (notified : List Note) (new : State) → IsNotifiedOf timed old outcome notified new → has_refusal (map Notified notified) ≡ false → IsWhole outcome
-event_whole timed old Dropped notified new (id, is, it) none = never (has_refusal (map Notified notified)) (ap (λ (ns : List Note). has_refusal (map Notified ns)) is) none
-event_whole timed old (Queried reply) notified new it none = tt
-event_whole timed old (Undispatched reply) notified new it none = never (has_refusal (map Notified notified)) (refused_of timed.moment timed.event old (Undispatched reply) notified new it) none
-event_whole timed old (Idle reply) notified new it none = tt
-event_whole timed old (Dispatched reply) notified new it none = tt
+event_whole timed old (Some handled) notified new it none = sym (refused_of timed.moment timed.event old (Some handled) notified new it) ∙ none
+event_whole timed old None notified new (id, is, it) none = never (has_refusal (map Notified notified)) (ap (λ (ns : List Note). has_refusal (map Notified ns)) is) none
 
 runs_whole : (old : State) (events : List Timed) (outcomes : List Outcome) (notified : List Note) (new : State) → AreNotifiedOf old events outcomes notified new → has_refusal (map Notified notified) ≡ false → All IsWhole outcomes
 runs_whole old [] [] notified new it none = All-nil IsWhole

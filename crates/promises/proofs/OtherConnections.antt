@@ -19,13 +19,13 @@ use Rattle.events.specs.declared.effects.Effects.{Effects}
 use Rattle.events.specs.declared.status.Status.{Status}
 use Rattle.events.specs.declared.status.Status.TheVariants.{TemporaryError}
 use Rattle.events.specs.Event.{is_query}
-use Rattle.dispatcher.specs.declared.outcome.Outcome.{Outcome}
-use Rattle.dispatcher.specs.declared.outcome.Outcome.TheVariants.{Dropped, Queried, Undispatched, Idle, Dispatched}
 use Rattle.dispatcher.specs.declared.observer.DeviceRefusal.TheVariants as why
 use Rattle.dispatcher.specs.declared.observer.AllocationSite.{AllocationSite}
 use Rattle.dispatcher.specs.declared.observer.AllocationSite.TheVariants as At
 use Rattle.dispatcher.specs.Notes.{Note, DeviceRefused, Refused}
-use Rattle.dispatcher.specs.Run.{effects_of}
+use Rattle.dispatcher.specs.declared.handled.Dispatch.{Dispatch}
+use Rattle.dispatcher.specs.declared.handled.Dispatch.TheVariants as dispatch
+use Rattle.dispatcher.specs.Run.{Outcome, effects_of}
 use Rattle.ipp_operations.specs.QueueText.{ack_of, text_of}
 use Rattle.send_queues.specs.Reply.{http_reply}
 use Rattle.wires.specs.Poll.{Poll, Reads, Writes}
@@ -43,13 +43,14 @@ use Rattle.server.specs.Polls.{Happening, Notified, Choice, Found, Rested}
 use Rattle.server.specs.Ledger.{Ledger, Drained, at_key, with_entry, job_bytes}
 use Rattle.server.specs.Rel.{Rel, Nothing, Polls, Notifies, Chooses, Then, If, Or, Times, Many, EachOf}
 use Rattle.server.specs.Enqueuing.{Sets, BreaksAt, Breaks, Drops, EnqueuesOpen, EnqueuesAt, Enqueues, EnqueuesReplyAt, EnqueuesResponse, EnqueuesStatus, IsDevice, EnqueuesOn}
-use Rattle.server.specs.Happening.{Sends, Starts, Orders, Happens, Unanswered}
+use Rattle.server.specs.Happening.{Sends, Starts, StartsBy, Orders, Happens, Unanswered}
 use Rattle.server.specs.Closing.{Leaves, IsGone, ClosesAs, IsBroken, ClosesFirst, NoneBroken, ClosesBroken}
 use Rattle.server.specs.Answering as Ans
 use Rattle.server.specs.Hello.{IsDeviceAs, IsSupersededAt, IsSuperseded, TakesOver, HandlesHello}
 use Rattle.server.specs.Acting.{Asks, ActsOn, ActsNext}
 use Rattle.server.specs.Polling.{Acts, Serves, FedWhole, FeedsAt, FeedsOne, Fails, ReadsAs, ReadsOpen, ReadsAt, is_read, ReadsOne, WritesAs, WritesOpen, WritesAt, WritesOne, is_done, EndsAt, EndsOne}
 use Rattle.server.specs.Law.{core_notes}
+use Rattle.promises.specs.Orders.{began_by}
 use Rattle.promises.specs.Heard.{Came, AreRun, ComeAt}
 use Rattle.promises.specs.Others.{IsOrderBy, IsOrder, Bears, ComesAgain, IsCause, SparedAs, IsSpared, Spares, SparesAll}
 use Rattle.promises.proofs.SentToDevices.{same_key, one_entry}
@@ -392,17 +393,19 @@ module _ (O : ℕ → List ℕ → Type 0) (other : ℕ) where
       leaves_then l it.front it.mid it.back l' hs it.whole (left_enqueues_on (λ e. true) start.device (job_bytes core start.job) (each start (contains_first start starts)) l it.front it.mid first)
       (left_starts core starts (λ one has. each one (Contains-append_right (start ∷ []) starts one has)) it.mid it.back l' core_kept it.second)
 
+  left_starts_by : (core : State) (made : Dispatch) → ((start : Started) → Contains (began_by made core) start → O start.device (job_bytes core start.job)) → (l : Ledger) (hs : List Happening) (l' : Ledger) → l.core ≡ core → StartsBy made l hs l' → Leaves_it l hs l'
+  left_starts_by core dispatch.Query each l hs l' same it = leaves_same l hs l' it.1
+  left_starts_by core dispatch.OutOfMemory each l hs l' same it = leaves_same l hs l' it.1
+  left_starts_by core dispatch.Idle each l hs l' same it = leaves_same l hs l' it.1
+  left_starts_by core dispatch.Planned each l hs l' same it = left_starts core core.begun each l hs l' same (subst (λ (c : State). EachOf c.begun Starts l hs l') same it)
+
 left_orders : (outcome : Outcome) (core : State) (other : ℕ) (l : Ledger) (hs : List Happening) (l' : Ledger) → l.core ≡ core → Orders outcome l hs l' → Left (λ device bytes. IsOrderBy device outcome core bytes) (Denied (λ device bytes. IsOrderBy device outcome core bytes) hs) (l.entries other) (l'.entries other)
-left_orders Dropped core other l hs l' same it = leaves_same (λ device bytes. IsOrderBy device Dropped core bytes) other l hs l' it.1
-left_orders (Queried reply) core other l hs l' same it = left_sends (λ device bytes. IsOrderBy device (Queried reply) core bytes) other reply.cancels.items (λ cancel has. inl (cancel, has, refl, refl)) l hs l' it
-left_orders (Undispatched reply) core other l hs l' same it = left_sends (λ device bytes. IsOrderBy device (Undispatched reply) core bytes) other reply.cancels.items (λ cancel has. inl (cancel, has, refl, refl)) l hs l' it
-left_orders (Idle reply) core other l hs l' same it = left_sends (λ device bytes. IsOrderBy device (Idle reply) core bytes) other reply.cancels.items (λ cancel has. inl (cancel, has, refl, refl)) l hs l' it
-left_orders (Dispatched reply) core other l hs l' same it =
-    let O : ℕ → List ℕ → Type 0 = λ device bytes. IsOrderBy device (Dispatched reply) core bytes in
-    let core_kept : it.mid.core ≡ core = (each_sent reply.cancels.items l it.front it.mid it.first).core ∙ same in
-    let begun : EachOf core.begun Starts it.mid it.back l' = subst (λ (c : State). EachOf c.begun Starts it.mid it.back l') core_kept it.second in
-    leaves_then O other l it.front it.mid it.back l' hs it.whole (left_sends O other reply.cancels.items (λ cancel has. inl (cancel, has, refl, refl)) l it.front it.mid it.first)
-    (left_starts O other core core.begun (λ start has. inr (start, has, refl, refl)) it.mid it.back l' core_kept begun)
+left_orders (Some handled) core other l hs l' same it =
+    let O : ℕ → List ℕ → Type 0 = λ device bytes. IsOrderBy device (Some handled) core bytes in
+    let core_kept : it.mid.core ≡ core = (each_sent handled.effects.cancels.items l it.front it.mid it.first).core ∙ same in
+    leaves_then O other l it.front it.mid it.back l' hs it.whole (left_sends O other handled.effects.cancels.items (λ cancel has. inl (cancel, has, refl, refl)) l it.front it.mid it.first)
+    (left_starts_by O other core handled.dispatch (λ start has. inr (start, has, refl, refl)) it.mid it.back l' core_kept it.second)
+left_orders None core other l hs l' same it = leaves_same (λ device bytes. IsOrderBy device None core bytes) other l hs l' it.1
 
 -- ---- parts that bring events
 

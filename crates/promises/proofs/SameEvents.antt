@@ -18,13 +18,13 @@ use Rattle.events.specs.declared.effects.Cancel.{Cancel}
 use Rattle.events.specs.Event.{is_query}
 use Rattle.events.specs.SameEvent.{SameEvent}
 use Rattle.send_queues.specs.Reply.{http_reply}
-use Rattle.dispatcher.specs.declared.outcome.Outcome.{Outcome}
-use Rattle.dispatcher.specs.declared.outcome.Outcome.TheVariants.{Dropped, Queried, Undispatched, Idle, Dispatched}
 use Rattle.dispatcher.specs.declared.observer.AllocationSite.{AllocationSite}
 use Rattle.dispatcher.specs.declared.observer.AllocationSite.TheVariants as At
 use Rattle.dispatcher.specs.Notes.{Note, Refused}
 use Rattle.dispatcher.specs.OneStep.{SameReply, SameIppAnswer, SameLpdAnswer, SameAnswer}
-use Rattle.dispatcher.specs.Run.{effects_of}
+use Rattle.dispatcher.specs.declared.handled.Dispatch.{Dispatch}
+use Rattle.dispatcher.specs.declared.handled.Dispatch.TheVariants as dispatch
+use Rattle.dispatcher.specs.Run.{Outcome, effects_of}
 use Rattle.dispatcher.specs.Step.{TakesNoMemory}
 use Rattle.ipp_operations.specs.QueueText.{queue_text, ack_of, text_of}
 use Rattle.connections.specs.declared.ask.Client.{Client}
@@ -35,7 +35,7 @@ use Rattle.server.specs.Polls.{Happening, Notified, Found}
 use Rattle.server.specs.Ledger.{Ledger, with_entry, job_bytes}
 use Rattle.server.specs.Rel.{Rel, Notifies, Chooses, Then, If, EachOf}
 use Rattle.server.specs.Enqueuing.{Sets, BreaksAt, Breaks, Drops, EnqueuesOpen, EnqueuesAt, EnqueuesWhere, Enqueues, EnqueuesReplyAt, EnqueuesResponse, EnqueuesStatus, EnqueuesOn}
-use Rattle.server.specs.Happening.{found_by, undispatched_after, Decides, Sends, SendsAll, Starts, StartsAll, Orders, Happens, Unanswered}
+use Rattle.server.specs.Happening.{found_by, undispatched_after, Decides, Sends, SendsAll, Starts, StartsAll, StartsBy, Orders, Happens, Unanswered}
 use Rattle.server.specs.Answering as Ans
 use Rattle.server.specs.Turn as Between
 use Rattle.promises.specs.Keyed.{keyed}
@@ -109,6 +109,12 @@ same_starts start = record { one = λ l hs rest a ks more b e c d p q. (same_enq
 same_starts_all : One StartsAll
 same_starts_all = record { one = λ l hs rest a ks more b e c d p q. (same_each_of l.core.begun Starts same_starts).one l hs rest a ks more b e c d p q }
 
+same_starts_by : (made : Dispatch) → One (StartsBy made)
+same_starts_by dispatch.Query = same_nothing
+same_starts_by dispatch.OutOfMemory = same_nothing
+same_starts_by dispatch.Idle = same_nothing
+same_starts_by dispatch.Planned = same_starts_all
+
 -- ---- events
 
 notified_keyed : (notes : List Note) → keyed (map Notified notes) ≡ map Notified notes
@@ -116,11 +122,8 @@ notified_keyed [] = refl
 notified_keyed (note ∷ notes) = ap (λ (hs : List Happening). Notified note ∷ hs) (notified_keyed notes)
 
 found_keyed : (outcome : Outcome) → keyed (found_by outcome) ≡ []
-found_keyed Dropped = refl
-found_keyed (Queried reply) = refl
-found_keyed (Undispatched reply) = refl
-found_keyed (Idle reply) = refl
-found_keyed (Dispatched reply) = refl
+found_keyed (Some handled) = refl
+found_keyed None = refl
 
 decides_keyed : (outcome : Outcome) (hs : List Happening) (notes : List Note) → hs ≡ found_by outcome ++ map Notified notes → keyed hs ≡ map Notified notes
 decides_keyed outcome hs notes notified = ap keyed notified ∙ (keyed_append (found_by outcome) (map Notified notes) ∙ (ap (λ (xs : List Happening). xs ++ keyed (map Notified notes)) (found_keyed outcome) ∙ notified_keyed notes))
@@ -130,11 +133,9 @@ module _ (steps : StepsOnce) where
   all_sent one other same = subst (λ (cancels : List Cancel). Same (SendsAll one) (EachOf cancels Sends)) same.cancels (same_each_of one.cancels.items Sends same_sends)
 
   same_orders : (one other : Outcome) → SameOutcome one other → Same (Orders one) (Orders other)
-  same_orders Dropped Dropped same = same_nothing
-  same_orders (Queried one) (Queried other) same = all_sent one other same
-  same_orders (Undispatched one) (Undispatched other) same = all_sent one other same
-  same_orders (Idle one) (Idle other) same = all_sent one other same
-  same_orders (Dispatched one) (Dispatched other) same = same_then (all_sent one other same) same_starts_all
+  same_orders (Some one) (Some other) same =
+      same_then (all_sent one.effects other.effects same.effects_are) (subst (λ (made : Dispatch). Same (StartsBy one.dispatch) (StartsBy made)) same.dispatch_is (same_starts_by one.dispatch))
+  same_orders None None same = same_nothing
   same_orders one other same = absurd same
 
   decided_same : (moment : ℕ) (event other : Event) (outcome said : Outcome) (l : Ledger) (hs rest : List Happening) (a : Ledger) (ks more : List Happening) (b : Ledger) → SameEvent event other → is_query event ≡ is_query other → IsKept outcome → IsKept said
@@ -176,18 +177,15 @@ module _ (steps : StepsOnce) where
   answered_same moment event other Q R same query refuses refuse answered = record { one = λ l hs rest a ks more b e c d (outcome, p) (said, q). by_kind outcome said l hs rest a ks more b e c d (kept_or outcome) (kept_or said) p q }
     where
       replies : (outcome said : Outcome) → SameOutcome outcome said → IsKept outcome → Same (Q (effects_of outcome)) (R (effects_of said))
-      replies Dropped Dropped way kept = absurd kept
-      replies (Queried one) (Queried two) way kept = answered one two way
-      replies (Undispatched one) (Undispatched two) way kept = answered one two way
-      replies (Idle one) (Idle two) way kept = answered one two way
-      replies (Dispatched one) (Dispatched two) way kept = answered one two way
+      replies (Some one) (Some two) way kept = answered one.effects two.effects way.effects_are
+      replies None None way kept = absurd kept
       replies one two way kept = absurd way
 
-      never : (x : Event) (S : Option Effects → Rel) (outcome : Outcome) (l : Ledger) (hs : List Happening) (a : Ledger) → Refuses (S None) → outcome ≡ Dropped → Then (Happens moment x outcome) (S (effects_of outcome)) l hs a → Calm hs → ⊥
+      never : (x : Event) (S : Option Effects → Rel) (outcome : Outcome) (l : Ledger) (hs : List Happening) (a : Ledger) → Refuses (S None) → outcome ≡ None → Then (Happens moment x outcome) (S (effects_of outcome)) l hs a → Calm hs → ⊥
       never x S outcome l hs a refused is it calm =
           let last : S None it.mid it.back a = subst (λ (o : Outcome). S (effects_of o) it.mid it.back a) is it.second in refused.never it.mid it.back a last (calm_last hs it.front it.back it.whole calm)
 
-      by_kind : (outcome said : Outcome) (l : Ledger) (hs rest : List Happening) (a : Ledger) (ks more : List Happening) (b : Ledger) → keyed hs ++ rest ≡ keyed ks ++ more → Calm hs → Calm ks → IsKept outcome ⊎ (outcome ≡ Dropped) → IsKept said ⊎ (said ≡ Dropped)
+      by_kind : (outcome said : Outcome) (l : Ledger) (hs rest : List Happening) (a : Ledger) (ks more : List Happening) (b : Ledger) → keyed hs ++ rest ≡ keyed ks ++ more → Calm hs → Calm ks → IsKept outcome ⊎ (outcome ≡ None) → IsKept said ⊎ (said ≡ None)
           → Then (Happens moment event outcome) (Q (effects_of outcome)) l hs a → Then (Happens moment other said) (R (effects_of said)) l ks b → (keyed hs ≡ keyed ks) × (a ≡ b)
       by_kind outcome said l hs rest a ks more b e c d (inl kept) (inl enqueues) p q =
           let it = same_then_by (Happens moment event outcome) (Happens moment other said) (Q (effects_of outcome)) (R (effects_of said)) l hs rest a ks more b e c d p q

@@ -9,17 +9,18 @@ use Rattle.device_link.specs.Orders.{cancel_line}
 use Rattle.print_room.specs.declared.started.Started.{Started}
 use Rattle.print_room.specs.State.{State}
 use Rattle.events.specs.declared.effects.Cancel.{Cancel}
-use Rattle.dispatcher.specs.declared.outcome.Outcome.{Outcome}
-use Rattle.dispatcher.specs.declared.outcome.Outcome.TheVariants.{Dropped, Queried, Undispatched, Idle, Dispatched}
 use Rattle.dispatcher.specs.Notes.{Note}
+use Rattle.dispatcher.specs.declared.handled.Dispatch.{Dispatch}
+use Rattle.dispatcher.specs.declared.handled.Dispatch.TheVariants as dispatch
+use Rattle.dispatcher.specs.Run.{Outcome}
 use Rattle.connections.specs.Entry.{PeerRecord, Http, Queue, Link, Entry, device_of, broken, owing, superseded_entry, needs_memory, unnamed}
 use Rattle.server.specs.Polls.{Happening}
 use Rattle.server.specs.Ledger.{Ledger, at_key, with_entry, job_bytes}
 use Rattle.server.specs.Rel.{Rel, Nothing, If, EachOf}
 use Rattle.server.specs.Enqueuing.{EnqueuesOpen, EnqueuesAt, IsDevice, EnqueuesOn}
-use Rattle.server.specs.Happening.{Sends, Starts, Orders}
+use Rattle.server.specs.Happening.{Sends, Starts, StartsBy, Orders}
 use Rattle.promises.specs.Answers.{ClientTalk}
-use Rattle.promises.specs.Orders.{began, canceled, cancel_for, start_for, run_note, run_notes}
+use Rattle.promises.specs.Orders.{began, began_by, canceled, cancel_for, start_for, run_note, run_notes}
 
 -- ---- connections
 
@@ -433,19 +434,15 @@ starts_each core (start ∷ starts) l hs l' is good it =
 abbrev pub sent_by : Outcome → State → ℕ → List ℕ
 sent_by outcome core device = flat_map (cancel_for device) (canceled outcome) ++ flat_map (start_for device core) (began outcome core)
 
-only_sends : (outcome : Outcome) (cancels : List Cancel) (core : State) (l : Ledger) (hs : List Happening) (l' : Ledger) → canceled outcome ≡ cancels → began outcome core ≡ [] → Good l → EachOf cancels Sends l hs l' → Sent (sent_by outcome core) l hs l'
-only_sends outcome cancels core l hs l' are none good it =
-    sent_as (λ device. flat_map (cancel_for device) cancels) (sent_by outcome core) l hs l'
-    (λ device. ap (λ (xs : List Cancel). flat_map (cancel_for device) xs ++ flat_map (start_for device core) (began outcome core)) are ∙ (ap (λ (xs : List Started). flat_map (cancel_for device) cancels ++ flat_map (start_for device core) xs) none ∙ append-nil (flat_map (cancel_for device) cancels)))
-    (sends_each cancels l hs l' good it)
+starts_by : (made : Dispatch) (core : State) (l : Ledger) (hs : List Happening) (l' : Ledger) → l.core ≡ core → Good l → StartsBy made l hs l' → Sent (λ device. flat_map (start_for device core) (began_by made core)) l hs l'
+starts_by dispatch.Query core l hs l' is good it = calm_still l hs l' (ap run_notes it.0) it.1
+starts_by dispatch.OutOfMemory core l hs l' is good it = calm_still l hs l' (ap run_notes it.0) it.1
+starts_by dispatch.Idle core l hs l' is good it = calm_still l hs l' (ap run_notes it.0) it.1
+starts_by dispatch.Planned core l hs l' is good it = starts_each core core.begun l hs l' is good (subst (λ (c : State). EachOf c.begun Starts l hs l') is it)
 
 pub orders : (outcome : Outcome) (l : Ledger) (hs : List Happening) (l' : Ledger) → Good l → Orders outcome l hs l' → Sent (sent_by outcome l.core) l hs l'
-orders Dropped l hs l' good it = calm_still l hs l' (ap run_notes it.0) it.1
-orders (Queried reply) l hs l' good it = only_sends (Queried reply) reply.cancels.items l.core l hs l' refl refl good it
-orders (Undispatched reply) l hs l' good it = only_sends (Undispatched reply) reply.cancels.items l.core l hs l' refl refl good it
-orders (Idle reply) l hs l' good it = only_sends (Idle reply) reply.cancels.items l.core l hs l' refl refl good it
-orders (Dispatched reply) l hs l' good it =
-    let first = sends_each reply.cancels.items l it.front it.mid good it.first in
-    let begun : EachOf l.core.begun Starts it.mid it.back l' = subst (λ (c : State). EachOf c.begun Starts it.mid it.back l') first.core it.second in
-    let later = starts_each l.core l.core.begun it.mid it.back l' first.core (good_sent (λ device. flat_map (cancel_for device) reply.cancels.items) l it.front it.mid first good) begun in
-    sent_then (λ device. flat_map (cancel_for device) reply.cancels.items) (λ device. flat_map (start_for device l.core) l.core.begun) l it.front it.mid it.back l' hs it.whole first later
+orders (Some handled) l hs l' good it =
+    let first = sends_each handled.effects.cancels.items l it.front it.mid good it.first in
+    let later = starts_by handled.dispatch l.core it.mid it.back l' first.core (good_sent (λ device. flat_map (cancel_for device) handled.effects.cancels.items) l it.front it.mid first good) it.second in
+    sent_then (λ device. flat_map (cancel_for device) handled.effects.cancels.items) (λ device. flat_map (start_for device l.core) (began_by handled.dispatch l.core)) l it.front it.mid it.back l' hs it.whole first later
+orders None l hs l' good it = calm_still l hs l' (ap run_notes it.0) it.1

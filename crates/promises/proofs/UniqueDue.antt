@@ -7,6 +7,8 @@ use Rattle.events.specs.declared.effects.Cancel.{Cancel}
 use Rattle.send_queues.specs.Reply.{http_reply}
 use Rattle.dispatcher.specs.declared.observer.AllocationSite.{AllocationSite}
 use Rattle.dispatcher.specs.declared.observer.AllocationSite.TheVariants.{Enqueue}
+use Rattle.dispatcher.specs.declared.handled.Dispatch.{Dispatch}
+use Rattle.dispatcher.specs.declared.handled.Dispatch.TheVariants as dispatch
 use Rattle.dispatcher.specs.Notes.{Refused}
 use Rattle.connections.specs.Entry.{Entry, closes_of, broken, owing, needs_memory}
 use Rattle.connections.specs.Steps.{http_status}
@@ -14,7 +16,7 @@ use Rattle.server.specs.Polls.{Happening, Notified, Found}
 use Rattle.server.specs.Ledger.{Ledger, with_entry, job_bytes}
 use Rattle.server.specs.Rel.{Chooses}
 use Rattle.server.specs.Enqueuing.{Sets, BreaksAt, Breaks, Drops, EnqueuesOpen, EnqueuesAt, EnqueuesWhere, Enqueues, EnqueuesReplyAt, EnqueuesResponse, EnqueuesStatus, EnqueuesOn}
-use Rattle.server.specs.Happening.{Sends, Starts, StartsAll}
+use Rattle.server.specs.Happening.{Sends, Starts, StartsAll, StartsBy}
 use Rattle.promises.proofs.Lowest.{lowest_one}
 use Rattle.promises.proofs.Determined.{Fixed, fixed_just, fixed_nothing, fixed_chooses, alike_then, Begins, begins_just, begins_then, begins_chooses, is_choice, fixed_or, alike_if, fixed_each_of}
 
@@ -80,5 +82,11 @@ fixed_sends cancel = fixed_enqueues_on (needs_memory (cancel_line cancel.job)) c
 pub fixed_starts : (start : Started) → Fixed (Starts start)
 fixed_starts start = record { one = λ l hs rest a ks more b e p q. (fixed_enqueues_on (λ x. true) start.device (job_bytes l.core start.job)).one l hs rest a ks more b e p q }
 
-pub fixed_starts_all : Fixed StartsAll
+fixed_starts_all : Fixed StartsAll
 fixed_starts_all = record { one = λ l hs rest a ks more b e p q. (fixed_each_of l.core.begun Starts fixed_starts).one l hs rest a ks more b e p q }
+
+pub fixed_starts_by : (made : Dispatch) → Fixed (StartsBy made)
+fixed_starts_by dispatch.Query = fixed_nothing
+fixed_starts_by dispatch.OutOfMemory = fixed_nothing
+fixed_starts_by dispatch.Idle = fixed_nothing
+fixed_starts_by dispatch.Planned = fixed_starts_all

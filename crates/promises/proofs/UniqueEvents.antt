@@ -10,47 +10,44 @@ use Rattle.events.specs.declared.event.Event.TheVariants as Is
 use Rattle.events.specs.declared.effects.Effects.{Effects}
 use Rattle.events.specs.declared.effects.Cancel.{Cancel}
 use Rattle.events.specs.Event.{is_query}
-use Rattle.dispatcher.specs.declared.outcome.Outcome.{Outcome}
-use Rattle.dispatcher.specs.declared.outcome.Outcome.TheVariants.{Dropped, Queried, Undispatched, Idle, Dispatched}
 use Rattle.dispatcher.specs.declared.observer.AllocationSite.TheVariants as At
 use Rattle.dispatcher.specs.Notes.{Note, Planned, Canceled, Refused}
 use Rattle.dispatcher.specs.OneStep.{SameReply}
-use Rattle.dispatcher.specs.Run.{effects_of, cancel_notes, Handles}
+use Rattle.dispatcher.specs.declared.handled.Handled.{Handled}
+use Rattle.dispatcher.specs.declared.handled.Dispatch.{Dispatch}
+use Rattle.dispatcher.specs.declared.handled.Dispatch.TheVariants as dispatch
+use Rattle.dispatcher.specs.Following.{Follows}
+use Rattle.dispatcher.specs.Run.{Outcome, effects_of, cancel_notes, Handles}
 use Rattle.dispatcher.specs.Step.{TakesNoMemory}
 use Rattle.events.specs.SameEvent.{SameEvent}
 use Rattle.server.specs.Polls.{Happening, Notified, Found, Chosen}
 use Rattle.server.specs.Ledger.{Ledger}
 use Rattle.server.specs.Rel.{Rel, Then, EachOf}
-use Rattle.server.specs.Happening.{found_by, undispatched_after, Decides, Sends, SendsAll, Orders, Happens, Unanswered}
+use Rattle.server.specs.Happening.{found_by, refused_after, undispatched_after, Decides, Sends, SendsAll, StartsBy, Orders, Happens, Unanswered}
 use Rattle.promises.specs.OneLedger.{StepsOnce}
 use Rattle.promises.proofs.Determined.{Alike, Fixed, fixed_nothing, alike_then, then_one, apart, BeginsAs, begins_append, begins_just, Begins, is_choice, fixed_each_of}
-use Rattle.promises.proofs.UniqueDue.{fixed_sends, fixed_starts_all}
+use Rattle.promises.proofs.UniqueDue.{fixed_sends, fixed_starts_by}
 
 -- ---- the result of an event
 
--- two outcomes of one kind, whose replies have the same content
+-- effects with the same content, and the same dispatch
+pub record SameHandled (one other : Handled) : Type 0 where
+  pub effects_are : SameReply one.effects other.effects
+  pub dispatch_is : one.dispatch ≡ other.dispatch
+
 abbrev pub SameOutcome : Outcome → Outcome → Type 0
-SameOutcome Dropped Dropped = Unit {0}
-SameOutcome (Queried one) (Queried other) = SameReply one other
-SameOutcome (Undispatched one) (Undispatched other) = SameReply one other
-SameOutcome (Idle one) (Idle other) = SameReply one other
-SameOutcome (Dispatched one) (Dispatched other) = SameReply one other
+SameOutcome (Some one) (Some other) = SameHandled one other
+SameOutcome None None = Unit {0}
 SameOutcome _ _ = ⊥
 
 -- the event wasn't dropped
 abbrev pub IsKept : Outcome → Type 0
-IsKept Dropped = ⊥
-IsKept (Queried reply) = Unit {0}
-IsKept (Undispatched reply) = Unit {0}
-IsKept (Idle reply) = Unit {0}
-IsKept (Dispatched reply) = Unit {0}
+IsKept (Some handled) = Unit {0}
+IsKept None = ⊥
 
-pub kept_or : (outcome : Outcome) → IsKept outcome ⊎ (outcome ≡ Dropped)
-kept_or Dropped = inr refl
-kept_or (Queried reply) = inl tt
-kept_or (Undispatched reply) = inl tt
-kept_or (Idle reply) = inl tt
-kept_or (Dispatched reply) = inl tt
+pub kept_or : (outcome : Outcome) → IsKept outcome ⊎ (outcome ≡ None)
+kept_or (Some handled) = inl tt
+kept_or None = inr refl
 
 -- one outcome, one list of notes and one state
 pub record SameWay (one : Outcome) (notes : List Note) (new : State) (other : Outcome) (said : List Note) (after : State) : Type 0 where
@@ -61,19 +58,15 @@ pub record SameWay (one : Outcome) (notes : List Note) (new : State) (other : Ou
 notified_same : (one other : Effects) → SameReply one other → cancel_notes one ≡ cancel_notes other
 notified_same one other same = ap (λ (cancels : List Cancel). map Canceled cancels) same.cancels
 
--- the note after the same cancels is one
-last_one : (cancels : List Cancel) (x y : Note) (rest more : List Happening) → map Notified (map Canceled cancels ++ x ∷ []) ++ rest ≡ map Notified (map Canceled cancels ++ y ∷ []) ++ more → x ≡ y
-last_one [] x y rest more e = cc
-last_one (cancel ∷ cancels) x y rest more e = last_one cancels x y rest more (cc)
+-- the notes after the same cancels are the same in part
+later_alike : (cancels : List Cancel) (later said : List Note) (rest more : List Happening) → map Notified (map Canceled cancels ++ later) ++ rest ≡ map Notified (map Canceled cancels ++ said) ++ more → map Notified later ++ rest ≡ map Notified said ++ more
+later_alike [] later said rest more e = e
+later_alike (cancel ∷ cancels) later said rest more e = later_alike cancels later said rest more (cc)
 
--- the last notes of two events with the same cancels
-notified_last : (one other : Effects) (notes said : List Note) (x y : Note) (rest more : List Happening) → SameReply one other → notes ≡ cancel_notes one ++ x ∷ [] → said ≡ cancel_notes other ++ y ∷ [] → map Notified notes ++ rest ≡ map Notified said ++ more → x ≡ y
-notified_last one other notes said x y rest more same is its e =
-    let left : notes ≡ map Canceled other.cancels.items ++ x ∷ [] = is ∙ ap (λ (ns : List Note). ns ++ x ∷ []) (notified_same one other same) in
-    last_one other.cancels.items x y rest more (sym (ap (λ (ns : List Note). map Notified ns ++ rest) left) ∙ (e ∙ ap (λ (ns : List Note). map Notified ns ++ more) its))
-
-both_notified : (one other : Effects) (notes said : List Note) (x y : Note) → SameReply one other → notes ≡ cancel_notes one ++ x ∷ [] → said ≡ cancel_notes other ++ y ∷ [] → x ≡ y → notes ≡ said
-both_notified one other notes said x y same is its last = is ∙ (ap (λ (ns : List Note). ns ++ x ∷ []) (notified_same one other same) ∙ (ap (λ (n : Note). cancel_notes other ++ n ∷ []) last ∙ sym its))
+-- two notes, each the first of one list of happenings
+first_one : (notes heard : List Note) (x y : Note) (rest more : List Happening) → notes ≡ x ∷ [] → heard ≡ y ∷ [] → map Notified notes ++ rest ≡ map Notified heard ++ more → x ≡ y
+first_one notes heard x y rest more is its e =
+    let both : Notified x ∷ rest ≡ Notified y ∷ more = sym (ap (λ (ns : List Note). map Notified ns ++ rest) is) ∙ (e ∙ ap (λ (ns : List Note). map Notified ns ++ more) its) in cc
 
 -- a query isn't dispatched
 not_both : {A : Type 0} → (query other : Bool) → query ≡ other → query ≡ true → other ≡ false → A
@@ -86,66 +79,60 @@ same_plan plan other started begun same = (cc, cc)
 abbrev planned_state : ℕ → State → PlanRecord → List Started → State
 planned_state now old plan started = record (beginning_all now started (marked_state now plan old)) { begun = started }
 
+-- one dispatch, one list of notes and one state
+record SameDispatch (made : Dispatch) (notes : List Note) (new : State) (said : Dispatch) (heard : List Note) (after : State) : Type 0 where
+  dispatch_is : made ≡ said
+  notes_are : notes ≡ heard
+  state : new ≡ after
+
+-- two dispatches of one state are the same, if one list of happenings follows both
+dispatched_one : (query other : Bool) (now : ℕ) (old : State) (made said : Dispatch) (notes heard : List Note) (new after : State) (rest more : List Happening) → query ≡ other → map Notified notes ++ rest ≡ map Notified heard ++ more → Follows query now old made notes new → Follows other now old said heard after → SameDispatch made notes new said heard after
+dispatched_one query other now old dispatch.Query dispatch.Query notes heard new after rest more same e (is, still, none) (its, stays, nothing) = record { dispatch_is = refl; notes_are = none ∙ sym nothing; state = still ∙ sym stays }
+dispatched_one query other now old dispatch.Query dispatch.OutOfMemory notes heard new after rest more same e p q = not_both query other same p.0 q.0
+dispatched_one query other now old dispatch.Query dispatch.Idle notes heard new after rest more same e p q = not_both query other same p.0 q.0
+dispatched_one query other now old dispatch.Query dispatch.Planned notes heard new after rest more same e p q = not_both query other same p.0 q.0
+dispatched_one query other now old dispatch.OutOfMemory dispatch.Query notes heard new after rest more same e p q = not_both other query (sym same) q.0 p.0
+dispatched_one query other now old dispatch.Idle dispatch.Query notes heard new after rest more same e p q = not_both other query (sym same) q.0 p.0
+dispatched_one query other now old dispatch.Planned dispatch.Query notes heard new after rest more same e p q = not_both other query (sym same) q.0 p.0
+dispatched_one query other now old dispatch.OutOfMemory dispatch.OutOfMemory notes heard new after rest more same e (is, ready, still, one) (its, able, stays, two) = record { dispatch_is = refl; notes_are = one ∙ sym two; state = still ∙ sym stays }
+dispatched_one query other now old dispatch.OutOfMemory dispatch.Idle notes heard new after rest more same e (is, ready, still, one) (its, found, two) =
+    let never : Refused At.Dispatch None ≡ Planned None [] = first_one notes heard (Refused At.Dispatch None) (Planned None []) rest more one two e in absurd (cc)
+dispatched_one query other now old dispatch.OutOfMemory dispatch.Planned notes heard new after rest more same e (is, ready, still, one) (its, plan, found, two) =
+    let never : Refused At.Dispatch None ≡ Planned (Some plan) after.begun = first_one notes heard (Refused At.Dispatch None) (Planned (Some plan) after.begun) rest more one two e in absurd (cc)
+dispatched_one query other now old dispatch.Idle dispatch.OutOfMemory notes heard new after rest more same e (is, made, one) (its, able, stays, two) =
+    let never : Planned None [] ≡ Refused At.Dispatch None = first_one notes heard (Planned None []) (Refused At.Dispatch None) rest more one two e in absurd (cc)
+dispatched_one query other now old dispatch.Idle dispatch.Idle notes heard new after rest more same e (is, made, one) (its, found, two) = record { dispatch_is = refl; notes_are = one ∙ sym two; state = made.2 ∙ sym found.2 }
+dispatched_one query other now old dispatch.Idle dispatch.Planned notes heard new after rest more same e (is, made, one) (its, plan, found, two) =
+    let never : Planned None [] ≡ Planned (Some plan) after.begun = first_one notes heard (Planned None []) (Planned (Some plan) after.begun) rest more one two e in absurd (cc)
+dispatched_one query other now old dispatch.Planned dispatch.OutOfMemory notes heard new after rest more same e (is, plan, made, one) (its, able, stays, two) =
+    let never : Planned (Some plan) new.begun ≡ Refused At.Dispatch None = first_one notes heard (Planned (Some plan) new.begun) (Refused At.Dispatch None) rest more one two e in absurd (cc)
+dispatched_one query other now old dispatch.Planned dispatch.Idle notes heard new after rest more same e (is, plan, made, one) (its, found, two) =
+    let never : Planned (Some plan) new.begun ≡ Planned None [] = first_one notes heard (Planned (Some plan) new.begun) (Planned None []) rest more one two e in absurd (cc)
+dispatched_one query other now old dispatch.Planned dispatch.Planned notes heard new after rest more same e (is, plan, made, one) (its, chosen, found, two) =
+    let first : Planned (Some plan) new.begun ≡ Planned (Some chosen) after.begun = first_one notes heard (Planned (Some plan) new.begun) (Planned (Some chosen) after.begun) rest more one two e in
+    let both = same_plan plan chosen new.begun after.begun first in
+    record {
+      dispatch_is = refl;
+      notes_are = one ∙ (ap (λ (note : Note). note ∷ []) first ∙ sym two);
+      state = made.3 ∙ (ap (λ (x : PlanRecord). planned_state now old x new.begun) both.0 ∙ (ap (λ (begun : List Started). planned_state now old chosen begun) both.1 ∙ sym found.3));
+    }
+
 module _ (steps : StepsOnce) where
   -- the results of events with the same content are the same, if neither is dropped and one list of happenings follows both
   pub handled_one : (moment : ℕ) (event other : Event) (old : State) (outcome said : Outcome) (notes heard : List Note) (new after : State) (rest more : List Happening) → SameEvent event other → is_query event ≡ is_query other → IsKept outcome → IsKept said
       → map Notified notes ++ rest ≡ map Notified heard ++ more → Handles moment event old outcome notes new → Handles moment other old said heard after → SameWay outcome notes new said heard after
-  handled_one moment event other old Dropped said notes heard new after rest more same query kept enqueues e p q = absurd kept
-  handled_one moment event other old (Queried reply) Dropped notes heard new after rest more same query kept enqueues e p q = absurd enqueues
-  handled_one moment event other old (Undispatched reply) Dropped notes heard new after rest more same query kept enqueues e p q = absurd enqueues
-  handled_one moment event other old (Idle reply) Dropped notes heard new after rest more same query kept enqueues e p q = absurd enqueues
-  handled_one moment event other old (Dispatched reply) Dropped notes heard new after rest more same query kept enqueues e p q = absurd enqueues
-  handled_one moment event other old (Queried reply) (Queried answer) notes heard new after rest more same query kept enqueues e (asks, step, is) (asked, stepped, its) =
-      let end = steps old event other moment reply new answer after same step stepped in
-      record { outcome = end.effects_are; notes_are = is ∙ (notified_same reply answer end.effects_are ∙ sym its); state = end.state }
-  handled_one moment event other old (Queried reply) (Undispatched answer) notes heard new after rest more same query kept enqueues e p q = not_both (is_query event) (is_query other) query p.0 q.0
-  handled_one moment event other old (Queried reply) (Idle answer) notes heard new after rest more same query kept enqueues e p q = not_both (is_query event) (is_query other) query p.0 q.0
-  handled_one moment event other old (Queried reply) (Dispatched answer) notes heard new after rest more same query kept enqueues e p q = not_both (is_query event) (is_query other) query p.0 q.0
-  handled_one moment event other old (Undispatched reply) (Queried answer) notes heard new after rest more same query kept enqueues e p q = not_both (is_query other) (is_query event) (sym query) q.0 p.0
-  handled_one moment event other old (Idle reply) (Queried answer) notes heard new after rest more same query kept enqueues e p q = not_both (is_query other) (is_query event) (sym query) q.0 p.0
-  handled_one moment event other old (Dispatched reply) (Queried answer) notes heard new after rest more same query kept enqueues e p q = not_both (is_query other) (is_query event) (sym query) q.0 p.0
-  handled_one moment event other old (Undispatched reply) (Undispatched answer) notes heard new after rest more same query kept enqueues e (asks, step, ready, is) (asked, stepped, able, its) =
-      let end = steps old event other moment reply new answer after same step stepped in
-      record { outcome = end.effects_are; notes_are = both_notified reply answer notes heard (Refused At.Dispatch None) (Refused At.Dispatch None) end.effects_are is its refl; state = end.state }
-  handled_one moment event other old (Undispatched reply) (Idle answer) notes heard new after rest more same query kept enqueues e (asks, step, ready, is) (asked, mid, stepped, made, its) =
-      let end = steps old event other moment reply new answer mid same step stepped in
-      let last : Refused At.Dispatch None ≡ Planned None [] = notified_last reply answer notes heard (Refused At.Dispatch None) (Planned None []) rest more end.effects_are is its e in
-      absurd (cc)
-  handled_one moment event other old (Undispatched reply) (Dispatched answer) notes heard new after rest more same query kept enqueues e (asks, step, ready, is) (asked, mid, stepped, plan, made, its) =
-      let end = steps old event other moment reply new answer mid same step stepped in
-      let last : Refused At.Dispatch None ≡ Planned (Some plan) after.begun = notified_last reply answer notes heard (Refused At.Dispatch None) (Planned (Some plan) after.begun) rest more end.effects_are is its e in
-      absurd (cc)
-  handled_one moment event other old (Idle reply) (Undispatched answer) notes heard new after rest more same query kept enqueues e (asks, mid, step, made, is) (asked, stepped, able, its) =
-      let end = steps old event other moment reply mid answer after same step stepped in
-      let last : Planned None [] ≡ Refused At.Dispatch None = notified_last reply answer notes heard (Planned None []) (Refused At.Dispatch None) rest more end.effects_are is its e in
-      absurd (cc)
-  handled_one moment event other old (Idle reply) (Idle answer) notes heard new after rest more same query kept enqueues e (asks, mid, step, made, is) (asked, next, stepped, found, its) =
-      let end = steps old event other moment reply mid answer next same step stepped in
-      record { outcome = end.effects_are; notes_are = both_notified reply answer notes heard (Planned None []) (Planned None []) end.effects_are is its refl; state = made.2 ∙ (end.state ∙ sym found.2) }
-  handled_one moment event other old (Idle reply) (Dispatched answer) notes heard new after rest more same query kept enqueues e (asks, mid, step, made, is) (asked, next, stepped, plan, found, its) =
-      let end = steps old event other moment reply mid answer next same step stepped in
-      let last : Planned None [] ≡ Planned (Some plan) after.begun = notified_last reply answer notes heard (Planned None []) (Planned (Some plan) after.begun) rest more end.effects_are is its e in
-      absurd (cc)
-  handled_one moment event other old (Dispatched reply) (Undispatched answer) notes heard new after rest more same query kept enqueues e (asks, mid, step, plan, made, is) (asked, stepped, able, its) =
-      let end = steps old event other moment reply mid answer after same step stepped in
-      let last : Planned (Some plan) new.begun ≡ Refused At.Dispatch None = notified_last reply answer notes heard (Planned (Some plan) new.begun) (Refused At.Dispatch None) rest more end.effects_are is its e in
-      absurd (cc)
-  handled_one moment event other old (Dispatched reply) (Idle answer) notes heard new after rest more same query kept enqueues e (asks, mid, step, plan, made, is) (asked, next, stepped, found, its) =
-      let end = steps old event other moment reply mid answer next same step stepped in
-      let last : Planned (Some plan) new.begun ≡ Planned None [] = notified_last reply answer notes heard (Planned (Some plan) new.begun) (Planned None []) rest more end.effects_are is its e in
-      absurd (cc)
-  handled_one moment event other old (Dispatched reply) (Dispatched answer) notes heard new after rest more same query kept enqueues e (asks, mid, step, plan, made, is) (asked, next, stepped, chosen, found, its) =
-      let end = steps old event other moment reply mid answer next same step stepped in
-      let last : Planned (Some plan) new.begun ≡ Planned (Some chosen) after.begun = notified_last reply answer notes heard (Planned (Some plan) new.begun) (Planned (Some chosen) after.begun) rest more end.effects_are is its e in
-      let one = same_plan plan chosen new.begun after.begun last in
-      let left : new ≡ planned_state (max moment mid.last) mid plan new.begun = made.3 in
-      let right : after ≡ planned_state (max moment next.last) next chosen after.begun = found.3 in
+  handled_one moment event other old None said notes heard new after rest more same query kept enqueues e p q = absurd kept
+  handled_one moment event other old (Some one) None notes heard new after rest more same query kept enqueues e p q = absurd enqueues
+  handled_one moment event other old (Some one) (Some two) notes heard new after rest more same query kept enqueues e p q =
+      let end = steps old event other moment one.effects p.mid two.effects q.mid same p.step q.step in
+      let left : notes ≡ cancel_notes two.effects ++ p.later = p.notes_are ∙ ap (λ (ns : List Note). ns ++ p.later) (notified_same one.effects two.effects end.effects_are) in
+      let both = later_alike two.effects.cancels.items p.later q.later rest more (sym (ap (λ (ns : List Note). map Notified ns ++ rest) left) ∙ (e ∙ ap (λ (ns : List Note). map Notified ns ++ more) q.notes_are)) in
+      let follows : Follows (is_query other) (max moment p.mid.last) p.mid two.dispatch q.later after = subst (λ (s : State). Follows (is_query other) (max moment s.last) s two.dispatch q.later after) (sym end.state) q.follows in
+      let made = dispatched_one (is_query event) (is_query other) (max moment p.mid.last) p.mid one.dispatch two.dispatch p.later q.later new after rest more query both p.follows follows in
       record {
-        outcome = end.effects_are;
-        notes_are = both_notified reply answer notes heard (Planned (Some plan) new.begun) (Planned (Some chosen) after.begun) end.effects_are is its last;
-        state = left ∙ (ap (λ (s : State). planned_state (max moment s.last) s plan new.begun) end.state
-            ∙ (ap (λ (x : PlanRecord). planned_state (max moment next.last) next x new.begun) one.0
-            ∙ (ap (λ (begun : List Started). planned_state (max moment next.last) next chosen begun) one.1 ∙ sym right)));
+        outcome = record { effects_are = end.effects_are; dispatch_is = made.dispatch_is };
+        notes_are = left ∙ (ap (λ (ns : List Note). cancel_notes two.effects ++ ns) made.notes_are ∙ sym q.notes_are);
+        state = made.state;
       }
 
   -- ---- the bytes that become due then
@@ -154,67 +141,23 @@ module _ (steps : StepsOnce) where
   same_sent one other same = subst (λ (cancels : List Cancel). Alike (SendsAll one) (EachOf cancels Sends)) same.cancels (fixed_each_of one.cancels.items Sends fixed_sends)
 
   same_orders : (one other : Outcome) → SameOutcome one other → Alike (Orders one) (Orders other)
-  same_orders Dropped Dropped same = fixed_nothing
-  same_orders (Queried one) (Queried other) same = same_sent one other same
-  same_orders (Undispatched one) (Undispatched other) same = same_sent one other same
-  same_orders (Idle one) (Idle other) same = same_sent one other same
-  same_orders (Dispatched one) (Dispatched other) same = alike_then (same_sent one other same) fixed_starts_all
-  same_orders Dropped (Queried other) same = absurd same
-  same_orders Dropped (Undispatched other) same = absurd same
-  same_orders Dropped (Idle other) same = absurd same
-  same_orders Dropped (Dispatched other) same = absurd same
-  same_orders (Queried one) Dropped same = absurd same
-  same_orders (Queried one) (Undispatched other) same = absurd same
-  same_orders (Queried one) (Idle other) same = absurd same
-  same_orders (Queried one) (Dispatched other) same = absurd same
-  same_orders (Undispatched one) Dropped same = absurd same
-  same_orders (Undispatched one) (Queried other) same = absurd same
-  same_orders (Undispatched one) (Idle other) same = absurd same
-  same_orders (Undispatched one) (Dispatched other) same = absurd same
-  same_orders (Idle one) Dropped same = absurd same
-  same_orders (Idle one) (Queried other) same = absurd same
-  same_orders (Idle one) (Undispatched other) same = absurd same
-  same_orders (Idle one) (Dispatched other) same = absurd same
-  same_orders (Dispatched one) Dropped same = absurd same
-  same_orders (Dispatched one) (Queried other) same = absurd same
-  same_orders (Dispatched one) (Undispatched other) same = absurd same
-  same_orders (Dispatched one) (Idle other) same = absurd same
+  same_orders (Some one) (Some other) same =
+      alike_then (same_sent one.effects other.effects same.effects_are) (subst (λ (made : Dispatch). Alike (StartsBy one.dispatch) (StartsBy made)) same.dispatch_is (fixed_starts_by one.dispatch))
+  same_orders None None same = fixed_nothing
+  same_orders (Some one) None same = absurd same
+  same_orders None (Some other) same = absurd same
 
   pub same_undispatched : (one other : Outcome) (before : Bool) → SameOutcome one other → undispatched_after one before ≡ undispatched_after other before
-  same_undispatched Dropped Dropped before same = refl
-  same_undispatched (Queried one) (Queried other) before same = refl
-  same_undispatched (Undispatched one) (Undispatched other) before same = refl
-  same_undispatched (Idle one) (Idle other) before same = refl
-  same_undispatched (Dispatched one) (Dispatched other) before same = refl
-  same_undispatched Dropped (Queried other) before same = absurd same
-  same_undispatched Dropped (Undispatched other) before same = absurd same
-  same_undispatched Dropped (Idle other) before same = absurd same
-  same_undispatched Dropped (Dispatched other) before same = absurd same
-  same_undispatched (Queried one) Dropped before same = absurd same
-  same_undispatched (Queried one) (Undispatched other) before same = absurd same
-  same_undispatched (Queried one) (Idle other) before same = absurd same
-  same_undispatched (Queried one) (Dispatched other) before same = absurd same
-  same_undispatched (Undispatched one) Dropped before same = absurd same
-  same_undispatched (Undispatched one) (Queried other) before same = absurd same
-  same_undispatched (Undispatched one) (Idle other) before same = absurd same
-  same_undispatched (Undispatched one) (Dispatched other) before same = absurd same
-  same_undispatched (Idle one) Dropped before same = absurd same
-  same_undispatched (Idle one) (Queried other) before same = absurd same
-  same_undispatched (Idle one) (Undispatched other) before same = absurd same
-  same_undispatched (Idle one) (Dispatched other) before same = absurd same
-  same_undispatched (Dispatched one) Dropped before same = absurd same
-  same_undispatched (Dispatched one) (Queried other) before same = absurd same
-  same_undispatched (Dispatched one) (Undispatched other) before same = absurd same
-  same_undispatched (Dispatched one) (Idle other) before same = absurd same
+  same_undispatched (Some one) (Some other) before same = ap (λ (made : Dispatch). refused_after made before) same.dispatch_is
+  same_undispatched None None before same = refl
+  same_undispatched (Some one) None before same = absurd same
+  same_undispatched None (Some other) before same = absurd same
 
   -- ---- an event
 
   found_kept : (outcome : Outcome) → IsKept outcome → found_by outcome ≡ Chosen Found ∷ []
-  found_kept Dropped kept = absurd kept
-  found_kept (Queried reply) kept = refl
-  found_kept (Undispatched reply) kept = refl
-  found_kept (Idle reply) kept = refl
-  found_kept (Dispatched reply) kept = refl
+  found_kept (Some handled) kept = refl
+  found_kept None kept = absurd kept
 
   behind_head : (x : Happening) (xs ys : List Happening) → x ∷ xs ≡ x ∷ ys → xs ≡ ys
   behind_head x xs ys same = cc
@@ -241,7 +184,7 @@ module _ (steps : StepsOnce) where
       (λ way. same_orders outcome said way)
 
   -- a dropped event changes nothing
-  dropped_one : (moment : ℕ) (event : Event) (l : Ledger) (hs : List Happening) (a : Ledger) → Happens moment event Dropped l hs a → (hs ≡ []) × (a ≡ l)
+  dropped_one : (moment : ℕ) (event : Event) (l : Ledger) (hs : List Happening) (a : Ledger) → Happens moment event None l hs a → (hs ≡ []) × (a ≡ l)
   dropped_one moment event l hs a it =
       let notified : it.first.notes ≡ [] = it.first.handles.1 in
       let still : it.front ≡ [] = it.first.notified ∙ ap (λ (ns : List Note). map Notified ns) notified in
@@ -259,11 +202,8 @@ module _ (steps : StepsOnce) where
   -- ---- an event that takes no memory, and isn't dropped
 
   pub light_kept : (moment : ℕ) (event : Event) (outcome : Outcome) (l : Ledger) (hs : List Happening) (a : Ledger) → TakesNoMemory event moment l.core → Happens moment event outcome l hs a → IsKept outcome
-  light_kept moment event Dropped l hs a light it = it.first.handles.2 light
-  light_kept moment event (Queried reply) l hs a light it = tt
-  light_kept moment event (Undispatched reply) l hs a light it = tt
-  light_kept moment event (Idle reply) l hs a light it = tt
-  light_kept moment event (Dispatched reply) l hs a light it = tt
+  light_kept moment event (Some handled) l hs a light it = tt
+  light_kept moment event None l hs a light it = it.first.handles.2 light
 
   pub unanswered_alike : (moment : ℕ) (event other : Event) → SameEvent event other → is_query event ≡ is_query other → ((s : State) → TakesNoMemory event moment s) → ((s : State) → TakesNoMemory other moment s) → Alike (Unanswered moment event) (Unanswered moment other)
   unanswered_alike moment event other same query light easy = record {
@@ -287,34 +227,13 @@ module _ (steps : StepsOnce) where
   answered_alike moment event other Q R same query notifies notified dropped answered = record { one = λ l hs rest a ks more b e (outcome, p) (said, q). by_kind outcome said l hs rest a ks more b e (kept_or outcome) (kept_or said) p q }
     where
       replies : (outcome said : Outcome) → SameOutcome outcome said → Alike (Q (effects_of outcome)) (R (effects_of said))
-      replies Dropped Dropped way = dropped
-      replies (Queried one) (Queried two) way = answered one two way
-      replies (Undispatched one) (Undispatched two) way = answered one two way
-      replies (Idle one) (Idle two) way = answered one two way
-      replies (Dispatched one) (Dispatched two) way = answered one two way
-      replies Dropped (Queried two) way = absurd way
-      replies Dropped (Undispatched two) way = absurd way
-      replies Dropped (Idle two) way = absurd way
-      replies Dropped (Dispatched two) way = absurd way
-      replies (Queried one) Dropped way = absurd way
-      replies (Queried one) (Undispatched two) way = absurd way
-      replies (Queried one) (Idle two) way = absurd way
-      replies (Queried one) (Dispatched two) way = absurd way
-      replies (Undispatched one) Dropped way = absurd way
-      replies (Undispatched one) (Queried two) way = absurd way
-      replies (Undispatched one) (Idle two) way = absurd way
-      replies (Undispatched one) (Dispatched two) way = absurd way
-      replies (Idle one) Dropped way = absurd way
-      replies (Idle one) (Queried two) way = absurd way
-      replies (Idle one) (Undispatched two) way = absurd way
-      replies (Idle one) (Dispatched two) way = absurd way
-      replies (Dispatched one) Dropped way = absurd way
-      replies (Dispatched one) (Queried two) way = absurd way
-      replies (Dispatched one) (Undispatched two) way = absurd way
-      replies (Dispatched one) (Idle two) way = absurd way
+      replies (Some one) (Some two) way = answered one.effects two.effects way.effects_are
+      replies None None way = dropped
+      replies (Some one) None way = absurd way
+      replies None (Some two) way = absurd way
 
       -- a dropped event, with its note
-      notified_first : (x : Event) (S : Option Effects → Rel) → Begins is_choice false (S None) → (l : Ledger) (hs : List Happening) (a : Ledger) → Then (Happens moment x Dropped) (S None) l hs a → BeginsAs is_choice false hs
+      notified_first : (x : Event) (S : Option Effects → Rel) → Begins is_choice false (S None) → (l : Ledger) (hs : List Happening) (a : Ledger) → Then (Happens moment x None) (S None) l hs a → BeginsAs is_choice false hs
       notified_first x S begins l hs a it =
           let none = dropped_one moment x l it.front it.mid it.first in
           subst (BeginsAs is_choice false) (sym (it.whole ∙ ap (λ (xs : List Happening). xs ++ it.back) none.0)) (begins.begins it.mid it.back a it.second)
@@ -322,10 +241,10 @@ module _ (steps : StepsOnce) where
       chosen_first : (x : Event) (S : Option Effects → Rel) (outcome : Outcome) → IsKept outcome → (l : Ledger) (hs : List Happening) (a : Ledger) → Then (Happens moment x outcome) (S (effects_of outcome)) l hs a → BeginsAs is_choice true hs
       chosen_first x S outcome kept l hs a it = subst (BeginsAs is_choice true) (sym it.whole) (begins_append is_choice true it.front it.back (found_first moment x outcome l it.front it.mid kept it.first))
 
-      as_dropped : (x : Event) (S : Option Effects → Rel) (outcome : Outcome) (l : Ledger) (hs : List Happening) (a : Ledger) → outcome ≡ Dropped → Then (Happens moment x outcome) (S (effects_of outcome)) l hs a → Then (Happens moment x Dropped) (S None) l hs a
+      as_dropped : (x : Event) (S : Option Effects → Rel) (outcome : Outcome) (l : Ledger) (hs : List Happening) (a : Ledger) → outcome ≡ None → Then (Happens moment x outcome) (S (effects_of outcome)) l hs a → Then (Happens moment x None) (S None) l hs a
       as_dropped x S outcome l hs a is it = subst (λ (o : Outcome). Then (Happens moment x o) (S (effects_of o)) l hs a) is it
 
-      by_kind : (outcome said : Outcome) (l : Ledger) (hs rest : List Happening) (a : Ledger) (ks more : List Happening) (b : Ledger) → hs ++ rest ≡ ks ++ more → IsKept outcome ⊎ (outcome ≡ Dropped) → IsKept said ⊎ (said ≡ Dropped)
+      by_kind : (outcome said : Outcome) (l : Ledger) (hs rest : List Happening) (a : Ledger) (ks more : List Happening) (b : Ledger) → hs ++ rest ≡ ks ++ more → IsKept outcome ⊎ (outcome ≡ None) → IsKept said ⊎ (said ≡ None)
           → Then (Happens moment event outcome) (Q (effects_of outcome)) l hs a → Then (Happens moment other said) (R (effects_of said)) l ks b → (hs ≡ ks) × (a ≡ b)
       by_kind outcome said l hs rest a ks more b e (inl kept) (inl enqueues) p q =
           let it = then_one (Happens moment event outcome) (Happens moment other said) (Q (effects_of outcome)) (R (effects_of said)) l hs rest a ks more b e p q

@@ -18,10 +18,9 @@ use Rattle.events.specs.declared.effects.LpdResponse.TheVariants as Shown
 use Rattle.events.specs.declared.effects.Effects.{Effects}
 use Rattle.events.specs.declared.status.Status.TheVariants.{TemporaryError}
 use Rattle.events.specs.Event.{is_query}
-use Rattle.dispatcher.specs.declared.outcome.Outcome.{Outcome}
 use Rattle.dispatcher.specs.declared.observer.AllocationSite.{AllocationSite}
 use Rattle.dispatcher.specs.declared.observer.AllocationSite.TheVariants as At
-use Rattle.dispatcher.specs.Run.{effects_of}
+use Rattle.dispatcher.specs.Run.{Outcome, effects_of}
 use Rattle.ipp_operations.specs.Reply.{IsReply}
 use Rattle.ipp_operations.specs.QueueText.{ack_of, text_of}
 use Rattle.send_queues.specs.Reply.{http_reply}
@@ -39,7 +38,7 @@ use Rattle.server.specs.Ledger.{Ledger, Fate}
 use Rattle.server.specs.Acting.{place_of_part}
 use Rattle.server.specs.Law.{happenings_in}
 use Rattle.server.specs.Turn.{Trace}
-use Rattle.promises.specs.Orders.{Happened, EventComes, MemoryRefused, Handled, AreHandled, AreOf, run_notes}
+use Rattle.promises.specs.Orders.{Happened, EventComes, MemoryRefused, RunPart, AreHandled, AreOf, run_notes}
 
 -- ---- an act: the next item of a client's stream, and its result
 
@@ -49,7 +48,7 @@ pub record Act : Type 0 where
   pub before : PeerRecord
   pub after : PeerRecord
   pub what : Step
-  pub asked : List Handled
+  pub asked : List RunPart
   pub bytes : List ℕ
   pub state : State
 
@@ -85,11 +84,11 @@ IsNext settings read (Link reports device) what after = ⊥
 -- ---- the bytes of an act
 
 -- memory was refused at this place for the connection of this number, and the observer was notified
-abbrev pub IsRefusal : ℕ → AllocationSite → List Handled → Type 0
-IsRefusal id place lost = (it : Handled) × (lost ≡ it ∷ []) × (it.what ≡ MemoryRefused place (Some id))
+abbrev pub IsRefusal : ℕ → AllocationSite → List RunPart → Type 0
+IsRefusal id place lost = (it : RunPart) × (lost ≡ it ∷ []) × (it.what ≡ MemoryRefused place (Some id))
 
 -- the reply to an IPP request; or, if memory for the reply to a query was refused, the status TemporaryError
-abbrev pub GivenIpp : ℕ → Bool → ℕ → Bool → Response → List Handled → List ℕ → Type 0
+abbrev pub GivenIpp : ℕ → Bool → ℕ → Bool → Response → List RunPart → List ℕ → Type 0
 GivenIpp id closes request query (responds.Ipp answer) lost bytes =
     ((lost ≡ []) × (spelt : List ℕ) × IsReply answer request spelt × (bytes ≡ http_reply closes spelt))
     ⊎ ((query ≡ true) × IsRefusal id At.Reply lost × (bytes ≡ http_status closes TemporaryError request))
@@ -109,7 +108,7 @@ GivenCommand responds.Nothing bytes = bytes ≡ []
 GivenCommand _ bytes = ⊥
 
 -- The answer by the core's reply; or if memory for the event was refused, the status TemporaryError or the byte 01. A command has no answer then, and its connection breaks.
-abbrev pub Given : ℕ → Bool → Client → Bool → Option Effects → List Handled → List ℕ → Type 0
+abbrev pub Given : ℕ → Bool → Client → Bool → Option Effects → List RunPart → List ℕ → Type 0
 Given id closes (client.Ipp request) query (Some reply) lost bytes = GivenIpp id closes request query reply.answer lost bytes
 Given id closes (client.Ipp request) query None lost bytes = IsRefusal id At.Event lost × (bytes ≡ http_status closes TemporaryError request)
 Given id closes client.LpdJob query (Some reply) lost bytes = (lost ≡ []) × GivenJob reply.answer bytes
@@ -118,19 +117,19 @@ Given id closes client.LpdCommand query (Some reply) lost bytes = (lost ≡ []) 
 Given id closes client.LpdCommand query None lost bytes = ⊥
 
 -- the core handled this event of a client, which was answered so
-abbrev pub IsGivenTo : ℕ → Bool → Client → Event → List Handled → List ℕ → Type 0
+abbrev pub IsGivenTo : ℕ → Bool → Client → Event → List RunPart → List ℕ → Type 0
 IsGivenTo id closes who event asked bytes =
-    (it : Handled) × (outcome : Outcome) × (lost : List Handled) × (asked ≡ it ∷ lost) × (it.what ≡ EventComes event outcome) × Given id closes who (is_query event) (effects_of outcome) lost bytes
+    (it : RunPart) × (outcome : Outcome) × (lost : List RunPart) × (asked ≡ it ∷ lost) × (it.what ≡ EventComes event outcome) × Given id closes who (is_query event) (effects_of outcome) lost bytes
 
 -- the answer to the connection's ask
-abbrev pub IsGiven : ℕ → Bool → Ask → List Handled → List ℕ → Type 0
+abbrev pub IsGiven : ℕ → Bool → Ask → List RunPart → List ℕ → Type 0
 IsGiven id closes (ask.Event who event) asked bytes = IsGivenTo id closes who event asked bytes
 IsGiven id closes (ask.Unread request) asked bytes = IsRefusal id At.Event asked × (bytes ≡ http_status closes TemporaryError request)
 IsGiven id closes (ask.Lost part) asked bytes = IsRefusal id (place_of_part part) asked × (bytes ≡ 1 ∷ [])
 IsGiven id closes _ asked bytes = ⊥
 
 -- the bytes of a step: those that the connection owes by itself, or the server's answer
-abbrev pub IsOwed : ℕ → Bool → Step → List Handled → List ℕ → Type 0
+abbrev pub IsOwed : ℕ → Bool → Step → List RunPart → List ℕ → Type 0
 IsOwed id closes (step.Due due last) asked bytes = (asked ≡ []) × (bytes ≡ due_bytes due)
 IsOwed id closes (step.Asks what last) asked bytes = IsGiven id closes what asked bytes
 IsOwed id closes (step.Breaks what) asked bytes = ⊥
@@ -162,7 +161,7 @@ IsFrontOf front whole = (rest : List ℕ) × (whole ≡ front ++ rest)
 -- ---- the run
 
 -- a state of the run: the opening, or the state after a part of it
-abbrev pub IsStateOf : State → State → List Handled → Type 0
+abbrev pub IsStateOf : State → State → List RunPart → Type 0
 IsStateOf state opening [] = state ≡ opening
 IsStateOf state opening (it ∷ later) = (state ≡ opening) ⊎ IsStateOf state it.state later
 
@@ -171,16 +170,16 @@ is_asked key None = false
 is_asked key (Some other) = other == key
 
 -- the parts of a run that the connection under a key asked for
-abbrev pub asked_by : ℕ → List Handled → List Handled
+abbrev pub asked_by : ℕ → List RunPart → List RunPart
 asked_by key [] = []
 asked_by key (it ∷ later) = (if is_asked key it.asked then it ∷ [] else []) ++ asked_by key later
 
 -- ---- the law
 
 -- The bytes due on a client's connection are those of its acts, from its first byte on. The events that it asked for since it was accepted, and the refusals of memory for them, are exactly those of these acts, in order. Each act is on a prefix of the bytes read.
-pub record IsAnswered (opening : State) (key : ℕ) (handled : List Handled) (e : Entry) : Type 0 where
-  pub earlier : List Handled
-  pub since : List Handled
+pub record IsAnswered (opening : State) (key : ℕ) (handled : List RunPart) (e : Entry) : Type 0 where
+  pub earlier : List RunPart
+  pub since : List RunPart
   pub whole : handled ≡ earlier ++ since
   pub door : Door
   pub acts : List Act
@@ -192,7 +191,7 @@ pub record IsAnswered (opening : State) (key : ℕ) (handled : List Handled) (e 
   pub due : e.due ≡ flat_map (λ (a : Act). a.bytes) acts
 
 -- the next item, if there is one, makes no bytes due: the connection broke at it
-abbrev pub IsLast : State → List Handled → List ℕ → PeerRecord → PeerRecord → Type 0
+abbrev pub IsLast : State → List RunPart → List ℕ → PeerRecord → PeerRecord → Type 0
 IsLast opening handled whole after progress =
     (after ≡ progress)
     ⊎ ((state : State) × (read : List ℕ) × (what : Step) × IsStateOf state opening handled × IsFrontOf read whole × IsNext state.settings read after what progress)
@@ -202,20 +201,20 @@ IsEvent (EventComes event outcome) = Unit {0}
 IsEvent (MemoryRefused place id) = ⊥
 
 -- at most one event, and at most one refusal of memory, which follows the event
-abbrev pub IsOneAtMost : List Handled → Type 0
+abbrev pub IsOneAtMost : List RunPart → Type 0
 IsOneAtMost [] = Unit {0}
 IsOneAtMost (it ∷ []) = Unit {0}
 IsOneAtMost (it ∷ lost ∷ []) = IsEvent it.what × (IsEvent lost.what → ⊥)
 IsOneAtMost (it ∷ lost ∷ more) = ⊥
 
 -- A connection took these acts and then broke. Its events and refusals of memory are those of these acts, and at most one more event, which was handled and has no answer, and one more refusal; none if the connection drained before it broke.
-pub record BrokeAfter (opening : State) (key : ℕ) (handled since : List Handled) (before : PeerRecord) (base : List ℕ) (e : Entry) : Type 0 where
+pub record BrokeAfter (opening : State) (key : ℕ) (handled since : List RunPart) (before : PeerRecord) (base : List ℕ) (e : Entry) : Type 0 where
   pub acts : List Act
   pub after : PeerRecord
   pub are : AreActs e.id before acts after
   pub fronts : All (λ (a : Act). IsFrontOf a.read e.read) acts
   pub states : All (λ (a : Act). IsStateOf a.state opening handled) acts
-  pub unanswered : List Handled
+  pub unanswered : List RunPart
   pub one : IsOneAtMost unanswered
   pub asked : asked_by key since ≡ flat_map (λ (a : Act). a.asked) acts ++ unanswered
   pub last : IsLast opening handled e.read after e.progress
@@ -223,9 +222,9 @@ pub record BrokeAfter (opening : State) (key : ℕ) (handled since : List Handle
   pub due : e.due ≡ base ++ flat_map (λ (a : Act). a.bytes) acts
 
 -- The bytes due on a client's connection that broke are those of its acts before.
-pub record IsCutOff (opening : State) (key : ℕ) (handled : List Handled) (e : Entry) : Type 0 where
-  pub earlier : List Handled
-  pub since : List Handled
+pub record IsCutOff (opening : State) (key : ℕ) (handled : List RunPart) (e : Entry) : Type 0 where
+  pub earlier : List RunPart
+  pub since : List RunPart
   pub whole : handled ≡ earlier ++ since
   pub door : Door
   pub until : BrokeAfter opening key handled since (opening_peer door) [] e
@@ -237,12 +236,12 @@ ClientTalk (Queue items session) = Unit {0}
 ClientTalk (Link reports device) = ⊥
 
 -- a client's connection that was closed without having broken was answered, by the events before
-abbrev pub WasAnswered : State → List Handled → Entry → Type 0
-WasAnswered opening handled e = ClientTalk e.progress → e.broken ≡ false → (key : ℕ) × (before : List Handled) × (behind : List Handled) × (handled ≡ before ++ behind) × IsAnswered opening key before e
+abbrev pub WasAnswered : State → List RunPart → Entry → Type 0
+WasAnswered opening handled e = ClientTalk e.progress → e.broken ≡ false → (key : ℕ) × (before : List RunPart) × (behind : List RunPart) × (handled ≡ before ++ behind) × IsAnswered opening key before e
 
 -- a client's connection that broke and was closed was answered until it broke
-abbrev pub WasCutOff : State → List Handled → Entry → Type 0
-WasCutOff opening handled e = ClientTalk e.progress → e.broken ≡ true → (key : ℕ) × (before : List Handled) × (behind : List Handled) × (handled ≡ before ++ behind) × IsCutOff opening key before e
+abbrev pub WasCutOff : State → List RunPart → Entry → Type 0
+WasCutOff opening handled e = ClientTalk e.progress → e.broken ≡ true → (key : ℕ) × (before : List RunPart) × (behind : List RunPart) × (handled ≡ before ++ behind) × IsCutOff opening key before e
 
 -- the items acted on are a prefix of those that the bytes read contain, by HTTP or by RFC 1179
 abbrev pub IsFirst : List ℕ → PeerRecord → Type 0
@@ -252,10 +251,10 @@ IsFirst read (Link reports device) = Unit {0}
 
 -- The events of a trace are one run of the core, whose parts give the observer's notes. Each open connection of a client that isn't broken is answered by the run, and so was each that was closed without having broken. A broken one was answered until it broke. On each connection, open or closed, the items acted on are a prefix of those that its bytes contain. On an open connection they are all of these, unless the connection is draining or broken.
 pub record AreAnswered (opening : State) (trace : Trace) (l : Ledger) : Type 0 where
-  pub handled : List Handled
+  pub handled : List RunPart
   pub timed : AreOf trace handled
   pub run : AreHandled opening handled l.core
-  pub notified : run_notes (happenings_in trace) ≡ flat_map (λ (it : Handled). it.notes) handled
+  pub notified : run_notes (happenings_in trace) ≡ flat_map (λ (it : RunPart). it.notes) handled
   pub answered : (key : ℕ) (e : Entry) → l.entries key ≡ Some e → ClientTalk e.progress → e.broken ≡ false → IsAnswered opening key handled e
   pub first : (key : ℕ) (e : Entry) → l.entries key ≡ Some e → IsFirst e.read e.progress
   pub closed_first : All (λ (it : Entry × Fate). IsFirst it.0.read it.0.progress) l.closed

@@ -1,14 +1,12 @@
 -- The notes of a trace's events. For an event that was dropped, the note is that memory for it was refused.
-use Rattle.std.specs.Prelude.{ℕ, ◌≡◌, not, Bool, true, false, List, [], ◌∷◌, ◌++◌, Option, Some}
+use Rattle.std.specs.Prelude.{ℕ, ◌≡◌, not, Bool, true, false, List, [], ◌∷◌, ◌++◌, Option, Some, None}
 use Rattle.std.specs.List.{flat_map}
 use Rattle.print_room.specs.State.{State}
 use Rattle.dispatcher.specs.declared.observer.AllocationSite.{AllocationSite}
 use Rattle.dispatcher.specs.declared.observer.AllocationSite.TheVariants as At
-use Rattle.dispatcher.specs.declared.outcome.Outcome.{Outcome}
-use Rattle.dispatcher.specs.declared.outcome.Outcome.TheVariants.{Dropped, Queried, Undispatched, Idle, Dispatched}
 use Rattle.dispatcher.specs.declared.run.Timed.{Timed}
 use Rattle.dispatcher.specs.Notes.{Note, Refused}
-use Rattle.dispatcher.specs.Run.{Handles}
+use Rattle.dispatcher.specs.Run.{Outcome, Handles}
 use Rattle.connections.specs.declared.ask.Part.TheVariants.{File, Job}
 use Rattle.connections.specs.Choice.{Loss, OfGrowth, OfPart, OfBody}
 use Rattle.server.specs.Polls.{Happening, Notified, Asked, Chosen}
@@ -57,11 +55,8 @@ events_notified trace = flat_map (λ (action : Action). event_notes (begins_even
 
 -- an event, and the observer's notes of it: that memory for it was refused, or the notes of the core
 abbrev pub IsNotifiedOf : Timed → State → Outcome → List Note → State → Type 0
-IsNotifiedOf timed old Dropped notified new = (id : Option ℕ) × (notified ≡ Refused At.Event id ∷ []) × Handles timed.moment timed.event old Dropped [] new
-IsNotifiedOf timed old (Queried reply) notified new = Handles timed.moment timed.event old (Queried reply) notified new
-IsNotifiedOf timed old (Undispatched reply) notified new = Handles timed.moment timed.event old (Undispatched reply) notified new
-IsNotifiedOf timed old (Idle reply) notified new = Handles timed.moment timed.event old (Idle reply) notified new
-IsNotifiedOf timed old (Dispatched reply) notified new = Handles timed.moment timed.event old (Dispatched reply) notified new
+IsNotifiedOf timed old (Some handled) notified new = Handles timed.moment timed.event old (Some handled) notified new
+IsNotifiedOf timed old None notified new = (id : Option ℕ) × (notified ≡ Refused At.Event id ∷ []) × Handles timed.moment timed.event old None [] new
 
 -- the events in order, and the observer has no other notes of events
 abbrev pub AreNotifiedOf : State → List Timed → List Outcome → List Note → State → Type 0

@@ -22,7 +22,7 @@ use Rattle.server.specs.Ledger.{Ledger, Fate}
 use Rattle.server.specs.Turn.{Trace}
 use Rattle.server.specs.Law.{happenings_in}
 use Rattle.wires.specs.declared.wire.Door.TheVariants.{Ipp}
-use Rattle.promises.specs.Orders.{Handled, AreHandled, AreOf, run_notes}
+use Rattle.promises.specs.Orders.{RunPart, AreHandled, AreOf, run_notes}
 use Rattle.promises.specs.Answers.{Act, AreActs, IsRefusal, IsGivenTo, asked_by, IsOneAtMost, IsFirst}
 
 -- ---- one exchange
@@ -34,7 +34,7 @@ pub record Exchange : Type 0 where
   -- whether the head expects `100-continue` (RFC 9110, section 10.1.1)
   pub invites : Bool
   pub body : List ℕ
-  pub asked : List Handled
+  pub asked : List RunPart
   pub answer : List ℕ
 
 -- a head, the invitation that it waits for, and a prefix of a body
@@ -45,13 +45,13 @@ abbrev pub says_exchange : Exchange → List HttpElement
 says_exchange x = says_begun x.closes x.invites x.body ++ EndsBody ∷ []
 
 -- A body without a whole header (RFC 8010, section 3.1.1) is answered by the head of a refusal, and a refused body by its status; no event is asked. For a body with an event, the core handles exactly that event, and the answer is the reply that it gave. It is the status that memory was refused only if the observer was notified of that: memory for the event, or for the reply to a query (RFC 8011, section 4.1).
-abbrev pub IsAnswerTo : ℕ → Bool → ParsedRequest → List Handled → List ℕ → Type 0
+abbrev pub IsAnswerTo : ℕ → Bool → ParsedRequest → List RunPart → List ℕ → Type 0
 IsAnswerTo id closes asks.TooShort asked answer = (asked ≡ []) × (answer ≡ refusal_head BadRequest)
 IsAnswerTo id closes (asks.Refused status request) asked answer = (asked ≡ []) × (answer ≡ http_status closes status request)
 IsAnswerTo id closes (asks.Event request event) asked answer = IsGivenTo id closes (client.Ipp request) event asked answer
 
 -- if memory to read a body was refused, and the observer was notified, no event is asked, and the answer is the status TemporaryError
-abbrev pub IsUnread : ℕ → Bool → List ℕ → List Handled → List ℕ → Type 0
+abbrev pub IsUnread : ℕ → Bool → List ℕ → List RunPart → List ℕ → Type 0
 IsUnread id closes body asked answer = (request : ℕ) × (request_id_of body ≡ Some request) × IsRefusal id At.Event asked × (answer ≡ http_status closes TemporaryError request)
 
 -- an exchange on the connection of this number
@@ -92,7 +92,7 @@ due_refusal (Some refusal) = refusal_head refusal
 -- ---- the law
 
 -- A client's stream is whole exchanges, one after the other, and then at most the beginning of one more, or a refusal. Nothing follows an exchange that closes, one with too short a body, or a refusal. The bytes due are those of the exchanges, and the events asked, and the refusals of memory for them, are exactly theirs, in order.
-pub record AreExchanges (id : ℕ) (heard : List HttpElement) (handled : List Handled) (bytes : List ℕ) : Type 0 where
+pub record AreExchanges (id : ℕ) (heard : List HttpElement) (handled : List RunPart) (bytes : List ℕ) : Type 0 where
   pub order : in_order Between heard ≡ true
   pub exchanges : List Exchange
   pub each : All (λ (x : Exchange). IsExchange id x) exchanges
@@ -109,9 +109,9 @@ ActsAreExchanges =
     → AreExchanges id said (flat_map (λ (a : Act). a.asked) acts) (flat_map (λ (a : Act). a.bytes) acts)
 
 -- the events asked on a connection since it was accepted, and the bytes due on it, are those of exchanges
-pub record ByExchanges (key : ℕ) (handled : List Handled) (said : List HttpElement) (e : Entry) : Type 0 where
-  pub earlier : List Handled
-  pub since : List Handled
+pub record ByExchanges (key : ℕ) (handled : List RunPart) (said : List HttpElement) (e : Entry) : Type 0 where
+  pub earlier : List RunPart
+  pub since : List RunPart
   pub whole : handled ≡ earlier ++ since
   pub are : AreExchanges e.id said (asked_by key since) e.due
 
@@ -120,32 +120,32 @@ abbrev pub IsOneMore : List HttpElement → List HttpElement → Type 0
 IsOneMore until said = (said ≡ until) ⊎ ((item : HttpItem) × (part : List ℕ) × (said ≡ until ++ elements_of item part))
 
 -- A connection broke: the bytes due are those of the exchanges before, and at most one more event was asked, which has no answer, with at most one more refusal of memory.
-pub record UntilBroken (key : ℕ) (handled : List Handled) (said : List HttpElement) (e : Entry) : Type 0 where
-  pub earlier : List Handled
-  pub since : List Handled
+pub record UntilBroken (key : ℕ) (handled : List RunPart) (said : List HttpElement) (e : Entry) : Type 0 where
+  pub earlier : List RunPart
+  pub since : List RunPart
   pub whole : handled ≡ earlier ++ since
   pub until : List HttpElement
   pub last : IsOneMore until said
-  pub answered : List Handled
-  pub unanswered : List Handled
+  pub answered : List RunPart
+  pub unanswered : List RunPart
   pub asked : asked_by key since ≡ answered ++ unanswered
   pub one : IsOneAtMost unanswered
   pub are : AreExchanges e.id until answered e.due
 
-abbrev pub IsByExchanges : ℕ → List Handled → PeerRecord → Entry → Type 0
+abbrev pub IsByExchanges : ℕ → List RunPart → PeerRecord → Entry → Type 0
 IsByExchanges key handled (Http said closes body) e = (e.broken ≡ false → ByExchanges key handled said e) × (e.broken ≡ true → UntilBroken key handled said e)
 IsByExchanges key handled progress e = Unit {0}
 
 -- a connection that was closed has this property, by the events before
-abbrev pub WasByExchanges : List Handled → Entry → Type 0
-WasByExchanges handled e = (key : ℕ) × (before : List Handled) × (behind : List Handled) × (handled ≡ before ++ behind) × IsByExchanges key before e.progress e
+abbrev pub WasByExchanges : List RunPart → Entry → Type 0
+WasByExchanges handled e = (key : ℕ) × (before : List RunPart) × (behind : List RunPart) × (handled ≡ before ++ behind) × IsByExchanges key before e.progress e
 
 -- The events of a trace are one run of the core, whose parts give the observer's notes, and by which each IPP client is answered exchange by exchange, even if its connection was closed. On each connection the exchanges are a prefix of the exchanges that its bytes contain. On an open connection they are all of these, unless the connection is draining or broken.
 pub record AreByExchanges (opening : State) (trace : Trace) (l : Ledger) : Type 0 where
-  pub handled : List Handled
+  pub handled : List RunPart
   pub timed : AreOf trace handled
   pub run : AreHandled opening handled l.core
-  pub notified : run_notes (happenings_in trace) ≡ flat_map (λ (it : Handled). it.notes) handled
+  pub notified : run_notes (happenings_in trace) ≡ flat_map (λ (it : RunPart). it.notes) handled
   pub each : (key : ℕ) (e : Entry) → l.entries key ≡ Some e → IsByExchanges key handled e.progress e
   pub closed : All (λ (it : Entry × Fate). WasByExchanges handled it.0) l.closed
   pub first : (key : ℕ) (e : Entry) → l.entries key ≡ Some e → IsFirst e.read e.progress

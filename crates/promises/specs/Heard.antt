@@ -7,9 +7,8 @@ use Rattle.device_link.specs.Stream.{ParsesFirst}
 use Rattle.print_room.specs.State.{State}
 use Rattle.events.specs.declared.event.Event.{Event}
 use Rattle.events.specs.declared.event.Event.TheVariants as Is
-use Rattle.dispatcher.specs.declared.outcome.Outcome.{Outcome}
 use Rattle.dispatcher.specs.Notes.{Note}
-use Rattle.dispatcher.specs.Run.{Handles}
+use Rattle.dispatcher.specs.Run.{Outcome, Handles}
 use Rattle.connections.specs.Entry.{PeerRecord, Http, Queue, Link, Entry, device_of}
 use Rattle.connections.specs.Asking.{IsHeard}
 use Rattle.server.specs.Ledger.{Ledger, Fate}

@@ -9,12 +9,12 @@ use Rattle.print_room.specs.State.{State}
 use Rattle.events.specs.declared.event.Event.{Event}
 use Rattle.events.specs.declared.event.Event.TheVariants as Is
 use Rattle.events.specs.declared.effects.Cancel.{Cancel}
-use Rattle.dispatcher.specs.declared.outcome.Outcome.{Outcome}
-use Rattle.dispatcher.specs.declared.outcome.Outcome.TheVariants.{Dropped, Queried, Undispatched, Idle, Dispatched}
 use Rattle.dispatcher.specs.declared.observer.AllocationSite.{AllocationSite}
 use Rattle.dispatcher.specs.declared.observer.AllocationSite.TheVariants as At
 use Rattle.dispatcher.specs.Notes.{Note, Planned, Canceled, DeviceRefused, Refused}
-use Rattle.dispatcher.specs.Run.{Handles}
+use Rattle.dispatcher.specs.declared.handled.Dispatch.{Dispatch}
+use Rattle.dispatcher.specs.declared.handled.Dispatch.TheVariants as dispatch
+use Rattle.dispatcher.specs.Run.{Outcome, Handles}
 use Rattle.connections.specs.Entry.{Entry, device_of}
 use Rattle.server.specs.Polls.{Happening, Polled, Notified, Chosen}
 use Rattle.server.specs.Ledger.{Ledger, Fate, job_bytes}
@@ -29,7 +29,7 @@ pub data Happened : Type 0 where
   MemoryRefused : (place : AllocationSite) (id : Option ℕ) → Happened
 
 -- A part of the run: what happened, the observer's notes of it, and the state of the core after it. By a HELLO in a turn a device gave its name on its connection. A client's event, or the memory that was refused for it, was asked on the connection under a key.
-pub record Handled : Type 0 where
+pub record RunPart : Type 0 where
   pub moment : ℕ
   pub what : Happened
   pub notes : List Note
@@ -43,7 +43,7 @@ IsHandled moment (EventComes event outcome) old notes new = Handles moment event
 IsHandled moment (MemoryRefused place id) old notes new = (notes ≡ Refused place id ∷ []) × (new ≡ old)
 
 -- the parts in order
-abbrev pub AreHandled : State → List Handled → State → Type 0
+abbrev pub AreHandled : State → List RunPart → State → Type 0
 AreHandled old [] new = new ≡ old
 AreHandled old (it ∷ later) new =
     IsHandled it.moment it.what old it.notes it.state × AreHandled it.state later new
@@ -69,11 +69,11 @@ is_turn (Reported moment device said hs) = false
 is_turn (Ticked moment hs) = false
 
 -- the part is at this moment, in a turn or not
-abbrev pub IsAt : Bool → ℕ → Handled → Type 0
+abbrev pub IsAt : Bool → ℕ → RunPart → Type 0
 IsAt turn moment it = (it.moment ≡ moment) × (it.named ≡ naming turn it.what)
 
-abbrev pub AreAt : Bool → ℕ → List Handled → Type 0
-AreAt turn moment handled = All (λ (it : Handled). IsAt turn moment it) handled
+abbrev pub AreAt : Bool → ℕ → List RunPart → Type 0
+AreAt turn moment handled = All (λ (it : RunPart). IsAt turn moment it) handled
 
 -- the note of memory that was refused, if the note is one of the run: for an event, a dispatch, a reply or a file
 abbrev pub run_refusal : AllocationSite → Option ℕ → List Note
@@ -99,28 +99,28 @@ abbrev pub run_notes : List Happening → List Note
 run_notes hs = flat_map run_note hs
 
 -- the parts of the first action, at its moment, which give the notes of its happenings; then those of the next, and so on
-abbrev pub AreOf : Trace → List Handled → Type 0
+abbrev pub AreOf : Trace → List RunPart → Type 0
 AreOf [] handled = handled ≡ []
 AreOf (action ∷ actions) handled =
-    (first : List Handled) × (later : List Handled) × (handled ≡ first ++ later) × AreAt (is_turn action) (moment_of action) first
-    × (run_notes (happenings_of action) ≡ flat_map (λ (it : Handled). it.notes) first) × AreOf actions later
+    (first : List RunPart) × (later : List RunPart) × (handled ≡ first ++ later) × AreAt (is_turn action) (moment_of action) first
+    × (run_notes (happenings_of action) ≡ flat_map (λ (it : RunPart). it.notes) first) × AreOf actions later
 
 -- ---- the orders of a device
 
--- the jobs that begin, if a plan was made
+-- the jobs that a dispatch began, in the state after it
+abbrev pub began_by : Dispatch → State → List Started
+began_by dispatch.Query state = []
+began_by dispatch.OutOfMemory state = []
+began_by dispatch.Idle state = []
+began_by dispatch.Planned state = state.begun
+
 abbrev pub began : Outcome → State → List Started
-began Dropped state = []
-began (Queried reply) state = []
-began (Undispatched reply) state = []
-began (Idle reply) state = []
-began (Dispatched reply) state = state.begun
+began (Some handled) state = began_by handled.dispatch state
+began None state = []
 
 abbrev pub canceled : Outcome → List Cancel
-canceled Dropped = []
-canceled (Queried reply) = reply.cancels.items
-canceled (Undispatched reply) = reply.cancels.items
-canceled (Idle reply) = reply.cancels.items
-canceled (Dispatched reply) = reply.cancels.items
+canceled (Some handled) = handled.effects.cancels.items
+canceled None = []
 
 -- the line of a cancel, if it is for this device
 abbrev pub cancel_for : ℕ → Cancel → List ℕ
@@ -135,7 +135,7 @@ abbrev pub orders_by : ℕ → Happened → State → List ℕ
 orders_by device (EventComes event outcome) state = flat_map (cancel_for device) (canceled outcome) ++ flat_map (start_for device state) (began outcome state)
 orders_by device (MemoryRefused place id) state = []
 
-abbrev pub orders_of : ℕ → Handled → List ℕ
+abbrev pub orders_of : ℕ → RunPart → List ℕ
 orders_of device it = orders_by device it.what it.state
 
 abbrev pub names : ℕ → Option ℕ → Bool
@@ -143,30 +143,30 @@ names device None = false
 names device (Some other) = other == device
 
 -- The bytes due on a device's connection after these events, where `before` was due: all orders for the device since it last gave its name on a connection.
-abbrev pub due_by : ℕ → List ℕ → List Handled → List ℕ
+abbrev pub due_by : ℕ → List ℕ → List RunPart → List ℕ
 due_by device before [] = before
 due_by device before (it ∷ later) = due_by device ((if names device it.named then [] else before) ++ orders_of device it) later
 
 -- ---- the law
 
 -- a device's connection that was closed without having broken was sent its orders, by the events before
-abbrev pub WasSent : List Handled → Entry → Type 0
-WasSent handled e = (device : ℕ) → device_of e.progress ≡ Some device → e.broken ≡ false → (before : List Handled) × (behind : List Handled) × (handled ≡ before ++ behind) × (e.due ≡ due_by device [] before)
+abbrev pub WasSent : List RunPart → Entry → Type 0
+WasSent handled e = (device : ℕ) → device_of e.progress ≡ Some device → e.broken ≡ false → (before : List RunPart) × (behind : List RunPart) × (handled ≡ before ++ behind) × (e.due ≡ due_by device [] before)
 
 -- the bytes due are a prefix of the orders for a device, by the events up to one of these
-abbrev pub IsFrontSent : List Handled → ℕ → List ℕ → Type 0
-IsFrontSent handled device due = (before : List Handled) × (behind : List Handled) × (handled ≡ before ++ behind) × (rest : List ℕ) × (due ++ rest ≡ due_by device [] before)
+abbrev pub IsFrontSent : List RunPart → ℕ → List ℕ → Type 0
+IsFrontSent handled device due = (before : List RunPart) × (behind : List RunPart) × (handled ≡ before ++ behind) × (rest : List ℕ) × (due ++ rest ≡ due_by device [] before)
 
 -- a device's connection that broke was sent a prefix of its orders
-abbrev pub WasHalted : List Handled → Entry → Type 0
+abbrev pub WasHalted : List RunPart → Entry → Type 0
 WasHalted handled e = (device : ℕ) → device_of e.progress ≡ Some device → e.broken ≡ true → IsFrontSent handled device e.due
 
 -- The events of a trace are one run of the core, whose parts give the observer's notes. On each open connection of a device that isn't broken, the bytes due are the run's orders for the device since it gave its name: the line of each cancel, and for each job the line and the documents as they were when the job began. The same holds for each that was closed without having broken, by the events before. On one that broke, a prefix of the orders is due.
 pub record AreSent (opening : State) (trace : Trace) (l : Ledger) : Type 0 where
-  pub handled : List Handled
+  pub handled : List RunPart
   pub timed : AreOf trace handled
   pub run : AreHandled opening handled l.core
-  pub notified : run_notes (happenings_in trace) ≡ flat_map (λ (it : Handled). it.notes) handled
+  pub notified : run_notes (happenings_in trace) ≡ flat_map (λ (it : RunPart). it.notes) handled
   pub due : (key : ℕ) (e : Entry) (device : ℕ) → l.entries key ≡ Some e → device_of e.progress ≡ Some device → e.broken ≡ false → e.due ≡ due_by device [] handled
   pub closed : All (λ (it : Entry × Fate). WasSent handled it.0) l.closed
   pub halted : (key : ℕ) (e : Entry) → l.entries key ≡ Some e → WasHalted handled e

@@ -7,9 +7,9 @@ use Rattle.print_room.specs.declared.started.Started.{Started}
 use Rattle.print_room.specs.State.{State}
 use Rattle.events.specs.declared.event.Event.TheVariants as Is
 use Rattle.events.specs.declared.effects.Cancel.{Cancel}
-use Rattle.dispatcher.specs.declared.outcome.Outcome.{Outcome}
 use Rattle.dispatcher.specs.declared.observer.AllocationSite.TheVariants as At
 use Rattle.dispatcher.specs.Notes.{Refused}
+use Rattle.dispatcher.specs.Run.{Outcome}
 use Rattle.connections.specs.Entry.{Entry, device_of, owing}
 use Rattle.server.specs.Polls.{Happening, Notified}
 use Rattle.server.specs.Ledger.{Ledger, job_bytes}

@@ -35,10 +35,8 @@ use Rattle.ipp_operations.specs.declared.parsed_request.ParsedRequest.TheVariant
 use Rattle.ipp_operations.specs.ParsedRequest.{Asks, AsksUnder, Requests, answered, header_of, operation_of}
 use Rattle.ipp_operations.specs.Event.{event_of, checked_event, event_of_group, are_tagged, is_complete}
 use Rattle.ipp_operations.specs.Request.{operation_group, job_attributes, is_utf8}
-use Rattle.dispatcher.specs.declared.outcome.Outcome.{Outcome}
-use Rattle.dispatcher.specs.declared.outcome.Outcome.TheVariants.{Dropped, Queried, Undispatched, Idle, Dispatched}
 use Rattle.dispatcher.specs.Notes.{Note}
-use Rattle.dispatcher.specs.Run.{effects_of, Handles}
+use Rattle.dispatcher.specs.Run.{Outcome, effects_of, Handles}
 use Rattle.std.proofs.lemmas.Option.{none-some}
 use Rattle.server.specs.Turn.{IsBytes}
 use Rattle.replay.specs.OneRun.{IsReplyOf}
@@ -130,11 +128,8 @@ is_given given reply same is = let one : given ≡ reply = cc same in subst (λ 
 
 -- a request that is answered is answered by a message
 request_is_answered : (moment : ℕ) (event : Event) (outcome : Outcome) (reply : Effects) (old : State) (notes : List Note) (new : State) → IsRequest event → effects_of outcome ≡ Some reply → Handles moment event old outcome notes new → IsOfIpp reply.answer
-request_is_answered moment event Dropped reply old notes new is answered handled = absurd (none-some reply answered)
-request_is_answered moment event (Queried given) reply old notes new is answered (query, step, notified) = is_given given reply answered (stepped_answer event (max moment old.last) old given new is step)
-request_is_answered moment event (Undispatched given) reply old notes new is answered (query, step, ready, notified) = is_given given reply answered (stepped_answer event (max moment old.last) old given new is step)
-request_is_answered moment event (Idle given) reply old notes new is answered (query, mid, step, made, notified) = is_given given reply answered (stepped_answer event (max moment old.last) old given mid is step)
-request_is_answered moment event (Dispatched given) reply old notes new is answered (query, mid, step, plan, made, notified) = is_given given reply answered (stepped_answer event (max moment old.last) old given mid is step)
+request_is_answered moment event (Some handled) reply old notes new is answered it = is_given handled.effects reply answered (stepped_answer event (max moment old.last) old handled.effects it.mid is it.step)
+request_is_answered moment event None reply old notes new is answered it = absurd (none-some reply answered)
 
 -- ---- the event of a body
 

@@ -11,9 +11,8 @@ use Rattle.events.specs.declared.effects.Response.{Response}
 use Rattle.events.specs.declared.effects.Response.TheVariants as responds
 use Rattle.events.specs.declared.effects.Effects.{Effects}
 use Rattle.dispatcher.specs.declared.run.Timed.{Timed}
-use Rattle.dispatcher.specs.declared.outcome.Outcome.{Outcome}
 use Rattle.dispatcher.specs.Notes.{Note}
-use Rattle.dispatcher.specs.Run.{effects_of, Run}
+use Rattle.dispatcher.specs.Run.{Outcome, effects_of, Run}
 use Rattle.ipp_operations.specs.declared.parsed_request.ParsedRequest.{ParsedRequest}
 use Rattle.ipp_operations.specs.declared.parsed_request.ParsedRequest.TheVariants as Body
 use Rattle.ipp_operations.specs.ParsedRequest.{Asks}

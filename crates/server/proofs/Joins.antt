@@ -5,11 +5,10 @@ use Rattle.wires.specs.Poll.{Poll, Accepts}
 use Rattle.wires.specs.declared.wire.Door.{Door}
 use Rattle.wires.specs.declared.wire.Progress.TheVariants.{Done}
 use Rattle.dispatcher.specs.Notes.{Note, Refused, DeviceRefused}
-use Rattle.dispatcher.specs.Run.{effects_of}
+use Rattle.dispatcher.specs.Run.{Outcome, effects_of}
 use Rattle.dispatcher.specs.declared.observer.AllocationSite.{AllocationSite}
 use Rattle.dispatcher.specs.declared.observer.AllocationSite.TheVariants as At
 use Rattle.dispatcher.specs.declared.observer.DeviceRefusal.TheVariants as why
-use Rattle.dispatcher.specs.declared.outcome.Outcome.{Outcome}
 use Rattle.events.specs.declared.effects.Effects.{Effects}
 use Rattle.events.specs.declared.effects.Response.{Response}
 use Rattle.events.specs.declared.effects.Response.TheVariants as responds

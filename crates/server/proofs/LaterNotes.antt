@@ -9,18 +9,21 @@ use Rattle.print_room.specs.State.{State}
 use Rattle.events.specs.declared.event.Event.{Event}
 use Rattle.events.specs.declared.effects.Effects.{Effects}
 use Rattle.events.specs.declared.effects.Cancel.{Cancel}
-use Rattle.dispatcher.specs.declared.outcome.Outcome.{Outcome}
-use Rattle.dispatcher.specs.declared.outcome.Outcome.TheVariants.{Dropped, Queried, Undispatched, Idle, Dispatched}
+use Rattle.events.specs.Event.{is_query}
+use Rattle.dispatcher.specs.declared.handled.Handled.{Handled}
+use Rattle.dispatcher.specs.declared.handled.Dispatch.{Dispatch}
+use Rattle.dispatcher.specs.declared.handled.Dispatch.TheVariants as dispatch
 use Rattle.dispatcher.specs.declared.observer.AllocationSite.{AllocationSite}
 use Rattle.dispatcher.specs.declared.observer.AllocationSite.TheVariants as At
 use Rattle.dispatcher.specs.Notes.{Note, Planned, Canceled, DeviceRefused, Refused}
-use Rattle.dispatcher.specs.Run.{effects_of, cancel_notes, Handles}
+use Rattle.dispatcher.specs.Following.{Follows}
+use Rattle.dispatcher.specs.Run.{Outcome, effects_of, cancel_notes, Handles}
 use Rattle.dispatcher.specs.Step.{TakesNoMemory}
 use Rattle.server.specs.Polls.{Happening, Polled, Notified, Choice, Found, Chosen, seen}
 use Rattle.server.specs.Ledger.{Ledger, with_entry, job_bytes}
 use Rattle.server.specs.Rel.{Rel, Nothing, Notifies, Chooses, Then, If, Or, EachOf}
 use Rattle.server.specs.Enqueuing.{Sets, BreaksAt, Breaks, Drops, EnqueuesOpen, EnqueuesAt, EnqueuesWhere, Enqueues, EnqueuesOn}
-use Rattle.server.specs.Happening.{found_by, Sends, SendsAll, Starts, StartsAll, Orders, Happens}
+use Rattle.server.specs.Happening.{was_refused, found_by, Sends, SendsAll, Starts, StartsAll, StartsBy, Orders, Happens}
 use Rattle.server.specs.Turn.{has_refusal}
 use Rattle.server.specs.Law.{refusal_note, core_note, core_notes, IsWhole}
 use Rattle.server.proofs.Steps.{refusals_append, right_false, seen_append}
@@ -181,12 +184,15 @@ each_started (start ∷ started) = calm_then (starts start) (each_started starte
 all_started : Calmly StartsAll
 all_started l hs l' it = each_started l.core.begun l hs l' it
 
+calm_starts : (made : Dispatch) → Calmly (StartsBy made)
+calm_starts dispatch.Query = calm_nothing
+calm_starts dispatch.OutOfMemory = calm_nothing
+calm_starts dispatch.Idle = calm_nothing
+calm_starts dispatch.Planned = all_started
+
 calm_orders : (outcome : Outcome) → Calmly (Orders outcome)
-calm_orders Dropped = calm_nothing
-calm_orders (Queried reply) = each_sent reply.cancels.items
-calm_orders (Undispatched reply) = each_sent reply.cancels.items
-calm_orders (Idle reply) = each_sent reply.cancels.items
-calm_orders (Dispatched reply) = calm_then {R = SendsAll reply} {S = StartsAll} (each_sent reply.cancels.items) all_started
+calm_orders (Some handled) = calm_then {R = SendsAll handled.effects} {S = StartsBy handled.dispatch} (each_sent handled.effects.cancels.items) (calm_starts handled.dispatch)
+calm_orders None = calm_nothing
 
 -- the notes of an event are notes of the core
 notified_last : (cancels : List Cancel) (last : List Note) → core_notes (map Notified last) ≡ last → core_notes (map Notified (map Canceled cancels ++ last)) ≡ map Canceled cancels ++ last
@@ -196,12 +202,15 @@ notified_last (cancel ∷ cancels) last is = ap (λ (ns : List Note). Canceled c
 notified_by : (notes : List Note) (reply : Effects) (last : List Note) → notes ≡ cancel_notes reply ++ last → core_notes (map Notified last) ≡ last → core_notes (map Notified notes) ≡ notes
 notified_by notes reply last is notified = subst (λ (ns : List Note). core_notes (map Notified ns) ≡ ns) (sym is) (notified_last reply.cancels.items last notified)
 
+follows_back : (query : Bool) (now : ℕ) (old : State) (made : Dispatch) (notes : List Note) (new : State) → Follows query now old made notes new → core_notes (map Notified notes) ≡ notes
+follows_back query now old dispatch.Query notes new (is, same, none) = subst (λ (ns : List Note). core_notes (map Notified ns) ≡ ns) (sym none) refl
+follows_back query now old dispatch.OutOfMemory notes new (is, ready, same, one) = subst (λ (ns : List Note). core_notes (map Notified ns) ≡ ns) (sym one) refl
+follows_back query now old dispatch.Idle notes new (is, made, one) = subst (λ (ns : List Note). core_notes (map Notified ns) ≡ ns) (sym one) refl
+follows_back query now old dispatch.Planned notes new (is, plan, made, one) = subst (λ (ns : List Note). core_notes (map Notified ns) ≡ ns) (sym one) refl
+
 notified_back : (moment : ℕ) (event : Event) (old : State) (outcome : Outcome) (notes : List Note) (new : State) → Handles moment event old outcome notes new → core_notes (map Notified notes) ≡ notes
-notified_back moment event old Dropped notes new (same, none, heavy) = subst (λ (ns : List Note). core_notes (map Notified ns) ≡ ns) (sym none) refl
-notified_back moment event old (Queried reply) notes new (query, step, is) = notified_by notes reply [] (is ∙ sym (append-nil (cancel_notes reply))) refl
-notified_back moment event old (Undispatched reply) notes new (query, step, ready, is) = notified_by notes reply (Refused At.Dispatch None ∷ []) is refl
-notified_back moment event old (Idle reply) notes new (query, mid, step, made, is) = notified_by notes reply (Planned None [] ∷ []) is refl
-notified_back moment event old (Dispatched reply) notes new (query, mid, step, plan, made, is) = notified_by notes reply (Planned (Some plan) new.begun ∷ []) is refl
+notified_back moment event old (Some handled) notes new it = notified_by notes handled.effects it.later it.notes_are (follows_back (is_query event) _ it.mid handled.dispatch it.later new it.follows)
+notified_back moment event old None notes new (same, none, heavy) = subst (λ (ns : List Note). core_notes (map Notified ns) ≡ ns) (sym none) refl
 
 -- an event came; its notes come first, and later notes notify only of memory that was refused
 pub record Happened (moment : ℕ) (event : Event) (outcome : Outcome) (l : Ledger) (hs : List Happening) (l' : Ledger) : Type 0 where
@@ -214,11 +223,8 @@ pub record Happened (moment : ℕ) (event : Event) (outcome : Outcome) (l : Ledg
 
 -- the choice that memory was found is no note of the core
 found_notes : (outcome : Outcome) (hs : List Happening) → core_notes (found_by outcome ++ hs) ≡ core_notes hs
-found_notes Dropped hs = refl
-found_notes (Queried reply) hs = refl
-found_notes (Undispatched reply) hs = refl
-found_notes (Idle reply) hs = refl
-found_notes (Dispatched reply) hs = refl
+found_notes (Some handled) hs = refl
+found_notes None hs = refl
 
 -- the notes of the event are all notes of the core
 pub happened_notes : (moment : ℕ) (event : Event) (outcome : Outcome) (l : Ledger) (hs : List Happening) (l' : Ledger) (it : Happened moment event outcome l hs l') → core_notes hs ≡ it.notes
@@ -266,23 +272,19 @@ happened_then moment event outcome Q calm l hs l' it =
 
 -- ---- happenings without refused memory
 
-undispatched_never : {A : Type 0} → (moment : ℕ) (event : Event) (reply : Effects) (l : Ledger) (hs : List Happening) (l' : Ledger) → Happened moment event (Undispatched reply) l hs l' → has_refusal hs ≡ false → A
-undispatched_never moment event reply l hs l' it none =
-    never (has_refusal (map Notified it.notes)) (refused_of moment event l.core (Undispatched reply) it.notes l'.core it.handled) (none_before (map Notified it.notes ++ it.later) (map Notified it.notes) it.later refl (none_after hs (found_by (Undispatched reply)) (map Notified it.notes ++ it.later) it.whole none))
+-- the dispatch of an event wasn't refused memory
+dispatched : (moment : ℕ) (event : Event) (handled : Handled) (l : Ledger) (hs : List Happening) (l' : Ledger) → Happened moment event (Some handled) l hs l' → has_refusal hs ≡ false → was_refused handled.dispatch ≡ false
+dispatched moment event handled l hs l' it none =
+    sym (refused_of moment event l.core (Some handled) it.notes l'.core it.handled)
+    ∙ none_before (map Notified it.notes ++ it.later) (map Notified it.notes) it.later refl (none_after hs (found_by (Some handled)) (map Notified it.notes ++ it.later) it.whole none)
 
 -- if no memory was refused, an event that takes no memory wasn't dropped
 pub whole_light : (moment : ℕ) (event : Event) (outcome : Outcome) (l : Ledger) (hs : List Happening) (l' : Ledger) → Happened moment event outcome l hs l' → TakesNoMemory event moment l.core → has_refusal hs ≡ false → IsWhole outcome
-whole_light moment event Dropped l hs l' it light none = it.handled.2 light
-whole_light moment event (Queried reply) l hs l' it light none = tt
-whole_light moment event (Undispatched reply) l hs l' it light none = undispatched_never moment event reply l hs l' it none
-whole_light moment event (Idle reply) l hs l' it light none = tt
-whole_light moment event (Dispatched reply) l hs l' it light none = tt
+whole_light moment event (Some handled) l hs l' it light none = dispatched moment event handled l hs l' it none
+whole_light moment event None l hs l' it light none = it.handled.2 light
 
 -- if no memory was refused, an event wasn't dropped whose caller notifies of a drop
 pub whole_notified : (moment : ℕ) (event : Event) (outcome : Outcome) (Q : Option Effects → Rel) → ((l : Ledger) (hs : List Happening) (l' : Ledger) → Q None l hs l' → has_refusal hs ≡ true)
     → (l : Ledger) (hs : List Happening) (l' : Ledger) → Then (Happens moment event outcome) (Q (effects_of outcome)) l hs l' → Happened moment event outcome l hs l' → has_refusal hs ≡ false → IsWhole outcome
-whole_notified moment event Dropped Q notified l hs l' it done none = never (has_refusal it.back) (notified it.mid it.back l' it.second) (none_after hs it.front it.back it.whole none)
-whole_notified moment event (Queried reply) Q notified l hs l' it done none = tt
-whole_notified moment event (Undispatched reply) Q notified l hs l' it done none = undispatched_never moment event reply l hs l' done none
-whole_notified moment event (Idle reply) Q notified l hs l' it done none = tt
-whole_notified moment event (Dispatched reply) Q notified l hs l' it done none = tt
+whole_notified moment event (Some handled) Q notified l hs l' it done none = dispatched moment event handled l hs l' done none
+whole_notified moment event None Q notified l hs l' it done none = never (has_refusal it.back) (notified it.mid it.back l' it.second) (none_after hs it.front it.back it.whole none)

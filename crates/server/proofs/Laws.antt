@@ -8,9 +8,7 @@ use Rattle.events.specs.declared.event.Event.{Event}
 use Rattle.events.specs.declared.event.Event.TheVariants as Is
 use Rattle.events.specs.declared.effects.Effects.{Effects}
 use Rattle.dispatcher.specs.declared.run.Timed.{Timed}
-use Rattle.dispatcher.specs.declared.outcome.Outcome.{Outcome}
-use Rattle.dispatcher.specs.declared.outcome.Outcome.TheVariants.{Dropped, Queried, Undispatched, Idle, Dispatched}
-use Rattle.dispatcher.specs.Run.{effects_of, Comes, Run}
+use Rattle.dispatcher.specs.Run.{Outcome, effects_of, Comes, Run}
 use Rattle.dispatcher.specs.Step.{TakesNoMemory}
 use Rattle.ipp_operations.specs.declared.parsed_request.ParsedRequest.{ParsedRequest}
 use Rattle.ipp_operations.specs.declared.parsed_request.ParsedRequest.TheVariants as asks
@@ -149,11 +147,8 @@ one_event moment event outcome reply l hs l' none whole is it =
 
 -- an event has a reply if neither the event nor its dispatch was refused memory
 reply_there : (outcome : Outcome) → IsWhole outcome → (reply : Effects) × (effects_of outcome ≡ Some reply)
-reply_there Dropped whole = absurd whole
-reply_there (Queried reply) whole = (reply, refl)
-reply_there (Undispatched reply) whole = absurd whole
-reply_there (Idle reply) whole = (reply, refl)
-reply_there (Dispatched reply) whole = (reply, refl)
+reply_there (Some handled) whole = (handled.effects, refl)
+reply_there None whole = absurd whole
 
 -- the happenings of an event that takes no memory are one event
 light_event : (moment : ℕ) (event : Event) (outcome : Outcome) (l : Ledger) (hs : List Happening) (l' : Ledger) → TakesNoMemory event moment l.core → has_refusal hs ≡ false → Happened moment event outcome l hs l' → (reply : Effects) × IsOneEvent moment event reply l.core hs l'.core

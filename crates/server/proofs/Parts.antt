@@ -16,13 +16,12 @@ use Rattle.events.specs.declared.effects.Effects.{Effects}
 use Rattle.events.specs.declared.status.Status.{Status}
 use Rattle.events.specs.declared.status.Status.TheVariants.{TemporaryError}
 use Rattle.events.specs.Event.{is_query}
-use Rattle.dispatcher.specs.declared.outcome.Outcome.{Outcome}
 use Rattle.dispatcher.specs.declared.observer.DeviceRefusal.{DeviceRefusal}
 use Rattle.dispatcher.specs.declared.observer.DeviceRefusal.TheVariants as why
 use Rattle.dispatcher.specs.declared.observer.AllocationSite.{AllocationSite}
 use Rattle.dispatcher.specs.declared.observer.AllocationSite.TheVariants as At
 use Rattle.dispatcher.specs.Notes.{Note, DeviceRefused, Refused}
-use Rattle.dispatcher.specs.Run.{effects_of, Handles}
+use Rattle.dispatcher.specs.Run.{Outcome, effects_of, Handles}
 use Rattle.ipp_operations.specs.declared.parsed_request.ParsedRequest.{ParsedRequest}
 use Rattle.ipp_operations.specs.declared.parsed_request.ParsedRequest.TheVariants as asks
 use Rattle.ipp_operations.specs.QueueText.{ack_of, text_of}

@@ -9,11 +9,10 @@ use Rattle.events.specs.declared.effects.LpdResponse.{LpdResponse}
 use Rattle.events.specs.declared.effects.LpdResponse.TheVariants as Shown
 use Rattle.events.specs.declared.status.Status.TheVariants.{TemporaryError}
 use Rattle.events.specs.Event.{is_query}
-use Rattle.dispatcher.specs.declared.outcome.Outcome.{Outcome}
 use Rattle.dispatcher.specs.declared.observer.AllocationSite.{AllocationSite}
 use Rattle.dispatcher.specs.declared.observer.AllocationSite.TheVariants as At
 use Rattle.dispatcher.specs.Notes.{Refused}
-use Rattle.dispatcher.specs.Run.{effects_of}
+use Rattle.dispatcher.specs.Run.{Outcome, effects_of}
 use Rattle.ipp_operations.specs.Reply.{IsReply}
 use Rattle.ipp_operations.specs.QueueText.{ack_of, text_of}
 use Rattle.ipp_operations.specs.declared.queue_text.TheConstants.{REFUSED}

@@ -1,6 +1,6 @@
 -- Laws of traces, without the order of a turn: a trace is one run of the core, and the due bytes of closed connections
 -- were taken. Some short replies need no memory.
-use Rattle.std.specs.Prelude.{ℕ, ◌≡◌, ◌≢◌, false, List, [], ◌∷◌, ◌++◌, All, map, Option, Some}
+use Rattle.std.specs.Prelude.{ℕ, ◌≡◌, ◌≢◌, false, List, [], ◌∷◌, ◌++◌, All, map, Option, Some, None}
 use Rattle.std.specs.List.{flat_map}
 use Rattle.base_types.specs.declared.report.Report.{Report}
 use Rattle.base_types.specs.Report.{report_of}
@@ -11,9 +11,7 @@ use Rattle.events.specs.declared.effects.Effects.{Effects}
 use Rattle.dispatcher.specs.declared.observer.AllocationSite.{AllocationSite}
 use Rattle.dispatcher.specs.declared.observer.AllocationSite.TheVariants as At
 use Rattle.dispatcher.specs.declared.run.Timed.{Timed}
-use Rattle.dispatcher.specs.declared.outcome.Outcome.{Outcome}
-use Rattle.dispatcher.specs.declared.outcome.Outcome.TheVariants.{Dropped, Queried, Undispatched, Idle, Dispatched}
-use Rattle.dispatcher.specs.Run.{effects_of, Handles, Run}
+use Rattle.dispatcher.specs.Run.{Outcome, effects_of, Handles, Run}
 use Rattle.ipp_operations.specs.declared.parsed_request.ParsedRequest.{ParsedRequest}
 use Rattle.ipp_operations.specs.declared.parsed_request.ParsedRequest.TheVariants as asks
 use Rattle.ipp_operations.specs.ParsedRequest.{Asks}
@@ -25,6 +23,7 @@ use Rattle.connections.specs.declared.ask.Ask.TheVariants as ask
 use Rattle.connections.specs.Entry.{Entry, waiting, owing}
 use Rattle.connections.specs.Asking.{Owes}
 use Rattle.server.specs.Ledger.{Ledger, Fate}
+use Rattle.server.specs.Happening.{was_refused}
 use Rattle.server.specs.Enqueuing.{Sets, Enqueues}
 use Rattle.server.specs.Closing.{IsTaken}
 use Rattle.server.specs.Turn.{Outcome as Answer, Replied, BadRequest, OutOfMemory, IsBytes, has_refusal, Action, Turned, Served_body, Reported, Ticked, Trace}
@@ -80,11 +79,8 @@ AreEventsOf (action ∷ actions) events = (first : List Timed) × (later : List 
 
 -- neither the event nor its dispatch was refused memory
 abbrev pub IsWhole : Outcome → Type 0
-IsWhole Dropped = ⊥
-IsWhole (Queried reply) = Unit {0}
-IsWhole (Undispatched reply) = ⊥
-IsWhole (Idle reply) = Unit {0}
-IsWhole (Dispatched reply) = Unit {0}
+IsWhole (Some handled) = was_refused handled.dispatch ≡ false
+IsWhole None = ⊥
 
 -- A trace is one run of the core. The notes of the run are the notes of the core in the trace, in order: the cancels,
 -- the dispatches with their plans, and the dispatches that were refused memory. If no memory was refused in the

@@ -6,6 +6,7 @@ ghost use Rattle.server.specs.Refinement.{RefinesNotified};
 
 use crate::acting::EventOrigin;
 use crate::engine::Engine;
+use crate::handling::effects_of;
 use base_types::Moment;
 use connections::Client;
 use connections::table::break_off;
@@ -28,8 +29,8 @@ impl<P: Planner + Drop> Engine<P> {
         ensures { RefinesNotified N.notified (IsAnswered moment origin.key origin.id client event) notes.old self.old notes.new self.new }
     {
         let query = event.is_query();
-        let handled = self.handle(moment, event, notes);
-        self.answer(origin, client, query, handled.outcome.into_effects(), notes);
+        let ended = self.handle(moment, event, notes);
+        self.answer(origin, client, query, effects_of(ended.handled), notes);
     }
 
     /// Enqueues the reply to an event of a client. `reply` is `None` if the event was dropped, out of memory.

@@ -6,7 +6,7 @@ ghost use Rattle.server.specs.Turn.{Ticked, Reported, BodyAsks, BodyBrings, Body
 ghost use Rattle.server.specs.Refinement.{Reports, AnswersBody, RefinesCall, RefinesBody, AnswerAs, BytesAs, RefusalAs, said_of};
 
 use crate::engine::Engine;
-use crate::handling::Handled;
+use crate::handling::{EventResult, effects_of};
 use crate::served::{Served, answered};
 use base_types::{DeviceId, Moment, Report};
 use dispatcher::{AllocationSite, Observer};
@@ -94,8 +94,8 @@ impl<P: Planner + Drop> Engine<P> {
     ) -> Result<Served, AllocError>
         ensures { AnswersBody N.notified (BodyBrings moment request event) notes.old self.old notes.new self.new result }
     {
-        let Handled { outcome, refused } = self.handle(moment, event, notes);
-        let bytes = self.bytes_of(outcome.into_effects(), request, notes);
+        let EventResult { handled, refused } = self.handle(moment, event, notes);
+        let bytes = self.bytes_of(effects_of(handled), request, notes);
         answered(bytes, refused)
     }
 

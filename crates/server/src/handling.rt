@@ -1,7 +1,8 @@
 //! The events: the core handles an event, and bytes become due on the connections of devices.
-ghost use Rattle.std.specs.Prelude.{◌≡◌};
+ghost use Rattle.std.specs.Prelude.{◌≡◌, Some};
+ghost use Rattle.dispatcher.specs.Run.{effects_of};
 ghost use Rattle.server.specs.Rel.{EachOf};
-ghost use Rattle.server.specs.Happening.{Decides, Happens, Orders, Sends, SendsAndStarts, is_undispatched, undispatched_after};
+ghost use Rattle.server.specs.Happening.{Decides, Happens, Orders, Sends, StartsBy, is_undispatched, undispatched_after, was_refused, refused_after};
 ghost use Rattle.server.specs.Refinement.{Reports};
 
 use crate::due::notify;
@@ -9,15 +10,15 @@ use crate::engine::Engine;
 use crate::starting::start_all;
 use base_types::Moment;
 use connections::table::{enqueue, key_of};
-use dispatcher::{Observer, Outcome, Timed};
-use events::{Cancel, Event};
+use dispatcher::{Dispatch, Handled, Observer, Timed};
+use events::{Cancel, Effects, Event};
 use plan_prices::Planner;
 use send_queues::Outgoing;
 
-/// The result of an event.
+/// The result of an event: what the core did, unless the event was dropped.
 #[derive(Drop)]
-pub(crate) struct Handled {
-    pub(crate) outcome: Outcome,
+pub(crate) struct EventResult {
+    pub(crate) handled: Option<Handled>,
     /// Whether memory was refused for the dispatch of the event or for the bytes for devices.
     pub(crate) refused: bool,
 }
@@ -30,49 +31,62 @@ impl<P: Planner + Drop> Engine<P> {
         moment: Moment,
         event: Event,
         notes: &mut N,
-    ) -> Handled
-        ensures { Reports N.notified (Happens moment event result.outcome) notes.old self.old notes.new self.new result.refused }
+    ) -> EventResult
+        ensures { Reports N.notified (Happens moment event result.handled) notes.old self.old notes.new self.new result.refused }
     {
-        let outcome = self.decide(moment, event, notes);
-        let undispatched = is_undispatched(&outcome);
-        let unsent = self.order(&outcome, notes);
-        Handled {
-            outcome,
+        let handled = self.decide(moment, event, notes);
+        let undispatched = is_undispatched(&handled);
+        let unsent = self.order(&handled, notes);
+        EventResult {
+            handled,
             refused: undispatched | unsent,
         }
     }
 
     /// Handles an event by the core, and notifies the observer.
-    fn decide<N: Observer>(&mut self, moment: Moment, event: Event, notes: &mut N) -> Outcome
+    fn decide<N: Observer>(
+        &mut self,
+        moment: Moment,
+        event: Event,
+        notes: &mut N,
+    ) -> Option<Handled>
         ensures { Reports N.notified (Decides moment event result) notes.old self.old notes.new self.new (is_undispatched result) }
     {
-        let outcome = self.core.handle(Timed { event, moment }, notes);
-        self.undispatched = undispatched_after(&outcome, self.undispatched);
-        outcome
+        let handled = self.core.handle(Timed { event, moment }, notes);
+        self.undispatched = undispatched_after(&handled, self.undispatched);
+        handled
     }
 
-    /// Enqueues the bytes of an event for devices: the lines of its cancels, and then the bytes of the jobs
-    /// that begin. Returns whether memory was refused.
-    fn order<N: Observer>(&mut self, outcome: &Outcome, notes: &mut N) -> bool
-        ensures { Reports N.notified (Orders outcome.now) notes.old self.old notes.new self.new result }
+    /// Enqueues the bytes of an event for devices, unless the event was dropped. Returns whether memory was refused.
+    fn order<N: Observer>(&mut self, handled: &Option<Handled>, notes: &mut N) -> bool
+        ensures { Reports N.notified (Orders handled.now) notes.old self.old notes.new self.new result }
     {
-        match outcome {
-            Outcome::Dropped => false,
-            Outcome::Queried(reply) => self.send_all(&reply.cancels, notes),
-            Outcome::Undispatched(reply) => self.send_all(&reply.cancels, notes),
-            Outcome::Idle(reply) => self.send_all(&reply.cancels, notes),
-            Outcome::Dispatched(reply) => self.send_and_start(&reply.cancels, notes),
+        match handled {
+            Some(handled) => self.send_and_start(handled, notes),
+            None => false,
         }
     }
 
-    /// Enqueues the lines of these cancels, and then the bytes of the jobs that began with the last plan.
-    /// Returns whether memory was refused.
-    fn send_and_start<N: Observer>(&mut self, cancels: &[Cancel], notes: &mut N) -> bool
-        ensures { Reports N.notified (SendsAndStarts cancels.now) notes.old self.old notes.new self.new result }
+    /// Enqueues the lines of an event's cancels, and then the bytes of the jobs that its dispatch began. Returns
+    /// whether memory was refused.
+    fn send_and_start<N: Observer>(&mut self, handled: &Handled, notes: &mut N) -> bool
+        ensures { Reports N.notified (Orders (Some handled.now)) notes.old self.old notes.new self.new result }
     {
-        let unsent = self.send_all(cancels, notes);
-        let unstarted = start_all(&self.core, &mut self.connections, notes);
+        let unsent = self.send_all(&handled.effects.cancels, notes);
+        let unstarted = self.start_by(handled.dispatch, notes);
         unsent | unstarted
+    }
+
+    /// Enqueues the bytes of the jobs that a dispatch began, by device. Returns whether memory was refused.
+    fn start_by<N: Observer>(&mut self, dispatch: Dispatch, notes: &mut N) -> bool
+        ensures { Reports N.notified (StartsBy dispatch) notes.old self.old notes.new self.new result }
+    {
+        match dispatch {
+            Dispatch::Planned => start_all(&self.core, &mut self.connections, notes),
+            Dispatch::Query => false,
+            Dispatch::OutOfMemory => false,
+            Dispatch::Idle => false,
+        }
     }
 
     /// Enqueues the lines of these cancels. Returns whether memory was refused.
@@ -100,23 +114,53 @@ impl<P: Planner + Drop> Engine<P> {
     }
 }
 
-/// Returns whether the dispatch of an event was refused memory.
-fn is_undispatched(outcome: &Outcome) -> bool
-    ensures { result ≡ is_undispatched outcome.now }
+/// The effects of an event, unless it was dropped.
+pub(crate) fn effects_of(handled: Option<Handled>) -> Option<Effects>
+    ensures { result ≡ effects_of handled }
 {
-    match outcome {
-        Outcome::Undispatched(_) => true,
-        Outcome::Dropped | Outcome::Queried(_) | Outcome::Idle(_) | Outcome::Dispatched(_) => false,
+    match handled {
+        Some(handled) => Some(handled.effects),
+        None => None,
     }
 }
 
-/// Returns whether the last dispatch was refused memory, after an event of this outcome.
-fn undispatched_after(outcome: &Outcome, before: bool) -> bool
-    ensures { result ≡ undispatched_after outcome.now before }
+/// Returns whether the dispatch of an event was refused memory.
+fn is_undispatched(handled: &Option<Handled>) -> bool
+    ensures { result ≡ is_undispatched handled.now }
 {
-    match outcome {
-        Outcome::Dropped | Outcome::Queried(_) => before,
-        Outcome::Undispatched(_) => true,
-        Outcome::Idle(_) | Outcome::Dispatched(_) => false,
+    match handled {
+        Some(handled) => was_refused(handled.dispatch),
+        None => false,
+    }
+}
+
+/// Returns whether a dispatch was refused memory.
+fn was_refused(dispatch: Dispatch) -> bool
+    ensures { result ≡ was_refused dispatch }
+{
+    match dispatch {
+        Dispatch::OutOfMemory => true,
+        Dispatch::Query | Dispatch::Idle | Dispatch::Planned => false,
+    }
+}
+
+/// Returns whether the last dispatch was refused memory, after an event.
+fn undispatched_after(handled: &Option<Handled>, before: bool) -> bool
+    ensures { result ≡ undispatched_after handled.now before }
+{
+    match handled {
+        Some(handled) => refused_after(handled.dispatch, before),
+        None => before,
+    }
+}
+
+/// Returns whether the last dispatch was refused memory, after this one.
+fn refused_after(dispatch: Dispatch, before: bool) -> bool
+    ensures { result ≡ refused_after dispatch before }
+{
+    match dispatch {
+        Dispatch::Query => before,
+        Dispatch::OutOfMemory => true,
+        Dispatch::Idle | Dispatch::Planned => false,
     }
 }

@@ -1,6 +1,8 @@
 //! Lists of events, and the notes of their plans.
 use base_types::{DeviceId, Moment, Report};
-use dispatcher::{AllocationSite, Core, DeviceRefusal, Dispatched, Observer, Outcome, Timed};
+use dispatcher::{
+    AllocationSite, Core, DeviceRefusal, Dispatch, Dispatched, Handled, Observer, Timed,
+};
 use events::{Cancel, Event};
 use ipp_operations::{ParsedRequest, ipp_event};
 use plan_solver::AugmentingPaths;
@@ -63,6 +65,14 @@ fn day(alloc: Global) -> Result<Vec<Timed>, Fail> {
     Ok(Vec::from_array(alloc, events)?)
 }
 
+/// Returns whether a dispatch followed an event.
+fn is_dispatched(handled: &Option<Handled>) -> bool {
+    match handled {
+        Some(handled) => matches!(handled.dispatch, Dispatch::Idle | Dispatch::Planned),
+        None => false,
+    }
+}
+
 /// The number of these events that a core dispatches, and the numbers of plans and starts.
 fn heard_of(
     alloc: Global,
@@ -73,11 +83,8 @@ fn heard_of(
         plans: 0,
         starts: 0,
     };
-    let outcomes = core.run(alloc, events, &mut counts)?;
-    let dispatched = outcomes
-        .iter()
-        .filter(|outcome| matches!(outcome, Outcome::Idle(_) | Outcome::Dispatched(_)))
-        .count();
+    let results = core.run(alloc, events, &mut counts)?;
+    let dispatched = results.iter().filter(|it| is_dispatched(it)).count();
     Ok((dispatched, counts.plans, counts.starts))
 }
 

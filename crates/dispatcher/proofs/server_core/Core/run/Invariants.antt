@@ -7,5 +7,5 @@ abbrev pub invariant-loop-timed : goal.invariant-loop-timed
 invariant-loop-timed g l =
     (goal.iterator-loop-timed g).can_next l.timed-iterator
     × (goal.iterator-loop-timed g).is_finite l.timed-iterator
-    × Run g.L.Observer.notified l.initial.self l.initial.observer l.yielded l.outcomes.items l.self l.observer
-    × (length l.outcomes.items + length (into_iter_items l.timed-iterator) ≤ l.outcomes.cap)
+    × Run g.L.Observer.notified l.initial.self l.initial.observer l.yielded l.handled.items l.self l.observer
+    × (length l.handled.items + length (into_iter_items l.timed-iterator) ≤ l.handled.cap)

@@ -4,4 +4,4 @@ use Rattle.server.proofs.Happening.{decides}
 use Rattle.server.proofs.engine.Engine.decide.Goals as goal
 
 pub returns : goal.returns
-returns g c = reporting_from _ _ _ _ _ _ _ _ _ c.self.view_is refl (decides _ _ _ _ _ _ c.args.moment c.args.event _ c.handle-outcome.ensures c.undispatched_after-self-inside.ensures)
+returns g c = reporting_from _ _ _ _ _ _ _ _ _ c.self.view_is refl (decides _ _ _ _ _ _ c.args.moment c.args.event _ c.handle-handled.ensures c.undispatched_after-self-inside.ensures)
