@@ -76,12 +76,17 @@ impl HttpStream {
     {
         let mut count = 0usize;
         for _ in 0..u64::MAX {
-            match self.reader.next_item() {
+            match self.next_item() {
                 None => return Ok(count),
                 Some(item) => count += self.take(item, &bytes[count..], output)?,
             }
         }
         Ok(count)
+    }
+
+    /// The next item of the bytes that were fed, if it is whole.
+    fn next_item(&mut self) -> Option<HttpItem> {
+        self.reader.next_item()
     }
 
     /// Takes an item of these bytes. Returns the number of bytes of its part of a body.
