@@ -8,3 +8,4 @@ pub mod Said
 pub mod Back
 pub mod Spelt
 pub mod Told
+pub mod NextValues
