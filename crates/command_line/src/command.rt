@@ -1,12 +1,12 @@
 //! The commands of the program in the form of `clap`, made from the tables in `words`.
 
 use crate::read::VERSION;
-use crate::words::{ArgumentWords, CommandWords, plan_words, server_words};
+use crate::words::{ArgumentWords, CommandWords, plan_commands, server_commands};
 use clap::{Arg, Command};
 use std::alloc::{AllocError, Global};
 
 /// An argument with its name; an option's name has two dashes before it.
-fn named<'a>(alloc: Global, words: &ArgumentWords<'a>) -> Arg<'a> {
+fn named<'a>(alloc: Global, words: &ArgumentWords) -> Arg<'a> {
     let argument = Arg::new(alloc, words.name)
         .help(words.help)
         .required(words.is_required);
@@ -17,8 +17,8 @@ fn named<'a>(alloc: Global, words: &ArgumentWords<'a>) -> Arg<'a> {
     }
 }
 
-/// The argument with the names, the defaults and the limits of its values.
-fn with_values<'a>(argument: Arg<'a>, words: &'a ArgumentWords<'a>) -> Arg<'a> {
+/// The argument with the name and the number of its values.
+fn with_values<'a>(argument: Arg<'a>, words: &'static ArgumentWords) -> Arg<'a> {
     let most = usize::from(words.value_name.is_some());
     let least = if words.default_if_bare.is_some() {
         0
@@ -29,56 +29,33 @@ fn with_values<'a>(argument: Arg<'a>, words: &'a ArgumentWords<'a>) -> Arg<'a> {
         .action(words.action)
         .value_names(words.value_name.as_slice())
         .num_args(least..=most)
+}
+
+/// The argument with the limits and the defaults of its values.
+fn with_defaults<'a>(argument: Arg<'a>, words: &'static ArgumentWords) -> Arg<'a> {
+    argument
         .value_parser(words.parser)
         .default_values(words.default.as_slice())
         .default_missing_values(words.default_if_bare.as_slice())
 }
 
-fn argument_of<'a>(alloc: Global, words: &'a ArgumentWords<'a>) -> Result<Arg<'a>, AllocError> {
-    match with_values(named(alloc, words), words).requires_all(words.needs.as_slice()) {
+/// An argument. The only error is out of memory.
+fn argument_of<'a>(alloc: Global, words: &'static ArgumentWords) -> Result<Arg<'a>, AllocError> {
+    let argument = with_defaults(with_values(named(alloc, words), words), words);
+    match argument.requires_all(words.needs.as_slice()) {
         Ok(argument) => argument.conflicts_with_all(words.excludes.as_slice()),
         Err(error) => Err(error),
     }
 }
 
-fn arguments<'a>(
-    alloc: Global,
-    words: &'a [ArgumentWords<'a>],
-) -> Result<Vec<Arg<'a>>, AllocError> {
-    let mut arguments = Vec::with_capacity(alloc, words.len())?;
-    for argument in words {
-        arguments.push(argument_of(alloc, argument)?)?;
+/// A command with its arguments. The only error is out of memory.
+fn command_of<'a>(alloc: Global, words: &CommandWords) -> Result<Command<'a>, AllocError> {
+    let mut command = Command::new(alloc, words.name).about(words.about);
+    for words in words.arguments {
+        let argument = argument_of(alloc, words)?;
+        command = command.arg(argument)?;
     }
-    Ok(arguments)
-}
-
-fn command_of<'a>(alloc: Global, words: &CommandWords<'a>) -> Result<Command<'a>, AllocError> {
-    match arguments(alloc, words.arguments) {
-        Ok(arguments) => Command::new(alloc, words.name)
-            .about(words.about)
-            .args(arguments),
-        Err(error) => Err(error),
-    }
-}
-
-/// Appends commands. The only error is out of memory.
-fn add_commands<'a>(
-    alloc: Global,
-    commands: &mut Vec<Command<'a>>,
-    words: &'a [CommandWords<'a>],
-) -> Result<(), AllocError> {
-    for command in words {
-        commands.push(command_of(alloc, command)?)?;
-    }
-    Ok(())
-}
-
-/// All commands. The only error is out of memory.
-fn commands<'a>(alloc: Global) -> Result<Vec<Command<'a>>, AllocError> {
-    let mut commands = Vec::new(alloc);
-    add_commands(alloc, &mut commands, server_words())?;
-    add_commands(alloc, &mut commands, plan_words())?;
-    Ok(commands)
+    Ok(command)
 }
 
 /// The program without any command.
@@ -90,10 +67,22 @@ fn bare_program<'a>(alloc: Global) -> Command<'a> {
         .subcommand_required(true)
 }
 
+/// The program with further commands. The only error is out of memory.
+fn with_commands<'a>(
+    alloc: Global,
+    program: Command<'a>,
+    commands: &'static [CommandWords],
+) -> Result<Command<'a>, AllocError> {
+    let mut program = program;
+    for words in commands {
+        let command = command_of(alloc, words)?;
+        program = program.subcommand(command)?;
+    }
+    Ok(program)
+}
+
 /// The program with its commands. The only error is out of memory.
 pub(crate) fn program<'a>(alloc: Global) -> Result<Command<'a>, AllocError> {
-    match commands(alloc) {
-        Ok(commands) => bare_program(alloc).subcommands(commands),
-        Err(error) => Err(error),
-    }
+    let program = with_commands(alloc, bare_program(alloc), server_commands())?;
+    with_commands(alloc, program, plan_commands())
 }

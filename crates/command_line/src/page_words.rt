@@ -1,7 +1,9 @@
 //! The words of `printd page`.
 
+use crate::subcommand::Subcommand;
+use crate::words_error::WordsError;
 use clap::ArgMatches;
-use std::alloc::{AllocError, Global};
+use std::alloc::Global;
 
 /// The options of `printd page`.
 #[derive(Debug, Drop)]
@@ -22,12 +24,12 @@ pub struct Paging<'a> {
     pub zone: &'a str,
 }
 
-/// The options that the words of the command give. The only error is out of memory.
+/// The subcommand that the words give. The only error is out of memory.
 pub(crate) fn page_words<'a>(
     alloc: Global,
     found: &ArgMatches<'a>,
-) -> Result<Paging<'a>, AllocError> {
-    Ok(Paging {
+) -> Result<Subcommand<'a>, WordsError> {
+    Ok(Subcommand::Page(Paging {
         files: Vec::from_slice(alloc, found.get_strs("file").unwrap_or(&[]))?,
         follow: found.get_str("follow"),
         at: found.get_str("at"),
@@ -35,5 +37,5 @@ pub(crate) fn page_words<'a>(
         metrics: found.get_str("metrics"),
         names: found.get_flag("names"),
         zone: found.get_str("zone").unwrap_or("UTC"),
-    })
+    }))
 }

@@ -47,7 +47,7 @@ fn spool_words<'a>(
         return Ok(None);
     };
     if found.get_str("record").is_some() {
-        return Err(WordsError::Fault(String::from_str(alloc, SPOOLED_AND_RECORDED)?));
+        return Err(WordsError::fault(alloc, SPOOLED_AND_RECORDED));
     }
     Ok(Some(Spooling {
         directory,
@@ -57,10 +57,10 @@ fn spool_words<'a>(
     }))
 }
 
-/// The options of `printd serve`. The error is the text about invalid words, or out of memory.
-fn serve_words<'a>(alloc: Global, found: &ArgMatches<'a>) -> Result<Serving<'a>, WordsError> {
+/// The words of `printd serve`. The error is the text about invalid words, or out of memory.
+fn serve_words<'a>(alloc: Global, found: &ArgMatches<'a>) -> Result<Subcommand<'a>, WordsError> {
     let address = default_address(alloc, found)?;
-    Ok(Serving {
+    Ok(Subcommand::Serve(Serving {
         settings: found.get_str("settings"),
         ipp: addresses(alloc, found, "ipp", address)?,
         lpd: addresses(alloc, found, "lpd", address)?,
@@ -70,19 +70,19 @@ fn serve_words<'a>(alloc: Global, found: &ArgMatches<'a>) -> Result<Serving<'a>,
         record: found.get_str("record"),
         record_heads: found.get_flag("record-heads"),
         spool: spool_words(alloc, found)?,
-    })
+    }))
 }
 
-fn replay_words<'a>(found: &ArgMatches<'a>) -> Replaying<'a> {
-    Replaying {
+fn replay_words<'a>(found: &ArgMatches<'a>) -> Subcommand<'a> {
+    Subcommand::Replay(Replaying {
         file: found.get_str("file"),
         plans: found.get_flag("plans"),
         verify: found.get_flag("verify"),
-    }
+    })
 }
 
-fn settings_words<'a>(found: &ArgMatches<'a>) -> AboutSettings<'a> {
-    match found.get_str("file") {
+fn settings_words<'a>(found: &ArgMatches<'a>) -> Subcommand<'a> {
+    Subcommand::Settings(match found.get_str("file") {
         None => AboutSettings::BuiltIn,
         Some(file) if found.get_flag("avahi") => AboutSettings::Avahi {
             file,
@@ -90,7 +90,7 @@ fn settings_words<'a>(found: &ArgMatches<'a>) -> AboutSettings<'a> {
             lpd: found.get_one::<u16>("lpd").unwrap_or(LPD_PORT),
         },
         Some(file) => AboutSettings::Judge { file },
-    }
+    })
 }
 
 fn log_words<'a>(found: &ArgMatches<'a>) -> Subcommand<'a> {
@@ -126,10 +126,7 @@ fn draw_words<'a>(found: &ArgMatches<'a>) -> Subcommand<'a> {
 
 /// The error for words that `clap` takes and that name no command.
 fn no_command(alloc: Global) -> WordsError {
-    match String::from_str(alloc, "error: the words name no command\n") {
-        Ok(text) => WordsError::Fault(text),
-        Err(_) => WordsError::OutOfMemory,
-    }
+    WordsError::fault(alloc, "error: the words name no command\n")
 }
 
 /// The subcommand of `printd attach`.
@@ -150,15 +147,15 @@ fn meaning<'a>(
     found: &ArgMatches<'a>,
 ) -> Result<Subcommand<'a>, WordsError> {
     match name {
-        "serve" => serve_words(alloc, found).map(Subcommand::Serve),
-        "settings" => Ok(Subcommand::Settings(settings_words(found))),
-        "replay" => Ok(Subcommand::Replay(replay_words(found))),
+        "serve" => serve_words(alloc, found),
+        "settings" => Ok(settings_words(found)),
+        "replay" => Ok(replay_words(found)),
         "log" => Ok(log_words(found)),
         "jobs" => jobs_words(alloc, found),
-        "page" => Ok(Subcommand::Page(page_words(alloc, found)?)),
+        "page" => page_words(alloc, found),
         "check" => Ok(check_words(found)),
         "draw" => Ok(draw_words(found)),
-        "simulate" => simulate_words(alloc, found).map(Subcommand::Simulate),
+        "simulate" => simulate_words(alloc, found),
         "attach" => asked_to_attach(alloc, found),
         _ => Err(no_command(alloc)),
     }

@@ -1,6 +1,7 @@
 //! The words of `printd simulate`.
 
 use crate::doors::invalid;
+use crate::subcommand::Subcommand;
 use crate::words_error::WordsError;
 use clap::ArgMatches;
 use std::alloc::{AllocError, Global};
@@ -34,7 +35,7 @@ pub struct Simulating<'a> {
 }
 
 /// An additional device.
-#[derive(Clone, Copy, Debug, PartialEq, Eq)]
+#[derive(Clone, Copy, Debug)]
 pub struct Addition<'a> {
     pub name: &'a str,
     /// The device whose settings it has, if the words name it before all else.
@@ -150,16 +151,16 @@ fn options<'a>(alloc: Global, found: &ArgMatches<'a>) -> Result<Simulating<'a>, 
     })
 }
 
-/// The options that the words of the command give. One day alone is drawn. The error is the text about an
-/// invalid word, or out of memory.
+/// The subcommand that the words give. One day alone is drawn. The error is the text about an invalid word, or out
+/// of memory.
 pub(crate) fn simulate_words<'a>(
     alloc: Global,
     found: &ArgMatches<'a>,
-) -> Result<Simulating<'a>, WordsError> {
+) -> Result<Subcommand<'a>, WordsError> {
     let simulating = options(alloc, found)?;
     let is_one = simulating.settings.len() == 1 && simulating.jobs.len() == 1;
     if simulating.draw.is_some() && !is_one {
-        return Err(WordsError::Fault(String::from_str(alloc, SEVERAL_DRAWN)?));
+        return Err(WordsError::fault(alloc, SEVERAL_DRAWN));
     }
-    Ok(simulating)
+    Ok(Subcommand::Simulate(simulating))
 }

@@ -43,7 +43,7 @@ pub enum Subcommand<'a> {
 }
 
 /// What `printd draw` draws.
-#[derive(Clone, Copy, Debug, PartialEq, Eq)]
+#[derive(Clone, Copy, Debug)]
 pub enum Drawn<'a> {
     /// The plan of this file; `None` for standard input.
     Plan { file: Option<&'a str> },
@@ -73,7 +73,7 @@ pub struct Serving<'a> {
 }
 
 /// How `printd serve` keeps its queue.
-#[derive(Clone, Copy, Debug, PartialEq, Eq)]
+#[derive(Clone, Copy, Debug)]
 pub struct Spooling<'a> {
     pub directory: &'a str,
     /// Whether nothing is answered before it is on the disk.
@@ -85,7 +85,7 @@ pub struct Spooling<'a> {
 }
 
 /// The options of `printd replay`.
-#[derive(Clone, Copy, Debug, PartialEq, Eq)]
+#[derive(Clone, Copy, Debug)]
 pub struct Replaying<'a> {
     /// The file of the trace; `None` for standard input.
     pub file: Option<&'a str>,
@@ -96,7 +96,7 @@ pub struct Replaying<'a> {
 }
 
 /// The destination of a log.
-#[derive(Clone, Copy, Debug, PartialEq, Eq)]
+#[derive(Clone, Copy, Debug)]
 pub enum Log<'a> {
     StandardError,
     /// The end of this file.
@@ -104,7 +104,7 @@ pub enum Log<'a> {
 }
 
 /// The subcommands about settings.
-#[derive(Clone, Copy, Debug, PartialEq, Eq)]
+#[derive(Clone, Copy, Debug)]
 pub enum AboutSettings<'a> {
     /// Show the built-in settings.
     BuiltIn,

@@ -19,41 +19,41 @@ const POLICIES: &[&str] = &[
 ];
 
 /// A command's name, its help and its arguments.
-pub(crate) struct CommandWords<'a> {
-    pub(crate) name: &'a str,
+pub(crate) struct CommandWords {
+    pub(crate) name: &'static str,
     /// The text of help about the command.
-    pub(crate) about: &'a str,
+    pub(crate) about: &'static str,
     /// The arguments of the command, in the order of help.
-    pub(crate) arguments: &'a [ArgumentWords<'a>],
+    pub(crate) arguments: &'static [ArgumentWords],
 }
 
 /// An argument of a command.
-pub(crate) struct ArgumentWords<'a> {
-    pub(crate) name: &'a str,
+pub(crate) struct ArgumentWords {
+    pub(crate) name: &'static str,
     /// Whether the argument is found by its place, and not by its name after two dashes.
     pub(crate) is_positional: bool,
     /// Whether the argument is a flag, has one value, or may be given several times.
     pub(crate) action: ArgAction,
     /// The name of the value in help. A flag has none.
-    pub(crate) value_name: Option<&'a str>,
+    pub(crate) value_name: Option<&'static str>,
     /// The values that the argument takes.
-    pub(crate) parser: ValueParser<'a>,
+    pub(crate) parser: ValueParser<'static>,
     /// The value of an argument that is not given.
-    pub(crate) default: Option<&'a str>,
+    pub(crate) default: Option<&'static str>,
     /// The value of an argument that is given without a value. Without this default, `clap` refuses such an
     /// argument.
-    pub(crate) default_if_bare: Option<&'a str>,
+    pub(crate) default_if_bare: Option<&'static str>,
     pub(crate) is_required: bool,
     /// The argument without which `clap` refuses this argument.
-    pub(crate) needs: Option<&'a str>,
+    pub(crate) needs: Option<&'static str>,
     /// The argument together with which `clap` refuses this argument.
-    pub(crate) excludes: Option<&'a str>,
+    pub(crate) excludes: Option<&'static str>,
     /// The text of help about the argument.
-    pub(crate) help: &'a str,
+    pub(crate) help: &'static str,
 }
 
 /// A flag.
-const FLAG: ArgumentWords<'static> = ArgumentWords {
+const FLAG: ArgumentWords = ArgumentWords {
     name: "",
     is_positional: false,
     action: ArgAction::SetTrue,
@@ -68,59 +68,59 @@ const FLAG: ArgumentWords<'static> = ArgumentWords {
 };
 
 /// An option with one value, which may be any text.
-const TEXT: ArgumentWords<'static> = ArgumentWords {
+const TEXT: ArgumentWords = ArgumentWords {
     action: ArgAction::Set,
     parser: ValueParser::String,
     ..FLAG
 };
 
 /// An option with the name of a file.
-const FILE: ArgumentWords<'static> = ArgumentWords {
+const FILE: ArgumentWords = ArgumentWords {
     value_name: Some("FILE"),
     ..TEXT
 };
 
 /// The file that a command reads, found by its place.
-const FILE_READ: ArgumentWords<'static> = ArgumentWords {
+const FILE_READ: ArgumentWords = ArgumentWords {
     name: "file",
     is_positional: true,
     ..FILE
 };
 
 /// The trace that a command reads.
-const TRACE_READ: ArgumentWords<'static> = ArgumentWords {
+const TRACE_READ: ArgumentWords = ArgumentWords {
     help: "The trace; without it, that of standard input",
     ..FILE_READ
 };
 
 /// The text of a plan that a command reads.
-const PLAN_READ: ArgumentWords<'static> = ArgumentWords {
+const PLAN_READ: ArgumentWords = ArgumentWords {
     help: "The text of the plan; without it, that of standard input",
     ..FILE_READ
 };
 
 /// An option with a number of 32 bits.
-const NUMBER: ArgumentWords<'static> = ArgumentWords {
+const NUMBER: ArgumentWords = ArgumentWords {
     value_name: Some("N"),
     parser: ValueParser::Signed(0, u32::MAX as i64),
     ..TEXT
 };
 
 /// An option with a number of 64 bits.
-const LONG_NUMBER: ArgumentWords<'static> = ArgumentWords {
+const LONG_NUMBER: ArgumentWords = ArgumentWords {
     value_name: Some("N"),
     parser: ValueParser::Unsigned(0, u64::MAX),
     ..TEXT
 };
 
 /// An option with the addresses of a door.
-const DOOR: ArgumentWords<'static> = ArgumentWords {
+const DOOR: ArgumentWords = ArgumentWords {
     action: ArgAction::Append,
     value_name: Some("[ADDRESS:]PORT"),
     ..TEXT
 };
 
-const SERVE: &[ArgumentWords<'static>] = &[
+const SERVE: &[ArgumentWords] = &[
     ArgumentWords {
         name: "settings",
         help: "The settings: devices, printers, operators; without it, those of `printd settings`",
@@ -200,7 +200,7 @@ const SERVE: &[ArgumentWords<'static>] = &[
     },
 ];
 
-const SETTINGS: &[ArgumentWords<'static>] = &[
+const SETTINGS: &[ArgumentWords] = &[
     ArgumentWords {
         help: "The settings: devices, printers, operators",
         ..FILE_READ
@@ -228,7 +228,7 @@ const SETTINGS: &[ArgumentWords<'static>] = &[
     },
 ];
 
-const REPLAY: &[ArgumentWords<'static>] = &[
+const REPLAY: &[ArgumentWords] = &[
     TRACE_READ,
     ArgumentWords {
         name: "plans",
@@ -242,16 +242,16 @@ const REPLAY: &[ArgumentWords<'static>] = &[
     },
 ];
 
-const LOG: &[ArgumentWords<'static>] = &[TRACE_READ];
+const LOG: &[ArgumentWords] = &[TRACE_READ];
 
-const JOBS: &[ArgumentWords<'static>] = &[ArgumentWords {
+const JOBS: &[ArgumentWords] = &[ArgumentWords {
     action: ArgAction::Append,
     is_required: true,
     help: "The recorded day; several files, as the *.trace of a spool, are played in their order",
     ..FILE_READ
 }];
 
-const PAGE: &[ArgumentWords<'static>] = &[
+const PAGE: &[ArgumentWords] = &[
     ArgumentWords {
         action: ArgAction::Append,
         help: "The recorded day, or its files in order; without one, that of standard input",
@@ -296,7 +296,7 @@ const PAGE: &[ArgumentWords<'static>] = &[
     },
 ];
 
-const CHECK: &[ArgumentWords<'static>] = &[
+const CHECK: &[ArgumentWords] = &[
     PLAN_READ,
     ArgumentWords {
         name: "starts",
@@ -305,7 +305,7 @@ const CHECK: &[ArgumentWords<'static>] = &[
     },
 ];
 
-const DRAW: &[ArgumentWords<'static>] = &[
+const DRAW: &[ArgumentWords] = &[
     PLAN_READ,
     ArgumentWords {
         name: "text",
@@ -320,7 +320,7 @@ const DRAW: &[ArgumentWords<'static>] = &[
     },
 ];
 
-const SIMULATE: &[ArgumentWords<'static>] = &[
+const SIMULATE: &[ArgumentWords] = &[
     ArgumentWords {
         name: "settings",
         action: ArgAction::Append,
@@ -407,7 +407,7 @@ const SIMULATE: &[ArgumentWords<'static>] = &[
     },
 ];
 
-const ATTACH: &[ArgumentWords<'static>] = &[
+const ATTACH: &[ArgumentWords] = &[
     ArgumentWords {
         name: "name",
         value_name: Some("NAME"),
@@ -483,7 +483,7 @@ const ATTACH: &[ArgumentWords<'static>] = &[
 ];
 
 /// The commands for a server and its recorded days, in the order of help.
-const SERVER_COMMANDS: &[CommandWords<'static>] = &[
+const SERVER_COMMANDS: &[CommandWords] = &[
     CommandWords {
         name: "serve",
         about: "Serve print clients and devices over the network",
@@ -517,7 +517,7 @@ const SERVER_COMMANDS: &[CommandWords<'static>] = &[
 ];
 
 /// The commands for plans, days of jobs and printers, in the order of help after those.
-const PLAN_COMMANDS: &[CommandWords<'static>] = &[
+const PLAN_COMMANDS: &[CommandWords] = &[
     CommandWords {
         name: "check",
         about: "Judge the text of a plan: yes, or its first fault",
@@ -540,13 +540,12 @@ const PLAN_COMMANDS: &[CommandWords<'static>] = &[
     },
 ];
 
-/// The commands of a server, for words of any lifetime. A `Command` owns memory, and the lifetime of what
-/// it refers to can't be made shorter later.
-pub(crate) fn server_words<'a>() -> &'a [CommandWords<'a>] {
+/// The commands for a server and its recorded days.
+pub(crate) fn server_commands() -> &'static [CommandWords] {
     SERVER_COMMANDS
 }
 
-/// The commands for plans, days and printers, likewise.
-pub(crate) fn plan_words<'a>() -> &'a [CommandWords<'a>] {
+/// The commands for plans, days of jobs and printers.
+pub(crate) fn plan_commands() -> &'static [CommandWords] {
     PLAN_COMMANDS
 }
