@@ -7,12 +7,9 @@
 use crate::costs::{Costs, Place, UNABLE, cost};
 use crate::matching::Matching;
 use crate::recall::drop_column;
-use crate::vacancy::{VACANT, set, vacate};
+use crate::vacancy::{DeviceTimes, VACANT, set, vacate};
+use crate::worth::most_changes;
 use std::alloc::{AllocError, Global};
-
-/// The most columns that the searches of an event settle, as a multiple of the number of columns. With more,
-/// matching all jobs anew is faster.
-const MOST_SETTLED: usize = 20;
 
 /// The place of a job without a column.
 const NOWHERE: Place = Place {
@@ -45,13 +42,14 @@ fn fill_all(
     matching: &mut Matching,
     better: &[bool],
 ) -> Result<(), AllocError> {
-    let most = matching.columns.len().saturating_mul(MOST_SETTLED);
+    let most = matching.columns.len().saturating_mul(most_changes(costs));
+    let mut times = DeviceTimes::new(alloc, costs.waits.len())?;
     let mut settled: usize = 0;
     for _ in 0..most {
         let Some(column) = vacant_column(costs, matching, better)? else {
             return Ok(());
         };
-        settled = settled.saturating_add(vacate(alloc, costs, matching, column)?);
+        settled = settled.saturating_add(vacate(alloc, costs, &mut times, matching, column)?);
         if settled >= most {
             return Ok(());
         }

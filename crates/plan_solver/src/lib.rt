@@ -31,6 +31,7 @@ mod search;
 mod solver;
 mod times;
 mod vacancy;
+mod worth;
 
 pub use planner::{AugmentingPaths, DenseAugmentingPaths, MarkedWay};
 pub use times::{Counted, Times};

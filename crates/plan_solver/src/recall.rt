@@ -18,6 +18,7 @@ use crate::kept::Kept;
 use crate::matching::Matching;
 use crate::times::Entries;
 use crate::vacancy::VACANT;
+use crate::worth::most_changes;
 use base_types::JobId;
 use std::alloc::{AllocError, Global};
 
@@ -46,6 +47,10 @@ fn recalled(alloc: Global, kept: &mut Kept, entries: &Entries) -> Result<Hint, A
     let firsts = first_jobs(alloc, &kept.matching, waits.len())?;
     let gone = time_gone(alloc, kept, &numbers, &firsts, waits)?;
     take_begun(kept, &numbers, &firsts, waits, gone);
+    let changes = kept.matching.columns.len().abs_diff(entries.ids.len());
+    if changes > most_changes(&entries.costs) {
+        return Ok(Hint::none(alloc));
+    }
     let faster = faster_devices(alloc, kept, &numbers, &entries.costs)?;
     let better = better_devices(alloc, &faster, &kept.costs.waits, waits, gone)?;
     let mut matching = renumbered(alloc, kept, &numbers, waits)?;
