@@ -40,8 +40,8 @@ def without_repeats(rows):
 
 def table(head, rows, words=1):
     """A table, whose first columns have words and whose others have figures."""
-    lines = [head, ["---"] * words + ["---:"] * (len(head) - words), *(without_repeats(rows) if words > 1 else rows)]
-    return "".join(f"| {' | '.join(row)} |\n" for row in lines)
+    first, *others = [f"| {' | '.join(row)} |\n" for row in (head, *(without_repeats(rows) if words > 1 else rows))]
+    return first + "|---" * words + "|---:" * (len(head) - words) + "|\n" + "".join(others)
 
 
 def reason(columns, names, why):
