@@ -17,6 +17,8 @@ pub(crate) enum Course {
     Otherwise,
     /// Devices leave and come back.
     Moving,
+    /// At each event, many jobs are canceled or come.
+    Bursts,
 }
 
 /// A waiting job: its impressions, and the able devices as the binary digits of a number.
@@ -126,6 +128,9 @@ impl Day {
     /// Plays the next event: a job comes or is canceled, or a device leaves or comes back. Else each idle
     /// device begins the first job of its list, and time passes to the end of the next print.
     pub(crate) fn step(&mut self, way: &Way) -> Result<(), Error> {
+        if self.course == Course::Bursts {
+            return self.burst();
+        }
         match self.random.below(5) {
             0 | 1 if self.jobs.len() < self.most => self.take_job(),
             2 => {
@@ -142,11 +147,10 @@ impl Day {
     /// Applies the disturbance of the day's course.
     fn disturb(&mut self) {
         match self.course {
-            Course::Estimated => {}
+            Course::Estimated | Course::Bursts => {}
             Course::Otherwise => {
-                let at = self.random.below(self.jobs.len() as u64) as usize;
-                if at < self.jobs.len() && self.jobs.len() > self.most / 2 {
-                    self.jobs.remove(at);
+                if self.jobs.len() > self.most / 2 {
+                    self.cancel();
                 }
             }
             Course::Moving => {
@@ -156,6 +160,27 @@ impl Day {
                 }
             }
         }
+    }
+
+    /// Cancels a waiting job.
+    fn cancel(&mut self) {
+        let at = self.random.below(self.jobs.len() as u64) as usize;
+        if at < self.jobs.len() {
+            self.jobs.remove(at);
+        }
+    }
+
+    /// Cancels a sixteenth of the most jobs at once, or lets as many come.
+    fn burst(&mut self) -> Result<(), Error> {
+        let is_full = self.jobs.len() >= self.most;
+        for _ in 0..self.most / 16 {
+            if is_full {
+                self.cancel();
+            } else {
+                self.take_job()?;
+            }
+        }
+        Ok(())
     }
 
     /// Makes each idle device begin the first job of its list.

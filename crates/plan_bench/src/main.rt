@@ -9,21 +9,28 @@
 //!
 //! `plan_bench estimated JOBS DEVICES SEED COUNT` plays COUNT events of a day on which each print takes the
 //! estimated time, and plans at each event. `otherwise` plays a day on which prints take other times and jobs
-//! are canceled, and `moving` a day on which devices leave and come back. Each plan is made by a planner that
-//! keeps its last plan and by a new planner; the program stops where their totals differ or where the checker
-//! does not answer `yes`. It writes the sum of the totals. With the word `kept` or `new`, one of the two planners
-//! plans alone, and can be timed.
+//! are canceled, `moving` a day on which devices leave and come back, and `bursts` events at each of which a
+//! sixteenth of the jobs are canceled or come. Each plan is made by a planner that keeps its last plan and by a
+//! new planner; the program stops where their totals differ or where the checker does not answer `yes`. It
+//! writes the sum of the totals. With the word `kept` or `new`, one of the two planners plans alone, and can be
+//! timed.
+//!
+//! `plan_bench given FILE COUNT` plays at most COUNT events of a day whose jobs a file gives, as `given_day`
+//! says; at each event each priority has a class. It writes the number of events, the most jobs that waited, and
+//! the sum of the totals. The words `kept` and `new` mean the same as above.
 #![tactic(auto)]
 
 mod day;
+mod given_day;
 mod made_class;
 mod played;
 mod random;
 mod search;
 
 use crate::day::{Course, Day};
+use crate::given_day::GivenDay;
 use crate::made_class::{Kind, made_class};
-use crate::played::{By, play};
+use crate::played::{By, play, play_given};
 use crate::random::Random;
 use crate::search::least_total;
 use anyhow::{Context, Error, bail};
@@ -31,7 +38,7 @@ use plan_prices::{Planner, each_able};
 use plan_problem::ClassProblem;
 use plan_solver::{AugmentingPaths, DenseAugmentingPaths};
 use std::alloc::Global;
-use std::env;
+use std::{env, fs};
 
 /// The most jobs of a class for which all ways are tried.
 const FEW_JOBS: usize = 4;
@@ -67,7 +74,8 @@ fn read_mode(word: &str) -> Result<Mode, Error> {
         "estimated" => Ok(Mode::Day(Course::Estimated)),
         "otherwise" => Ok(Mode::Day(Course::Otherwise)),
         "moving" => Ok(Mode::Day(Course::Moving)),
-        _ => bail!("expected paths, dense, compare, estimated, otherwise or moving"),
+        "bursts" => Ok(Mode::Day(Course::Bursts)),
+        _ => bail!("expected paths, dense, compare, estimated, otherwise, moving, bursts or given"),
     }
 }
 
@@ -174,7 +182,33 @@ fn play_day(rt: &HostRuntime, arguments: &Arguments, course: Course) -> Result<(
     Ok(())
 }
 
+/// Plays a given day, and writes the number of its events, the most jobs that waited, and the sum of the totals
+/// of its plans.
+fn play_given_day(rt: &HostRuntime) -> Result<(), Error> {
+    let mut words = env::args(rt)?.skip(2);
+    let file = words.next().context("expected FILE COUNT")?;
+    let events = words.next().context("expected FILE COUNT")?.parse()?;
+    let (_kind, by) = read_last(words.next().as_deref())?;
+    let text = fs::read_to_string(rt, file.as_str())?;
+    let mut day = GivenDay::read(rt.alloc(), &text)?;
+    let sums = play_given(rt.alloc(), &mut day, by, events)?;
+    println!(rt; "{} {} {}", sums.events, sums.most, sums.total)?;
+    Ok(())
+}
+
+/// Returns whether the first word asks for a given day.
+fn is_given(rt: &HostRuntime) -> Result<bool, Error> {
+    let mut words = env::args(rt)?.skip(1);
+    match words.next().as_deref() {
+        Some("given") => Ok(true),
+        _ => Ok(false),
+    }
+}
+
 fn main(rt: HostRuntime) -> Result<(), Error> {
+    if is_given(&rt)? {
+        return play_given_day(&rt);
+    }
     let arguments = read_arguments(&rt)?;
     match arguments.mode {
         Mode::Day(course) => play_day(&rt, &arguments, course),
