@@ -27,6 +27,8 @@ class Sizes(typing.NamedTuple):
     devices: int
     many_events: int
     few_events: int
+    # days of each example
+    example_days: int
     # requests and jobs without sockets
     questions: int
     short_jobs: int
@@ -36,7 +38,7 @@ class Sizes(typing.NamedTuple):
     limit: int
 
 
-FULL = Sizes(5, 3, 400, 120, 5.0, 100_000, 2000, 120, 1000, 450, 480, 32, 300, 32, 20_000, 10_000, ((32, 8, 100), (128, 16, 20), (512, 32, 2)), 120)
-UNPROVED = FULL._replace(rounds=3, counted=0, soaked=300, soaked_early=100, asked=20, behind=20, waiting=60, devices=8, many_events=30, few_events=8,
+FULL = Sizes(5, 3, 400, 120, 5.0, 100_000, 2000, 120, 1000, 450, 480, 32, 300, 32, 20, 20_000, 10_000, ((32, 8, 100), (128, 16, 20), (512, 32, 2)), 120)
+UNPROVED = FULL._replace(rounds=3, counted=0, soaked=300, soaked_early=100, asked=20, behind=20, waiting=60, devices=8, many_events=30, few_events=8, example_days=1,
                          questions=2000, short_jobs=200, classes=((32, 8, 10), (64, 8, 4)), limit=60)
-QUICK = Sizes(2, 1, 20, 8, 1.0, 60, 20, 32, 10, 20, 24, 4, 10, 4, 200, 20, ((16, 4, 40), (32, 8, 20)), 20)
+QUICK = Sizes(2, 1, 20, 8, 1.0, 60, 20, 32, 10, 20, 24, 4, 10, 4, 1, 200, 20, ((16, 4, 40), (32, 8, 20)), 20)
