@@ -64,7 +64,7 @@ pub struct Adapter<S: Stream, P: Printer<S>> {
     troubled: bool,
     /// The moment at which the connection to the server was made, and whether the server sent a byte on it.
     linked: u64,
-    heard: bool,
+    received: bool,
     /// Whether the log has it that the server turned the adapter away.
     turned_away: bool,
 }
@@ -105,15 +105,15 @@ impl<S: Stream, P: Printer<S>> Adapter<S, P> {
             tried: false,
             troubled: false,
             linked: 0,
-            heard: false,
+            received: false,
             turned_away: false,
         })
     }
 
     /// Takes the result of a wait.
-    pub fn told(&mut self, readiness: Readiness) {
-        self.line.told(readiness);
-        self.printer.told(readiness);
+    pub fn notified(&mut self, readiness: Readiness) {
+        self.line.notified(readiness);
+        self.printer.notified(readiness);
     }
 
     /// Removes and returns the lines of the log since the last call.
@@ -146,10 +146,10 @@ impl<S: Stream, P: Printer<S>> Adapter<S, P> {
         now: u64,
     ) -> Result<(), Stop> {
         self.call_server(network, now)?;
-        self.hear_server(files, now)?;
+        self.read_server(files, now)?;
         self.turn_printer(files, network, now)?;
-        self.tell_state()?;
-        self.tell_overdue(now)?;
+        self.report_state()?;
+        self.report_overdue(now)?;
         self.flush()
     }
 
@@ -180,7 +180,7 @@ impl<S: Stream, P: Printer<S>> Adapter<S, P> {
             Reached::Away => self.log.note(LogEntry::ServerAway),
             Reached::Now => {
                 self.linked = now;
-                self.heard = false;
+                self.received = false;
                 self.attachment.link();
                 self.media.link();
                 let name = Text::copy_of(self.alloc, self.name.as_bytes())?;
@@ -192,22 +192,22 @@ impl<S: Stream, P: Printer<S>> Adapter<S, P> {
     }
 
     /// Reads all bytes of the server that are there.
-    fn hear_server<F: Files>(&mut self, files: &F, now: u64) -> Result<(), Stop> {
+    fn read_server<F: Files>(&mut self, files: &F, now: u64) -> Result<(), Stop> {
         self.turned_away &= !self.is_accepted(now);
         for _ in 0..PIECES {
             match self.line.read()? {
                 ServerInput::Nothing => return Ok(()),
                 ServerInput::End => return Err(Stop::Lost),
-                ServerInput::Bytes => self.hear_piece(files, now)?,
+                ServerInput::Bytes => self.handle_piece(files, now)?,
             }
         }
         Ok(())
     }
 
     /// Acts on the items of a piece.
-    fn hear_piece<F: Files>(&mut self, files: &F, now: u64) -> Result<(), Stop> {
+    fn handle_piece<F: Files>(&mut self, files: &F, now: u64) -> Result<(), Stop> {
         self.worked = true;
-        self.heard = true;
+        self.received = true;
         for _ in 0..ITEMS {
             match self.line.next_item() {
                 Ok(None) => return Ok(()),
@@ -297,7 +297,7 @@ impl<S: Stream, P: Printer<S>> Adapter<S, P> {
             PrinterEvent::Runs => Ok(self.run(LogEntry::PrinterRuns)),
             PrinterEvent::LeftOut(left_out) => Ok(self.log.note(LogEntry::LeftOut(left_out))),
             PrinterEvent::Unread(breach) => self.stop(LogEntry::Unread(breach)),
-            PrinterEvent::Pages(printed) => self.tell_pages(printed),
+            PrinterEvent::Pages(printed) => self.report_pages(printed),
             PrinterEvent::Printed(printed) => self.finish(files, printed, now),
             PrinterEvent::Failed(breach) => self.fail(files, breach, now),
         }
@@ -331,7 +331,7 @@ impl<S: Stream, P: Printer<S>> Adapter<S, P> {
         self.attachment.set_printer(PrinterState::Stopped);
         self.tried = true;
         self.troubled = true;
-        if let Some(report) = self.attachment.tell() {
+        if let Some(report) = self.attachment.next_report() {
             self.line.say(&report)?;
         }
         if self.failures < FAILURES {
@@ -344,7 +344,7 @@ impl<S: Stream, P: Printer<S>> Adapter<S, P> {
     }
 
     /// Reports that the printer has printed this many pages of the job.
-    fn tell_pages(&mut self, printed: u32) -> Result<(), Stop> {
+    fn report_pages(&mut self, printed: u32) -> Result<(), Stop> {
         self.figures.pages(printed);
         if let Some(report) = self.attachment.pages(printed) {
             self.line.say(&report)?;
@@ -359,7 +359,7 @@ impl<S: Stream, P: Printer<S>> Adapter<S, P> {
             return self.fail(files, Breach::Broken, now);
         }
         if let Some(printed) = printed {
-            self.tell_pages(printed)?;
+            self.report_pages(printed)?;
         }
         let report = self.attachment.finish();
         self.printer.drop_job(files);
@@ -398,28 +398,28 @@ impl<S: Stream, P: Printer<S>> Adapter<S, P> {
     }
 
     /// Reports the printer's media and state, if the server doesn't know them.
-    fn tell_state(&mut self) -> Result<(), Stop> {
+    fn report_state(&mut self) -> Result<(), Stop> {
         if let Some(names) = self.printer.take_media() {
             self.media.load(names);
         }
         if !self.line.is_linked() {
             return Ok(());
         }
-        if let Some(report) = self.media.tell()? {
+        if let Some(report) = self.media.next_report()? {
             self.line.say(&report)?;
         }
         if !self.tried {
             return Ok(());
         }
-        if let Some(report) = self.attachment.tell() {
+        if let Some(report) = self.attachment.next_report() {
             self.line.say(&report)?;
         }
         Ok(())
     }
 
     /// Reports that the device is busy, if its job is overdue by the jobs before it.
-    fn tell_overdue(&mut self, now: u64) -> Result<(), Stop> {
-        if let Some(late) = self.overdue.tell(now) {
+    fn report_overdue(&mut self, now: u64) -> Result<(), Stop> {
+        if let Some(late) = self.overdue.take_late(now) {
             self.line.say(&Report::Busy(late))?;
         }
         Ok(())
@@ -451,13 +451,13 @@ impl<S: Stream, P: Printer<S>> Adapter<S, P> {
         let report = self.attachment.fail();
         self.printer.drop_job(files);
         if let Some(report) = report {
-            self.tell_given_up(&report);
+            self.report_given_up(&report);
         }
         self.log.note(LogEntry::Ended);
     }
 
     /// Reports that a job is given up. If memory for that is refused, the server aborts the job.
-    fn tell_given_up(&mut self, report: &Report) {
+    fn report_given_up(&mut self, report: &Report) {
         if let Report::Fail { job } = report {
             self.log.note(LogEntry::GivenUp(*job));
         }
@@ -488,13 +488,13 @@ impl<S: Stream, P: Printer<S>> Adapter<S, P> {
     /// it for a while.
     fn is_accepted(&mut self, now: u64) -> bool {
         let kept = now.saturating_sub(self.linked) >= ACCEPTED;
-        self.heard || (kept && self.line.is_linked())
+        self.received || (kept && self.line.is_linked())
     }
 
     /// Notes once that the server closes connections before it accepts the device's name.
     fn note_turned_away(&mut self, now: u64) {
         let kept = now.saturating_sub(self.linked) >= ACCEPTED;
-        if !self.heard && !kept && !std::mem::replace(&mut self.turned_away, true) {
+        if !self.received && !kept && !std::mem::replace(&mut self.turned_away, true) {
             self.log.note(LogEntry::TurnedAway);
         }
     }

@@ -46,8 +46,8 @@ impl<S: Stream> ServerLine<S> {
     }
 
     /// Takes the result of a wait.
-    pub(crate) fn told(&mut self, readiness: Readiness) {
-        self.caller.told(readiness);
+    pub(crate) fn notified(&mut self, readiness: Readiness) {
+        self.caller.notified(readiness);
     }
 
     /// Connects, if there is no connection.
@@ -78,7 +78,7 @@ impl<S: Stream> ServerLine<S> {
         match link.read(&mut self.buffer) {
             Ok(0) => Ok(ServerInput::End),
             Ok(count) => {
-                self.caller.heard();
+                self.caller.received();
                 self.reader.feed(&self.buffer[..count])?;
                 Ok(ServerInput::Bytes)
             }

@@ -14,7 +14,7 @@ pub(crate) struct OverdueJob {
     due: Option<u64>,
     /// By how many ms the job is late at the next report.
     late: u64,
-    told: bool,
+    reported: bool,
 }
 
 impl OverdueJob {
@@ -23,7 +23,7 @@ impl OverdueJob {
         OverdueJob {
             due: None,
             late: FIRST,
-            told: false,
+            reported: false,
         }
     }
 
@@ -32,18 +32,18 @@ impl OverdueJob {
         OverdueJob {
             due: expected.map(|ms| now.saturating_add(ms)),
             late: FIRST,
-            told: false,
+            reported: false,
         }
     }
 
     /// Returns for how many ms the server is to take the device as busy, if a report is due.
-    pub(crate) fn tell(&mut self, now: u64) -> Option<u32> {
+    pub(crate) fn take_late(&mut self, now: u64) -> Option<u32> {
         if self.left(now)? > 0 {
             return None;
         }
         let late = self.late.min(MOST);
         self.late = self.late.saturating_mul(2);
-        self.told = true;
+        self.reported = true;
         Some(late as u32)
     }
 
@@ -55,6 +55,6 @@ impl OverdueJob {
 
     /// Ends the job. Returns whether the server takes the device as busy.
     pub(crate) fn end(&mut self) -> bool {
-        std::mem::replace(self, OverdueJob::none()).told
+        std::mem::replace(self, OverdueJob::none()).reported
     }
 }

@@ -153,7 +153,7 @@ fn take_turns<P: Printer<Link>, R: Net + Files + Clock, L: Write, F: Write>(
         let _logged = log.write_all(&adapter.take_log());
         let _written = figures.write_all(&adapter.take_figures());
         poll.poll(&mut events, Some(Duration::from_millis(adapter.pause(now))))?;
-        if tell(adapter, &events) {
+        if notify(adapter, &events) {
             adapter.give_up(rt, millis_since(rt, &start)?);
             let left = leave(adapter, poll, &mut events);
             let _last_logged = log.write_all(&adapter.take_log());
@@ -180,12 +180,12 @@ fn take_turn<P: Printer<Link>, R: Net + Files>(
 }
 
 /// Hands the events of a wait to the adapter. Returns whether the input has ended.
-fn tell<P: Printer<Link>>(adapter: &mut Adapter<Link, P>, events: &Events<Global>) -> bool {
+fn notify<P: Printer<Link>>(adapter: &mut Adapter<Link, P>, events: &Events<Global>) -> bool {
     let mut ended = false;
     for event in events.iter() {
         ended |= event.token() == INPUT && event.is_read_closed();
         if let Some(readiness) = Readiness::of(event) {
-            adapter.told(readiness);
+            adapter.notified(readiness);
         }
     }
     ended
@@ -202,7 +202,7 @@ fn leave<P: Printer<Link>>(
             return Ok(());
         }
         poll.poll(events, Some(Duration::from_millis(LEAVING_PAUSE)))?;
-        tell(adapter, events);
+        notify(adapter, events);
     }
     Ok(())
 }

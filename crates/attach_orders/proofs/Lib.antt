@@ -1,4 +1,4 @@
 mod Words
 mod Streams
 mod Written
-mod Told
+mod ReadBack

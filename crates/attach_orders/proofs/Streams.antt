@@ -21,35 +21,35 @@ use Rattle.attach_orders.specs.Stream.{OrderElement, Orders, HasOctet, Place, In
 
 -- ---- one after the other
 
-front_twice : (first later : List OrderElement) (heard : ParsedOrders) → with_front (first ++ later) heard ≡ with_front first (with_front later heard)
-front_twice first later heard = ap (λ s. record { said = s; place = heard.place }) (append_assoc first later heard.said)
+front_twice : (first later : List OrderElement) (parsed : ParsedOrders) → with_front (first ++ later) parsed ≡ with_front first (with_front later parsed)
+front_twice first later parsed = ap (λ s. record { said = s; place = parsed.place }) (append_assoc first later parsed.said)
 
-pub heard_append : (place : Place) (bytes more : List ℕ) → parsed_from place (bytes ++ more) ≡ with_front (parsed_from place bytes).said (parsed_from (parsed_from place bytes).place more)
-heard_append place [] more = refl
-heard_append place (byte ∷ bytes) more =
+pub parsed_append : (place : Place) (bytes more : List ℕ) → parsed_from place (bytes ++ more) ≡ with_front (parsed_from place bytes).said (parsed_from (parsed_from place bytes).place more)
+parsed_append place [] more = refl
+parsed_append place (byte ∷ bytes) more =
     let next = byte_parsed place byte in
     let here = parsed_from next.place bytes in
-    ap (λ (h : ParsedOrders). with_front next.said h) (heard_append next.place bytes more) ∙ sym (front_twice next.said here.said (parsed_from here.place more))
+    ap (λ (h : ParsedOrders). with_front next.said h) (parsed_append next.place bytes more) ∙ sym (front_twice next.said here.said (parsed_from here.place more))
 
 -- from a place on, the items of further bytes follow the items of the bytes before
-pub heard_then : (place : Place) (bytes more : List ℕ) (heard : ParsedOrders) → parsed_from place bytes ≡ heard → parsed_from place (bytes ++ more) ≡ with_front heard.said (parsed_from heard.place more)
-heard_then place bytes more heard is = subst (λ (h : ParsedOrders). parsed_from place (bytes ++ more) ≡ with_front h.said (parsed_from h.place more)) is (heard_append place bytes more)
+pub parsed_then : (place : Place) (bytes more : List ℕ) (parsed : ParsedOrders) → parsed_from place bytes ≡ parsed → parsed_from place (bytes ++ more) ≡ with_front parsed.said (parsed_from parsed.place more)
+parsed_then place bytes more parsed is = subst (λ (h : ParsedOrders). parsed_from place (bytes ++ more) ≡ with_front h.said (parsed_from h.place more)) is (parsed_append place bytes more)
 
 -- ---- a fault stays
 
-pub heard_over : (fault : OrderFault) (bytes : List ℕ) → parsed_from (AtFault fault) bytes ≡ silent (AtFault fault)
+pub parsed_over : (fault : OrderFault) (bytes : List ℕ) → parsed_from (AtFault fault) bytes ≡ silent (AtFault fault)
 unfolding byte_parsed
-heard_over fault [] = refl
-heard_over fault (byte ∷ bytes) = ap (λ (h : ParsedOrders). with_front [] h) (heard_over fault bytes)
+parsed_over fault [] = refl
+parsed_over fault (byte ∷ bytes) = ap (λ (h : ParsedOrders). with_front [] h) (parsed_over fault bytes)
 
 -- ---- pieces
 
 stands_fed : (stream : List ℕ) (given : List OrderElement) (piece : List ℕ) (reader : ReaderState) → HasRead stream given reader → HasRead (stream ++ piece) given (record reader { part = []; rest = reader.rest ++ piece })
 stands_fed stream given piece reader stands =
     let here = parsed_from (place_of reader) reader.rest in
-    heard_then (InLine []) stream piece (with_front given here) stands
+    parsed_then (InLine []) stream piece (with_front given here) stands
     ∙ front_twice given here.said (parsed_from here.place piece)
-    ∙ ap (λ (h : ParsedOrders). with_front given h) (sym (heard_append (place_of reader) reader.rest piece))
+    ∙ ap (λ (h : ParsedOrders). with_front given h) (sym (parsed_append (place_of reader) reader.rest piece))
 
 -- a piece of which nothing is read yet
 pub fed_by : (old new : ReaderState) (piece : List ℕ) (answer : Result (Unit {0}) AllocError) → OnOk answer (new ≡ record old { part = []; rest = old.rest ++ piece }) → OnOk answer ((stream : List ℕ) (given : List OrderElement) → HasRead stream given old → HasRead (stream ++ piece) given new)
@@ -57,7 +57,7 @@ fed_by old new piece (Ok done) is = λ stream given stands. subst (λ n. HasRead
 fed_by old new piece (Err error) is = tt
 
 over_alike : (fault : Option OrderFault) (octets : ℕ) (bytes more : List ℕ) → IsSome fault → parsed_from (place_by fault octets) bytes ≡ parsed_from (place_by fault octets) more
-over_alike (Some fault) octets bytes more some = heard_over fault bytes ∙ sym (heard_over fault more)
+over_alike (Some fault) octets bytes more some = parsed_over fault bytes ∙ sym (parsed_over fault more)
 over_alike None octets bytes more some = absurd (let no : false ≡ true = some in (cc))
 
 -- after a fault nothing counts
@@ -106,7 +106,7 @@ line_endless line (byte ∷ bytes) short long none =
           let one = length-append line (byte ∷ []) in
           line_goes_on line byte bytes other room
           ∙ line_endless (line ++ byte ∷ []) bytes (omega (arith, room, one)) (omega (arith, long, one)) (λ k low. none (suc k) (omega (arith, low, one)))
-      | false ↦ λ is. line_full line byte bytes other is ∙ heard_over LineTooLong bytes
+      | false ↦ λ is. line_full line byte bytes other is ∙ parsed_over LineTooLong bytes
     ] in
     by (nat_lt (length line + 1) DEVICE_LINE_BYTES) refl
 
@@ -166,8 +166,8 @@ line_at old count faultless outside line =
 pub answers_order : (old : ReaderState) (count : ℕ) (order : Order) → old.fault ≡ None → old.octets ≡ 0 → first_line_of DEVICE_LINE_BYTES old.rest ≡ front.Whole count → order_in (take count old.rest) ≡ Some order
     → Advances old (Orders order ∷ []) (record { part = []; rest = drop (count + 1) old.rest; octets = octets_after order; fault = old.fault })
 answers_order old count order faultless outside line says =
-    let heard = line_at old count faultless outside line in
-    let here : parsed_from (place_of old) old.rest ≡ with_front (Orders order ∷ []) (parsed_from (octets_left (octets_after order)) (drop (count + 1) old.rest)) = subst (λ (o : Option Order). parsed_from (place_of old) old.rest ≡ with_front (line_parsed o).said (parsed_from (line_parsed o).place (drop (count + 1) old.rest))) says heard in
+    let parsed = line_at old count faultless outside line in
+    let here : parsed_from (place_of old) old.rest ≡ with_front (Orders order ∷ []) (parsed_from (octets_left (octets_after order)) (drop (count + 1) old.rest)) = subst (λ (o : Option Order). parsed_from (place_of old) old.rest ≡ with_front (line_parsed o).said (parsed_from (line_parsed o).place (drop (count + 1) old.rest))) says parsed in
     advance old (Orders order ∷ []) (record { part = []; rest = drop (count + 1) old.rest; octets = octets_after order; fault = old.fault })
     (subst (λ (f : Option OrderFault). parsed_from (place_of old) old.rest ≡ with_front (Orders order ∷ []) (parsed_from (place_by f (octets_after order)) (drop (count + 1) old.rest))) (sym faultless) here)
 
@@ -183,15 +183,15 @@ fault_stands old fault is = (
   λ stream given stands.
       let all : orders_in stream ≡ with_front given (silent (AtFault fault)) = stands ∙ ap (λ (h : ParsedOrders). with_front given h) is in (
         all ∙ ap (λ (s : List OrderElement). record { said = s; place = AtFault fault }) (append-nil given),
-        all ∙ ap (λ (h : ParsedOrders). with_front given h) (sym (heard_over fault old.rest)),
+        all ∙ ap (λ (h : ParsedOrders). with_front given h) (sym (parsed_over fault old.rest)),
       ),
 )
 
 pub answers_bad_line : (old : ReaderState) (count : ℕ) → old.fault ≡ None → old.octets ≡ 0 → first_line_of DEVICE_LINE_BYTES old.rest ≡ front.Whole count → order_in (take count old.rest) ≡ None → Answers old (Err (Fault BadLine)) (record old { fault = Some BadLine })
 answers_bad_line old count faultless outside line says =
-    let heard = line_at old count faultless outside line in
-    let here : parsed_from (place_of old) old.rest ≡ with_front [] (parsed_from (AtFault BadLine) (drop (count + 1) old.rest)) = subst (λ (o : Option Order). parsed_from (place_of old) old.rest ≡ with_front (line_parsed o).said (parsed_from (line_parsed o).place (drop (count + 1) old.rest))) says heard in
-    fault_stands old BadLine (here ∙ ap (λ (h : ParsedOrders). with_front [] h) (heard_over BadLine (drop (count + 1) old.rest)))
+    let parsed = line_at old count faultless outside line in
+    let here : parsed_from (place_of old) old.rest ≡ with_front [] (parsed_from (AtFault BadLine) (drop (count + 1) old.rest)) = subst (λ (o : Option Order). parsed_from (place_of old) old.rest ≡ with_front (line_parsed o).said (parsed_from (line_parsed o).place (drop (count + 1) old.rest))) says parsed in
+    fault_stands old BadLine (here ∙ ap (λ (h : ParsedOrders). with_front [] h) (parsed_over BadLine (drop (count + 1) old.rest)))
 
 pub answers_too_long : (old : ReaderState) → old.fault ≡ None → old.octets ≡ 0 → first_line_of DEVICE_LINE_BYTES old.rest ≡ front.TooLong → Answers old (Err (Fault LineTooLong)) (record old { fault = Some LineTooLong })
 answers_too_long old faultless outside long =
@@ -202,7 +202,7 @@ answers_too_long old faultless outside long =
 pub answers_again : (old : ReaderState) (fault : OrderFault) → old.fault ≡ Some fault → Answers old (Err (Fault fault)) old
 answers_again old fault faulty =
     let same : record old { fault = Some fault } ≡ old = search (rules, faulty) in
-    let over : parsed_from (place_of old) old.rest ≡ silent (AtFault fault) = ap (λ (f : Option OrderFault). parsed_from (place_by f old.octets) old.rest) faulty ∙ heard_over fault old.rest in
+    let over : parsed_from (place_of old) old.rest ≡ silent (AtFault fault) = ap (λ (f : Option OrderFault). parsed_from (place_by f old.octets) old.rest) faulty ∙ parsed_over fault old.rest in
     subst (λ new. Answers old (Err (Fault fault)) new) same (fault_stands old fault over)
 
 waits : (old : ReaderState) → (parsed_from (place_of old) old.rest).said ≡ [] → Answers old (Ok None) old

@@ -29,7 +29,7 @@ use Rattle.attach_orders.specs.declared.order.Order.TheVariants.{Job, Cancel}
 use Rattle.attach_orders.specs.Line.{id_in, octets_in, copies_in, numbers_in, sides_in, finishings_in, job_said, cancel_said, described, said, order_in, above_zero}
 use Rattle.attach_orders.specs.Stream.{OrderElement, Orders, HasOctet, InLine, ParsedOrders, with_front, octets_left, octets_after, line_parsed, parsed_from, orders_in}
 use Rattle.attach_orders.specs.Sent.{Wanted, ToPrint, ToCancel, sent, meant, IsWithin, AreWithin, all_sent, all_meant}
-use Rattle.attach_orders.proofs.Streams.{heard_then, line_whole, octets_first}
+use Rattle.attach_orders.proofs.Streams.{parsed_then, line_whole, octets_first}
 
 -- ---- bytes that stand nowhere
 
@@ -118,8 +118,8 @@ line_ordered : (line : List ℕ) (order : Order) (rest : List ℕ) → Lacks 10 
 line_ordered line order rest lacks short says =
     line_whole [] line rest lacks (omega (arith, short)) ∙ ap (λ (o : Option Order). with_front (line_parsed o).said (parsed_from (line_parsed o).place rest)) says
 
-cancel_heard : (id : ℕ) → IsJobId id → orders_in (cancel_line id) ≡ record { said = Orders (Cancel id) ∷ []; place = InLine [] }
-cancel_heard id is =
+cancel_parsed : (id : ℕ) → IsJobId id → orders_in (cancel_line id) ≡ record { said = Orders (Cancel id) ∷ []; place = InLine [] }
+cancel_parsed id is =
     let fits : id < 2 ^ 64 = omega (arith, is.1) in
     let line = codes "CANCEL " ++ decimal id in
     let lacks : Lacks 10 line = joined_lacks 10 (codes "CANCEL ") (decimal id) (lacks_by (isnt 10) 10 refl (codes "CANCEL ") refl) (decimal_lacks 10 id refl fits) in
@@ -296,8 +296,8 @@ octets_all octets =
     ap (λ (b : List ℕ). parsed_from (octets_left (length octets)) b) (sym (append-nil octets)) ∙ count
     ∙ ap (λ (s : List OrderElement). record { said = s; place = InLine [] }) (append-nil (map HasOctet octets))
 
-job_heard : (id : ℕ) (octets : List ℕ) (needs : JobNeeds) → IsWithin (ToPrint id octets needs) → orders_in (sent (ToPrint id octets needs)) ≡ record { said = meant (ToPrint id octets needs); place = InLine [] }
-job_heard id octets needs within =
+job_parsed : (id : ℕ) (octets : List ℕ) (needs : JobNeeds) → IsWithin (ToPrint id octets needs) → orders_in (sent (ToPrint id octets needs)) ≡ record { said = meant (ToPrint id octets needs); place = InLine [] }
+job_parsed id octets needs within =
     let is = within.0 in
     let few = within.1 in
     let some = within.2 in
@@ -309,12 +309,12 @@ job_heard id octets needs within =
 
 -- ---- one after the other
 
-heard_one : (wanted : Wanted) → IsWithin wanted → orders_in (sent wanted) ≡ record { said = meant wanted; place = InLine [] }
-heard_one (ToPrint id octets needs) within = job_heard id octets needs within
-heard_one (ToCancel id) within = cancel_heard id within
+parsed_one : (wanted : Wanted) → IsWithin wanted → orders_in (sent wanted) ≡ record { said = meant wanted; place = InLine [] }
+parsed_one (ToPrint id octets needs) within = job_parsed id octets needs within
+parsed_one (ToCancel id) within = cancel_parsed id within
 
-pub heard_all : (wanted : List Wanted) → AreWithin wanted → orders_in (all_sent wanted) ≡ record { said = all_meant wanted; place = InLine [] }
-heard_all [] within = refl
-heard_all (first ∷ later) within =
-    heard_then (InLine []) (sent first) (all_sent later) (record { said = meant first; place = InLine [] }) (heard_one first within.0)
-    ∙ ap (λ (h : ParsedOrders). with_front (meant first) h) (heard_all later within.1)
+pub parsed_all : (wanted : List Wanted) → AreWithin wanted → orders_in (all_sent wanted) ≡ record { said = all_meant wanted; place = InLine [] }
+parsed_all [] within = refl
+parsed_all (first ∷ later) within =
+    parsed_then (InLine []) (sent first) (all_sent later) (record { said = meant first; place = InLine [] }) (parsed_one first within.0)
+    ∙ ap (λ (h : ParsedOrders). with_front (meant first) h) (parsed_all later within.1)

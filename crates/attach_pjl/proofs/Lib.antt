@@ -1,1 +1,1 @@
-mod Cuttings
+mod Segmentation

@@ -40,5 +40,5 @@ abbrev pub place_behind : Place → List ℕ → Place
 place_behind place [] = place
 place_behind place (byte ∷ bytes) = place_behind (place_after place byte) bytes
 
-abbrev pub CuttingTellsNothing : Type 0
-CuttingTellsNothing = (place : Place) (bytes more : List ℕ) → statuses place (bytes ++ more) ≡ statuses place bytes ++ statuses (place_behind place bytes) more
+abbrev pub SegmentationKeepsStatuses : Type 0
+SegmentationKeepsStatuses = (place : Place) (bytes more : List ℕ) → statuses place (bytes ++ more) ≡ statuses place bytes ++ statuses (place_behind place bytes) more

@@ -12,7 +12,7 @@ mod message;
 mod reader;
 mod status;
 
-pub use law::cutting_tells_nothing;
+pub use law::segmentation_keeps_statuses;
 pub use message::read_message;
 pub use reader::StatusReader;
 pub use status::Status;

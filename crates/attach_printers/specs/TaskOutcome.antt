@@ -24,10 +24,10 @@ abbrev pub pages_due : JobAnswer → ℕ → Option ℕ
 pages_due answer before = due_in answer.state before answer.impressions
 
 -- the impressions that a result reports
-abbrev pub pages_told : TaskOutcome → Option ℕ
-pages_told (Pages count) = Some count
-pages_told (Printed pages) = pages
-pages_told outcome = None
+abbrev pub pages_reported : TaskOutcome → Option ℕ
+pages_reported (Pages count) = Some count
+pages_reported (Printed pages) = pages
+pages_reported outcome = None
 
 abbrev pub is_printed : TaskOutcome → Bool
 is_printed (Printed pages) = true

@@ -1,6 +1,6 @@
 //! The content of a whole reply.
 ghost use Rattle.std.specs.Prelude.{◌≡◌};
-ghost use Rattle.attach_printers.specs.TaskOutcome.{is_completed, is_printed, more_than, pages_due, pages_told};
+ghost use Rattle.attach_printers.specs.TaskOutcome.{is_completed, is_printed, more_than, pages_due, pages_reported};
 
 use crate::exchange::Exchange;
 use crate::task_outcome::{ReplyBreach, TaskOutcome};
@@ -35,8 +35,8 @@ pub(crate) struct JobAnswer {
 impl JobAnswer {
     /// The result of the answer, where `before` impressions were reported earlier. The result has the
     /// impressions if they are more than `before`, also for the answer that completes the job.
-    pub(crate) fn told(self, before: u32) -> TaskOutcome
-        ensures pages { pages_told result ≡ pages_due self before }
+    pub(crate) fn outcome(self, before: u32) -> TaskOutcome
+        ensures pages { pages_reported result ≡ pages_due self before }
         ensures printed { is_printed result ≡ is_completed self.state }
     {
         let pages = more_than(before, self.impressions);

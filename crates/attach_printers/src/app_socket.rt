@@ -15,7 +15,7 @@ pub struct AppSocket {
     /// Whether all is sent, and nothing more will be written.
     ends: bool,
     /// The moment at which the printer last sent something.
-    heard: u64,
+    received: u64,
 }
 
 impl AppSocket {
@@ -25,7 +25,7 @@ impl AppSocket {
         AppSocket {
             linger,
             ends: false,
-            heard: 0,
+            received: 0,
         }
     }
 
@@ -57,7 +57,7 @@ impl AppSocket {
         let mut buffer = [0u8; PIECE];
         for _ in 0..CALLS {
             match session.read(&mut buffer) {
-                IoOutcome::Bytes(_) => self.heard = now,
+                IoOutcome::Bytes(_) => self.received = now,
                 moved => return moved,
             }
         }
@@ -68,7 +68,7 @@ impl AppSocket {
     /// ms, or doesn't end for the time that a printer may be silent.
     fn left<S: Stream>(&self, session: &PrinterLink<S>, now: u64) -> u64 {
         let taken = session.silence(now);
-        let quiet = taken.min(now.saturating_sub(self.heard));
+        let quiet = taken.min(now.saturating_sub(self.received));
         let longest = session.timeout().max(self.linger);
         self.linger
             .saturating_sub(quiet)

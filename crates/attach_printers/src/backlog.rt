@@ -56,9 +56,9 @@ impl Backlog {
 
     /// Records the result of a look. Returns whether bytes went. A look may miss a socket, and the last
     /// number stays then. If no look had a number, no bytes count as waiting.
-    pub(crate) fn update(&mut self, told: Option<u64>, now: u64) -> bool {
+    pub(crate) fn update(&mut self, reported: Option<u64>, now: u64) -> bool {
         self.looks.tried(now);
-        let bytes = match told {
+        let bytes = match reported {
             Some(bytes) => bytes.saturating_sub(END),
             None if self.bytes == UNKNOWN => 0,
             None => self.bytes,

@@ -65,12 +65,12 @@ impl<S: Stream> Connector<S> {
     }
 
     /// Takes the result of a wait, if it is one of the peer.
-    pub fn told(&mut self, readiness: Readiness) {
+    pub fn notified(&mut self, readiness: Readiness) {
         if readiness.peer != self.peer {
             return;
         }
         if let Some(link) = &mut self.link {
-            link.told(readiness);
+            link.notified(readiness);
         }
     }
 
@@ -170,7 +170,7 @@ impl<S: Stream> Connector<S> {
     }
 
     /// Records that the peer has sent bytes: it is there, and the pauses begin anew.
-    pub fn heard(&mut self) {
+    pub fn received(&mut self) {
         self.tries = self.first_tries(FIRST_PAUSE);
     }
 

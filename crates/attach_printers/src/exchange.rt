@@ -131,7 +131,7 @@ impl Exchange {
     }
 
     /// Takes bytes of the printer. The only error is out of memory.
-    pub(crate) fn hear(&mut self, bytes: &[u8]) -> Result<(), AllocError> {
+    pub(crate) fn handle_bytes(&mut self, bytes: &[u8]) -> Result<(), AllocError> {
         self.input.extend_from_slice(bytes)?;
         for _ in 0..=self.input.len() {
             if !self.read()? {
@@ -142,7 +142,7 @@ impl Exchange {
     }
 
     /// Records that the printer has closed the connection.
-    pub(crate) fn hear_end(&mut self) {
+    pub(crate) fn handle_end(&mut self) {
         if self.is_done() {
             return;
         }

@@ -175,7 +175,7 @@ impl<S: Stream> Printer<S> for Folder {
         }
     }
 
-    fn told(&mut self, _readiness: Readiness) {}
+    fn notified(&mut self, _readiness: Readiness) {}
 
     /// Removes the temporary file.
     fn drop_job<F: Files>(&mut self, files: &F) {

@@ -44,7 +44,7 @@ impl Ipp {
         let mut buffer = [0u8; PIECE];
         for _ in 0..CALLS {
             match session.read(&mut buffer) {
-                IoOutcome::Bytes(count) => self.printer.hear(&buffer[..count])?,
+                IoOutcome::Bytes(count) => self.printer.handle_bytes(&buffer[..count])?,
                 moved => return Ok(moved),
             }
             if self.printer.has_reply() {
@@ -111,14 +111,14 @@ impl Ipp {
     ) -> Result<PrinterEvent, AllocError> {
         session.close();
         self.ended = true;
-        let told = self.printer.conclude(now)?;
+        let outcome = self.printer.conclude(now)?;
         if self.printer.take_answered() {
             self.answered = now;
         }
         if self.printer.take_restart() {
             return Ok(self.restart(session, attachment, now));
         }
-        Ok(heard_of(told))
+        Ok(event_of(outcome))
     }
 
     /// Has the job sent again from its start, unless the printer has been busy for too long.
@@ -180,7 +180,7 @@ impl Protocol for Ipp {
     fn wait<S: Stream>(
         &mut self,
         session: &PrinterLink<S>,
-        heard: PrinterEvent,
+        event: PrinterEvent,
         now: u64,
     ) -> PrinterEvent {
         let is_sent = self.printer.has_job();
@@ -191,15 +191,15 @@ impl Protocol for Ipp {
             self.answered = now;
             return PrinterEvent::Failed(self.printer.give_up());
         }
-        heard
+        event
     }
 
     fn open(
         &mut self,
         attachment: &Attachment,
-        heard: PrinterEvent,
+        event: PrinterEvent,
     ) -> Result<PrinterEvent, AllocError> {
-        if matches!(heard, PrinterEvent::Back) {
+        if matches!(event, PrinterEvent::Back) {
             self.printer.doubt();
         }
         let format = match &self.format {
@@ -207,9 +207,9 @@ impl Protocol for Ipp {
             None => Format::sniffed(attachment.due()).media_type(),
         };
         self.printer.open(format)?;
-        Ok(match heard {
+        Ok(match event {
             PrinterEvent::Back => PrinterEvent::Nothing,
-            heard => heard,
+            event => event,
         })
     }
 
@@ -220,7 +220,7 @@ impl Protocol for Ipp {
         now: u64,
     ) -> Result<PrinterEvent, AllocError> {
         match self.listen(session)? {
-            IoOutcome::End => self.printer.hear_end(),
+            IoOutcome::End => self.printer.handle_end(),
             IoOutcome::Broken => return Ok(self.break_off(session, now)),
             IoOutcome::Bytes(_) | IoOutcome::Nothing => {}
         }
@@ -233,7 +233,7 @@ impl Protocol for Ipp {
         if self.is_overdue(session, now) {
             return Ok(self.miss(session, now));
         }
-        Ok(heard_of(self.printer.take_left_out()))
+        Ok(event_of(self.printer.take_left_out()))
     }
 
     fn take_media(&mut self) -> Option<Vec<Text>> {
@@ -271,8 +271,8 @@ impl Protocol for Ipp {
 }
 
 /// The result of an adapter's turn for a result of the printer's task.
-fn heard_of(told: TaskOutcome) -> PrinterEvent {
-    match told {
+fn event_of(outcome: TaskOutcome) -> PrinterEvent {
+    match outcome {
         TaskOutcome::Nothing => PrinterEvent::Nothing,
         TaskOutcome::Stops => PrinterEvent::Stops,
         TaskOutcome::Runs => PrinterEvent::Runs,

@@ -303,13 +303,13 @@ impl IppPrinter {
     }
 
     /// Takes bytes of the printer. The only error is out of memory.
-    pub fn hear(&mut self, bytes: &[u8]) -> Result<(), AllocError> {
-        self.exchange.hear(bytes)
+    pub fn handle_bytes(&mut self, bytes: &[u8]) -> Result<(), AllocError> {
+        self.exchange.handle_bytes(bytes)
     }
 
     /// Records that the printer has closed the connection.
-    pub fn hear_end(&mut self) {
-        self.exchange.hear_end();
+    pub fn handle_end(&mut self) {
+        self.exchange.handle_end();
     }
 
     /// Returns whether the task's reply is whole or faulty.
@@ -348,7 +348,7 @@ impl IppPrinter {
     /// Ends the task, and returns its result. The only error is out of memory.
     pub fn conclude(&mut self, now: u64) -> Result<TaskOutcome, AllocError> {
         let task = self.task;
-        let told = match task {
+        let outcome = match task {
             Task::Nothing => TaskOutcome::Nothing,
             Task::Ask => self.end_asking(now)?,
             Task::Print => self.end_printing(now),
@@ -359,7 +359,7 @@ impl IppPrinter {
             }
         };
         self.end_task();
-        Ok(told)
+        Ok(outcome)
     }
 
     /// Clears the task.
@@ -380,8 +380,8 @@ impl IppPrinter {
                 self.keep_state(stopped, media)
             }
             Err(breach) => {
-                let is_told = self.miss_state(now);
-                Ok(if is_told {
+                let is_reported = self.miss_state(now);
+                Ok(if is_reported {
                     TaskOutcome::Unread(breach)
                 } else {
                     TaskOutcome::Nothing
@@ -489,9 +489,9 @@ impl IppPrinter {
             PrinterJobState::GivenUp => self.ask_at = now,
             PrinterJobState::Completed => {}
         }
-        let told = answer.told(self.impressions);
+        let outcome = answer.outcome(self.impressions);
         self.impressions = self.impressions.max(answer.impressions.unwrap_or(0));
-        told
+        outcome
     }
 
     /// Records that the job has failed. The printer's state is asked at once.
@@ -531,11 +531,11 @@ impl IppPrinter {
         if matches!(task, Task::Cancel(_)) {
             self.cancels = None;
         }
-        let is_told = task == Task::Ask && self.miss_state(now);
+        let is_reported = task == Task::Ask && self.miss_state(now);
         if self.stage != TaskStage::None {
             return PrinterEvent::Failed(self.give_up());
         }
-        if is_told {
+        if is_reported {
             PrinterEvent::Away
         } else {
             PrinterEvent::Nothing

@@ -95,7 +95,7 @@ impl Link {
 }
 
 impl Stream for Link {
-    fn told(&mut self, readiness: Readiness) {
+    fn notified(&mut self, readiness: Readiness) {
         self.readable |= readiness.readable;
         self.writable |= readiness.writable;
     }

@@ -56,7 +56,7 @@ impl Lpd {
     }
 
     /// Takes the next octet of the printer, which acknowledges a written part, or refuses it.
-    fn hear<S: Stream>(
+    fn read_acknowledgement<S: Stream>(
         &mut self,
         session: &mut PrinterLink<S>,
         now: u64,
@@ -184,10 +184,10 @@ impl Protocol for Lpd {
     fn open(
         &mut self,
         _attachment: &Attachment,
-        heard: PrinterEvent,
+        event: PrinterEvent,
     ) -> Result<PrinterEvent, AllocError> {
         self.go_on(LpdStage::Queue)?;
-        Ok(heard)
+        Ok(event)
     }
 
     /// Takes the printer's acknowledgements, and sends the bytes that are due.
@@ -198,9 +198,9 @@ impl Protocol for Lpd {
         now: u64,
     ) -> Result<PrinterEvent, AllocError> {
         for _ in 0..CALLS {
-            match self.hear(session, now)? {
+            match self.read_acknowledgement(session, now)? {
                 PrinterEvent::Nothing => {}
-                heard => return Ok(heard),
+                event => return Ok(event),
             }
             match self.send(session, attachment, now)? {
                 IoOutcome::Bytes(_) => {}

@@ -40,16 +40,16 @@ impl<S: Stream, P: Protocol> Printer<S> for NetworkPrinter<S, P> {
         now: u64,
     ) -> PrinterEvent {
         let wanted = self.protocol.wants_connection(attachment, now);
-        let heard = match self.session.reach(files, network, wanted, now) {
-            LinkStage::Waits(heard) => Ok(self.protocol.wait(&self.session, heard, now)),
-            LinkStage::Opened(heard) => self.protocol.open(attachment, heard),
+        let event = match self.session.reach(files, network, wanted, now) {
+            LinkStage::Waits(event) => Ok(self.protocol.wait(&self.session, event, now)),
+            LinkStage::Opened(event) => self.protocol.open(attachment, event),
             LinkStage::Open => self.protocol.exchange(&mut self.session, attachment, now),
         };
-        heard.unwrap_or(NO_MEMORY)
+        event.unwrap_or(NO_MEMORY)
     }
 
-    fn told(&mut self, readiness: Readiness) {
-        self.session.told(readiness);
+    fn notified(&mut self, readiness: Readiness) {
+        self.session.notified(readiness);
     }
 
     fn take_media(&mut self) -> Option<Vec<Text>> {

@@ -65,7 +65,7 @@ impl Pjl {
 
     /// Returns the next report of the printer about a job, a page or itself. `Nothing` if there is none for
     /// now, or if bytes were moved.
-    fn hear<S: Stream>(
+    fn read_report<S: Stream>(
         &mut self,
         session: &mut PrinterLink<S>,
         now: u64,
@@ -82,7 +82,7 @@ impl Pjl {
             }
             match self.read_input(session, now)? {
                 PrinterEvent::Nothing => {}
-                heard => return Ok(heard),
+                event => return Ok(event),
             }
         }
         Ok(PrinterEvent::Nothing)
@@ -115,13 +115,13 @@ impl Pjl {
             return Ok(PrinterEvent::Nothing);
         }
         session.rest(now);
-        let heard = heard_of(read.1, self.part, self.stopped);
-        match heard {
+        let event = event_of(read.1, self.part, self.stopped);
+        match event {
             PrinterEvent::Stops => self.stopped = true,
             PrinterEvent::Runs => self.stopped = false,
             _ => {}
         }
-        Ok(heard)
+        Ok(event)
     }
 
     /// The name of the job at the printer. The only error is out of memory.
@@ -192,13 +192,13 @@ impl Protocol for Pjl {
     fn wait<S: Stream>(
         &mut self,
         session: &PrinterLink<S>,
-        heard: PrinterEvent,
+        event: PrinterEvent,
         _now: u64,
     ) -> PrinterEvent {
         let stopped = std::mem::replace(&mut self.stopped, false);
-        match heard {
+        match event {
             PrinterEvent::Nothing if stopped && !session.is_doubted() => PrinterEvent::Runs,
-            heard => heard,
+            event => event,
         }
     }
 
@@ -206,13 +206,13 @@ impl Protocol for Pjl {
     fn open(
         &mut self,
         _attachment: &Attachment,
-        heard: PrinterEvent,
+        event: PrinterEvent,
     ) -> Result<PrinterEvent, AllocError> {
         self.reader = StatusReader::new(self.alloc);
         self.input.clear();
         self.output = self.head()?;
         self.part = PjlStage::Head;
-        Ok(heard)
+        Ok(event)
     }
 
     fn exchange<S: Stream>(
@@ -221,9 +221,9 @@ impl Protocol for Pjl {
         attachment: &mut Attachment,
         now: u64,
     ) -> Result<PrinterEvent, AllocError> {
-        match self.hear(session, now)? {
+        match self.read_report(session, now)? {
             PrinterEvent::Nothing => {}
-            heard => return Ok(heard),
+            event => return Ok(event),
         }
         for _ in 0..CALLS {
             match self.send(session, attachment, now)? {
@@ -303,7 +303,7 @@ fn unquoted(value: &[u8]) -> &[u8] {
 }
 
 /// The report of a status, where this part of the job is sent, and the printer was stopped or not.
-fn heard_of(status: Status, part: PjlStage, stopped: bool) -> PrinterEvent {
+fn event_of(status: Status, part: PjlStage, stopped: bool) -> PrinterEvent {
     match status {
         Status::Page(page) => PrinterEvent::Pages(page),
         Status::JobEnded if part == PjlStage::Nothing => PrinterEvent::Printed(None),

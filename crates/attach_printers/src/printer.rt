@@ -28,7 +28,7 @@ pub trait Printer<S: Stream>: Drop {
     ) -> PrinterEvent;
 
     /// Takes the result of a wait.
-    fn told(&mut self, readiness: Readiness);
+    fn notified(&mut self, readiness: Readiness);
 
     /// Removes and returns the loaded media, if the printer reported them anew.
     fn take_media(&mut self) -> Option<Vec<Text>> {

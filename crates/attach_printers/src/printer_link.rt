@@ -70,8 +70,8 @@ impl<S: Stream> PrinterLink<S> {
     }
 
     /// Takes the result of a wait.
-    pub(crate) fn told(&mut self, readiness: Readiness) {
-        self.caller.told(readiness);
+    pub(crate) fn notified(&mut self, readiness: Readiness) {
+        self.caller.notified(readiness);
     }
 
     /// Connects, if there is a job or the printer is in doubt, and looks at the waiting bytes of a job that is

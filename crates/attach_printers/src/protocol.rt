@@ -22,23 +22,23 @@ pub trait Protocol: Drop {
         attachment.job().is_some()
     }
 
-    /// The result of a turn without a connection; `heard` is the result of the try to connect.
+    /// The result of a turn without a connection; `event` is the result of the try to connect.
     fn wait<S: Stream>(
         &mut self,
         _session: &PrinterLink<S>,
-        heard: PrinterEvent,
+        event: PrinterEvent,
         _now: u64,
     ) -> PrinterEvent {
-        heard
+        event
     }
 
-    /// The result of a turn in which the connection was made; `heard` is the result of the connection.
+    /// The result of a turn in which the connection was made; `event` is the result of the connection.
     fn open(
         &mut self,
         _attachment: &Attachment,
-        heard: PrinterEvent,
+        event: PrinterEvent,
     ) -> Result<PrinterEvent, AllocError> {
-        Ok(heard)
+        Ok(event)
     }
 
     /// Reads from the printer and sends the bytes that are due, without blocking.

@@ -56,8 +56,8 @@ fn look_up(alloc: Global, files: &impl Files, table: &str, number: u64) -> io::R
 fn bytes_of(line: &str, number: u64) -> Option<u64> {
     let mut words = line.split_whitespace();
     let waiting = words.nth(WAITING)?;
-    let told = words.nth(NUMBER_BEHIND)?;
-    if told.parse::<u64>() != Ok(number) {
+    let inode = words.nth(NUMBER_BEHIND)?;
+    if inode.parse::<u64>() != Ok(number) {
         return None;
     }
     let (sending, _reading) = waiting.split_once(':')?;

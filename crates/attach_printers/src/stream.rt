@@ -35,7 +35,7 @@ pub trait Network {
 /// A connection to a peer, closed when it is dropped. No call waits.
 pub trait Stream: Drop {
     /// Takes the result of a wait.
-    fn told(&mut self, _readiness: Readiness) {}
+    fn notified(&mut self, _readiness: Readiness) {}
 
     /// Returns whether the connection is made. The error is why it can't be.
     fn is_open(&self) -> io::Result<bool>;

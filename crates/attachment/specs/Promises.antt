@@ -79,13 +79,13 @@ HeedsCancel (Some at) event next = JobHeeds at event next
 
 -- ---- READY and STOP alternate as the printer's state does: each is reported for the printer's state at that time, and not twice. The record has the printer's state, and the state that was last reported.
 
-pub record Told : Type 0 where
+pub record Reporting : Type 0 where
   pub printer : PrinterState
-  pub told : Option PrinterState
+  pub reported : Option PrinterState
 
-abbrev pub TellsState : Told → Event → Told → Type 0
-TellsState at Links next = next ≡ record at { told = None }
-TellsState at (Is printer) next = next ≡ record at { printer = printer }
-TellsState at (Reported SaysReady) next = (at.printer ≡ Running) × (at.told ≡ Some Running → ⊥) × (next ≡ record at { told = Some Running })
-TellsState at (Reported SaysStop) next = (at.printer ≡ Stopped) × (at.told ≡ Some Stopped → ⊥) × (next ≡ record at { told = Some Stopped })
-TellsState at event next = next ≡ at
+abbrev pub ReportsState : Reporting → Event → Reporting → Type 0
+ReportsState at Links next = next ≡ record at { reported = None }
+ReportsState at (Is printer) next = next ≡ record at { printer = printer }
+ReportsState at (Reported SaysReady) next = (at.printer ≡ Running) × (at.reported ≡ Some Running → ⊥) × (next ≡ record at { reported = Some Running })
+ReportsState at (Reported SaysStop) next = (at.printer ≡ Stopped) × (at.reported ≡ Some Stopped → ⊥) × (next ≡ record at { reported = Some Stopped })
+ReportsState at event next = next ≡ at

@@ -5,7 +5,7 @@ use Rattle.base_types.specs.Report.{ReportRecord, report_of, SaysReady, SaysStop
 use Rattle.attachment.specs.declared.state.PrinterState.{PrinterState}
 use Rattle.attachment.specs.declared.state.PrinterState.TheVariants.{Running, Stopped}
 use Rattle.attachment.specs.Life.{Event, Reported, Leads}
-use Rattle.attachment.specs.Promises.{Sending, Heeded, Told, AnswersOnce, SendsTheJob, HeedsCancel, TellsState}
+use Rattle.attachment.specs.Promises.{Sending, Heeded, Reporting, AnswersOnce, SendsTheJob, HeedsCancel, ReportsState}
 
 -- a job in hand: the number of its octets and those that have come, how often it is to be sent and was sent, how many octets of this copy are sent, and whether it is canceled
 pub record WorkRecord : Type 0 where
@@ -20,7 +20,7 @@ pub record WorkRecord : Type 0 where
 pub record AttachmentRecord : Type 0 where
   pub work : Option WorkRecord
   pub printer : PrinterState
-  pub told : Option PrinterState
+  pub reported : Option PrinterState
 
 abbrev pub id_of : WorkRecord → ℕ
 id_of work = work.job
@@ -31,19 +31,19 @@ sending_of work = record { octets = work.octets; times = work.times; came = work
 abbrev pub heeded_of : WorkRecord → Heeded
 heeded_of work = record { job = work.job; canceled = work.canceled }
 
-abbrev pub told_of : AttachmentRecord → Told
-told_of at = record { printer = at.printer; told = at.told }
+abbrev pub reported_of : AttachmentRecord → Reporting
+reported_of at = record { printer = at.printer; reported = at.reported }
 
 -- before any event a printer counts as running
-abbrev pub unsaid : Told
-unsaid = record { printer = Running; told = None }
+abbrev pub unreported : Reporting
+unreported = record { printer = Running; reported = None }
 
 -- this life led to the attachment's state, and keeps each promise
 pub record IsAfter (life : List Event) (at : AttachmentRecord) : Type 0 where
   pub answers : Leads AnswersOnce None life (option_map id_of at.work)
   pub sends : Leads SendsTheJob None life (option_map sending_of at.work)
   pub heeds : Leads HeedsCancel None life (option_map heeded_of at.work)
-  pub tells : Leads TellsState unsaid life (told_of at)
+  pub reports : Leads ReportsState unreported life (reported_of at)
 
 -- these events lead the attachment on, for each life before
 abbrev pub Lives : AttachmentRecord → List Event → AttachmentRecord → Type 0
@@ -91,9 +91,9 @@ fail_report work = SaysFail work.job
 -- the report of the printer's state, if the server doesn't know it
 abbrev pub state_report : PrinterState → Option PrinterState → Option ReportRecord
 state_report Running (Some Running) = None
-state_report Running told = Some SaysReady
+state_report Running reported = Some SaysReady
 state_report Stopped (Some Stopped) = None
-state_report Stopped told = Some SaysStop
+state_report Stopped reported = Some SaysStop
 
 -- ---- changes
 

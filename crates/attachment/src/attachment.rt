@@ -17,7 +17,7 @@ pub struct Attachment {
     alloc: Global,
     work: Option<Work>,
     printer: PrinterState,
-    told: Option<PrinterState>,
+    reported: Option<PrinterState>,
 }
 
 impl Model for Attachment {
@@ -25,7 +25,7 @@ impl Model for Attachment {
 
     ghost Value = { AttachmentRecord };
 
-    ghost view = { λ a. record { work = a.work; printer = a.printer; told = a.told } };
+    ghost view = { λ a. record { work = a.work; printer = a.printer; reported = a.reported } };
 }
 
 impl Attachment {
@@ -37,7 +37,7 @@ impl Attachment {
             alloc,
             work: None,
             printer: PrinterState::Running,
-            told: None,
+            reported: None,
         }
     }
 
@@ -195,28 +195,28 @@ impl Attachment {
     }
 
     /// The report of the printer's state, if the server doesn't know it.
-    pub fn tell(&mut self) -> Option<Report>
+    pub fn next_report(&mut self) -> Option<Report>
         ensures life { Lives self.old (said_by result) self.new }
-        ensures value { option_map report_of result ≡ state_report self.old.printer self.old.told }
+        ensures value { option_map report_of result ≡ state_report self.old.printer self.old.reported }
         ensures stays { self.new.work ≡ self.old.work }
     {
         let report = self.due_report();
-        self.mark_told();
+        self.mark_reported();
         report
     }
 
     /// The report of the printer's state that is due.
     fn due_report(&self) -> Option<Report>
-        ensures { option_map report_of result ≡ state_report self.now.printer self.now.told }
+        ensures { option_map report_of result ≡ state_report self.now.printer self.now.reported }
     {
-        state_report(self.printer, self.told)
+        state_report(self.printer, self.reported)
     }
 
     /// Records that the printer's state is reported.
-    fn mark_told(&mut self)
-        ensures { self.new ≡ record self.old { told = Some self.old.printer } }
+    fn mark_reported(&mut self)
+        ensures { self.new ≡ record self.old { reported = Some self.old.printer } }
     {
-        self.told = Some(self.printer);
+        self.reported = Some(self.printer);
     }
 
     /// Sets the printer's state.
@@ -248,10 +248,10 @@ impl Attachment {
 
     /// Drops the job, and forgets the reported state.
     fn forget(&mut self)
-        ensures { self.new ≡ record self.old { work = None; told = None } }
+        ensures { self.new ≡ record self.old { work = None; reported = None } }
     {
         self.work = None;
-        self.told = None;
+        self.reported = None;
     }
 
     /// Drops the job.
@@ -319,11 +319,11 @@ impl Attachment {
     }
 }
 
-/// The report of a printer's state, where `told` was last reported.
-fn state_report(printer: PrinterState, told: Option<PrinterState>) -> Option<Report>
-    ensures { option_map report_of result ≡ state_report printer told }
+/// The report of a printer's state, which was last reported as `reported`.
+fn state_report(printer: PrinterState, reported: Option<PrinterState>) -> Option<Report>
+    ensures { option_map report_of result ≡ state_report printer reported }
 {
-    match (printer, told) {
+    match (printer, reported) {
         (PrinterState::Running, Some(PrinterState::Running)) => None,
         (PrinterState::Running, _) => Some(Report::Ready),
         (PrinterState::Stopped, Some(PrinterState::Stopped)) => None,

@@ -97,14 +97,14 @@ impl Measurement {
         let Some(job) = self.job else {
             return;
         };
-        let told = Running {
+        let running = Running {
             impressions: printed,
             ..job
         };
-        self.job = Some(told);
-        match told.sides {
-            Sides::One => self.one_side.keep(told, now),
-            Sides::LongEdge | Sides::ShortEdge => self.two_sides.keep(told, now),
+        self.job = Some(running);
+        match running.sides {
+            Sides::One => self.one_side.keep(running, now),
+            Sides::LongEdge | Sides::ShortEdge => self.two_sides.keep(running, now),
         }
     }
 

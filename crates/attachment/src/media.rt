@@ -2,7 +2,7 @@
 ghost use Rattle.std.specs.Prelude.{◌≡◌, IfOk, OnOk, OnErr, Some, None, option_map};
 ghost use Rattle.std.specs.Str.{bytes_eq};
 ghost use Rattle.base_types.specs.Report.{report_of};
-ghost use Rattle.attachment.specs.Media.{are_same, is_told, media_report, told_after};
+ghost use Rattle.attachment.specs.Media.{are_same, is_reported, media_report, reported_after};
 
 use base_types::{Report, Text};
 use std::alloc::{AllocError, Global};
@@ -14,7 +14,7 @@ use std::marker::Model;
 pub struct LoadedMedia {
     alloc: Global,
     loaded: Option<Vec<Text>>,
-    told: Option<Vec<Text>>,
+    reported: Option<Vec<Text>>,
 }
 
 impl Model for LoadedMedia {
@@ -23,26 +23,26 @@ impl Model for LoadedMedia {
 
     ghost Value = { MediaRecord };
 
-    ghost view = { λ m. record { loaded = option_map (λ names. names.items) m.loaded; told = option_map (λ names. names.items) m.told } };
+    ghost view = { λ m. record { loaded = option_map (λ names. names.items) m.loaded; reported = option_map (λ names. names.items) m.reported } };
 }
 
 impl LoadedMedia {
     /// Creates the record of a printer that hasn't reported its media.
     pub fn new(alloc: Global) -> LoadedMedia
-        ensures { result ≡ record { loaded = None; told = None } }
+        ensures { result ≡ record { loaded = None; reported = None } }
     {
         LoadedMedia {
             alloc,
             loaded: None,
-            told: None,
+            reported: None,
         }
     }
 
     /// Begins a connection to the server, without a report.
     pub fn link(&mut self)
-        ensures { self.new ≡ record self.old { told = None } }
+        ensures { self.new ≡ record self.old { reported = None } }
     {
-        self.told = None;
+        self.reported = None;
     }
 
     /// Records that exactly these media are loaded.
@@ -54,30 +54,30 @@ impl LoadedMedia {
 
     /// The report of the media, if the last report was another list or there was none. The only error is out
     /// of memory, and nothing is recorded as reported then.
-    pub fn tell(&mut self) -> Result<Option<Report>, AllocError>
-        ensures report { IfOk result (λ report. option_map report_of report ≡ media_report self.old.loaded self.old.told) }
-        ensures told { OnOk result (self.new ≡ record self.old { told = told_after self.old.loaded self.old.told }) }
+    pub fn next_report(&mut self) -> Result<Option<Report>, AllocError>
+        ensures report { IfOk result (λ report. option_map report_of report ≡ media_report self.old.loaded self.old.reported) }
+        ensures reported { OnOk result (self.new ≡ record self.old { reported = reported_after self.old.loaded self.old.reported }) }
         ensures err { OnErr result (self.new ≡ self.old) }
     {
         let Some(names) = &self.loaded else {
-            self.told = None;
+            self.reported = None;
             return Ok(None);
         };
-        if is_told(names, &self.told) {
+        if is_reported(names, &self.reported) {
             return Ok(None);
         }
         let said = copied(self.alloc, names)?;
-        self.told = Some(copied(self.alloc, names)?);
+        self.reported = Some(copied(self.alloc, names)?);
         Ok(Some(Report::Media(said)))
     }
 }
 
 /// Returns whether the names were last reported to the server.
-fn is_told(names: &[Text], told: &Option<Vec<Text>>) -> bool
-    ensures { result ≡ is_told names.now (option_map (λ told. told.items) told.now) }
+fn is_reported(names: &[Text], reported: &Option<Vec<Text>>) -> bool
+    ensures { result ≡ is_reported names.now (option_map (λ reported. reported.items) reported.now) }
 {
-    match told {
-        Some(told) => are_same(names, told),
+    match reported {
+        Some(reported) => are_same(names, reported),
         None => false,
     }
 }

@@ -1,5 +1,5 @@
-use Rattle.attach_orders.proofs.Written.{heard_all}
+use Rattle.attach_orders.proofs.Written.{parsed_all}
 use Rattle.attach_orders.proofs.law.orders_read_back.Goals as goal
 
 pub returns : goal.returns
-returns c = heard_all
+returns c = parsed_all

@@ -20,7 +20,7 @@ use Rattle.attach_orders.proofs.Written.{isnt, lacks_by, joined_lacks, decimal_l
 one_said : (word operand : List ℕ) → Lacks 32 word → Lacks 32 operand → said (words_of (word ++ (32 ∷ operand))) ≡ said_of_one word operand
 one_said word operand w o = ap said (word_then word operand w ∙ ap (λ (r : List (List ℕ)). word ∷ r) (word_alone operand o))
 
-record Tells (text : List ℕ) (report : ReportRecord) : Type 0 where
+record ReadsBack (text : List ℕ) (report : ReportRecord) : Type 0 where
   line : List ℕ
   spelled : text ≡ line ++ codes "\n"
   says : said (words_of line) ≡ Some report
@@ -31,9 +31,9 @@ name_all : (name : List ℕ) → is_name name ≡ true → list_all is_name_byte
 unfolding is_name
 name_all name is = if_true (has_length NAME_BYTES name) (list_all is_name_byte name) is
 
-hello_told : (name : List ℕ) → is_name name ≡ true → Tells (report_line (SaysHello name)) (SaysHello name)
+hello_read : (name : List ℕ) → is_name name ≡ true → ReadsBack (report_line (SaysHello name)) (SaysHello name)
 unfolding said_of_one name_in
-hello_told name is = record {
+hello_read name is = record {
   line = codes "HELLO" ++ (32 ∷ name);
   spelled = sym (append_assoc (codes "HELLO ") name (codes "\n"));
   says = one_said (codes "HELLO") name (lacks_by (isnt 32) 32 refl (codes "HELLO") refl) (lacks_by is_name_byte 32 refl name (name_all name is)) ∙ rw is refl;
@@ -82,9 +82,9 @@ nothing_loaded : said (words_of (codes "MEDIA")) ≡ Some (SaysMedia [])
 unfolding said_alone
 nothing_loaded = ap said (word_alone (codes "MEDIA") (lacks_by (isnt 32) 32 refl (codes "MEDIA") refl))
 
-media_told : (names : List (List ℕ)) → AreMedia names → Tells (report_line (SaysMedia names)) (SaysMedia names)
-media_told [] all = record { line = codes "MEDIA"; spelled = refl; says = nothing_loaded }
-media_told (name ∷ names) all =
+media_read : (names : List (List ℕ)) → AreMedia names → ReadsBack (report_line (SaysMedia names)) (SaysMedia names)
+media_read [] all = record { line = codes "MEDIA"; spelled = refl; says = nothing_loaded }
+media_read (name ∷ names) all =
     let P : List ℕ → Type 0 = λ n. IsTrue (is_media n) in
     record {
       line = codes "MEDIA" ++ (32 ∷ joined name names);
@@ -94,13 +94,13 @@ media_told (name ∷ names) all =
 
 -- ---- words alone
 
-ready_told : Tells (report_line SaysReady) SaysReady
+ready_read : ReadsBack (report_line SaysReady) SaysReady
 unfolding said_alone
-ready_told = record { line = codes "READY"; spelled = refl; says = ap said (word_alone (codes "READY") (lacks_by (isnt 32) 32 refl (codes "READY") refl)) }
+ready_read = record { line = codes "READY"; spelled = refl; says = ap said (word_alone (codes "READY") (lacks_by (isnt 32) 32 refl (codes "READY") refl)) }
 
-stop_told : Tells (report_line SaysStop) SaysStop
+stop_read : ReadsBack (report_line SaysStop) SaysStop
 unfolding said_alone
-stop_told = record { line = codes "STOP"; spelled = refl; says = ap said (word_alone (codes "STOP") (lacks_by (isnt 32) 32 refl (codes "STOP") refl)) }
+stop_read = record { line = codes "STOP"; spelled = refl; says = ap said (word_alone (codes "STOP") (lacks_by (isnt 32) 32 refl (codes "STOP") refl)) }
 
 -- ---- numbers
 
@@ -110,25 +110,25 @@ number_space number few = decimal_lacks 32 number refl (omega (arith, few))
 number_line_is : (word : List ℕ) (number : ℕ) → word ++ (codes " " ++ (decimal number ++ codes "\n")) ≡ (word ++ (32 ∷ decimal number)) ++ codes "\n"
 number_line_is word number = sym (append_assoc word (32 ∷ decimal number) (codes "\n"))
 
-busy_told : (time : ℕ) → time ≤ BUSY → Tells (report_line (SaysBusy time)) (SaysBusy time)
+busy_read : (time : ℕ) → time ≤ BUSY → ReadsBack (report_line (SaysBusy time)) (SaysBusy time)
 unfolding said_of_one
-busy_told time few = record {
+busy_read time few = record {
   line = codes "BUSY" ++ (32 ∷ decimal time);
   spelled = number_line_is (codes "BUSY") time;
   says = one_said (codes "BUSY") (decimal time) (lacks_by (isnt 32) 32 refl (codes "BUSY") refl) (number_space time few) ∙ ap (λ (n : Option ℕ). option_map SaysBusy n) (number_back BUSY time few (omega (arith, few)));
 }
 
-done_told : (job : ℕ) → job ≤ LAST_JOB_ID → Tells (report_line (SaysDone job)) (SaysDone job)
+done_read : (job : ℕ) → job ≤ LAST_JOB_ID → ReadsBack (report_line (SaysDone job)) (SaysDone job)
 unfolding said_of_one
-done_told job few = record {
+done_read job few = record {
   line = codes "DONE" ++ (32 ∷ decimal job);
   spelled = number_line_is (codes "DONE") job;
   says = one_said (codes "DONE") (decimal job) (lacks_by (isnt 32) 32 refl (codes "DONE") refl) (number_space job few) ∙ ap (λ (n : Option ℕ). option_map SaysDone n) (number_back LAST_JOB_ID job few (omega (arith, few)));
 }
 
-fail_told : (job : ℕ) → job ≤ LAST_JOB_ID → Tells (report_line (SaysFail job)) (SaysFail job)
+fail_read : (job : ℕ) → job ≤ LAST_JOB_ID → ReadsBack (report_line (SaysFail job)) (SaysFail job)
 unfolding said_of_one
-fail_told job few = record {
+fail_read job few = record {
   line = codes "FAIL" ++ (32 ∷ decimal job);
   spelled = number_line_is (codes "FAIL") job;
   says = one_said (codes "FAIL") (decimal job) (lacks_by (isnt 32) 32 refl (codes "FAIL") refl) (number_space job few) ∙ ap (λ (n : Option ℕ). option_map SaysFail n) (number_back LAST_JOB_ID job few (omega (arith, few)));
@@ -138,8 +138,8 @@ pages_said : (job printed : ℕ) → job ≤ LAST_JOB_ID → printed ≤ MOST_PR
 unfolding said_of_two
 pages_said job printed few also = rw (number_back LAST_JOB_ID job few (omega (arith, few)), number_back MOST_PRINTED printed also (omega (arith, also))) refl
 
-pages_told : (job printed : ℕ) → job ≤ LAST_JOB_ID → printed ≤ MOST_PRINTED → Tells (report_line (SaysPages job printed)) (SaysPages job printed)
-pages_told job printed few also =
+pages_read : (job printed : ℕ) → job ≤ LAST_JOB_ID → printed ≤ MOST_PRINTED → ReadsBack (report_line (SaysPages job printed)) (SaysPages job printed)
+pages_read job printed few also =
     let a = decimal job in
     let b = decimal printed in
     let words : words_of (codes "PAGES" ++ (32 ∷ (a ++ (32 ∷ b)))) ≡ codes "PAGES" ∷ a ∷ b ∷ [] = word_then (codes "PAGES") (a ++ (32 ∷ b)) (lacks_by (isnt 32) 32 refl (codes "PAGES") refl) ∙ ap (λ (r : List (List ℕ)). codes "PAGES" ∷ r) (word_then a b (number_space job few) ∙ ap (λ (r : List (List ℕ)). a ∷ r) (word_alone b (number_space printed (omega (arith, also))))) in
@@ -151,16 +151,16 @@ pages_told job printed few also =
 
 -- ---- any report
 
-told : (report : ReportRecord) → HasLine report → Tells (report_line report) report
-told (SaysHello name) has = hello_told name has
-told (SaysMedia names) has = media_told names has
-told SaysReady has = ready_told
-told SaysStop has = stop_told
-told (SaysBusy time) has = busy_told time has
-told (SaysPages job printed) has = pages_told job printed has.0 has.1
-told (SaysDone job) has = done_told job has
-told (SaysFail job) has = fail_told job has
-told IsGone has = absurd has
+each_read : (report : ReportRecord) → HasLine report → ReadsBack (report_line report) report
+each_read (SaysHello name) has = hello_read name has
+each_read (SaysMedia names) has = media_read names has
+each_read SaysReady has = ready_read
+each_read SaysStop has = stop_read
+each_read (SaysBusy time) has = busy_read time has
+each_read (SaysPages job printed) has = pages_read job printed has.0 has.1
+each_read (SaysDone job) has = done_read job has
+each_read (SaysFail job) has = fail_read job has
+each_read IsGone has = absurd has
 
 pub read_back : (report : ReportRecord) → HasLine report → (line : List ℕ) × (report_line report ≡ line ++ codes "\n") × (said (words_of line) ≡ Some report)
-read_back report has = let it = told report has in (it.line, it.spelled, it.says)
+read_back report has = let it = each_read report has in (it.line, it.spelled, it.says)

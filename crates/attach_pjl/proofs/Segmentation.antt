@@ -1,4 +1,4 @@
--- Bytes say the same in one piece and in two.
+-- Bytes have the same statuses in one piece and in two.
 use Rattle.std.specs.Prelude.{ℕ, ◌≡◌, List, [], ◌∷◌, ◌++◌, Option, Some, None}
 use Rattle.std.proofs.Common.{refl, ap, ◌∙◌}
 use Rattle.attach_pjl.specs.declared.status.Status.{Status}
