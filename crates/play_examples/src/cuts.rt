@@ -69,7 +69,7 @@ fn in_two_pieces(alloc: Global, trace: &[u8], place: usize) -> Result<Vec<u8>, A
 }
 
 /// Appends a line to what happens, or what the peer got by it to all that it got.
-fn put_told(text: &mut Vec<u8>, got: &mut Vec<u8>, line: &[u8]) -> Result<(), AllocError> {
+fn put_joined(text: &mut Vec<u8>, got: &mut Vec<u8>, line: &[u8]) -> Result<(), AllocError> {
     match line.strip_prefix(GOT) {
         Some(bytes) => got.extend_from_slice(bytes),
         None => put_line(text, line),
@@ -77,22 +77,22 @@ fn put_told(text: &mut Vec<u8>, got: &mut Vec<u8>, line: &[u8]) -> Result<(), Al
 }
 
 /// What happens by an output, and then all that the peer got, however often it got some.
-fn told(alloc: Global, output: &[u8]) -> Result<Vec<u8>, AllocError> {
+fn joined(alloc: Global, output: &[u8]) -> Result<Vec<u8>, AllocError> {
     let mut text = Vec::new(alloc);
     let mut got = Vec::new(alloc);
     for line in output.split(|byte| *byte == b'\n') {
-        put_told(&mut text, &mut got, line)?;
+        put_joined(&mut text, &mut got, line)?;
     }
     text.extend_from_slice(&got)?;
     Ok(text)
 }
 
 /// The output of a trace that is played to its end; nothing, if it isn't.
-fn told_of(alloc: Global, trace: &[u8]) -> Result<Option<Vec<u8>>, AllocError> {
+fn joined_output(alloc: Global, trace: &[u8]) -> Result<Option<Vec<u8>>, AllocError> {
     let mut output = Vec::new(alloc);
     let mut input = trace;
     match run_replay(alloc, &mut input, &mut output, false).status {
-        ExitStatus::Done => Ok(Some(told(alloc, &output)?)),
+        ExitStatus::Done => Ok(Some(joined(alloc, &output)?)),
         _ => Ok(None),
     }
 }
@@ -109,12 +109,12 @@ fn sent_in(trace: &[u8]) -> usize {
 
 /// Whether the output is exactly this, wherever the bytes are split in two.
 pub fn stays_in_two_pieces(alloc: Global, trace: &[u8], wanted: &[u8]) -> Result<bool, AllocError> {
-    let wanted = told(alloc, wanted)?;
+    let wanted = joined(alloc, wanted)?;
     for count in 1..sent_in(trace) {
         let place = count.saturating_mul(2).saturating_add(SENT.len());
         let cut = in_two_pieces(alloc, trace, place)?;
-        match told_of(alloc, &cut)? {
-            Some(told) if told == wanted => {}
+        match joined_output(alloc, &cut)? {
+            Some(found) if found == wanted => {}
             _ => return Ok(false),
         }
     }

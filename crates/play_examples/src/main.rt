@@ -91,7 +91,7 @@ fn is_as_wanted(
 }
 
 /// Says of a file or a day by name whether what is written is as it must be.
-fn tell(rt: &HostRuntime, name: &str, as_wanted: bool) -> io::Result<()> {
+fn report(rt: &HostRuntime, name: &str, as_wanted: bool) -> io::Result<()> {
     if as_wanted {
         println!(rt; "{name}: as wanted")
     } else {
@@ -106,7 +106,7 @@ fn play_files(rt: &HostRuntime) -> io::Result<bool> {
         let input = program.input(rt.alloc(), name)?;
         let output = program.output(rt.alloc(), name)?;
         let as_wanted = is_as_wanted(rt, program, &input, &output, status)?;
-        tell(rt, &input, as_wanted)?;
+        report(rt, &input, as_wanted)?;
         all = all && as_wanted;
     }
     Ok(all)
@@ -117,7 +117,7 @@ fn play_crowds(rt: &HostRuntime) -> io::Result<bool> {
     let mut all = true;
     for crowd in &CROWDS {
         let as_wanted = crowd.is_as_wanted(rt.alloc())?;
-        tell(rt, crowd.name(), as_wanted)?;
+        report(rt, crowd.name(), as_wanted)?;
         all = all && as_wanted;
     }
     Ok(all)
@@ -142,10 +142,10 @@ fn is_drawn_as_wanted(rt: &HostRuntime, drawn: &DrawnDay) -> io::Result<bool> {
 /// Draws the day of many jobs, and the days of traces: whether each is as it must be.
 fn draw_days(rt: &HostRuntime) -> io::Result<bool> {
     let mut all = is_simulated_so(rt, &CROWDED, Some(Form::Text))?;
-    tell(rt, CROWDED.output, all)?;
+    report(rt, CROWDED.output, all)?;
     for drawn in &DRAWN {
         let as_wanted = is_drawn_as_wanted(rt, drawn)?;
-        tell(rt, drawn.picture, as_wanted)?;
+        report(rt, drawn.picture, as_wanted)?;
         all = all && as_wanted;
     }
     Ok(all)
@@ -156,7 +156,7 @@ fn play_days(rt: &HostRuntime) -> io::Result<bool> {
     let mut all = true;
     for day in &DAYS {
         let as_wanted = is_simulated_so(rt, day, None)?;
-        tell(rt, day.output, as_wanted)?;
+        report(rt, day.output, as_wanted)?;
         all = all && as_wanted;
     }
     Ok(all)
@@ -192,7 +192,7 @@ fn compare_sets(rt: &HostRuntime) -> io::Result<bool> {
         .zip(&compared_texts(rt.alloc(), &comparison)?)
     {
         let as_wanted = fs::read(rt, *file)?.as_slice() == text.as_bytes();
-        tell(rt, file, as_wanted)?;
+        report(rt, file, as_wanted)?;
         all = all && as_wanted;
     }
     Ok(all)
@@ -212,7 +212,7 @@ fn play_cuts(rt: &HostRuntime) -> io::Result<bool> {
     for stream in &STREAMS {
         let as_wanted = is_the_same_when_cut(rt, stream)?;
         print!(rt; "in two pieces ")?;
-        tell(rt, stream.input, as_wanted)?;
+        report(rt, stream.input, as_wanted)?;
         all = all && as_wanted;
     }
     Ok(all)
@@ -225,7 +225,7 @@ fn write_pages(rt: &HostRuntime) -> io::Result<bool> {
         let day = fs::read(rt, paged.day)?;
         let wanted = fs::read(rt, paged.body)?;
         let as_wanted = is_paged_so(rt.alloc(), &day, paged, &wanted);
-        tell(rt, paged.body, as_wanted)?;
+        report(rt, paged.body, as_wanted)?;
         all = all && as_wanted;
     }
     Ok(all)
@@ -238,7 +238,7 @@ fn write_accounts(rt: &HostRuntime) -> io::Result<bool> {
         let day = fs::read(rt, accounted.day)?;
         let wanted = fs::read(rt, accounted.table)?;
         let as_wanted = is_accounted_so(rt.alloc(), &day, &wanted);
-        tell(rt, accounted.table, as_wanted)?;
+        report(rt, accounted.table, as_wanted)?;
         all = all && as_wanted;
     }
     Ok(all)

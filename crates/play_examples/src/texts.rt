@@ -45,9 +45,9 @@ fn plans_in(output: &[u8]) -> usize {
 
 /// Whether a replay of a trace with the texts of its plans writes one for each plan that it reports
 /// without them, and the checker answers `yes` to each.
-pub fn each_is_proved(alloc: Global, trace: &[u8], told: &[u8]) -> Result<bool, AllocError> {
+pub fn each_is_proved(alloc: Global, trace: &[u8], replayed: &[u8]) -> Result<bool, AllocError> {
     let mut output = Vec::new(alloc);
     let mut input = trace;
     run_replay(alloc, &mut input, &mut output, true);
-    Ok(proved_texts(alloc, &output)? == Some(plans_in(told)))
+    Ok(proved_texts(alloc, &output)? == Some(plans_in(replayed)))
 }

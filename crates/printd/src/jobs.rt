@@ -123,7 +123,7 @@ impl JobDays<'_> {
 }
 
 /// Reports why the jobs of a file aren't written, and returns the exit status.
-fn tell(rt: &HostRuntime, name: &str, trouble: JobsFault) -> ExitStatus {
+fn report(rt: &HostRuntime, name: &str, trouble: JobsFault) -> ExitStatus {
     match trouble {
         JobsFault::Read(error) => cannot_with(rt, "read", name, error),
         JobsFault::Day(DayFault::OutOfMemory) => cannot_with(rt, "play", name, out_of_memory()),
@@ -143,7 +143,7 @@ fn play_all(
     for name in files {
         let mut file = open(rt, name)?;
         if let Err(trouble) = days.play_file(name, &mut file) {
-            return Ok(tell(rt, name, trouble));
+            return Ok(report(rt, name, trouble));
         }
     }
     Ok(ExitStatus::Done)

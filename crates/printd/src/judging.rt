@@ -32,11 +32,11 @@ fn check_input<R: Read + Drop>(
     if audit.status == ExitStatus::Failed {
         return failed(rt, "judge the plan", name, input, output);
     }
-    told(rt, name, audit)
+    report_objection(rt, name, audit)
 }
 
 /// Reports the objection to a plan from an input with this name, and returns the exit status.
-pub(crate) fn told(rt: &HostRuntime, name: &str, audit: Audit) -> ExitStatus {
+pub(crate) fn report_objection(rt: &HostRuntime, name: &str, audit: Audit) -> ExitStatus {
     if let Some(objection) = &audit.objection {
         say_of(rt, name, objection);
     }

@@ -77,7 +77,7 @@ fn lent<'a>(rt: &HostRuntime, words: &'a [String]) -> Result<Vec<&'a str>, Alloc
 
 /// Writes the text about words that name no subcommand, and returns the exit status. Help and the version go
 /// to standard output, errors to standard error.
-fn tell(rt: &HostRuntime, error: &WordsError) -> ExitStatus {
+fn report(rt: &HostRuntime, error: &WordsError) -> ExitStatus {
     match error {
         WordsError::Help(text) => match io::writer(rt).write_all(text.as_bytes()) {
             Ok(()) => ExitStatus::Done,
@@ -117,7 +117,7 @@ fn run_words(rt: &HostRuntime) -> Result<ExitStatus, ExitStatus> {
     let texts = or_no_memory(rt, "read the command line", lent(rt, &words))?;
     match read_words(rt.alloc(), &texts) {
         Ok(asked) => run(rt, &asked),
-        Err(error) => Ok(tell(rt, &error)),
+        Err(error) => Ok(report(rt, &error)),
     }
 }
 

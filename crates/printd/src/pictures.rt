@@ -3,7 +3,7 @@
 use crate::error_keeping::{ErrorKeepingInput, ErrorKeepingOutput};
 use crate::failure::{cannot, out_of_memory, say, write_text};
 use crate::input::{INPUT, open};
-use crate::judging::{failed, told};
+use crate::judging::{failed, report_objection};
 use crate::settings::read_file;
 use base_types::JobId;
 use command_line::Drawn;
@@ -27,7 +27,7 @@ fn draw_input<R: Read + Drop>(rt: &HostRuntime, name: &str, reader: R, form: For
     if audit.status == ExitStatus::Failed {
         return failed(rt, "draw the plan", name, input, output);
     }
-    told(rt, name, audit)
+    report_objection(rt, name, audit)
 }
 
 /// Draws the plan of a text. An error of opening the file is reported, and its exit status returned.

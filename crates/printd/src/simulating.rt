@@ -23,9 +23,9 @@ const PLAY: &str = "play the jobs";
 #[derive(Drop)]
 struct DayProgress<'a> {
     rt: &'a HostRuntime,
-    is_told: bool,
+    is_shown: bool,
     /// The hundredths of the jobs that had come when progress was last shown.
-    told: usize,
+    shown: usize,
 }
 
 /// Returns whether standard error is a terminal, or another character device.
@@ -39,8 +39,8 @@ fn is_terminal(rt: &HostRuntime) -> bool {
 impl Watch for DayProgress<'_> {
     fn come(&mut self, name: &str, come: usize, jobs: usize) {
         let hundredths = come.saturating_mul(100).checked_div(jobs).unwrap_or(0);
-        if self.is_told && hundredths != self.told {
-            self.told = hundredths;
+        if self.is_shown && hundredths != self.shown {
+            self.shown = hundredths;
             let _said = eprint!(self.rt; "\r\x1b[Kprintd: {name}: {come} of {jobs} jobs");
         }
     }
@@ -50,14 +50,14 @@ impl DayProgress<'_> {
     fn new(rt: &HostRuntime) -> DayProgress<'_> {
         DayProgress {
             rt,
-            is_told: is_terminal(rt),
-            told: 0,
+            is_shown: is_terminal(rt),
+            shown: 0,
         }
     }
 
     /// Clears the line of the progress.
     fn end(&self) {
-        if self.is_told {
+        if self.is_shown {
             let _said = eprint!(self.rt; "\r\x1b[K");
         }
     }
@@ -143,7 +143,7 @@ fn names_in_line(rt: &HostRuntime, names: &[String]) -> Result<String, AllocErro
 }
 
 /// Reports what of a list isn't used.
-fn tell_unused(rt: &HostRuntime, file: &str, list: &JobList) {
+fn report_unused(rt: &HostRuntime, file: &str, list: &JobList) {
     if let Ok(names) = names_in_line(rt, &list.ignored)
         && !names.is_empty()
     {
@@ -174,7 +174,7 @@ fn jobs_of_list(
     match read_list(rt.alloc(), text, settings) {
         Ok(list) => {
             if matches!(reports, Reports::Unused) {
-                tell_unused(rt, file, &list);
+                report_unused(rt, file, &list);
             }
             Ok(list.jobs)
         }

@@ -11,7 +11,7 @@ use std::test::Fail;
 const STREAM: &[u8] = b"JOB 7 5 2 L iso_a4_210x297mm SB\nhelloCANCEL 7\nPRINT 8\n";
 
 /// The items of the stream: each order in words, each octet, and the fault.
-const HEARD: &str = "job 7 5 2 true false true;hello cancel 7;fault";
+const ITEMS: &str = "job 7 5 2 true false true;hello cancel 7;fault";
 
 /// A page, the end of a job, a jam, and a message of another kind.
 const STATUSES: &[u8] =
@@ -57,7 +57,7 @@ fn add_items(alloc: Global, reader: &mut OrderReader, text: &mut String) -> Resu
 }
 
 /// The items of a stream that comes in two pieces, as a text. The only error is out of memory.
-fn heard(alloc: Global, first: &[u8], second: &[u8]) -> Result<String, AllocError> {
+fn items_of(alloc: Global, first: &[u8], second: &[u8]) -> Result<String, AllocError> {
     let mut text = String::new(alloc);
     let mut reader = OrderReader::new(alloc);
     reader.feed(first)?;
@@ -71,8 +71,8 @@ fn heard(alloc: Global, first: &[u8], second: &[u8]) -> Result<String, AllocErro
 fn orders_in_two_pieces(rt: HostRuntime) -> Result<(), Fail> {
     for &count in &[0, 5, 32, 35, 40, 46] {
         let (first, second) = STREAM.split_at(count);
-        let text = heard(rt.alloc(), first, second)?;
-        assert!(rt; text.as_str() == HEARD);
+        let text = items_of(rt.alloc(), first, second)?;
+        assert!(rt; text.as_str() == ITEMS);
     }
     Ok(())
 }

@@ -156,7 +156,7 @@ const REFUSED: [&str; 25] = [
 ];
 
 /// Lines of words that ask for a text.
-const TOLD: [&str; 3] = ["printd --version", "printd --help", "printd serve --help"];
+const ASKING: [&str; 3] = ["printd --version", "printd --help", "printd serve --help"];
 
 /// The exit status for this text: `status` if the text ends with a line feed, else that of a failure.
 fn ends_with(text: &str, status: ExitStatus) -> ExitStatus {
@@ -214,9 +214,9 @@ fn words_that_are_refused(rt: HostRuntime) -> Result<(), Fail> {
 
 #[test]
 fn words_that_ask_for_a_text(rt: HostRuntime) -> Result<(), Fail> {
-    for &line in &TOLD {
-        let told = ends(rt.alloc(), line, ExitStatus::Done)?;
-        assert!(rt; told, "{line}");
+    for &line in &ASKING {
+        let done = ends(rt.alloc(), line, ExitStatus::Done)?;
+        assert!(rt; done, "{line}");
     }
     Ok(())
 }

@@ -227,7 +227,7 @@ fn put_notes(text: &mut String, list: &JobList) -> Result<(), AllocError> {
 }
 
 /// A list as the rows have it.
-fn told_of(alloc: Global, list: &JobList) -> Result<String, AllocError> {
+fn row_of(alloc: Global, list: &JobList) -> Result<String, AllocError> {
     let mut text = String::new(alloc);
     for job in &list.jobs {
         put_job(&mut text, job)?;
@@ -237,9 +237,9 @@ fn told_of(alloc: Global, list: &JobList) -> Result<String, AllocError> {
 }
 
 /// What becomes of a list. The only error is out of memory.
-fn told(alloc: Global, list: &str, settings: &Settings) -> Result<String, AllocError> {
+fn result_of(alloc: Global, list: &str, settings: &Settings) -> Result<String, AllocError> {
     match read_list(alloc, list.as_bytes(), settings) {
-        Ok(list) => told_of(alloc, &list),
+        Ok(list) => row_of(alloc, &list),
         Err(error) => format!(in alloc; "{error}"),
     }
 }
@@ -248,7 +248,7 @@ fn told(alloc: Global, list: &str, settings: &Settings) -> Result<String, AllocE
 fn first_other(alloc: Global, settings: &Settings) -> Result<Option<usize>, AllocError> {
     for (place, row) in ROWS.iter().enumerate() {
         let (list, wanted) = row;
-        if told(alloc, list, settings)?.as_str() != *wanted {
+        if result_of(alloc, list, settings)?.as_str() != *wanted {
             return Ok(Some(place));
         }
     }

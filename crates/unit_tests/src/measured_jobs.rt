@@ -35,7 +35,7 @@ const BELOW_NOTHING: [Job; 3] = [
 ];
 
 /// A printer that reports its pages: the estimates are far off, and don't count.
-const TOLD: [Job; 2] = [
+const REPORTED: [Job; 2] = [
     (Sides::One, 74, (1, 1200), 1200),
     (Sides::One, 80, (2, 1900), 1900),
 ];
@@ -71,7 +71,7 @@ const ROWS: [(&[Job], &str); 8] = [
         "# one side: jobs 3, pages 6; two sides: jobs 0, pages 0\nrate_one = 1007\n# rate_two: no such job yet\nsetup = 0\n",
     ),
     (
-        &TOLD,
+        &REPORTED,
         "# one side: jobs 2, pages 3; two sides: jobs 0, pages 0\nrate_one = 700\n# rate_two: no such job yet\nsetup = 500\n",
     ),
     (
@@ -88,10 +88,10 @@ const ROWS: [(&[Job], &str); 8] = [
 fn measured(alloc: Global, jobs: &[Job]) -> Result<String, AllocError> {
     let mut measurement = Measurement::new();
     let mut now = 0u64;
-    for (sides, impressions, told, ms) in jobs {
+    for (sides, impressions, printed, ms) in jobs {
         measurement.begin(*sides, *impressions, now);
-        if told.0 > 0 {
-            measurement.pages(told.0, now.saturating_add(told.1));
+        if printed.0 > 0 {
+            measurement.pages(printed.0, now.saturating_add(printed.1));
         }
         now = now.saturating_add(*ms);
         let _measured = measurement.finish(now);

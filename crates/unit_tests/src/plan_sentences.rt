@@ -49,8 +49,8 @@ fn said_of(alloc: Global, text: &str) -> Result<String, AllocError> {
 #[test]
 fn objections(rt: HostRuntime) -> Result<(), Fail> {
     for &(text, said) in &SAID {
-        let told = said_of(rt.alloc(), text)?;
-        assert_eq!(rt; told.as_str(), said);
+        let sentence = said_of(rt.alloc(), text)?;
+        assert_eq!(rt; sentence.as_str(), said);
     }
     Ok(())
 }

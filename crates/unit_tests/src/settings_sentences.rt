@@ -95,17 +95,17 @@ const ROWS: [(&str, &str, &str); 18] = [
 
 /// The sentence about the whole file with a text replaced; empty where the file has no fault. The only error
 /// is out of memory.
-fn told(alloc: Global, old: &str, new: &str) -> Result<String, AllocError> {
+fn sentence_about(alloc: Global, old: &str, new: &str) -> Result<String, AllocError> {
     let text = WHOLE.replace(alloc, old, new)?;
-    let told = explain(alloc, "f", text.as_bytes())?;
-    Ok(told.unwrap_or(String::new(alloc)))
+    let sentence = explain(alloc, "f", text.as_bytes())?;
+    Ok(sentence.unwrap_or(String::new(alloc)))
 }
 
 #[test]
 fn sentences_about_settings(rt: HostRuntime) -> Result<(), Fail> {
     for &(old, new, sentence) in &ROWS {
-        let told = told(rt.alloc(), old, new)?;
-        assert_eq!(rt; told.as_str(), sentence);
+        let found = sentence_about(rt.alloc(), old, new)?;
+        assert_eq!(rt; found.as_str(), sentence);
     }
     Ok(())
 }
