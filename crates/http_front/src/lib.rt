@@ -28,4 +28,4 @@ pub use law::{
 };
 pub use reader::HttpReader;
 pub use refusal::HttpRejection;
-pub use reply::{continue_head, write_head};
+pub use reply::{continue_head, write_refusal_head, write_reply_head};

@@ -23,19 +23,18 @@ pub enum HttpRejection {
     NotImplemented,
 }
 
-impl HttpRejection {
-    /// The status of the reply.
-    pub fn status(self) -> StatusCode
-        ensures { result ≡ status_of self }
-    {
-        match self {
-            HttpRejection::BadRequest => StatusCode::BAD_REQUEST,
-            HttpRejection::MethodNotAllowed => StatusCode::METHOD_NOT_ALLOWED,
-            HttpRejection::ContentTooLarge => StatusCode::PAYLOAD_TOO_LARGE,
-            HttpRejection::UnsupportedMediaType => StatusCode::UNSUPPORTED_MEDIA_TYPE,
-            HttpRejection::ExpectationFailed => StatusCode::EXPECTATION_FAILED,
-            HttpRejection::HeadTooLarge => StatusCode::REQUEST_HEADER_FIELDS_TOO_LARGE,
-            HttpRejection::NotImplemented => StatusCode::NOT_IMPLEMENTED,
-        }
+/// The status of the reply to a refused request. It is no method: a type whose methods name a large library has each
+/// crate above load it.
+pub(crate) fn status_of(refusal: HttpRejection) -> StatusCode
+    ensures { result ≡ status_of refusal }
+{
+    match refusal {
+        HttpRejection::BadRequest => StatusCode::BAD_REQUEST,
+        HttpRejection::MethodNotAllowed => StatusCode::METHOD_NOT_ALLOWED,
+        HttpRejection::ContentTooLarge => StatusCode::PAYLOAD_TOO_LARGE,
+        HttpRejection::UnsupportedMediaType => StatusCode::UNSUPPORTED_MEDIA_TYPE,
+        HttpRejection::ExpectationFailed => StatusCode::EXPECTATION_FAILED,
+        HttpRejection::HeadTooLarge => StatusCode::REQUEST_HEADER_FIELDS_TOO_LARGE,
+        HttpRejection::NotImplemented => StatusCode::NOT_IMPLEMENTED,
     }
 }

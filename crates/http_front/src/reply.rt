@@ -1,8 +1,9 @@
 //! The heads of replies.
-ghost use Rattle.std.specs.Prelude.{◌≡◌, ◌+◌, ◌<◌, ◌≤◌, ◌++◌, OnOk, OnErr, IsOk, vec_len, length as length_of};
+ghost use Rattle.std.specs.Prelude.{◌≡◌, ◌+◌, ◌<◌, ◌≤◌, ◌++◌, OnOk, OnErr, IsOk, true, vec_len, length as length_of};
 ghost use Rattle.std.specs.Vec.{vec_capacity};
-ghost use Rattle.http_front.specs.Reply.{IsReplyStatus, continue_head, ending, head, own_field, phrase, status_line};
+ghost use Rattle.http_front.specs.Reply.{IsReplyStatus, continue_head, ending, head, own_field, phrase, status_line, status_of};
 
+use crate::refusal::{HttpRejection, status_of};
 use http::StatusCode;
 use itoa::Buffer;
 use std::alloc::AllocError;
@@ -14,12 +15,35 @@ pub fn continue_head() -> &'static [u8]
     b"HTTP/1.1 100 Continue\r\n\r\n"
 }
 
-/// Appends the head of a reply of 200, or of a refusal, with a body of `length` bytes. `closes` indicates whether the
-/// connection closes after it (RFC 9112, sections 4 and 9.6).
+/// Appends the head of a reply of 200 with a body of `length` bytes. `closes` indicates whether the connection closes
+/// after it (RFC 9112, sections 4 and 9.6).
 ///
 /// The only error is out of memory, and nothing is appended then. Memory is taken only where the room is less
 /// than the head needs; 128 bytes of room always suffice. The room never shrinks.
-pub fn write_head(
+pub fn write_reply_head(length: usize, closes: bool, output: &mut Vec<u8>) -> Result<(), AllocError>
+    ensures ok { OnOk result (output.new.items ≡ output.old.items ++ head 200 length closes) }
+    ensures err { OnErr result (output.new.items ≡ output.old.items) }
+    ensures room { vec_len output.old + 128 ≤ vec_capacity output.old → IsOk result }
+    ensures full { OnErr result (vec_capacity output.old < vec_len output.old + length_of (head 200 length closes)) }
+    ensures capacity { vec_capacity output.old ≤ vec_capacity output.new }
+{
+    write_head(StatusCode::OK, length, closes, output)
+}
+
+/// Appends the head of the reply to a refused request, which has no body. The connection closes after it. The errors
+/// and the room are those of [`write_reply_head`].
+pub fn write_refusal_head(refusal: HttpRejection, output: &mut Vec<u8>) -> Result<(), AllocError>
+    ensures ok { OnOk result (output.new.items ≡ output.old.items ++ head (status_of refusal) 0 true) }
+    ensures err { OnErr result (output.new.items ≡ output.old.items) }
+    ensures room { vec_len output.old + 128 ≤ vec_capacity output.old → IsOk result }
+    ensures full { OnErr result (vec_capacity output.old < vec_len output.old + length_of (head (status_of refusal) 0 true)) }
+    ensures capacity { vec_capacity output.old ≤ vec_capacity output.new }
+{
+    write_head(status_of(refusal), 0, true, output)
+}
+
+/// Appends the head of a reply of 200, or of a refusal, with a body of `length` bytes.
+fn write_head(
     status: StatusCode,
     length: usize,
     closes: bool,

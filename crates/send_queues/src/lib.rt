@@ -5,7 +5,7 @@
 //! aren't copied: their octets are shared with the spool. Up to [`RESERVED_BYTES`] waiting bytes need no
 //! memory beyond what was reserved at the start.
 //!
-//! Examples: the sessions of `server_tests`, and the traces in `crates/play_examples/data`.
+//! Examples: the sessions of `unit_tests`, and the traces in `crates/play_examples/data`.
 #![tactic(auto)]
 
 mod outgoing;

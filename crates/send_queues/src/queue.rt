@@ -9,8 +9,7 @@ ghost use Rattle.send_queues.specs.SendQueue.{OffersFront, IsSome, joined};
 
 use crate::outgoing::{Outgoing, OutgoingJob};
 use device_link::{write_cancel, write_job};
-use http::StatusCode;
-use http_front::{HttpRejection, continue_head, write_head};
+use http_front::{HttpRejection, continue_head, write_refusal_head, write_reply_head};
 use octets::{Document, Octets, Pages};
 use std::alloc::{AllocError, Global};
 use std::io::IoSlice;
@@ -313,7 +312,7 @@ fn append_reply(output: &mut Vec<u8>, closes: bool, bytes: &[u8]) -> Result<(), 
     ensures capacity { vec_capacity output.old ≤ vec_capacity output.new }
 {
     let before = output.len();
-    write_head(StatusCode::OK, bytes.len(), closes, output)?;
+    write_reply_head(bytes.len(), closes, output)?;
     let appended = output.extend_from_slice(bytes);
     if appended.is_err() {
         output.truncate(before);
@@ -330,5 +329,5 @@ fn append_refusal(output: &mut Vec<u8>, refusal: HttpRejection) -> Result<(), Al
     ensures full { OnErr result (vec_capacity output.old < vec_len output.old + length (refusal_head refusal)) }
     ensures capacity { vec_capacity output.old ≤ vec_capacity output.new }
 {
-    write_head(refusal.status(), 0, true, output)
+    write_refusal_head(refusal, output)
 }
