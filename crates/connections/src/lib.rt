@@ -7,7 +7,7 @@
 //!
 //! Its contracts are relations on an entry: all bytes that were read, the part of them that was acted
 //! on, all bytes that were due and all bytes that were taken (`specs/Entry.antt`). Examples: the
-//! sessions of `server_tests`, and the traces in `crates/play_examples/data`.
+//! sessions of `unit_tests`, and the traces in `crates/play_examples/data`.
 #![tactic(auto)]
 
 mod ask;

@@ -10,7 +10,7 @@
 //! noted while the turns are recorded. The contracts of the sockets are in `sockets`, and those of an engine
 //! over any wire in `server`.
 //!
-//! Tests: `server_tests`.
+//! Tests: `unit_tests`.
 #![tactic(auto)]
 
 mod busy_poll;

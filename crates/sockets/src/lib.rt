@@ -6,7 +6,7 @@
 //! Each call of the wire is added with its answer to the [`CallHistory`] of the sockets, and nothing else
 //! changes that.
 //!
-//! Tests: `server_tests`.
+//! Tests: `unit_tests`.
 #![tactic(auto)]
 
 mod call_history;

@@ -60,7 +60,7 @@ pub struct Sockets {
 }
 
 /// Hands each socket the events that a wait reported for it.
-fn tell(
+fn notify_all(
     events: &Events,
     listen_sockets: &mut ListenSockets,
     links: &mut Slab<Link>,
@@ -77,7 +77,7 @@ fn tell(
 }
 
 /// Frees the memory of each socket that only a rush needs.
-fn rest(links: &mut Slab<Link>) {
+fn release_buffers(links: &mut Slab<Link>) {
     for key in 0..links.capacity() {
         if let Some(link) = links.get_mut(key) {
             link.release();
@@ -163,9 +163,9 @@ impl Sockets {
         self.waited = self.moment;
         self.poll.poll(&mut self.events, Some(most))?;
         if self.events.is_empty() && !most.is_zero() {
-            rest(&mut self.links);
+            release_buffers(&mut self.links);
         }
-        tell(
+        notify_all(
             &self.events,
             &mut self.listen_sockets,
             &mut self.links,
@@ -380,6 +380,21 @@ impl Sockets {
         if link.has_nothing() {
             return Progress::Waiting;
         }
+        self.read_link(id, buffer, over)
+    }
+
+    /// Reads bytes of a connection that may have some. Most reads of a turn are of idle connections: so this call isn't
+    /// inlined there. `over` indicates whether the peer has no time left.
+    #[inline(never)]
+    fn read_link(&mut self, id: WireId, buffer: &mut [u8], over: bool) -> Progress<usize>
+        ensures count { IsCount result (length buffer.old) }
+        ensures cause { HasCause self.old.failures self.new.failures result }
+        ensures calls { self.new.history ≡ self.old.history }
+    {
+        let moment = self.moment;
+        let Some(link) = self.links.get_mut(id as usize) else {
+            return Progress::End;
+        };
         match link.read(buffer, moment) {
             Ok(0) => {
                 link.leaves(CloseReason::Left);

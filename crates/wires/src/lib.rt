@@ -4,7 +4,7 @@
 //! bytes that they send. The crate `sockets` has a wire of the system's sockets. The contracts of an engine
 //! over any wire are in `server`.
 //!
-//! Tests: `server_tests`.
+//! Tests: `unit_tests`.
 #![tactic(auto)]
 
 mod door;

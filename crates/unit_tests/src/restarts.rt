@@ -86,17 +86,17 @@ impl JournaledServer {
 #[derive(Drop)]
 struct Killed {
     /// Whether the client has got its reply.
-    told: bool,
+    replied: bool,
     journal: Vec<u8>,
 }
 
 impl JournaledServer {
     /// Ends the server at once.
     fn kill(self) -> Killed {
-        let told = got(&self.wire.wire.wire, 0, PLAIN.answered);
+        let replied = got(&self.wire.wire.wire, 0, PLAIN.answered);
         let JournaledServer { journal, .. } = self;
         Killed {
-            told,
+            replied,
             journal: journal.lines,
         }
     }
@@ -197,7 +197,7 @@ struct Kill {
     written: &'static [u8],
     turns: usize,
     /// Whether the client has got its reply.
-    told: bool,
+    replied: bool,
     /// The state of the client's job after the restart, if the job is there.
     state: Option<JobState>,
 }
@@ -206,48 +206,48 @@ const KILLS: [Kill; 6] = [
     Kill {
         written: b"",
         turns: 0,
-        told: false,
+        replied: false,
         state: None,
     },
     // The job is stored before its reply is sent.
     Kill {
         written: b"",
         turns: 1,
-        told: false,
+        replied: false,
         state: Some(JobState::Pending),
     },
     Kill {
         written: b"",
         turns: 2,
-        told: true,
+        replied: true,
         state: Some(JobState::Pending),
     },
     // A device that doesn't run leaves the job waiting.
     Kill {
         written: b"HELLO A\n",
         turns: 2,
-        told: true,
+        replied: true,
         state: Some(JobState::Pending),
     },
     // The device has the job in hand. It isn't printed again.
     Kill {
         written: b"HELLO A\nREADY\n",
         turns: 2,
-        told: true,
+        replied: true,
         state: Some(JobState::Aborted),
     },
     Kill {
         written: b"HELLO A\nREADY\nDONE 1\n",
         turns: 2,
-        told: true,
+        replied: true,
         state: Some(JobState::Completed),
     },
 ];
 
-/// Returns whether the client was told what it is to be told, and its job is as it is to be after the restart.
+/// Returns whether the client got a reply if it was to get one, and its job is as wanted after the restart.
 fn survives(alloc: Global, kill: Kill) -> Result<bool, Fail> {
     let left = serve_and_kill(alloc, kill.written, kill.turns)?;
-    Ok(left.told == kill.told && resumed(alloc, &left.journal)? == Ok(kill.state))
+    Ok(left.replied == kill.replied && resumed(alloc, &left.journal)? == Ok(kill.state))
 }
 
 /// What is left of a journal, and what becomes of it.

@@ -74,7 +74,7 @@ fn is_dispatched(handled: &Option<Handled>) -> bool {
 }
 
 /// The number of these events that a core dispatches, and the numbers of plans and starts.
-fn heard_of(
+fn counts_of(
     alloc: Global,
     core: &mut Core<AugmentingPaths>,
     events: Vec<Timed>,
@@ -88,19 +88,19 @@ fn heard_of(
     Ok((dispatched, counts.plans, counts.starts))
 }
 
-/// The numbers of [`heard_of`] for the day, on a core that has just started.
-fn heard(alloc: Global) -> Result<(usize, u64, u64), Fail> {
+/// The numbers of [`counts_of`] for the day, on a core that has just started.
+fn counts_of_day(alloc: Global) -> Result<(usize, u64, u64), Fail> {
     let events = day(alloc)?;
     let settings = read_settings(alloc, ONE_DEVICE)?;
     let Ok(mut core) = Core::new(alloc, settings, AugmentingPaths::new(alloc)) else {
         return Err(Fail::from("out of memory"));
     };
-    heard_of(alloc, &mut core, events)
+    counts_of(alloc, &mut core, events)
 }
 
 /// A job that comes to a running device makes one plan and one start.
 #[test]
 fn run_of_events(rt: HostRuntime) -> Result<(), Fail> {
-    assert_eq!(rt; heard(rt.alloc())?, (3, 1, 1));
+    assert_eq!(rt; counts_of_day(rt.alloc())?, (3, 1, 1));
     Ok(())
 }
