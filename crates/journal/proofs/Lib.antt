@@ -1,4 +1,4 @@
-pub mod Passing
+pub mod PassedCalls
 pub mod Quiet
 pub mod Sent
 pub mod WaitingJobs
@@ -7,3 +7,5 @@ pub mod RecordingWire
 pub mod Played
 pub mod LostTurn
 pub mod Filed
+pub mod SameJobs
+pub mod KeptJobs

@@ -12,7 +12,7 @@ use Rattle.server.specs.Ledger.{Ledger}
 use Rattle.server.specs.State.{EngineState}
 use Rattle.server.specs.Turn.{Trace, Turned, is_due, is_tick_due}
 use Rattle.server.specs.Refinement.{Represents, StandsAt, RefinesTurn}
-use Rattle.server.proofs.Closing.{not_broken}
+use Rattle.server.proofs.ClosedConnections.{not_broken}
 use Rattle.journal.specs.Passing.{calls_in, IsLost, AreLost}
 use Rattle.journal.specs.Laws.{WaitingStay, BeginsNone, NoneBegins}
 use Rattle.journal.specs.File.{AreLines, IsFile}

@@ -17,7 +17,7 @@ use Rattle.server.specs.Polling.{Opens, AcceptsAs, AcceptsOne, AcceptsAt, FeedsO
 use Rattle.server.specs.Turn.{is_tick_due, Ticks, TicksIfDue, Covers, Rounds, Round, Turn}
 use Rattle.journal.specs.Passing.{IsIdle, IsQuiet}
 use Rattle.journal.specs.Laws.{TurnsUnticked}
-use Rattle.journal.proofs.Passing.{quiet_seen, quiet_parts}
+use Rattle.journal.proofs.PassedCalls.{quiet_seen, quiet_parts}
 
 -- The relation leaves the ledger unchanged if its happenings are quiet.
 record Still (R : Rel) : Type 0 where

@@ -19,7 +19,7 @@ use Rattle.server.specs.Polling.{AcceptsAs, AcceptsOne, AcceptsAt, ReadsAs, Read
 use Rattle.server.specs.Turn.{is_tick_due, Ticks, TicksIfDue, Covers, Rounds, Round, Turn}
 use Rattle.journal.specs.Passing.{calls_in, AllWait, AreOutward}
 use Rattle.journal.specs.Laws.{TurnsUnticked, IsDue, AreDue}
-use Rattle.journal.proofs.Passing.{calls_append, calls_seen, IsUncut, uncut_parts, outward_parts}
+use Rattle.journal.proofs.PassedCalls.{calls_append, calls_seen, IsUncut, uncut_parts, outward_parts}
 
 -- ---- bytes that were due
 

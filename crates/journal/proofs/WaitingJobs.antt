@@ -3,7 +3,6 @@ use Rattle.std.proofs.Common.{◌≡◌, ◌≢◌, ◌==◌, ◌&&◌, ◌||◌
 use Rattle.std.specs.Prelude.{option_map, nat_lt, unwrap_or, slice_get, MatchOption}
 use Rattle.std.specs.List.{list_any}
 use Rattle.std.specs.Option.{option_map_or}
-use Rattle.std.proofs.lemmas.Bool.{eqb-true, ne_eqb}
 use Rattle.base_types.specs.declared.limits.TheConstants.Limits.{FINISHED_JOBS_KEPT}
 use Rattle.base_types.specs.declared.needs.Stranded.{Stranded}
 use Rattle.base_types.specs.Device.{Device}
@@ -17,10 +16,12 @@ use Rattle.job_objects.specs.JobState.{is_finished}
 use Rattle.job_objects.specs.Job.{JobRecord}
 use Rattle.job_objects.specs.JobStep.{ended, changed_from, stepped}
 use Rattle.octets.specs.Document.{DocumentRecord}
-use Rattle.spool.specs.Spooled.{SpooledRecord, told, marked}
+use Rattle.spool.specs.Spooled.{SpooledRecord, reported, marked}
 use Rattle.spool.specs.Jobs.{spooled_at, with_job}
 use Rattle.spool.specs.Kept.{is_kept, later_jobs}
 use Rattle.spool.specs.Calls.{is_ready, marked_by}
+use Rattle.spool.proofs.Ids.{KeepsId}
+use Rattle.spool.proofs.OnDevice.{found_other, found_map}
 use Rattle.plan_prices.specs.Plan.{PlanRecord}
 use Rattle.print_room.specs.Activity.{job_on, stopped_at, idle}
 use Rattle.print_room.specs.State.{State, with_device}
@@ -31,48 +32,12 @@ use Rattle.journal.specs.Laws.{WaitingStay, marked_as}
 
 -- ---- the job of an id in a changed list
 
--- the change leaves the id of each job
-abbrev pub KeepsId : (SpooledRecord → SpooledRecord) → Type 0
-KeepsId f = (s : SpooledRecord) → (f s).job.id ≡ s.job.id
-
 -- the first job of a list, whose id is or isn't the sought id
 first_is : (id : ℕ) (s : SpooledRecord) (jobs : List SpooledRecord) → (id == s.job.id) ≡ true → spooled_at id (s ∷ jobs) ≡ Some s
 first_is id s jobs is = ap (λ (b : Bool). cond b (Some s) (spooled_at id jobs)) is
 
 first_is_other : (id : ℕ) (s : SpooledRecord) (jobs : List SpooledRecord) → (id == s.job.id) ≡ false → spooled_at id (s ∷ jobs) ≡ spooled_at id jobs
 first_is_other id s jobs is = ap (λ (b : Bool). cond b (Some s) (spooled_at id jobs)) is
-
--- a job of the same id gives the same answer
-same_test : (id : ℕ) (s w : SpooledRecord) (b : Bool) → w.job.id ≡ s.job.id → (id == s.job.id) ≡ b → (id == w.job.id) ≡ b
-same_test id s w b same is = ap (λ (n : ℕ). id == n) same ∙ is
-
--- a job of one id isn't of another id
-other_id : (id one n : ℕ) → id ≢ one → (one == n) ≡ true → (id == n) ≡ false
-other_id id one n differ is = ne_eqb id n (λ same. differ (same ∙ sym (eqb-true one n is)))
-
--- a job is found as before where the job of another id is changed
-found_other : (id one : ℕ) (f : SpooledRecord → SpooledRecord) → KeepsId f → id ≢ one → (jobs : List SpooledRecord) → spooled_at id (with_job one f jobs) ≡ spooled_at id jobs
-found_other id one f same differ [] = refl
-found_other id one f same differ (s ∷ jobs) = step (one == s.job.id) refl (found_other id one f same differ jobs)
-  where
-    rest_of : (b : Bool) → spooled_at id (with_job one f jobs) ≡ spooled_at id jobs → cond b (Some s) (spooled_at id (with_job one f jobs)) ≡ cond b (Some s) (spooled_at id jobs)
-    rest_of true rest = refl
-    rest_of false rest = rest
-
-    step : (b : Bool) → (one == s.job.id) ≡ b → spooled_at id (with_job one f jobs) ≡ spooled_at id jobs → spooled_at id (cond b (f s ∷ jobs) (s ∷ with_job one f jobs)) ≡ spooled_at id (s ∷ jobs)
-    step true is rest =
-        let out = other_id id one s.job.id differ is in
-        first_is_other id (f s) jobs (same_test id s (f s) false (same s) out) ∙ sym (first_is_other id s jobs out)
-    step false is rest = rest_of (id == s.job.id) rest
-
--- where each job is changed, the changed job is found
-found_map : (id : ℕ) (f : SpooledRecord → SpooledRecord) → KeepsId f → (jobs : List SpooledRecord) → spooled_at id (map f jobs) ≡ option_map f (spooled_at id jobs)
-found_map id f same [] = refl
-found_map id f same (s ∷ jobs) = step (id == s.job.id) refl (found_map id f same jobs)
-  where
-    step : (b : Bool) → (id == s.job.id) ≡ b → spooled_at id (map f jobs) ≡ option_map f (spooled_at id jobs) → spooled_at id (f s ∷ map f jobs) ≡ option_map f (cond b (Some s) (spooled_at id jobs))
-    step true is rest = first_is id (f s) (map f jobs) (same_test id s (f s) true (same s) is)
-    step false is rest = first_is_other id (f s) (map f jobs) (same_test id s (f s) false (same s) is) ∙ rest
 
 -- what is found is one job
 there_is : {x s : SpooledRecord} → Some x ≡ Some s → x ≡ s
@@ -112,7 +77,7 @@ failed_id Is.Aborted now job = refl
 failed_id Is.Completed now job = refl
 
 -- the change of a job whose device is gone leaves the id
-fail_keeps_id : (now : ℕ) → KeepsId (told Fail now)
+fail_keeps_id : (now : ℕ) → KeepsId (reported Fail now)
 fail_keeps_id now s = either s.on_device
   where
     either : (on : Bool) → (cond on (record s { job = stepped Fail now s.job; documents = []; on_device = false }) s).job.id ≡ s.job.id
@@ -127,8 +92,8 @@ unfinished_kept jobs s is = ap (λ (t : Bool). not (t && not s.on_device) || nat
 found_after : (now id : ℕ) (s : SpooledRecord) (had : Option ℕ) (jobs : List SpooledRecord) → spooled_at id jobs ≡ Some s → is_finished s.job.state ≡ false → had ≢ Some id → spooled_at id (jobs_after now had (Some Fail) jobs) ≡ Some s
 found_after now id s None jobs found unfinished apart = found
 found_after now id s (Some one) jobs found unfinished apart =
-    let rest : List SpooledRecord = with_job one (told Fail now) jobs in
-    found_kept id (is_kept rest) rest s (found_other id one (told Fail now) (fail_keeps_id now) (λ same. apart (ap (λ (n : ℕ). Some n) (sym same))) jobs ∙ found) (unfinished_kept rest s unfinished)
+    let rest : List SpooledRecord = with_job one (reported Fail now) jobs in
+    found_kept id (is_kept rest) rest s (found_other id one (reported Fail now) (fail_keeps_id now) (λ same. apart (ap (λ (n : ℕ). Some n) (sym same))) jobs ∙ found) (unfinished_kept rest s unfinished)
 
 -- a job that waits isn't finished
 is_unfinished : (s : SpooledRecord) → (s.job.state ≡ Is.Pending) ⊎ (s.job.state ≡ Is.PendingHeld) → is_finished s.job.state ≡ false

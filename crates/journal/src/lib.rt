@@ -9,8 +9,15 @@
 //! the file. The connections are lost then: [`Resumption::restart`] takes a turn in which each read and each write
 //! fails and no plan is made, so that each job that waited waits
 //! ([`lost_connections_leave_waiting_jobs`]).
+//!
+//! A job that another engine has to take, since its server's settings are others now or since a device may have printed
+//! some of it, is a [`SavedJob`]: all that was sent with it. [`resubmit`] sends each such job to an engine by requests
+//! of its owner, over a connection in memory, and appends the turns to a storage as those of any client. So the engine
+//! is at the trace of the stored lines, and its files can be played. A job that got another id is the same job: it is
+//! compared. [`pause_printers`] pauses printers in the same way.
 #![tactic(auto)]
 
+mod client;
 mod fault;
 mod filing;
 mod gate;
@@ -18,10 +25,20 @@ mod law;
 mod lost_wire;
 mod mark;
 mod pausable;
+mod pausing;
+mod requests;
 mod restart_witness;
 mod restarting;
+mod resubmission_fault;
+mod resubmitted;
 mod resumption;
+mod same;
+mod saved_job;
+mod saving;
+mod serving;
 mod storage;
+mod submitting;
+mod unsent;
 
 pub use fault::PlayFault;
 pub use filing::{FilingFault, file_turn};
@@ -32,6 +49,12 @@ pub use law::{
 };
 pub use mark::Mark;
 pub use pausable::Pausable;
+pub use pausing::{pause_printers, paused_printers};
 pub use restarting::Restarted;
+pub use resubmission_fault::ResubmissionFault;
+pub use resubmitted::Resubmitted;
 pub use resumption::{JournaledEngine, Resumption};
+pub use saved_job::SavedJob;
+pub use saving::{Which, saved_jobs};
 pub use storage::{Storage, StoredLines};
+pub use submitting::resubmit;

@@ -41,7 +41,6 @@ pub later : (lines more : List ℕ) (old new : EngineState) → HasStarted lines
 later lines more old new started keeps = record { settings = started.settings; within = started.within; first = started.first; played = keeps (opening started.settings started.first) started.played }
 
 -- no line was played, and turns were stored then
-pub renewed : (settings : ServerSettings) (first : ℕ) (none paused submitted : List ℕ) (fresh one two : EngineState) → MeetsLimits settings → StandsAt (opening settings first) [] fresh → none ≡ []
-    → KeepsPlayed none fresh paused one → KeepsPlayed paused one submitted two → HasStarted submitted two
-renewed settings first none paused submitted fresh one two within stands empty pauses submits =
-    later paused submitted one two (later none paused fresh one (begun settings first none fresh within stands empty) pauses) submits
+pub renewed : (settings : ServerSettings) (first : ℕ) (none more : List ℕ) (fresh renewed : EngineState) → MeetsLimits settings → StandsAt (opening settings first) [] fresh → none ≡ []
+    → KeepsPlayed none fresh more renewed → HasStarted more renewed
+renewed settings first none more fresh new within stands empty keeps = later none more fresh new (begun settings first none fresh within stands empty) keeps

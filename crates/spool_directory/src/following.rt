@@ -145,8 +145,13 @@ impl Directory<'_> {
     pub(crate) fn play(&self, listing: &Listing, base: u32) -> Result<PlayedFiles, SpoolFault>
         ensures { IfOk result (λ played. IsPlaying played.resumption) }
     {
-        let mut played = self.play_base(base)?;
-        self.follow_all(listing, &mut played)?;
-        Ok(played)
+        let mut played = match self.play_base(base) {
+            Ok(played) => played,
+            Err(fault) => return Err(fault),
+        };
+        match self.follow_all(listing, &mut played) {
+            Ok(()) => Ok(played),
+            Err(fault) => Err(fault),
+        }
     }
 }

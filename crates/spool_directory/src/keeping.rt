@@ -1,7 +1,7 @@
 //! The documents of jobs that are refused.
 use crate::directory::Directory;
+use journal::{Resubmitted, SavedJob};
 use octets::{Document, Octets};
-use resubmission::{Resubmitted, SavedJob};
 use std::fs::{File, OpenOptions};
 use std::io;
 use std::io::Write;

@@ -108,6 +108,25 @@ pub(crate) fn length_of_file(file: &File) -> io::Result<u64> {
     Ok(file.metadata()?.len())
 }
 
+/// Plays the turns of a base behind its first lines. Gives the number of bytes, too, up to the end of the last turn.
+fn play_from(
+    alloc: Global,
+    path: &str,
+    head: &BaseHead,
+    lines: &mut LineReader<'_, File>,
+) -> Result<(Resumption, u64), ReadTrouble>
+    ensures { IfOk result (λ played. IsPlaying played.0) }
+{
+    let mut resumption = match resume(alloc, path, head) {
+        Ok(resumption) => resumption,
+        Err(trouble) => return Err(trouble),
+    };
+    match play_turns(alloc, lines, &head.version, head.length, &mut resumption) {
+        Ok(whole) => Ok((resumption, whole)),
+        Err(trouble) => Err(trouble),
+    }
+}
+
 /// Plays the base with a number.
 fn play_base(
     alloc: Global,
@@ -120,21 +139,16 @@ fn play_base(
     let length = length_of_file(file)?;
     let mut lines = LineReader::new(alloc, file)?;
     let head = read_base(alloc, &mut lines)?;
-    let mut resumption = resume(alloc, path, &head)?;
-    let whole = play_turns(
-        alloc,
-        &mut lines,
-        &head.version,
-        head.length,
-        &mut resumption,
-    )?;
-    Ok(PlayedFiles {
-        resumption,
-        head,
-        base: number,
-        last: number,
-        ending: FileEnd { whole, length },
-    })
+    match play_from(alloc, path, &head, &mut lines) {
+        Ok((resumption, whole)) => Ok(PlayedFiles {
+            resumption,
+            head,
+            base: number,
+            last: number,
+            ending: FileEnd { whole, length },
+        }),
+        Err(trouble) => Err(trouble),
+    }
 }
 
 impl Directory<'_> {

@@ -10,11 +10,11 @@ use crate::directory::Directory;
 use crate::draft::DraftFile;
 use crate::fault::SpoolFault;
 use base_types::{JobId, Moment, Text};
-use journal::{JournaledEngine, Pausable};
-use plan_solver::AugmentingPaths;
-use resubmission::{
-    ResubmissionFault, SavedJob, Which, pause_printers, paused_printers, resubmit, saved_jobs,
+use journal::{
+    JournaledEngine, Pausable, ResubmissionFault, SavedJob, Which, pause_printers, paused_printers,
+    resubmit, saved_jobs,
 };
+use plan_solver::AugmentingPaths;
 use server::Engine;
 use settings_file::Settings;
 use std::alloc::{AllocError, Global};
@@ -115,6 +115,20 @@ impl Directory<'_> {
         Ok(())
     }
 
+    /// Has an engine that has taken no turn pause the printers and take the jobs that are carried over.
+    fn take_over(
+        &self,
+        carried: Carried,
+        engine: &mut JournaledEngine,
+        base: &mut DraftFile<'_>,
+    ) -> Result<(), ResubmissionFault>
+        ensures { OnOk result (KeepsPlayed base.old.stored.lines engine.old base.new.stored.lines engine.new) }
+    {
+        self.pause(&carried.paused, engine, base)?;
+        self.tell_in_hand(&carried.in_hand);
+        self.submit(carried.jobs, engine, Moment::start(), base)
+    }
+
     /// The engine of a server with these settings, whose first job gets the id `first`. It has paused the printers and
     /// taken the jobs that are carried over.
     fn renewed_engine(
@@ -128,17 +142,14 @@ impl Directory<'_> {
         requires empty { base.old.stored.lines ≡ [] }
         ensures { IfOk result (λ engine. HasStarted base.new.stored.lines engine) }
     {
-        let directory = *self;
-        let Carried {
-            paused,
-            jobs,
-            in_hand,
-        } = carried;
-        let mut engine = fresh_engine(directory.alloc(), settings, first)?;
-        directory.pause(&paused, &mut engine, base)?;
-        directory.submit(jobs, &mut engine, Moment::start(), base)?;
-        directory.tell_in_hand(&in_hand);
-        Ok(engine)
+        let mut engine = match fresh_engine(self.alloc(), settings, first) {
+            Ok(engine) => engine,
+            Err(fault) => return Err(fault),
+        };
+        match self.take_over(carried, &mut engine, base) {
+            Ok(()) => Ok(engine),
+            Err(fault) => Err(fault),
+        }
     }
 
     /// As [`Directory::renewed_engine`], with a base after the file with the number `last`.

@@ -12,8 +12,7 @@ use crate::playing::FileEnd;
 use crate::watching::WatchedFile;
 use crate::writer::{JournalWriter, Tail};
 use base_types::JobId;
-use journal::{JournaledEngine, Storage, StoredLines};
-use resubmission::paused_printers;
+use journal::{JournaledEngine, Storage, StoredLines, paused_printers};
 use std::io;
 
 /// How the files of a directory are kept.

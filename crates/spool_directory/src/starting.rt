@@ -14,8 +14,9 @@ use crate::renewing::Carried;
 use crate::spool_files::{JournalPlace, SpoolFiles, SpoolOptions, cut};
 use base_types::{JobId, Moment};
 use job_objects::JobState;
-use journal::{JournaledEngine, Restarted, Resumption};
-use resubmission::{ResubmissionFault, SavedJob, Which, saved_jobs};
+use journal::{
+    JournaledEngine, Restarted, ResubmissionFault, Resumption, SavedJob, Which, saved_jobs,
+};
 use settings_file::Settings;
 
 /// A server that starts.
@@ -77,20 +78,35 @@ impl Directory<'_> {
         }
     }
 
-    /// What a server takes over from files that were played, and the id of its first job. The engine that played them
-    /// is dropped, so that documents are in memory once.
+    /// What a server takes over from the engine of another, and the id of its first job.
     fn carry_over(
         &self,
-        played: PlayedFiles,
+        engine: &JournaledEngine,
         reprint: bool,
     ) -> Result<(JobId, Carried), SpoolFault> {
-        let engine = played.resumption.engine();
         let Some(first) = engine.next_job_id() else {
             return Err(self.all_ids_used());
         };
         match Carried::of(self.alloc(), engine, reprint) {
             Ok(carried) => Ok((first, carried)),
             Err(_) => Err(SpoolFault::OutOfMemory),
+        }
+    }
+
+    /// Has an engine lose all connections. Gives the jobs, too, that devices had in hand.
+    fn restarted(&self, resumption: Resumption) -> Result<(Restarted, Vec<SavedJob>), SpoolFault>
+        requires { IsPlaying resumption }
+        ensures { IfOk result (λ made. HasStarted made.0.stored.lines made.0.engine) }
+    {
+        let Ok(mut in_hand) = saved_jobs(self.alloc(), resumption.engine(), Which::InHand) else {
+            return Err(SpoolFault::OutOfMemory);
+        };
+        match restart(resumption) {
+            Ok(restarted) => {
+                in_hand.retain(|job| is_aborted(&restarted.engine, job.id));
+                Ok((restarted, in_hand))
+            }
+            Err(fault) => Err(fault),
         }
     }
 
@@ -217,7 +233,8 @@ impl<'a> SpoolDirectory<'a> {
         }
     }
 
-    /// Starts a server with other settings, or without jobs, after files that were played.
+    /// Starts a server with other settings, or without jobs, after files that were played. The engine that played them
+    /// is dropped first, so that documents are in memory once.
     fn renew(
         self,
         listing: &Listing,
@@ -228,7 +245,11 @@ impl<'a> SpoolDirectory<'a> {
         requires { MeetsLimits settings }
         ensures { IfOk result (λ start. HasStarted start.files.stored.lines start.engine) }
     {
-        let (first, carried) = self.directory.carry_over(played, given.options.reprint)?;
+        let carried = self
+            .directory
+            .carry_over(played.resumption.engine(), given.options.reprint);
+        drop(played);
+        let (first, carried) = carried?;
         self.begin(listing, first, settings, given, carried)
     }
 
@@ -277,14 +298,14 @@ impl<'a> SpoolDirectory<'a> {
     {
         let directory = self.directory;
         let place = place_of(&played);
-        let engine = played.resumption.engine();
-        let Ok(mut in_hand) = saved_jobs(directory.alloc(), engine, Which::InHand) else {
-            return Err(SpoolFault::OutOfMemory);
+        let (restarted, in_hand) = match directory.restarted(played.resumption) {
+            Ok(made) => made,
+            Err(fault) => return Err(fault),
         };
-        let restarted = restart(played.resumption)?;
-        in_hand.retain(|job| is_aborted(&restarted.engine, job.id));
-        let next = directory.next_draft(listing, place, &restarted.text, options.version)?;
-        self.go_on_behind(listing, place, restarted, in_hand, next, options)
+        match directory.next_draft(listing, place, &restarted.text, options.version) {
+            Ok(next) => self.go_on_behind(listing, place, restarted, in_hand, next, options),
+            Err(fault) => Err(fault),
+        }
     }
 
     /// As [`SpoolDirectory::go_on`], with the file that goes on after the place.

@@ -1,9 +1,8 @@
 //! Reports of what a start found, and of what became of the jobs.
 use crate::directory::Directory;
 use base_types::Text;
-use journal::JournaledEngine;
+use journal::{JournaledEngine, Resubmitted, SavedJob};
 use quotes::Quoted;
-use resubmission::{Resubmitted, SavedJob};
 
 impl Directory<'_> {
     /// Reports how many jobs wait, if any do.

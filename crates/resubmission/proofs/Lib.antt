@@ -1,2 +1,0 @@
-pub mod SameJobs
-pub mod Keeping

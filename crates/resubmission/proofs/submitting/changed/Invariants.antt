@@ -1,6 +1,0 @@
-use Rattle.std.proofs.Common.{All, take}
-use Rattle.resubmission.specs.Resubmitting.{IsKept}
-use Rattle.resubmission.proofs.submitting.changed.Given as goal
-
-abbrev pub invariant-loop-one : goal.invariant-loop-one
-invariant-loop-one l = All (IsKept l.engine.core) (take l.one-index l.resubmitted)

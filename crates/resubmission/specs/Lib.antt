@@ -1,4 +1,0 @@
-pub mod Saved
-pub mod Alike
-pub mod Resubmitting
-pub mod Pausing
