@@ -26,7 +26,7 @@ cancels_of id old = map (λ device. record { job = id; device = device }) (optio
 
 -- the job is canceled by the user of the request
 pub record CancelsIt (now : ℕ) (old : State) (name : List ℕ) (id : ℕ) (effects : Effects) (new : State) : Type 0 where
-  pub answer : IsResponse Went.Ok [] [] effects.answer
+  pub response : IsResponse Went.Ok [] [] effects.response
   pub cancels : effects.cancels.items ≡ cancels_of id old
   pub documents : effects.documents.items ≡ []
   pub state : new ≡ canceling now id name old

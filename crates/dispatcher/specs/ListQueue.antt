@@ -25,7 +25,7 @@ IsListed now place request state Nothing = ⊥
 
 -- the queue is listed, and only the last moment changes
 pub record ListsIt (now : ℕ) (old : State) (request : ListQueue) (place : ℕ) (effects : Effects) (new : State) : Type 0 where
-  pub answer : IsListed now place request old effects.answer
+  pub response : IsListed now place request old effects.response
   pub cancels : effects.cancels.items ≡ []
   pub documents : effects.documents.items ≡ []
   pub state : new ≡ record old { last = now }

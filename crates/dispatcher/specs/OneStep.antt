@@ -33,7 +33,7 @@ SameAnswer Nothing Nothing = Unit {0}
 SameAnswer _ _ = ⊥
 
 pub record SameReply (one other : Effects) : Type 0 where
-  pub answer : SameAnswer one.answer other.answer
+  pub response : SameAnswer one.response other.response
   pub cancels : one.cancels.items ≡ other.cancels.items
   pub documents : one.documents.items ≡ other.documents.items
 

@@ -25,7 +25,7 @@ due_cancels request old = cancels_of_each (removed_jobs request old) old
 
 -- There is no response, and there is one state after it. If no job is removed, only the last moment changes.
 pub record RemovesJobs (now : ℕ) (request : RemoveJobs) (old : State) (effects : Effects) (new : State) : Type 0 where
-  pub unanswered : effects.answer ≡ responds.Nothing
+  pub unanswered : effects.response ≡ responds.Nothing
   pub cancels : effects.cancels.items ≡ due_cancels request old
   pub documents : effects.documents.items ≡ []
   pub state : new ≡ canceling_each now request.agent (removed_jobs request old) old

@@ -26,13 +26,13 @@ use Rattle.print_room.specs.Jobs.{expiring}
 
 -- the effects of a device's report have no response
 pub record Reported (now device : ℕ) (report : Report) (old : State) (effects : Effects) (new : State) : Type 0 where
-  pub unanswered : effects.answer ≡ responds.Nothing
+  pub unanswered : effects.response ≡ responds.Nothing
   pub cancels : effects.cancels.items ≡ []
   pub reports : Reports now device report old effects.documents.items new
 
 -- The effects of a tick have no response. The tick aborts the jobs whose documents stopped coming, and may forget the oldest of the finished jobs.
 pub record Ticks (now : ℕ) (old : State) (effects : Effects) (new : State) : Type 0 where
-  pub unanswered : effects.answer ≡ responds.Nothing
+  pub unanswered : effects.response ≡ responds.Nothing
   pub cancels : effects.cancels.items ≡ []
   pub documents : effects.documents.items ≡ []
   pub state : new ≡ expiring now old

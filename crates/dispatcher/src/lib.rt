@@ -12,7 +12,7 @@
 //! The core reads no clock, no socket and no byte of a protocol: an event comes with its moment, and has all
 //! fields of its request. The contracts are about estimated times, not about real ones.
 //!
-//! Examples: the traces in `crates/play_examples/data`. Tests of `Core::run`: `server_tests`.
+//! Examples: the traces in `crates/play_examples/data`. Tests of `Core::run`: `unit_tests`.
 #![tactic(auto)]
 
 mod answering;

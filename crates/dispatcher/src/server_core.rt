@@ -1,5 +1,5 @@
 //! The core and its calls.
-ghost use Rattle.std.specs.Prelude.{◌≡◌, IfOk, IfSome, IsOk, OnErr, option_map, slice_get};
+ghost use Rattle.std.specs.Prelude.{◌≡◌, IfOk, IfSome, IsOk, OnErr, slice_get};
 ghost use Rattle.std.specs.Option.{option_copied};
 ghost use Rattle.settings_file.specs.Settings.{MeetsLimits};
 ghost use Rattle.spool.specs.Jobs.{job_at, spooled_at};
@@ -11,7 +11,6 @@ use crate::apply::apply;
 use base_types::{DeviceId, DeviceNow, JobId, Moment, PrinterId};
 use events::{Effects, Event};
 use job_objects::Job;
-use octets::Document;
 use plan_prices::Planner;
 use print_room::{PrintRoom, Started};
 use settings_file::Settings;
@@ -94,9 +93,8 @@ impl<P: Planner + Drop> Core<P> {
         self.room.last()
     }
 
-    /// The jobs that began with the last plan, by device. Until the next dispatch they can be read with
-    /// [`Core::job`] and [`Core::documents`], once the borrow of the dispatch's own result has ended. The
-    /// call takes no memory.
+    /// The jobs that began with the last plan, by device. Until the next step [`Core::spooled`] lends each with its
+    /// documents, once the borrow of the dispatch's own result has ended. The call takes no memory.
     pub fn begun(&self) -> &[Started]
         ensures { result.now ≡ self.now.begun }
     {
@@ -115,6 +113,13 @@ impl<P: Planner + Drop> Core<P> {
         ensures { option_copied result ≡ job_at id self.now.spool.jobs }
     {
         self.room.spool().get(id)
+    }
+
+    /// The job of an id with its documents, if it is kept. The call takes no memory.
+    pub fn spooled(&self, id: JobId) -> Option<&SpooledJob>
+        ensures { option_copied result ≡ spooled_at id self.now.spool.jobs }
+    {
+        self.room.spool().spooled(id)
     }
 
     /// The jobs that are kept, by rising id. The call takes no memory.
@@ -157,12 +162,5 @@ impl<P: Planner + Drop> Core<P> {
         ensures { option_copied result ≡ slice_get self.now.devices id }
     {
         self.room.devices().get(id.place())
-    }
-
-    /// The documents of a job, until they are handed out or dropped. The call takes no memory.
-    pub fn documents(&self, id: JobId) -> Option<&[Document]>
-        ensures { option_map (λ d. d.now) result ≡ option_map (λ s. s.documents) (spooled_at id self.now.spool.jobs) }
-    {
-        self.room.spool().documents(id)
     }
 }

@@ -72,7 +72,7 @@ pub(crate) fn checked_job(
 }
 
 /// The group of the job that is taken next. `incoming` indicates whether its documents are still to come.
-#[tactic(auto, using(crate::proofs::Waiting::waiting_shown))]
+#[tactic(auto, using(crate::proofs::WaitingReasons::waiting_shown))]
 pub(crate) fn groups_of(
     alloc: Global,
     room: &PrintRoom,

@@ -15,12 +15,12 @@ IsResponse status unsupported groups responds.Nothing = ⊥
 
 -- effects with this response, no cancels and no documents
 pub record Replies (status : Status) (unsupported : List IppAttribute) (groups : List IppGroup) (reply : Effects) : Type 0 where
-  pub answer : IsResponse status unsupported groups reply.answer
+  pub response : IsResponse status unsupported groups reply.response
   pub cancels : reply.cancels.items ≡ []
   pub documents : reply.documents.items ≡ []
 
 -- effects with this response for an LPD client, no cancels and no documents
 pub record AnswersLpd (said : LpdResponse) (reply : Effects) : Type 0 where
-  pub answer : reply.answer ≡ responds.Lpd said
+  pub response : reply.response ≡ responds.Lpd said
   pub cancels : reply.cancels.items ≡ []
   pub documents : reply.documents.items ≡ []

@@ -51,7 +51,7 @@ pub enum Response {
 /// The effects of an event.
 #[derive(Drop)]
 pub struct Effects {
-    pub answer: Response,
+    pub response: Response,
     /// Cancels for devices, by rising job id.
     pub cancels: Vec<Cancel>,
     /// Documents that the core doesn't need any more.
@@ -69,7 +69,7 @@ impl Effects {
         ensures { Replies status unsupported groups result }
     {
         Effects {
-            answer: Response::Ipp(IppResponse {
+            response: Response::Ipp(IppResponse {
                 status,
                 unsupported,
                 groups,
@@ -93,12 +93,12 @@ impl Effects {
 
     /// Effects with the status `Ok` and cancels; no documents.
     pub fn canceled(alloc: Global, cancels: Vec<Cancel>) -> Effects
-        ensures answer { IsResponse Went.Ok [] [] result.answer }
+        ensures response { IsResponse Went.Ok [] [] result.response }
         ensures cancels { result.cancels.items ≡ cancels.items }
         ensures documents { result.documents.items ≡ [] }
     {
         Effects {
-            answer: Response::Ipp(IppResponse {
+            response: Response::Ipp(IppResponse {
                 status: Status::Ok,
                 unsupported: RequestAttributes::new(alloc),
                 groups: ResponseGroups::new(alloc),
@@ -109,13 +109,13 @@ impl Effects {
     }
 
     /// Effects with a response to an LPD client; no cancels and no documents.
-    pub fn to_lpd(alloc: Global, answer: LpdResponse) -> Effects
-        ensures answer { result.answer ≡ Response.Lpd answer }
+    pub fn to_lpd(alloc: Global, response: LpdResponse) -> Effects
+        ensures response { result.response ≡ Response.Lpd response }
         ensures cancels { result.cancels.items ≡ [] }
         ensures documents { result.documents.items ≡ [] }
     {
         Effects {
-            answer: Response::Lpd(answer),
+            response: Response::Lpd(response),
             cancels: Vec::new(alloc),
             documents: Vec::new(alloc),
         }
@@ -123,12 +123,12 @@ impl Effects {
 
     /// Effects with cancels; no response and no documents.
     pub fn removed(alloc: Global, cancels: Vec<Cancel>) -> Effects
-        ensures answer { result.answer ≡ Response.Nothing }
+        ensures response { result.response ≡ Response.Nothing }
         ensures cancels { result.cancels.items ≡ cancels.items }
         ensures documents { result.documents.items ≡ [] }
     {
         Effects {
-            answer: Response::Nothing,
+            response: Response::Nothing,
             cancels,
             documents: Vec::new(alloc),
         }
@@ -136,12 +136,12 @@ impl Effects {
 
     /// Effects with documents; no response and no cancels.
     pub fn unanswered(alloc: Global, documents: Vec<Document>) -> Effects
-        ensures answer { result.answer ≡ Response.Nothing }
+        ensures response { result.response ≡ Response.Nothing }
         ensures cancels { result.cancels.items ≡ [] }
         ensures documents { result.documents.items ≡ documents.items }
     {
         Effects {
-            answer: Response::Nothing,
+            response: Response::Nothing,
             cancels: Vec::new(alloc),
             documents,
         }

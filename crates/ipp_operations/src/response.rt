@@ -15,7 +15,7 @@ const REFUSAL_FRONT: usize = 71;
 
 /// The bytes of the reply to a request-id (RFC 8011, section 4.1.4.2). They begin as a refusal of the status
 /// does. The only error is out of memory.
-#[tactic(auto, using(crate::proofs::Replying::behind_front))]
+#[tactic(auto, using(crate::proofs::ReplyPrefix::behind_front))]
 pub fn ipp_response(
     alloc: Global,
     answer: IppResponse,

@@ -7,7 +7,7 @@ use Rattle.text.specs.Digits.{decimal_in}
 use Rattle.job_objects.specs.Job.{JobRecord}
 use Rattle.job_objects.specs.JobState.{is_finished}
 use Rattle.printer_objects.specs.PrinterState.{is_busy_with}
-use Rattle.spool.specs.Asker.{AskerRecord, may_ask}
+use Rattle.spool.specs.Requester.{RequesterRecord, may_change}
 use Rattle.print_room.specs.State.{State}
 use Rattle.listings.specs.Queue.{queue_of}
 use Rattle.events.specs.declared.queue.RemoveJobs.{RemoveJobs}
@@ -16,12 +16,12 @@ abbrev pub is_root : List ℕ → Bool
 is_root agent = bytes_eq agent (codes "root")
 
 -- root removes as an operator does
-abbrev pub remover : List ℕ → AskerRecord
+abbrev pub remover : List ℕ → RequesterRecord
 remover agent = record { name = agent; is_operator = is_root agent }
 
 -- root may remove any job, others their own
 abbrev pub may_remove : List ℕ → JobRecord → Bool
-may_remove agent job = may_ask (remover agent) job
+may_remove agent job = may_change (remover agent) job
 
 -- an operand of digits names the job of that id; any other operand names the jobs of that owner, if the agent is root
 abbrev pub names_for : List ℕ → List ℕ → JobRecord → Bool

@@ -14,7 +14,7 @@ use events::RemoveJobs;
 use job_objects::Job;
 use print_room::PrintRoom;
 use printer_objects::keeps_busy;
-use spool::{Asker, SpooledJob};
+use spool::{Requester, SpooledJob};
 use text::decimal;
 
 /// Returns whether an agent is root.
@@ -167,9 +167,9 @@ fn cancel(room: &mut PrintRoom, id: JobId, agent: &Text, now: Moment)
     ensures { room.new ≡ canceling now id agent.now room.old }
 {
     let is_operator = is_root(agent);
-    let asker = Asker {
+    let requester = Requester {
         name: agent,
         is_operator,
     };
-    let _canceled = room.cancel_for(id, &asker, now);
+    let _canceled = room.cancel_for(id, &requester, now);
 }

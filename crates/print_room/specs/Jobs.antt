@@ -9,11 +9,11 @@ use Rattle.spool.specs.Submission.{Submission, spooled_of}
 use Rattle.spool.specs.Spooled.{SpooledRecord, changed, expired}
 use Rattle.spool.specs.Jobs.{spooled_at, with_job}
 use Rattle.spool.specs.Kept.{retained}
-use Rattle.spool.specs.Asker.{AskerRecord}
+use Rattle.spool.specs.Requester.{RequesterRecord}
 use Rattle.spool.specs.Calls.{new_refusal, change_refusal, cancel_refusal, cancel_of, adds, document_refusal, with_document, closed_if}
 use Rattle.print_room.specs.State.{State}
 
--- ---- the asker
+-- ---- the requester
 
 -- whether the name is an operator's
 abbrev pub is_operator : List ℕ → State → Bool
@@ -38,13 +38,13 @@ pub record Submits (now : ℕ) (old : State) (job : Submission) (incoming : Bool
   pub id_is : id ≡ old.spool.next
   pub state : new ≡ with_job_taken now job incoming old
 
--- the asker with this name
-abbrev pub asker_of : List ℕ → State → AskerRecord
-asker_of name state = record { name = name; is_operator = is_operator name state }
+-- the requester with this name
+abbrev pub requester_of : List ℕ → State → RequesterRecord
+requester_of name state = record { name = name; is_operator = is_operator name state }
 
 -- why a document of this many octets isn't taken for the job of an id, if there is a cause other than out of memory
 abbrev pub sending_refusal : ℕ → List ℕ → ℕ → Bool → State → Option SpoolRefusal
-sending_refusal id name octets last state = document_refusal (asker_of name state) octets last (spooled_at id state.spool.jobs)
+sending_refusal id name octets last state = document_refusal (requester_of name state) octets last (spooled_at id state.spool.jobs)
 
 -- the job of an id takes a document; with the last document it is complete
 abbrev pub sending : ℕ → ℕ → DocumentRecord → Bool → State → State
@@ -54,7 +54,7 @@ sending now id document last old = with_jobs now (closed_if last id now (with_do
 
 -- why a change of the job of an id isn't made
 abbrev pub asked_refusal : ℕ → List ℕ → JobChange → ℕ → State → Option SpoolRefusal
-asked_refusal id name change now state = change_refusal (asker_of name state) change now (spooled_at id state.spool.jobs)
+asked_refusal id name change now state = change_refusal (requester_of name state) change now (spooled_at id state.spool.jobs)
 
 -- the job of an id is changed
 abbrev pub changing : ℕ → ℕ → JobChange → State → State
@@ -62,7 +62,7 @@ changing now id change old = with_jobs now (with_job id (changed change now) old
 
 -- why a cancel of the job of an id isn't made
 abbrev pub canceling_refusal : ℕ → List ℕ → State → Option SpoolRefusal
-canceling_refusal id name state = cancel_refusal (asker_of name state) (spooled_at id state.spool.jobs)
+canceling_refusal id name state = cancel_refusal (requester_of name state) (spooled_at id state.spool.jobs)
 
 -- the cancel by a name: that of the job's owner, or of an operator
 abbrev pub cancel_by : ℕ → List ℕ → State → JobChange

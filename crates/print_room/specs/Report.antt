@@ -12,8 +12,8 @@ use Rattle.job_objects.specs.declared.job_change.JobChange.{JobChange}
 use Rattle.job_objects.specs.declared.job_change.JobChange.TheVariants.{Stop, Continue, Done, Fail}
 use Rattle.octets.specs.Document.{DocumentRecord}
 use Rattle.spool.specs.Spooled.{SpooledRecord}
-use Rattle.spool.specs.Kept.{jobs_told}
-use Rattle.spool.specs.Jobs.{job_at, documents_told}
+use Rattle.spool.specs.Kept.{jobs_reported}
+use Rattle.spool.specs.Jobs.{job_at, documents_released}
 use Rattle.print_room.specs.Activity.{job_on, running_from, stopped_at, taking, idle}
 use Rattle.print_room.specs.State.{State, with_device, doing, free_from, holding}
 
@@ -68,12 +68,12 @@ refitted now report activity device = doing activity device
 
 -- the jobs after the change of the device's job
 abbrev pub jobs_after : ℕ → Option ℕ → Option JobChange → List SpooledRecord → List SpooledRecord
-jobs_after now (Some id) (Some change) jobs = jobs_told id change now jobs
+jobs_after now (Some id) (Some change) jobs = jobs_reported id change now jobs
 jobs_after now _ _ jobs = jobs
 
 -- the documents that are handed out for the change of the device's job
 abbrev pub documents_out : Option ℕ → Option JobChange → List SpooledRecord → List DocumentRecord
-documents_out (Some id) (Some change) jobs = documents_told id change jobs
+documents_out (Some id) (Some change) jobs = documents_released id change jobs
 documents_out _ _ jobs = []
 
 -- the state after a report of this device, which is at `place`

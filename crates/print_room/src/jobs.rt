@@ -3,13 +3,13 @@ ghost use Rattle.std.specs.Prelude.{◌≡◌, ◌≤◌, [], true, false, None,
 ghost use Rattle.job_objects.specs.declared.job_change.JobChange.TheVariants as Change;
 ghost use Rattle.spool.specs.Calls.{new_refusal, cancel_refusal, IsRefusal};
 ghost use Rattle.spool.specs.Jobs.{spooled_at};
-ghost use Rattle.print_room.specs.Jobs.{Submits, is_operator, asker_of, sending_refusal, sending, asked_refusal, changing, canceling_refusal, canceling, expiring};
+ghost use Rattle.print_room.specs.Jobs.{Submits, is_operator, requester_of, sending_refusal, sending, asked_refusal, changing, canceling_refusal, canceling, expiring};
 ghost use Rattle.print_room.specs.DeviceJobs.{AllKeep};
 
 use crate::room::{PrintRoom, is_named};
 use base_types::{JobId, Moment, Text};
 use octets::Document;
-use spool::{Asker, NewJob, Refused, RefusedDocument, SpoolRefusal};
+use spool::{NewJob, Refused, RefusedDocument, Requester, SpoolRefusal};
 
 /// The changes of jobs, at a moment that isn't before the last one. A refusal changes nothing.
 impl PrintRoom {
@@ -67,8 +67,9 @@ impl PrintRoom {
         ensures returned { IfErr result (λ refused. refused.document ≡ document) }
         ensures refused { IfErr result (λ refused. IsRefusal (sending_refusal id name.now (length document.contents) last self.old) refused.refusal) }
     {
-        let asker = self.asker(name);
-        self.spool.add_document(id, &asker, document, last, now)?;
+        let requester = self.requester(name);
+        self.spool
+            .add_document(id, &requester, document, last, now)?;
         self.good_for = None;
         self.advance(now);
         Ok(())
@@ -86,8 +87,8 @@ impl PrintRoom {
         ensures ok { OnOk result (sending_refusal id name.now octets last self.now ≡ None) }
         ensures refused { IfErr result (λ refusal. sending_refusal id name.now octets last self.now ≡ Some refusal) }
     {
-        let asker = self.asker(name);
-        self.spool.admits_document(id, &asker, octets, last)
+        let requester = self.requester(name);
+        self.spool.admits_document(id, &requester, octets, last)
     }
 
     /// Holds a job that waits (RFC 8011, section 4.3.5). The call takes no memory.
@@ -100,8 +101,8 @@ impl PrintRoom {
         ensures keep { OnOk result (AllKeep self.old self.new) }
         ensures refused { IfErr result (λ refusal. asked_refusal id name.now Change.Hold now self.old ≡ Some refusal) }
     {
-        let asker = self.asker(name);
-        self.spool.hold(id, &asker, now)?;
+        let requester = self.requester(name);
+        self.spool.hold(id, &requester, now)?;
         self.good_for = None;
         self.advance(now);
         Ok(())
@@ -118,8 +119,8 @@ impl PrintRoom {
         ensures keep { OnOk result (AllKeep self.old self.new) }
         ensures refused { IfErr result (λ refusal. asked_refusal id name.now Change.Release now self.old ≡ Some refusal) }
     {
-        let asker = self.asker(name);
-        self.spool.release(id, &asker, now)?;
+        let requester = self.requester(name);
+        self.spool.release(id, &requester, now)?;
         self.good_for = None;
         self.advance(now);
         Ok(())
@@ -136,27 +137,27 @@ impl PrintRoom {
         ensures keep { OnOk result (AllKeep self.old self.new) }
         ensures refused { IfErr result (λ refusal. canceling_refusal id name.now self.old ≡ Some refusal) }
     {
-        let asker = self.asker(name);
-        self.cancel_for(id, &asker, now)
+        let requester = self.requester(name);
+        self.cancel_for(id, &requester, now)
     }
 
-    /// Cancels a job that isn't finished; the asker states whether they are an operator. A device that has the
+    /// Cancels a job that isn't finished; the requester states whether they are an operator. A device that has the
     /// job keeps it until it reports that it is done. The call takes no memory.
     ///
     /// The causes of a refusal, in this order: not found, not authorized, not possible.
     pub fn cancel_for(
         &mut self,
         id: JobId,
-        asker: &Asker<'_>,
+        requester: &Requester<'_>,
         now: Moment,
     ) -> Result<(), SpoolRefusal>
         requires { self.old.last ≤ now }
-        ensures ok { OnOk result ((cancel_refusal asker.now (spooled_at id self.old.spool.jobs) ≡ None) × (self.new ≡ canceling now id asker.now.name self.old)) }
+        ensures ok { OnOk result ((cancel_refusal requester.now (spooled_at id self.old.spool.jobs) ≡ None) × (self.new ≡ canceling now id requester.now.name self.old)) }
         ensures kept { OnErr result (self.new ≡ self.old) }
         ensures keep { OnOk result (AllKeep self.old self.new) }
-        ensures refused { IfErr result (λ refusal. cancel_refusal asker.now (spooled_at id self.old.spool.jobs) ≡ Some refusal) }
+        ensures refused { IfErr result (λ refusal. cancel_refusal requester.now (spooled_at id self.old.spool.jobs) ≡ Some refusal) }
     {
-        self.spool.cancel(id, asker, now)?;
+        self.spool.cancel(id, requester, now)?;
         self.good_for = None;
         self.advance(now);
         Ok(())
@@ -167,15 +168,15 @@ impl PrintRoom {
         ensures ok { OnOk result (canceling_refusal id name.now self.now ≡ None) }
         ensures refused { IfErr result (λ refusal. canceling_refusal id name.now self.now ≡ Some refusal) }
     {
-        let asker = self.asker(name);
-        self.spool.admits_cancel(id, &asker)
+        let requester = self.requester(name);
+        self.spool.admits_cancel(id, &requester)
     }
 
-    /// The asker with a name.
-    fn asker<'a>(&self, name: &'a Text) -> Asker<'a>
-        ensures { result ≡ asker_of name.entry.now self.now }
+    /// The requester with a name.
+    fn requester<'a>(&self, name: &'a Text) -> Requester<'a>
+        ensures { result ≡ requester_of name.entry.now self.now }
     {
-        Asker {
+        Requester {
             name,
             is_operator: self.is_operator(name),
         }

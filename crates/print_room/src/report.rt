@@ -161,7 +161,7 @@ impl PrintRoom {
         match (job, change) {
             (Some(id), Some(change)) => {
                 self.good_for = None;
-                self.spool.tell(id, change, now)
+                self.spool.report(id, change, now)
             }
             _ => Vec::new(self.alloc),
         }

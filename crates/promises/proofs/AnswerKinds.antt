@@ -330,31 +330,31 @@ lpd_listed now place request state (responds.Lpd (Shown.Queue listing)) is = tt
 lpd_listed now place request state (responds.Lpd Shown.NoQueue) is = absurd is
 lpd_listed now place request state responds.Nothing is = absurd is
 
-held : (id now : ℕ) (until : HoldUntil) (request : JobRequest) (old : State) (reply : Effects) (new : State) → HoldsUntil now request until old reply new → IsTyped (client.Ipp id) reply.answer
-held id now hold.NoHold request old reply new it = result_by _ _ _ (λ a (done : ChangesIt now old Release [] a reply new). ipp_answer id _ _ _ reply.answer done.replies.answer) (λ b (refused : Refuses now old b reply new). ipp_answer id _ _ _ reply.answer refused.replies.answer) it
-held id now hold.Indefinite request old reply new it = result_by _ _ _ (λ a (done : ChangesIt now old Hold [] a reply new). ipp_answer id _ _ _ reply.answer done.replies.answer) (λ b (refused : Refuses now old b reply new). ipp_answer id _ _ _ reply.answer refused.replies.answer) it
-held id now (hold.Unsupported attribute) request old reply new it = result_by _ _ _ (λ a (done : ChangesIt now old Hold attribute a reply new). ipp_answer id _ _ _ reply.answer done.replies.answer) (λ b (refused : Refuses now old b reply new). ipp_answer id _ _ _ reply.answer refused.replies.answer) it
+held : (id now : ℕ) (until : HoldUntil) (request : JobRequest) (old : State) (reply : Effects) (new : State) → HoldsUntil now request until old reply new → IsTyped (client.Ipp id) reply.response
+held id now hold.NoHold request old reply new it = result_by _ _ _ (λ a (done : ChangesIt now old Release [] a reply new). ipp_answer id _ _ _ reply.response done.replies.response) (λ b (refused : Refuses now old b reply new). ipp_answer id _ _ _ reply.response refused.replies.response) it
+held id now hold.Indefinite request old reply new it = result_by _ _ _ (λ a (done : ChangesIt now old Hold [] a reply new). ipp_answer id _ _ _ reply.response done.replies.response) (λ b (refused : Refuses now old b reply new). ipp_answer id _ _ _ reply.response refused.replies.response) it
+held id now (hold.Unsupported attribute) request old reply new it = result_by _ _ _ (λ a (done : ChangesIt now old Hold attribute a reply new). ipp_answer id _ _ _ reply.response done.replies.response) (λ b (refused : Refuses now old b reply new). ipp_answer id _ _ _ reply.response refused.replies.response) it
 
-ipp_step : (id : ℕ) (event : Event) (now : ℕ) (old : State) (reply : Effects) (new : State) → IsIppEvent event → StepAt event now old reply new → IsTyped (client.Ipp id) reply.answer
-ipp_step id (Is.PrintJob request) now old reply new of it = result_by _ _ _ (λ a (done : TakesJob now old a reply new). ipp_answer id _ _ _ reply.answer done.replies.answer) (λ b (refused : Refuses now old b reply new). ipp_answer id _ _ _ reply.answer refused.replies.answer) it
-ipp_step id (Is.ValidateJob request) now old reply new of it = result_by _ _ _ (λ a (done : Validates now old a reply new). ipp_answer id _ _ _ reply.answer done.replies.answer) (λ b (refused : Refuses now old b reply new). ipp_answer id _ _ _ reply.answer refused.replies.answer) it
-ipp_step id (Is.CreateJob request) now old reply new of it = result_by _ _ _ (λ a (done : CreatesIt now old a reply new). ipp_answer id _ _ _ reply.answer done.replies.answer) (λ b (refused : Refuses now old b reply new). ipp_answer id _ _ _ reply.answer refused.replies.answer) it
-ipp_step id (Is.SendDocument request) now old reply new of it = result_by _ _ _ (λ a (done : SendsIt now old request a reply new). ipp_answer id _ _ _ reply.answer done.replies.answer) (λ b (refused : Refuses now old b reply new). ipp_answer id _ _ _ reply.answer refused.replies.answer) it
-ipp_step id (Is.CancelJob request) now old reply new of it = result_by _ _ _ (λ a (done : CancelsIt now old request.user a reply new). ipp_answer id _ _ _ reply.answer done.answer) (λ b (refused : Refuses now old b reply new). ipp_answer id _ _ _ reply.answer refused.replies.answer) it
-ipp_step id (Is.GetJobAttributes request) now old reply new of it = result_by _ _ _ (λ a (done : Shows now old (job_group now request.requested old a ∷ []) reply new). ipp_answer id _ _ _ reply.answer done.replies.answer) (λ b (refused : Refuses now old b reply new). ipp_answer id _ _ _ reply.answer refused.replies.answer) it
-ipp_step id (Is.GetJobs request) now old reply new of it = result_by _ _ _ (λ a (done : Shows now old (job_groups a now request.requested old) reply new). ipp_answer id _ _ _ reply.answer done.replies.answer) (λ b (refused : Refuses now old b reply new). ipp_answer id _ _ _ reply.answer refused.replies.answer) it
-ipp_step id (Is.GetPrinterAttributes request) now old reply new of it = result_by _ _ _ (λ a (done : Shows now old (printer_group a.id a.offer now request.requested old ∷ []) reply new). ipp_answer id _ _ _ reply.answer done.replies.answer) (λ b (refused : Refuses now old b reply new). ipp_answer id _ _ _ reply.answer refused.replies.answer) it
+ipp_step : (id : ℕ) (event : Event) (now : ℕ) (old : State) (reply : Effects) (new : State) → IsIppEvent event → StepAt event now old reply new → IsTyped (client.Ipp id) reply.response
+ipp_step id (Is.PrintJob request) now old reply new of it = result_by _ _ _ (λ a (done : TakesJob now old a reply new). ipp_answer id _ _ _ reply.response done.replies.response) (λ b (refused : Refuses now old b reply new). ipp_answer id _ _ _ reply.response refused.replies.response) it
+ipp_step id (Is.ValidateJob request) now old reply new of it = result_by _ _ _ (λ a (done : Validates now old a reply new). ipp_answer id _ _ _ reply.response done.replies.response) (λ b (refused : Refuses now old b reply new). ipp_answer id _ _ _ reply.response refused.replies.response) it
+ipp_step id (Is.CreateJob request) now old reply new of it = result_by _ _ _ (λ a (done : CreatesIt now old a reply new). ipp_answer id _ _ _ reply.response done.replies.response) (λ b (refused : Refuses now old b reply new). ipp_answer id _ _ _ reply.response refused.replies.response) it
+ipp_step id (Is.SendDocument request) now old reply new of it = result_by _ _ _ (λ a (done : SendsIt now old request a reply new). ipp_answer id _ _ _ reply.response done.replies.response) (λ b (refused : Refuses now old b reply new). ipp_answer id _ _ _ reply.response refused.replies.response) it
+ipp_step id (Is.CancelJob request) now old reply new of it = result_by _ _ _ (λ a (done : CancelsIt now old request.user a reply new). ipp_answer id _ _ _ reply.response done.response) (λ b (refused : Refuses now old b reply new). ipp_answer id _ _ _ reply.response refused.replies.response) it
+ipp_step id (Is.GetJobAttributes request) now old reply new of it = result_by _ _ _ (λ a (done : Shows now old (job_group now request.requested old a ∷ []) reply new). ipp_answer id _ _ _ reply.response done.replies.response) (λ b (refused : Refuses now old b reply new). ipp_answer id _ _ _ reply.response refused.replies.response) it
+ipp_step id (Is.GetJobs request) now old reply new of it = result_by _ _ _ (λ a (done : Shows now old (job_groups a now request.requested old) reply new). ipp_answer id _ _ _ reply.response done.replies.response) (λ b (refused : Refuses now old b reply new). ipp_answer id _ _ _ reply.response refused.replies.response) it
+ipp_step id (Is.GetPrinterAttributes request) now old reply new of it = result_by _ _ _ (λ a (done : Shows now old (printer_group a.id a.offer now request.requested old ∷ []) reply new). ipp_answer id _ _ _ reply.response done.replies.response) (λ b (refused : Refuses now old b reply new). ipp_answer id _ _ _ reply.response refused.replies.response) it
 ipp_step id (Is.HoldJob request) now old reply new of it = held id now request.until request.job old reply new it
-ipp_step id (Is.ReleaseJob request) now old reply new of it = result_by _ _ _ (λ a (done : ChangesIt now old Release [] a reply new). ipp_answer id _ _ _ reply.answer done.replies.answer) (λ b (refused : Refuses now old b reply new). ipp_answer id _ _ _ reply.answer refused.replies.answer) it
-ipp_step id (Is.PausePrinter request) now old reply new of it = result_by _ _ _ (λ a (done : PausesIt now old true a reply new). ipp_answer id _ _ _ reply.answer done.replies.answer) (λ b (refused : Refuses now old b reply new). ipp_answer id _ _ _ reply.answer refused.replies.answer) it
-ipp_step id (Is.ResumePrinter request) now old reply new of it = result_by _ _ _ (λ a (done : PausesIt now old false a reply new). ipp_answer id _ _ _ reply.answer done.replies.answer) (λ b (refused : Refuses now old b reply new). ipp_answer id _ _ _ reply.answer refused.replies.answer) it
+ipp_step id (Is.ReleaseJob request) now old reply new of it = result_by _ _ _ (λ a (done : ChangesIt now old Release [] a reply new). ipp_answer id _ _ _ reply.response done.replies.response) (λ b (refused : Refuses now old b reply new). ipp_answer id _ _ _ reply.response refused.replies.response) it
+ipp_step id (Is.PausePrinter request) now old reply new of it = result_by _ _ _ (λ a (done : PausesIt now old true a reply new). ipp_answer id _ _ _ reply.response done.replies.response) (λ b (refused : Refuses now old b reply new). ipp_answer id _ _ _ reply.response refused.replies.response) it
+ipp_step id (Is.ResumePrinter request) now old reply new of it = result_by _ _ _ (λ a (done : PausesIt now old false a reply new). ipp_answer id _ _ _ reply.response done.replies.response) (λ b (refused : Refuses now old b reply new). ipp_answer id _ _ _ reply.response refused.replies.response) it
 ipp_step id (Is.SubmitFiles request) now old reply new of it = absurd of
 ipp_step id (Is.ListQueue request) now old reply new of it = absurd of
 ipp_step id (Is.RemoveJobs request) now old reply new of it = absurd of
 ipp_step id (Is.Report device report) now old reply new of it = absurd of
 ipp_step id Is.Tick now old reply new of it = absurd of
 
-job_step : (event : Event) (now : ℕ) (old : State) (reply : Effects) (new : State) → IsJobEvent event → StepAt event now old reply new → IsTyped client.LpdJob reply.answer
+job_step : (event : Event) (now : ℕ) (old : State) (reply : Effects) (new : State) → IsJobEvent event → StepAt event now old reply new → IsTyped client.LpdJob reply.response
 job_step (Is.PrintJob request) now old reply new of it = absurd of
 job_step (Is.ValidateJob request) now old reply new of it = absurd of
 job_step (Is.CreateJob request) now old reply new of it = absurd of
@@ -367,13 +367,13 @@ job_step (Is.HoldJob request) now old reply new of it = absurd of
 job_step (Is.ReleaseJob request) now old reply new of it = absurd of
 job_step (Is.PausePrinter request) now old reply new of it = absurd of
 job_step (Is.ResumePrinter request) now old reply new of it = absurd of
-job_step (Is.SubmitFiles request) now old reply new of it = option_by _ _ _ (λ (none : FilesNothing now old reply new). lpd_taken false reply.answer none.answers.answer) (λ job (done : FilesJob now old job reply new). lpd_taken true reply.answer done.answers.answer) it
+job_step (Is.SubmitFiles request) now old reply new of it = option_by _ _ _ (λ (none : FilesNothing now old reply new). lpd_taken false reply.response none.answers.response) (λ job (done : FilesJob now old job reply new). lpd_taken true reply.response done.answers.response) it
 job_step (Is.ListQueue request) now old reply new of it = absurd of
 job_step (Is.RemoveJobs request) now old reply new of it = absurd of
 job_step (Is.Report device report) now old reply new of it = absurd of
 job_step Is.Tick now old reply new of it = absurd of
 
-queue_step : (event : Event) (now : ℕ) (old : State) (reply : Effects) (new : State) → IsQueueEvent event → StepAt event now old reply new → IsTyped client.LpdCommand reply.answer
+queue_step : (event : Event) (now : ℕ) (old : State) (reply : Effects) (new : State) → IsQueueEvent event → StepAt event now old reply new → IsTyped client.LpdCommand reply.response
 queue_step (Is.PrintJob request) now old reply new of it = absurd of
 queue_step (Is.ValidateJob request) now old reply new of it = absurd of
 queue_step (Is.CreateJob request) now old reply new of it = absurd of
@@ -387,19 +387,19 @@ queue_step (Is.ReleaseJob request) now old reply new of it = absurd of
 queue_step (Is.PausePrinter request) now old reply new of it = absurd of
 queue_step (Is.ResumePrinter request) now old reply new of it = absurd of
 queue_step (Is.SubmitFiles request) now old reply new of it = absurd of
-queue_step (Is.ListQueue request) now old reply new of it = option_by _ _ _ (λ (none : ListsNothing now old reply new). lpd_none reply.answer none.answers.answer) (λ place (done : ListsIt now old request place reply new). lpd_listed now place request old reply.answer done.answer) it
-queue_step (Is.RemoveJobs request) now old reply new of it = lpd_nothing reply.answer it.unanswered
+queue_step (Is.ListQueue request) now old reply new of it = option_by _ _ _ (λ (none : ListsNothing now old reply new). lpd_none reply.response none.answers.response) (λ place (done : ListsIt now old request place reply new). lpd_listed now place request old reply.response done.response) it
+queue_step (Is.RemoveJobs request) now old reply new of it = lpd_nothing reply.response it.unanswered
 queue_step (Is.Report device report) now old reply new of it = absurd of
 queue_step Is.Tick now old reply new of it = absurd of
 
-typed_step : (who : Client) (event : Event) (now : ℕ) (old : State) (reply : Effects) (new : State) → EventOf who event → StepAt event now old reply new → IsTyped who reply.answer
+typed_step : (who : Client) (event : Event) (now : ℕ) (old : State) (reply : Effects) (new : State) → EventOf who event → StepAt event now old reply new → IsTyped who reply.response
 typed_step (client.Ipp id) event now old reply new of it = ipp_step id event now old reply new of it
 typed_step client.LpdJob event now old reply new of it = job_step event now old reply new of it
 typed_step client.LpdCommand event now old reply new of it = queue_step event now old reply new of it
 
 abbrev pub IsTypedReply : Client → Option Effects → Type 0
 IsTypedReply who None = Unit {0}
-IsTypedReply who (Some reply) = IsTyped who reply.answer
+IsTypedReply who (Some reply) = IsTyped who reply.response
 
 pub typed : (who : Client) (moment : ℕ) (event : Event) (old : State) (outcome : Outcome) (notes : List Note) (new : State) → EventOf who event → Handles moment event old outcome notes new → IsTypedReply who (effects_of outcome)
 typed who moment event old (Some handled) notes new of it = typed_step who event _ old handled.effects it.mid of it.step

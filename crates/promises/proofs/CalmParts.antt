@@ -218,11 +218,11 @@ pub calms_declines : (place : AllocationSite) (key id : ℕ) → core_notes (Not
 calms_declines place key id silent = calms_then (calms_notifies (Refused place (Some id)) silent) (calms_enqueues key (1 ∷ []))
 
 pub calms_answers : (key id : ℕ) (who : Client) (query : Bool) (reply : Option Effects) → Calms (Ans.Answers key id who query reply)
-calms_answers key id (client.Ipp request) query (Some reply) = replies_with key id request query reply.answer
+calms_answers key id (client.Ipp request) query (Some reply) = replies_with key id request query reply.response
 calms_answers key id (client.Ipp request) query None = calms_dropped key id request
-calms_answers key id client.LpdJob query (Some reply) = is_shown key id reply.answer
+calms_answers key id client.LpdJob query (Some reply) = is_shown key id reply.response
 calms_answers key id client.LpdJob query None = calms_declines At.Event key id refl
-calms_answers key id client.LpdCommand query (Some reply) = is_shown key id reply.answer
+calms_answers key id client.LpdCommand query (Some reply) = is_shown key id reply.response
 calms_answers key id client.LpdCommand query None = calms_then (calms_notifies (Refused At.Event (Some id)) refl) (calms_breaks key)
 
 pub body_answers : (request : ℕ) (reply : Option Effects) (bytes : List ℕ) → Calms (Between.Answers request reply bytes)

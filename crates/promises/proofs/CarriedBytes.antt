@@ -373,7 +373,7 @@ carries_replies_with key id request query (answered.Lpd answer) c l hs l' a new 
 carries_replies_with key id request query answered.Nothing c l hs l' a new it = carries_nothing c l hs l' a new it
 
 carries_replies : (key id request : ℕ) (query : Bool) (reply : Option Effects) → Carries (Ans.Replies key id request query reply)
-carries_replies key id request query (Some reply) = carries_replies_with key id request query reply.answer
+carries_replies key id request query (Some reply) = carries_replies_with key id request query reply.response
 carries_replies key id request query None = carries_dropped key id request
 
 carries_declines : (place : AllocationSite) (key id : ℕ) → Carries (Ans.Declines place key id)
@@ -396,9 +396,9 @@ carries_shown key id answered.Nothing = carries_nothing
 
 carries_answers : (key id : ℕ) (who : Client) (query : Bool) (reply : Option Effects) → Carries (Ans.Answers key id who query reply)
 carries_answers key id (client.Ipp request) query reply = carries_replies key id request query reply
-carries_answers key id client.LpdJob query (Some reply) = carries_shown key id reply.answer
+carries_answers key id client.LpdJob query (Some reply) = carries_shown key id reply.response
 carries_answers key id client.LpdJob query None = carries_declines At.Event key id
-carries_answers key id client.LpdCommand query (Some reply) = carries_shown key id reply.answer
+carries_answers key id client.LpdCommand query (Some reply) = carries_shown key id reply.response
 carries_answers key id client.LpdCommand query None = carries_then (Notifies (Refused At.Event (Some id))) (Breaks key) (carries_notifies (Refused At.Event (Some id))) (carries_breaks key)
 
 -- ---- closings

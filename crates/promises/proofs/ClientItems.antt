@@ -275,7 +275,7 @@ keeps_replies_with key id request query (answered.Lpd answer) l hs l' first it =
 keeps_replies_with key id request query answered.Nothing l hs l' first it = keeps_nothing l hs l' first it
 
 keeps_replies : (key id request : ℕ) (query : Bool) (reply : Option Effects) → Keeps (Ans.Replies key id request query reply)
-keeps_replies key id request query (Some reply) = keeps_replies_with key id request query reply.answer
+keeps_replies key id request query (Some reply) = keeps_replies_with key id request query reply.response
 keeps_replies key id request query None = keeps_dropped key id request
 
 keeps_declines : (place : AllocationSite) (key id : ℕ) → Keeps (Ans.Declines place key id)
@@ -298,9 +298,9 @@ keeps_shown key id answered.Nothing = keeps_nothing
 
 keeps_answers : (key id : ℕ) (who : Client) (query : Bool) (reply : Option Effects) → Keeps (Ans.Answers key id who query reply)
 keeps_answers key id (client.Ipp request) query reply = keeps_replies key id request query reply
-keeps_answers key id client.LpdJob query (Some reply) = keeps_shown key id reply.answer
+keeps_answers key id client.LpdJob query (Some reply) = keeps_shown key id reply.response
 keeps_answers key id client.LpdJob query None = keeps_declines At.Event key id
-keeps_answers key id client.LpdCommand query (Some reply) = keeps_shown key id reply.answer
+keeps_answers key id client.LpdCommand query (Some reply) = keeps_shown key id reply.response
 keeps_answers key id client.LpdCommand query None = keeps_then (Notifies (Refused At.Event (Some id))) (Breaks key) (keeps_notifies (Refused At.Event (Some id))) (breaks_all key)
 
 gives_way_at : (key : ℕ) (o : Option Entry) (l : Ledger) (hs : List Happening) (l' : Ledger) → AllFirst l → FirstAt o → IsSupersededAt key o l hs l' → AllFirst l'

@@ -231,11 +231,11 @@ LooseLpd (answered.Ipp answer) bytes = bytes ≡ []
 LooseLpd answered.Nothing bytes = bytes ≡ []
 
 abbrev pub Loose : Bool → Client → Bool → Option Effects → Option AllocationSite → List ℕ → Type 0
-Loose closes (client.Ipp request) query (Some reply) lost bytes = LooseIpp closes request query reply.answer lost bytes
+Loose closes (client.Ipp request) query (Some reply) lost bytes = LooseIpp closes request query reply.response lost bytes
 Loose closes (client.Ipp request) query None lost bytes = (lost ≡ Some At.Event) × (bytes ≡ http_status closes TemporaryError request)
-Loose closes client.LpdJob query (Some reply) lost bytes = (lost ≡ None) × LooseLpd reply.answer bytes
+Loose closes client.LpdJob query (Some reply) lost bytes = (lost ≡ None) × LooseLpd reply.response bytes
 Loose closes client.LpdJob query None lost bytes = (lost ≡ Some At.Event) × (bytes ≡ 1 ∷ [])
-Loose closes client.LpdCommand query (Some reply) lost bytes = (lost ≡ None) × LooseLpd reply.answer bytes
+Loose closes client.LpdCommand query (Some reply) lost bytes = (lost ≡ None) × LooseLpd reply.response bytes
 Loose closes client.LpdCommand query None lost bytes = ⊥
 
 -- the refusal of memory at a place, as a part of the run: it is asked on the connection under a key
@@ -272,11 +272,11 @@ given_command (answered.Lpd shown.NoQueue) bytes of it = it
 given_command answered.Nothing bytes of it = it
 
 pub given : (moment id key : ℕ) (state : State) (closes : Bool) (who : Client) (query : Bool) (reply : Option Effects) (lost : Option AllocationSite) (bytes : List ℕ) → IsTypedReply who reply → Loose closes who query reply lost bytes → Given id closes who query reply (refusal_at moment id key state lost) bytes
-given moment id key state closes (client.Ipp request) query (Some reply) lost bytes of it = given_ipp moment id key state closes request query reply.answer lost bytes of it
+given moment id key state closes (client.Ipp request) query (Some reply) lost bytes of it = given_ipp moment id key state closes request query reply.response lost bytes of it
 given moment id key state closes (client.Ipp request) query None lost bytes of it = (one_refusal moment id key state lost At.Event it.0, it.1)
-given moment id key state closes client.LpdJob query (Some reply) lost bytes of it = (no_refusal moment id key state lost it.0, given_job reply.answer bytes of it.1)
+given moment id key state closes client.LpdJob query (Some reply) lost bytes of it = (no_refusal moment id key state lost it.0, given_job reply.response bytes of it.1)
 given moment id key state closes client.LpdJob query None lost bytes of it = (one_refusal moment id key state lost At.Event it.0, it.1)
-given moment id key state closes client.LpdCommand query (Some reply) lost bytes of it = (no_refusal moment id key state lost it.0, given_command reply.answer bytes of it.1)
+given moment id key state closes client.LpdCommand query (Some reply) lost bytes of it = (no_refusal moment id key state lost it.0, given_command reply.response bytes of it.1)
 given moment id key state closes client.LpdCommand query None lost bytes of it = it
 
 -- the observer is notified that memory was refused, or nothing, and bytes become due as the test has it for that
@@ -348,17 +348,17 @@ gives_shown key id (answered.Ipp answer) l hs l' it = (None, gives_nothing key (
 gives_shown key id answered.Nothing l hs l' it = (None, gives_nothing key (Kept (LooseLpd answered.Nothing) None) (λ closes. (refl, refl)) l hs l' it)
 
 pub gives_answers : (key id : ℕ) (who : Client) (query : Bool) (reply : Option Effects) → GivesSome id key (λ lost closes bytes. Loose closes who query reply lost bytes) (Ans.Answers key id who query reply)
-gives_answers key id (client.Ipp request) query (Some reply) l hs l' it = gives_replies_with key id request query reply.answer l hs l' it
+gives_answers key id (client.Ipp request) query (Some reply) l hs l' it = gives_replies_with key id request query reply.response l hs l' it
 gives_answers key id (client.Ipp request) query None l hs l' it = (
   Some At.Event,
   gave_as (Refused At.Event (Some id) ∷ []) key (No_memory request) (λ closes bytes. Loose closes (client.Ipp request) query None (Some At.Event) bytes) l hs l' (λ d bytes there these. (refl, these)) (gives_dropped key id request l hs l' it),
 )
-gives_answers key id client.LpdJob query (Some reply) l hs l' it = gives_shown key id reply.answer l hs l' it
+gives_answers key id client.LpdJob query (Some reply) l hs l' it = gives_shown key id reply.response l hs l' it
 gives_answers key id client.LpdJob query None l hs l' it = (
   Some At.Event,
   gave_as (Refused At.Event (Some id) ∷ []) key (Just_these (1 ∷ [])) (λ closes bytes. Loose closes client.LpdJob query None (Some At.Event) bytes) l hs l' (λ d bytes there these. (refl, these)) (gives_declines At.Event key id refl l hs l' it),
 )
-gives_answers key id client.LpdCommand query (Some reply) l hs l' it = gives_shown key id reply.answer l hs l' it
+gives_answers key id client.LpdCommand query (Some reply) l hs l' it = gives_shown key id reply.response l hs l' it
 gives_answers key id client.LpdCommand query None l hs l' it = (
   Some At.Event,
   gave_behind (Refused At.Event (Some id) ∷ []) key (λ closes bytes. Loose closes client.LpdCommand query None (Some At.Event) bytes) (Notifies (Refused At.Event (Some id))) (Breaks key) (still_notifies At.Event id refl)

@@ -67,7 +67,7 @@ use Rattle.server.specs.Turn as Between
 use Rattle.server.specs.Turn.{Ticks, is_tick_due, TicksIfDue, Covers, Round, Turn, has_refusal, Action, Turned, Served_body, Reported, Ticked, DoesAction, Trace, Runs}
 use Rattle.server.specs.Law.{core_note, core_notes, Collects, moment_of, happenings_of, happenings_in, AreAt, AreEventsOf, IsWhole}
 use Rattle.server.proofs.Steps.{refusals_append}
-use Rattle.server.proofs.Happening.{refused_of}
+use Rattle.server.proofs.DeviceOrders.{refused_of}
 use Rattle.server.proofs.LaterNotes.{notes_append, never, none_before, none_after}
 use Rattle.promises.specs.Dropped.{brings_event, event_note, event_notes, begins_event, events_notified, IsNotifiedOf, AreNotifiedOf, NotifiesDropped}
 use Rattle.promises.proofs.EventNotes.{notified_all}
@@ -229,9 +229,9 @@ is_shown key id (answered.Ipp answer) = quiet_nothing
 is_shown key id answered.Nothing = quiet_nothing
 
 client_notified : (key id : ℕ) (who : Client) (query : Bool) (reply : Effects) → Quietly (Answering.Answers key id who query (Some reply))
-client_notified key id (client.Ipp request) query reply = replies_with key id request query reply.answer
-client_notified key id client.LpdJob query reply = is_shown key id reply.answer
-client_notified key id client.LpdCommand query reply = is_shown key id reply.answer
+client_notified key id (client.Ipp request) query reply = replies_with key id request query reply.response
+client_notified key id client.LpdJob query reply = is_shown key id reply.response
+client_notified key id client.LpdCommand query reply = is_shown key id reply.response
 
 body_notified : (request : ℕ) (bytes : List ℕ) (reply : Effects) → Quietly (Between.Answers request (Some reply) bytes)
 body_notified request bytes reply l hs l' (inl (are, it)) = quiet_choice Found l hs l' it

@@ -292,7 +292,7 @@ module _ (key : ℕ) where
   aside_replies_with id request query answered.Nothing l hs l' it = aside_nothing l hs l' it
 
   aside_replies : (id request : ℕ) (query : Bool) (reply : Option Effects) → Asides (Ans.Replies key id request query reply)
-  aside_replies id request query (Some reply) = aside_replies_with id request query reply.answer
+  aside_replies id request query (Some reply) = aside_replies_with id request query reply.response
   aside_replies id request query None = aside_dropped id request
 
   aside_declines : (place : AllocationSite) (id : ℕ) → core_notes (Notified (Refused place (Some id)) ∷ []) ≡ [] → Asides (Ans.Declines place key id)
@@ -315,9 +315,9 @@ module _ (key : ℕ) where
 
   aside_answers : (id : ℕ) (who : Client) (query : Bool) (reply : Option Effects) → Asides (Ans.Answers key id who query reply)
   aside_answers id (client.Ipp request) query reply = aside_replies id request query reply
-  aside_answers id client.LpdJob query (Some reply) = aside_shown id reply.answer
+  aside_answers id client.LpdJob query (Some reply) = aside_shown id reply.response
   aside_answers id client.LpdJob query None = aside_declines At.Event id refl
-  aside_answers id client.LpdCommand query (Some reply) = aside_shown id reply.answer
+  aside_answers id client.LpdCommand query (Some reply) = aside_shown id reply.response
   aside_answers id client.LpdCommand query None = aside_then (Notifies (Refused At.Event (Some id))) (Breaks key) (aside_notifies (Refused At.Event (Some id)) refl) aside_breaks
 
 -- ---- the orders of an event

@@ -28,7 +28,7 @@ use Rattle.print_room.specs.DeviceJobs.{IsRoom}
 use Rattle.print_room.specs.State.{State}
 use Rattle.print_room.specs.Ready.{ready_of, belongs, class_of, cause_in}
 use Rattle.print_room.specs.GoodPlan.{is_some_job, falling, waits_of, IsPlannedBest, AllPlannedBest, IsGoodPlan}
-use Rattle.print_room.proofs.Building.{ready_rises, ready_few}
+use Rattle.print_room.proofs.ClassProblems.{ready_rises, ready_few}
 use Rattle.print_room.proofs.Checked.{FallsTo, falling_falls, ids_of_class, stranded_test, entry_ids}
 use Rattle.promises.specs.Passes.{named_plan}
 

@@ -231,9 +231,9 @@ same_shown key id responds.Nothing responds.Nothing same = same_nothing
 same_shown key id one other same = absurd same
 
 same_answers : (key id : ℕ) (who : Client) (query : Bool) (one other : Effects) → SameReply one other → Same (Ans.Answers key id who query (Some one)) (Ans.Answers key id who query (Some other))
-same_answers key id (client.Ipp request) query one other same = same_replies key id request query one.answer other.answer same.answer
-same_answers key id client.LpdJob query one other same = same_shown key id one.answer other.answer same.answer
-same_answers key id client.LpdCommand query one other same = same_shown key id one.answer other.answer same.answer
+same_answers key id (client.Ipp request) query one other same = same_replies key id request query one.response other.response same.response
+same_answers key id client.LpdJob query one other same = same_shown key id one.response other.response same.response
+same_answers key id client.LpdCommand query one other same = same_shown key id one.response other.response same.response
 
 refuses_none : (key id : ℕ) (who : Client) (query : Bool) → Refuses (Ans.Answers key id who query None)
 refuses_none key id (client.Ipp request) query = refuses_dropped key id request

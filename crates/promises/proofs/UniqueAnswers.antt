@@ -123,9 +123,9 @@ same_shown key id responds.Nothing (responds.Lpd other) same = absurd same
 -- ---- any client
 
 same_answers : (key id : ℕ) (who : Client) (query : Bool) (one other : Effects) → SameReply one other → Alike (Answers key id who query (Some one)) (Answers key id who query (Some other))
-same_answers key id (client.Ipp request) query one other same = same_replies key id request query one.answer other.answer same.answer
-same_answers key id client.LpdJob query one other same = same_shown key id one.answer other.answer same.answer
-same_answers key id client.LpdCommand query one other same = same_shown key id one.answer other.answer same.answer
+same_answers key id (client.Ipp request) query one other same = same_replies key id request query one.response other.response same.response
+same_answers key id client.LpdJob query one other same = same_shown key id one.response other.response same.response
+same_answers key id client.LpdCommand query one other same = same_shown key id one.response other.response same.response
 
 none_answered : (key id : ℕ) (who : Client) (query : Bool) → Fixed (Answers key id who query None)
 none_answered key id (client.Ipp request) query = fixed_dropped key id request

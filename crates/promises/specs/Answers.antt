@@ -109,11 +109,11 @@ GivenCommand _ bytes = ⊥
 
 -- The answer by the core's reply; or if memory for the event was refused, the status TemporaryError or the byte 01. A command has no answer then, and its connection breaks.
 abbrev pub Given : ℕ → Bool → Client → Bool → Option Effects → List RunPart → List ℕ → Type 0
-Given id closes (client.Ipp request) query (Some reply) lost bytes = GivenIpp id closes request query reply.answer lost bytes
+Given id closes (client.Ipp request) query (Some reply) lost bytes = GivenIpp id closes request query reply.response lost bytes
 Given id closes (client.Ipp request) query None lost bytes = IsRefusal id At.Event lost × (bytes ≡ http_status closes TemporaryError request)
-Given id closes client.LpdJob query (Some reply) lost bytes = (lost ≡ []) × GivenJob reply.answer bytes
+Given id closes client.LpdJob query (Some reply) lost bytes = (lost ≡ []) × GivenJob reply.response bytes
 Given id closes client.LpdJob query None lost bytes = IsRefusal id At.Event lost × (bytes ≡ 1 ∷ [])
-Given id closes client.LpdCommand query (Some reply) lost bytes = (lost ≡ []) × GivenCommand reply.answer bytes
+Given id closes client.LpdCommand query (Some reply) lost bytes = (lost ≡ []) × GivenCommand reply.response bytes
 Given id closes client.LpdCommand query None lost bytes = ⊥
 
 -- the core handled this event of a client, which was answered so

@@ -49,7 +49,7 @@ RepliesWith key id request query responds.Nothing l hs l' = Nothing l hs l'
 
 -- the reply to an event becomes due, or the request was dropped
 abbrev pub Replies : ℕ → ℕ → ℕ → Bool → Option Effects → Rel
-Replies key id request query (Some reply) = RepliesWith key id request query reply.answer
+Replies key id request query (Some reply) = RepliesWith key id request query reply.response
 Replies key id request query None = Drops key id request
 
 -- ---- an LPD client
@@ -75,12 +75,12 @@ IsShown key id responds.Nothing = Nothing
 
 -- the acknowledgement of a job becomes due; if the event was dropped, the refusal becomes due
 abbrev pub Acknowledges : ℕ → ℕ → Option Effects → Rel
-Acknowledges key id (Some reply) = IsShown key id reply.answer
+Acknowledges key id (Some reply) = IsShown key id reply.response
 Acknowledges key id None = Declines At.Event key id
 
 -- the response to a command becomes due; if the event was dropped, the connection breaks
 abbrev pub Responds : ℕ → ℕ → Option Effects → Rel
-Responds key id (Some reply) = IsShown key id reply.answer
+Responds key id (Some reply) = IsShown key id reply.response
 Responds key id None = Then (Notifies (Refused At.Event (Some id))) (Breaks key)
 
 -- ---- any client

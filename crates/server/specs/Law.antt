@@ -113,7 +113,7 @@ abbrev pub IsServed : ℕ → ParsedRequest → Answer → State → List Happen
 IsServed moment asks.TooShort answer old hs new = (answer ≡ BadRequest) × IsNoEvent old hs new
 IsServed moment (asks.Refused status request) answer old hs new = (answer ≡ Replied (refusal_bytes status request)) × IsNoEvent old hs new
 IsServed moment (asks.Event request event) answer old hs new =
-    (reply : Effects) × (bytes : List ℕ) × (answer ≡ Replied bytes) × IsBytes request reply.answer bytes × IsOneEvent moment event reply old hs new
+    (reply : Effects) × (bytes : List ℕ) × (answer ≡ Replied bytes) × IsBytes request reply.response bytes × IsOneEvent moment event reply old hs new
 
 -- If no memory was refused, an action between turns brings the core one event, at the moment of the action. A body that
 -- is too short or is refused brings no event. A turn brings any number of events (`IsOneRun`).

@@ -161,7 +161,7 @@ AnswerAs notified request answer observer (Err error) observer' = notified obser
 
 -- the bytes of a reply; if the event was dropped, there are no bytes, and the observer is notified
 abbrev pub BytesAs : {N : Type 0} → (N → Note → N → Type 0) → ℕ → Option Effects → N → Result (Vec ℕ Global) AllocError → N → Type 0
-BytesAs notified request (Some reply) observer bytes observer' = AnswerAs notified request reply.answer observer bytes observer'
+BytesAs notified request (Some reply) observer bytes observer' = AnswerAs notified request reply.response observer bytes observer'
 BytesAs notified request None observer (Ok bytes) observer' = ⊥
 BytesAs notified request None observer (Err error) observer' = notified observer (Refused At.Event None) observer'
 

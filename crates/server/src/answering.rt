@@ -67,7 +67,7 @@ impl<P: Planner + Drop> Engine<P> {
         ensures { RefinesNotified N.notified (Replies origin.key origin.id request query reply) notes.old self.old notes.new self.new }
     {
         match reply {
-            Some(reply) => self.reply_with(origin, request, query, reply.answer, notes),
+            Some(reply) => self.reply_with(origin, request, query, reply.response, notes),
             None => self.drop_request(origin, request, notes),
         }
     }
@@ -140,7 +140,7 @@ impl<P: Planner + Drop> Engine<P> {
         ensures { RefinesNotified N.notified (Acknowledges origin.key origin.id reply) notes.old self.old notes.new self.new }
     {
         match reply {
-            Some(reply) => self.send_response(origin, &reply.answer, notes),
+            Some(reply) => self.send_response(origin, &reply.response, notes),
             None => self.decline(AllocationSite::Event, origin, notes),
         }
     }
@@ -170,7 +170,7 @@ impl<P: Planner + Drop> Engine<P> {
         ensures { RefinesNotified N.notified (Responds origin.key origin.id reply) notes.old self.old notes.new self.new }
     {
         match reply {
-            Some(reply) => self.send_response(origin, &reply.answer, notes),
+            Some(reply) => self.send_response(origin, &reply.response, notes),
             None => {
                 notes.refused(AllocationSite::Event, Some(origin.id));
                 break_off(&mut self.connections, origin.key);

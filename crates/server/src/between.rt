@@ -110,7 +110,7 @@ impl<P: Planner + Drop> Engine<P> {
         ensures { BytesAs N.notified request reply notes.old result notes.new }
     {
         match reply {
-            Some(reply) => self.answer_bytes(reply.answer, request, notes),
+            Some(reply) => self.answer_bytes(reply.response, request, notes),
             None => {
                 notes.refused(AllocationSite::Event, None);
                 Err(AllocError)

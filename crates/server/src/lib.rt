@@ -6,7 +6,7 @@
 //!
 //! Calls between turns need no wire: [`Engine::serve_body`], [`Engine::report`] and [`Engine::tick`].
 //!
-//! Tests: `server_tests`.
+//! Tests: `unit_tests`.
 #![tactic(auto)]
 
 mod acting;

@@ -37,7 +37,7 @@ pub enum LoggedNote {
 #[derive(Drop)]
 pub struct NoteLog {
     alloc: Global,
-    heard: MemoryLog<LoggedNote>,
+    notes: MemoryLog<LoggedNote>,
 }
 
 impl Model for NoteLog {
@@ -46,7 +46,7 @@ impl Model for NoteLog {
 
     ghost Value = { Option (List LoggedNote) };
 
-    ghost view = { λ l. l.heard };
+    ghost view = { λ l. l.notes };
 }
 
 impl Observer for NoteLog {
@@ -56,21 +56,21 @@ impl Observer for NoteLog {
 
     fn dispatched(&mut self, made: &Dispatched<'_>) {
         match notes_of(self.alloc, made) {
-            Ok(notes) => self.heard.keep_all(notes),
-            Err(_) => self.heard.lose(),
+            Ok(notes) => self.notes.keep_all(notes),
+            Err(_) => self.notes.lose(),
         }
     }
 
     fn canceled(&mut self, cancel: Cancel) {
-        self.heard.keep(LoggedNote::Canceled(cancel));
+        self.notes.keep(LoggedNote::Canceled(cancel));
     }
 
     fn device_refused(&mut self, id: WireId, why: DeviceRefusal) {
-        self.heard.keep(LoggedNote::DeviceRefused(id, why));
+        self.notes.keep(LoggedNote::DeviceRefused(id, why));
     }
 
     fn refused(&mut self, place: AllocationSite, id: Option<WireId>) {
-        self.heard.keep(LoggedNote::Refused(place, id));
+        self.notes.keep(LoggedNote::Refused(place, id));
     }
 }
 
@@ -81,17 +81,17 @@ impl NoteLog {
     {
         NoteLog {
             alloc,
-            heard: MemoryLog::new(alloc),
+            notes: MemoryLog::new(alloc),
         }
     }
 
     /// Takes out the logged notes, and leaves an empty log. The error is that the log is lost, and it stays
     /// lost.
     pub fn take(&mut self) -> Result<Vec<LoggedNote>, AllocError>
-        ensures ok { IfOk result (λ heard. (self.old ≡ Some heard.items) × (self.new ≡ Some [])) }
+        ensures ok { IfOk result (λ notes. (self.old ≡ Some notes.items) × (self.new ≡ Some [])) }
         ensures err { OnErr result ((self.old ≡ None) × (self.new ≡ None)) }
     {
-        self.heard.take()
+        self.notes.take()
     }
 }
 
@@ -106,22 +106,22 @@ fn notes_of(alloc: Global, made: &Dispatched<'_>) -> Result<Vec<LoggedNote>, All
 }
 
 /// Appends the logged notes of a plan, if there is one. The only error is out of memory.
-fn put_plan(heard: &mut Vec<LoggedNote>, plan: Option<&Plan>) -> Result<(), AllocError>
-    ensures { OnOk result (heard.new.items ≡ heard.old.items ++ plan_words (option_copied plan.entry)) }
+fn put_plan(notes: &mut Vec<LoggedNote>, plan: Option<&Plan>) -> Result<(), AllocError>
+    ensures { OnOk result (notes.new.items ≡ notes.old.items ++ plan_words (option_copied plan.entry)) }
 {
     let Some(plan) = plan else {
         return Ok(());
     };
-    heard.push(LoggedNote::Planned)?;
-    put_classes(heard, plan.classes())?;
-    put_stranded(heard, plan.stranded())
+    notes.push(LoggedNote::Planned)?;
+    put_classes(notes, plan.classes())?;
+    put_stranded(notes, plan.stranded())
 }
 
-fn put_classes(heard: &mut Vec<LoggedNote>, classes: &[PlannedClass]) -> Result<(), AllocError>
-    ensures { OnOk result (heard.new.items ≡ heard.old.items ++ map class_word classes.now) }
+fn put_classes(notes: &mut Vec<LoggedNote>, classes: &[PlannedClass]) -> Result<(), AllocError>
+    ensures { OnOk result (notes.new.items ≡ notes.old.items ++ map class_word classes.now) }
 {
     for class in classes {
-        heard.push(LoggedNote::Class {
+        notes.push(LoggedNote::Class {
             priority: class.priority,
             total: class.priced.total,
         })?;
@@ -129,20 +129,20 @@ fn put_classes(heard: &mut Vec<LoggedNote>, classes: &[PlannedClass]) -> Result<
     Ok(())
 }
 
-fn put_stranded(heard: &mut Vec<LoggedNote>, stranded: &[Stranded]) -> Result<(), AllocError>
-    ensures { OnOk result (heard.new.items ≡ heard.old.items ++ map LoggedNote.Stranded stranded.now) }
+fn put_stranded(notes: &mut Vec<LoggedNote>, stranded: &[Stranded]) -> Result<(), AllocError>
+    ensures { OnOk result (notes.new.items ≡ notes.old.items ++ map LoggedNote.Stranded stranded.now) }
 {
     for job in stranded {
-        heard.push(LoggedNote::Stranded(*job))?;
+        notes.push(LoggedNote::Stranded(*job))?;
     }
     Ok(())
 }
 
-fn put_started(heard: &mut Vec<LoggedNote>, started: &[Started]) -> Result<(), AllocError>
-    ensures { OnOk result (heard.new.items ≡ heard.old.items ++ map LoggedNote.Began started.now) }
+fn put_started(notes: &mut Vec<LoggedNote>, started: &[Started]) -> Result<(), AllocError>
+    ensures { OnOk result (notes.new.items ≡ notes.old.items ++ map LoggedNote.Began started.now) }
 {
     for start in started {
-        heard.push(LoggedNote::Began(*start))?;
+        notes.push(LoggedNote::Began(*start))?;
     }
     Ok(())
 }

@@ -51,11 +51,9 @@ fn start<P: Planner + Drop, N: Observer>(
 fn job_message<P: Planner + Drop>(core: &Core<P>, id: JobId) -> Outgoing<'_>
     ensures { bytes_of result ≡ job_bytes core.now id }
 {
-    let Some(job) = core.job(id) else {
+    let Some(spooled) = core.spooled(id) else {
         return Outgoing::Bytes(&[]);
     };
-    let Some(documents) = core.documents(id) else {
-        return Outgoing::Bytes(&[]);
-    };
-    Outgoing::Job(OutgoingJob::new(id, job.octets, &job.needs, documents))
+    let job = spooled.job();
+    Outgoing::Job(OutgoingJob::new(id, job.octets, &job.needs, spooled.documents()))
 }

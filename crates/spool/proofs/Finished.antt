@@ -12,7 +12,7 @@ use Rattle.job_objects.specs.JobState.{is_finished}
 use Rattle.job_objects.specs.Job.{JobRecord}
 use Rattle.job_objects.specs.JobStep.{changed_from, job_after, ends_print}
 use Rattle.octets.specs.Document.{DocumentRecord}
-use Rattle.spool.specs.Spooled.{SpooledRecord, settled, on_device_after, changed, let_go, told, attached, is_overdue, expired, marked}
+use Rattle.spool.specs.Spooled.{SpooledRecord, settled, on_device_after, changed, let_go, reported, attached, is_overdue, expired, marked}
 use Rattle.spool.specs.Calls.{is_ready, marked_by}
 use Rattle.spool.proofs.Ids.{either}
 
@@ -64,8 +64,8 @@ let_go_keeps change now s is =
     let still : IsFinished after = ap (λ (o : Option JobRecord). is_finished (unwrap_or o s.job).state) (no_step change now s is) ∙ is in
     either IsFinished s.on_device after s still is
 
-pub told_keeps : (change : JobChange) (now : ℕ) → KeepsFinished (told change now)
-told_keeps change now s is = either IsFinished (ends_print change) (let_go change now s) (changed change now s) (let_go_keeps change now s is) (changed_keeps change now s is)
+pub reported_keeps : (change : JobChange) (now : ℕ) → KeepsFinished (reported change now)
+reported_keeps change now s is = either IsFinished (ends_print change) (let_go change now s) (changed change now s) (let_go_keeps change now s is) (changed_keeps change now s is)
 
 pub attached_keeps : (document : DocumentRecord) (now : ℕ) → KeepsFinished (attached document now)
 attached_keeps document now s is = is

@@ -10,7 +10,7 @@ use Rattle.job_objects.specs.declared.job_change.JobChange.{JobChange}
 use Rattle.job_objects.specs.declared.job_change.JobChange.TheVariants.{Close, Hold, Release, Begin, Stop, Continue, Cancel, Done, Fail}
 use Rattle.job_objects.specs.Job.{JobRecord}
 use Rattle.job_objects.specs.JobStep.{waiting, moved, ended, changed_from, job_after, ends_print}
-use Rattle.spool.specs.Spooled.{SpooledRecord, is_settled, settled, on_device_after, changed, let_go, told, is_overdue, expired, marked}
+use Rattle.spool.specs.Spooled.{SpooledRecord, is_settled, settled, on_device_after, changed, let_go, reported, is_overdue, expired, marked}
 use Rattle.spool.specs.Calls.{is_ready, marked_by}
 
 abbrev pub KeepsId : (SpooledRecord → SpooledRecord) → Type 0
@@ -79,8 +79,8 @@ let_go_id change now s =
     after None is = refl
     after (Some job) is = is
 
-pub told_id : (change : JobChange) (now : ℕ) → KeepsId (told change now)
-told_id change now s = either (λ y. y.job.id ≡ s.job.id) (ends_print change) (let_go change now s) (changed change now s) (let_go_id change now s) (changed_id change now s)
+pub reported_id : (change : JobChange) (now : ℕ) → KeepsId (reported change now)
+reported_id change now s = either (λ y. y.job.id ≡ s.job.id) (ends_print change) (let_go change now s) (changed change now s) (let_go_id change now s) (changed_id change now s)
 
 pub expired_id : (now : ℕ) → KeepsId (expired now)
 expired_id now s = either (λ y. y.job.id ≡ s.job.id) (is_overdue now s) (changed Fail now s) s (changed_id Fail now s) refl

@@ -4,8 +4,8 @@ pub mod Unfinished
 pub mod Sound
 pub mod Ids
 pub mod OnDevice
-pub mod Rising
+pub mod SpoolOfEntries
 pub mod RisingIds
-pub mod Removing
-pub mod Mapping
+pub mod RemovedJobs
+pub mod MappedJobs
 pub mod FinishedFirst

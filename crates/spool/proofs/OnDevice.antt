@@ -12,11 +12,11 @@ use Rattle.job_objects.specs.declared.job_change.JobChange.TheVariants as Change
 use Rattle.job_objects.specs.Job.{JobRecord}
 use Rattle.job_objects.specs.JobStep.{job_after, ends_print}
 use Rattle.octets.specs.Document.{DocumentRecord}
-use Rattle.spool.specs.Spooled.{SpooledRecord, settled, on_device_after, changed, let_go, told, is_overdue, expired, marked}
+use Rattle.spool.specs.Spooled.{SpooledRecord, settled, on_device_after, changed, let_go, reported, is_overdue, expired, marked}
 use Rattle.spool.specs.Jobs.{spooled_at, with_job}
-use Rattle.spool.specs.Kept.{is_kept, later_jobs, retained, jobs_told}
+use Rattle.spool.specs.Kept.{is_kept, later_jobs, retained, jobs_reported}
 use Rattle.spool.specs.Calls.{is_ready, marked_by}
-use Rattle.spool.proofs.Ids.{KeepsId, either, changed_id, told_id, expired_id, marked_id}
+use Rattle.spool.proofs.Ids.{KeepsId, either, changed_id, reported_id, expired_id, marked_id}
 use Rattle.spool.specs.OnDevice.{is_on_device, Stays, AllStay, OthersStay}
 
 -- ---- the job of an id in a changed list
@@ -209,11 +209,11 @@ marked_on paused stranded = record {
 }
 
 -- a change that doesn't end the print
-pub told_on : (change : JobChange) (now : ℕ) → ends_print change ≡ false → KeepsOn (told change now)
-told_on change now goes_on =
+pub reported_on : (change : JobChange) (now : ℕ) → ends_print change ≡ false → KeepsOn (reported change now)
+reported_on change now goes_on =
     let keeps = changed_on change now in
     record {
-      id = told_id change now;
+      id = reported_id change now;
       on_device = λ s on. ap (λ (b : Bool). (cond b (let_go change now s) (changed change now s)).on_device) goes_on ∙ keeps.on_device s on;
       documents = λ s on. ap (λ (b : Bool). (cond b (let_go change now s) (changed change now s)).documents) goes_on ∙ keeps.documents s on;
     }
@@ -224,14 +224,14 @@ either_jobs : (P : List SpooledRecord → Type 0) (b : Bool) (xs ys : List Spool
 either_jobs P true xs ys of_xs of_ys = of_xs
 either_jobs P false xs ys of_xs of_ys = of_ys
 
-pub others_told : (one : ℕ) (change : JobChange) (now : ℕ) (jobs : List SpooledRecord) → OthersStay one jobs (jobs_told one change now jobs)
-others_told one change now jobs =
-    let after = with_job one (told change now) jobs in
-    let others : OthersStay one jobs after = others_with one (told change now) (told_id change now) jobs in
+pub others_reported : (one : ℕ) (change : JobChange) (now : ℕ) (jobs : List SpooledRecord) → OthersStay one jobs (jobs_reported one change now jobs)
+others_reported one change now jobs =
+    let after = with_job one (reported change now) jobs in
+    let others : OthersStay one jobs after = others_with one (reported change now) (reported_id change now) jobs in
     either_jobs (λ new. OthersStay one jobs new) (ends_print change) (retained after) after (others_then one jobs after (retained after) others (stay_retained after)) others
 
-pub stay_told : (one : ℕ) (change : JobChange) (now : ℕ) (jobs : List SpooledRecord) → ends_print change ≡ false → AllStay jobs (jobs_told one change now jobs)
-stay_told one change now jobs goes_on =
-    let after = with_job one (told change now) jobs in
-    let stay : AllStay jobs after = stay_with one (told change now) (told_on change now goes_on) jobs in
+pub stay_reported : (one : ℕ) (change : JobChange) (now : ℕ) (jobs : List SpooledRecord) → ends_print change ≡ false → AllStay jobs (jobs_reported one change now jobs)
+stay_reported one change now jobs goes_on =
+    let after = with_job one (reported change now) jobs in
+    let stay : AllStay jobs after = stay_with one (reported change now) (reported_on change now goes_on) jobs in
     either_jobs (λ new. AllStay jobs new) (ends_print change) (retained after) after (stay_then jobs after (retained after) stay (stay_retained after)) stay

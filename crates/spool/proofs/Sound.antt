@@ -15,7 +15,7 @@ use Rattle.job_objects.specs.Job.{JobRecord}
 use Rattle.job_objects.specs.JobStep.{waiting, moved, ended, changed_from, job_after}
 use Rattle.octets.specs.Document.{DocumentRecord}
 use Rattle.spool.specs.Submission.{Submission, spooled_of}
-use Rattle.spool.specs.Spooled.{SpooledRecord, is_settled, settled, on_device_after, changed, let_go, told, attached, is_overdue, expired, marked}
+use Rattle.spool.specs.Spooled.{SpooledRecord, is_settled, settled, on_device_after, changed, let_go, reported, attached, is_overdue, expired, marked}
 use Rattle.spool.specs.Jobs.{Keyed, jobs_of, spooled_at, with_job, map_at}
 use Rattle.spool.specs.Calls.{is_ready, marked_by}
 use Rattle.spool.specs.Sound.{FitsState, IsSound}
@@ -114,10 +114,10 @@ fail_fits Completed now job on is fits = subst (λ (state : JobState). FitsState
 let_go_sound : (change : JobChange) (now : ℕ) (s : SpooledRecord) → Fits (unwrap_or (job_after change now s.job) s.job) false → IsSound s → IsSound (let_go change now s)
 let_go_sound change now s fits sound = either IsSound s.on_device (record s { job = unwrap_or (job_after change now s.job) s.job; documents = []; on_device = false }) s fits sound
 
-pub told_sound : (change : JobChange) (now : ℕ) → KeepsSound (told change now)
-told_sound Done now s sound = let_go_sound Done now s (done_fits s.job.state now s.job s.on_device refl sound) sound
-told_sound Fail now s sound = let_go_sound Fail now s (fail_fits s.job.state now s.job s.on_device refl sound) sound
-told_sound change now s sound = changed_sound change now s sound
+pub reported_sound : (change : JobChange) (now : ℕ) → KeepsSound (reported change now)
+reported_sound Done now s sound = let_go_sound Done now s (done_fits s.job.state now s.job s.on_device refl sound) sound
+reported_sound Fail now s sound = let_go_sound Fail now s (fail_fits s.job.state now s.job s.on_device refl sound) sound
+reported_sound change now s sound = changed_sound change now s sound
 
 pub same_sound : KeepsSound (λ s. s)
 same_sound s sound = sound

@@ -13,7 +13,7 @@ use Rattle.job_objects.specs.JobStep.{job_after}
 use Rattle.spool.specs.declared.refusal.SpoolRefusal.{SpoolRefusal}
 use Rattle.spool.specs.declared.refusal.SpoolRefusal.TheVariants as Why
 use Rattle.octets.specs.Document.{DocumentRecord, octets_of}
-use Rattle.spool.specs.Asker.{AskerRecord, may_ask, canceler_of}
+use Rattle.spool.specs.Requester.{RequesterRecord, may_change, canceler_of}
 use Rattle.spool.specs.Spooled.{SpooledRecord, changed, attached, marked}
 use Rattle.spool.specs.Submission.{Submission, spooled_of}
 use Rattle.spool.specs.Jobs.{SpoolRecord, with_job}
@@ -48,12 +48,12 @@ pub record Takes (old : SpoolRecord) (new : Submission) (incoming : Bool) (id : 
   pub id_is : id ≡ old.next
   pub spool_is : spool ≡ record { jobs = old.jobs ++ spooled_of new id incoming ∷ []; next = id + 1 }
 
--- ---- a change by an asker
+-- ---- a change by a requester
 
--- why an asker may not change a job, without regard to its state
-abbrev pub asking_refusal : AskerRecord → Option SpooledRecord → Option SpoolRefusal
-asking_refusal asker None = Some Why.NotFound
-asking_refusal asker (Some spooled) = if may_ask asker spooled.job then None else Some Why.NotAuthorized
+-- why a requester may not change a job, without regard to its state
+abbrev pub access_refusal : RequesterRecord → Option SpooledRecord → Option SpoolRefusal
+access_refusal requester None = Some Why.NotFound
+access_refusal requester (Some spooled) = if may_change requester spooled.job then None else Some Why.NotAuthorized
 
 -- whether the state of a job allows a change
 abbrev pub allows : JobChange → ℕ → Option SpooledRecord → Bool
@@ -64,15 +64,15 @@ abbrev pub or_else : Option SpoolRefusal → Option SpoolRefusal → Option Spoo
 or_else (Some cause) later = Some cause
 or_else None later = later
 
--- why a change by an asker isn't made
-abbrev pub change_refusal : AskerRecord → JobChange → ℕ → Option SpooledRecord → Option SpoolRefusal
-change_refusal asker change now found =
-    or_else (asking_refusal asker found) (if allows change now found then None else Some Why.NotPossible)
+-- why a change by a requester isn't made
+abbrev pub change_refusal : RequesterRecord → JobChange → ℕ → Option SpooledRecord → Option SpoolRefusal
+change_refusal requester change now found =
+    or_else (access_refusal requester found) (if allows change now found then None else Some Why.NotPossible)
 
--- why an asker can't cancel a job: they may not change it, or it is finished
-abbrev pub cancel_refusal : AskerRecord → Option SpooledRecord → Option SpoolRefusal
-cancel_refusal asker found =
-    or_else (asking_refusal asker found) (if option_map_or (λ s. is_finished s.job.state) found false then Some Why.NotPossible else None)
+-- why a requester can't cancel a job: they may not change it, or it is finished
+abbrev pub cancel_refusal : RequesterRecord → Option SpooledRecord → Option SpoolRefusal
+cancel_refusal requester found =
+    or_else (access_refusal requester found) (if option_map_or (λ s. is_finished s.job.state) found false then Some Why.NotPossible else None)
 
 -- the cancel by a name: that of the job's owner, or of an operator
 abbrev pub cancel_of : List ℕ → Option SpooledRecord → JobChange
@@ -95,10 +95,10 @@ taking_refusal octets added found =
     else if added && is_too_large octets s.job then Some Why.TooLarge
     else None) found None
 
--- why a document of this many octets by an asker isn't taken, if there is a cause other than out of memory
-abbrev pub document_refusal : AskerRecord → ℕ → Bool → Option SpooledRecord → Option SpoolRefusal
-document_refusal asker octets last found =
-    or_else (asking_refusal asker found) (taking_refusal octets (adds octets last) found)
+-- why a document of this many octets by a requester isn't taken, if there is a cause other than out of memory
+abbrev pub document_refusal : RequesterRecord → ℕ → Bool → Option SpooledRecord → Option SpoolRefusal
+document_refusal requester octets last found =
+    or_else (access_refusal requester found) (taking_refusal octets (adds octets last) found)
 
 -- the jobs with the document, if it is added
 abbrev pub with_document : Bool → ℕ → DocumentRecord → ℕ → List SpooledRecord → List SpooledRecord

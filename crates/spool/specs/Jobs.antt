@@ -29,8 +29,8 @@ map_at zero change (spooled ∷ jobs) = change spooled ∷ jobs
 map_at (suc place) change (spooled ∷ jobs) = spooled ∷ map_at place change jobs
 
 -- the documents that the job of an id hands out for a change that its device reports
-abbrev pub documents_told : ℕ → JobChange → List SpooledRecord → List DocumentRecord
-documents_told id change jobs = option_map_or (handed_out change) (spooled_at id jobs) []
+abbrev pub documents_released : ℕ → JobChange → List SpooledRecord → List DocumentRecord
+documents_released id change jobs = option_map_or (handed_out change) (spooled_at id jobs) []
 
 -- ---- the jobs as the entries of a map
 

@@ -3,7 +3,7 @@ use Rattle.std.specs.Prelude.{ℕ, Bool, not, ◌||◌, ◌&&◌, ◌==◌, nat_
 use Rattle.base_types.specs.declared.limits.TheConstants.Limits.{FINISHED_JOBS_KEPT}
 use Rattle.job_objects.specs.declared.job_change.JobChange.{JobChange}
 use Rattle.job_objects.specs.JobStep.{ends_print}
-use Rattle.spool.specs.Spooled.{SpooledRecord, is_settled, told}
+use Rattle.spool.specs.Spooled.{SpooledRecord, is_settled, reported}
 use Rattle.spool.specs.Jobs.{with_job}
 
 -- the moment at which a job was finished
@@ -27,5 +27,5 @@ abbrev pub retained : List SpooledRecord → List SpooledRecord
 retained jobs = filter (is_kept jobs) jobs
 
 -- the jobs after a device's change of the job of an id; if the change ends the print, finished jobs may be forgotten
-abbrev pub jobs_told : ℕ → JobChange → ℕ → List SpooledRecord → List SpooledRecord
-jobs_told id change now jobs = if ends_print change then retained (with_job id (told change now) jobs) else with_job id (told change now) jobs
+abbrev pub jobs_reported : ℕ → JobChange → ℕ → List SpooledRecord → List SpooledRecord
+jobs_reported id change now jobs = if ends_print change then retained (with_job id (reported change now) jobs) else with_job id (reported change now) jobs

@@ -1,4 +1,4 @@
-pub mod Asker
+pub mod Requester
 pub mod Spooled
 pub mod Submission
 pub mod Sound

@@ -42,8 +42,8 @@ let_go change now spooled =
     if spooled.on_device then record spooled { job = stepped change now spooled.job; documents = []; on_device = false } else spooled
 
 -- the job after a change that its device reports
-abbrev pub told : JobChange → ℕ → SpooledRecord → SpooledRecord
-told change now spooled = if ends_print change then let_go change now spooled else changed change now spooled
+abbrev pub reported : JobChange → ℕ → SpooledRecord → SpooledRecord
+reported change now spooled = if ends_print change then let_go change now spooled else changed change now spooled
 
 -- the documents that are handed out for a change that the device reports: all, if the change ends the print
 abbrev pub handed_out : JobChange → SpooledRecord → List DocumentRecord

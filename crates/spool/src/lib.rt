@@ -10,23 +10,23 @@
 //! Examples: the traces in `crates/play_examples/data`.
 #![tactic(auto)]
 
-mod asker;
-mod asking;
 mod devices;
 mod expiring;
 mod forgetting;
 mod new_job;
 mod ready;
 mod refusal;
+mod requester;
+mod requests;
 mod sending;
 mod spool;
 mod spooled;
 mod stranding;
 mod submitting;
 
-pub use asker::Asker;
 pub use new_job::NewJob;
 pub use ready::{Ready, is_paused};
 pub use refusal::{Refused, RefusedDocument, SpoolRefusal};
+pub use requester::Requester;
 pub use spool::Spool;
 pub use spooled::SpooledJob;

@@ -5,8 +5,8 @@ ghost use Rattle.spool.specs.Jobs.{spooled_at};
 ghost use Rattle.spool.specs.Calls.{IsRefusal, adds, is_too_large, taking_refusal, document_refusal, with_document, closed_if};
 ghost use Rattle.spool.specs.OnDevice.{is_on_device, AllStay};
 
-use crate::asker::Asker;
 use crate::refusal::{RefusedDocument, SpoolRefusal};
+use crate::requester::Requester;
 use crate::spool::Spool;
 use base_types::{JobId, Limits, Moment};
 use job_objects::{Job, JobChange};
@@ -35,21 +35,21 @@ impl Spool {
     pub fn add_document(
         &mut self,
         id: JobId,
-        asker: &Asker<'_>,
+        requester: &Requester<'_>,
         document: Document,
         last: bool,
         now: Moment,
     ) -> Result<(), RefusedDocument>
-        ensures ok { OnOk result ((document_refusal asker.now (length document.contents) last (spooled_at id self.old.jobs) ≡ None) × (self.new ≡ record self.old { jobs = closed_if last id now (with_document (adds (length document.contents) last) id document now self.old.jobs) })) }
+        ensures ok { OnOk result ((document_refusal requester.now (length document.contents) last (spooled_at id self.old.jobs) ≡ None) × (self.new ≡ record self.old { jobs = closed_if last id now (with_document (adds (length document.contents) last) id document now self.old.jobs) })) }
         ensures kept { OnErr result (self.new ≡ self.old) }
         ensures stay { OnOk result (AllStay self.old.jobs self.new.jobs) }
         ensures returned { IfErr result (λ refused. refused.document ≡ document) }
-        ensures refused { IfErr result (λ refused. IsRefusal (document_refusal asker.now (length document.contents) last (spooled_at id self.old.jobs)) refused.refusal) }
+        ensures refused { IfErr result (λ refused. IsRefusal (document_refusal requester.now (length document.contents) last (spooled_at id self.old.jobs)) refused.refusal) }
     {
         let octets = document.contents.len();
         let added = adds(octets, last);
         let spool = &*self;
-        if let Err(refusal) = spool.admits_document(id, asker, octets, last) {
+        if let Err(refusal) = spool.admits_document(id, requester, octets, last) {
             return Err(RefusedDocument { refusal, document });
         }
         if let Err(document) = self.attach_if(added, id, document, now) {
@@ -64,15 +64,15 @@ impl Spool {
     pub fn admits_document(
         &self,
         id: JobId,
-        asker: &Asker<'_>,
+        requester: &Requester<'_>,
         octets: usize,
         last: bool,
     ) -> Result<(), SpoolRefusal>
-        ensures ok { OnOk result (document_refusal asker.now octets last (spooled_at id self.now.jobs) ≡ None) }
+        ensures ok { OnOk result (document_refusal requester.now octets last (spooled_at id self.now.jobs) ≡ None) }
         ensures off { OnOk result (is_on_device id self.now.jobs ≡ false) }
-        ensures refused { IfErr result (λ refusal. document_refusal asker.now octets last (spooled_at id self.now.jobs) ≡ Some refusal) }
+        ensures refused { IfErr result (λ refusal. document_refusal requester.now octets last (spooled_at id self.now.jobs) ≡ Some refusal) }
     {
-        self.may_change(id, asker)?;
+        self.may_change(id, requester)?;
         self.may_take(id, octets, adds(octets, last))
     }
 

@@ -1,12 +1,12 @@
 //! The spool and the changes of one job.
 ghost use Rattle.std.specs.Prelude.{◌≡◌, ◌≤◌, ◌<◌, ◌+◌, ◌∷◌, ◌++◌, [], Bool, List, suc, false, OnOk, OnErr, IfErr, IfSome, IfNone, length, map, remove, is_ok};
 ghost use Rattle.std.specs.Option.{option_copied};
-ghost use Rattle.spool.specs.Spooled.{changed, told, attached, expired};
+ghost use Rattle.spool.specs.Spooled.{changed, reported, attached, expired};
 ghost use Rattle.base_types.specs.declared.limits.TheConstants.Limits.{LAST_JOB_ID, UNFINISHED_JOBS, JOB_DOCUMENTS, JOB_OCTETS};
 ghost use Rattle.octets.specs.Document.{octets_of};
 ghost use Rattle.spool.specs.Submission.{spooled_of};
 ghost use Rattle.spool.specs.Calls.{allows, marked_by, unfinished_jobs};
-ghost use Rattle.spool.specs.Jobs.{spooled_at, with_job, map_at, documents_told};
+ghost use Rattle.spool.specs.Jobs.{spooled_at, with_job, map_at, documents_released};
 ghost use Rattle.spool.specs.Spool.{IsSpool};
 ghost use Rattle.spool.specs.Ready.{ready_jobs};
 ghost use Rattle.spool.specs.Front.{AllFinished};
@@ -169,9 +169,9 @@ impl Spool {
 
     /// Makes a change that a device reports of the job of an id, if there is one. Returns the documents that are
     /// handed out.
-    pub(crate) fn tell_job(&mut self, id: JobId, change: JobChange, now: Moment) -> Vec<Document>
-        ensures documents { result.items ≡ documents_told id change self.old.jobs }
-        ensures jobs { self.new ≡ record self.old { jobs = with_job id (told change now) self.old.jobs } }
+    pub(crate) fn report_job(&mut self, id: JobId, change: JobChange, now: Moment) -> Vec<Document>
+        ensures documents { result.items ≡ documents_released id change self.old.jobs }
+        ensures jobs { self.new ≡ record self.old { jobs = with_job id (reported change now) self.old.jobs } }
         ensures others { OthersStay id self.old.jobs self.new.jobs }
         ensures stay { ends_print change ≡ false → AllStay self.old.jobs self.new.jobs }
     {
@@ -179,7 +179,7 @@ impl Spool {
         let Some(spooled) = self.entries.get_mut(&id.number()) else {
             return Vec::new(alloc);
         };
-        spooled.tell(alloc, change, now)
+        spooled.report(alloc, change, now)
     }
 
     /// Adds a document to the job of an id. If memory is refused, returns the document.

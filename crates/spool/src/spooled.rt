@@ -1,7 +1,7 @@
 //! A job with its documents.
 ghost use Rattle.std.specs.Prelude.{◌≡◌, ◌≤◌, ◌<◌, ◌+◌, [], OnOk, OnErr, IfErr, length, is_ok, is_some, if◌then◌else◌};
 ghost use Rattle.job_objects.specs.JobStep.{job_after};
-ghost use Rattle.spool.specs.Spooled.{changed, on_device_after, let_go, told, handed_out, settled, is_settled, counted, attached, expired, is_overdue, marked};
+ghost use Rattle.spool.specs.Spooled.{changed, on_device_after, let_go, reported, handed_out, settled, is_settled, counted, attached, expired, is_overdue, marked};
 
 use base_types::{Limits, Moment, Text};
 use job_objects::{Job, JobChange, StateRefusal, estimated_impressions, job_step};
@@ -90,9 +90,9 @@ impl SpooledJob {
 
     /// Makes a change that a device reports. If the change ends the print, the device has the job no more, and
     /// the job's documents are returned.
-    pub(crate) fn tell(&mut self, alloc: Global, change: JobChange, now: Moment) -> Vec<Document>
+    pub(crate) fn report(&mut self, alloc: Global, change: JobChange, now: Moment) -> Vec<Document>
         ensures documents { result.items ≡ handed_out change self.old }
-        ensures after { self.new ≡ told change now self.old }
+        ensures after { self.new ≡ reported change now self.old }
         ensures same_job { self.new.job.id ≡ self.old.job.id }
     {
         if change.ends_print() {

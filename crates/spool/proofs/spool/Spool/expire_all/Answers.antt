@@ -1,6 +1,6 @@
 use Rattle.std.proofs.Common.{◌<◌, length, arith}
 use Rattle.spool.specs.Spooled.{expired}
-use Rattle.spool.proofs.Mapping.{changed_more}
+use Rattle.spool.proofs.MappedJobs.{changed_more}
 use Rattle.spool.proofs.spool.Spool.expire_all.Goals as goal
 
 pub loop-place-preserved : goal.loop-place-preserved

@@ -1,7 +1,7 @@
 use Rattle.std.proofs.Common.{◌∙◌, ap, sym}
 use Rattle.spool.specs.Kept.{retained}
 use Rattle.spool.specs.Jobs.{SpoolRecord}
-use Rattle.spool.proofs.Removing.{retained_gone, all_kept, spool_is}
+use Rattle.spool.proofs.RemovedJobs.{retained_gone, all_kept, spool_is}
 use Rattle.spool.proofs.spool.Spool.forget.Goals as goal
 
 pub loop-place-preserved : goal.loop-place-preserved

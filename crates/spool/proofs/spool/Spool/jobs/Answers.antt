@@ -1,4 +1,4 @@
-use Rattle.spool.proofs.Rising.{is_spool}
+use Rattle.spool.proofs.SpoolOfEntries.{is_spool}
 use Rattle.spool.proofs.spool.Spool.jobs.Goals as goal
 
 pub returns-clause-kept : goal.returns-clause-kept

@@ -5,7 +5,7 @@ use Rattle.spool.specs.OnDevice.{AllStay}
 use Rattle.spool.proofs.OnDevice.{marked_on, stay_map}
 use Rattle.spool.specs.Calls.{marked_by}
 use Rattle.spool.specs.Spooled.{SpooledRecord}
-use Rattle.spool.proofs.Mapping.{changed_more}
+use Rattle.spool.proofs.MappedJobs.{changed_more}
 use Rattle.spool.proofs.FinishedFirst.{marked_behind}
 use Rattle.spool.proofs.spool.Spool.mark.Goals as goal
 

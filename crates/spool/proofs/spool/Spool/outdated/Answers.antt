@@ -1,5 +1,5 @@
 use Rattle.std.proofs.Common.{sym, arith}
-use Rattle.spool.proofs.Removing.{few_kept}
+use Rattle.spool.proofs.RemovedJobs.{few_kept}
 use Rattle.spool.proofs.spool.Spool.outdated.Goals as goal
 
 pub returns-then-settled-le-FINISHED_JOBS_KEPT : goal.returns-then-settled-le-FINISHED_JOBS_KEPT

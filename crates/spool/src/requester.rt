@@ -1,29 +1,29 @@
-//! The asker of a change of a job.
+//! The requester of a change of a job.
 ghost use Rattle.std.specs.Prelude.{◌≡◌};
 ghost use Rattle.std.specs.Str.{bytes_eq};
-ghost use Rattle.spool.specs.Asker.{may_ask, canceler_of};
+ghost use Rattle.spool.specs.Requester.{may_change, canceler_of};
 
 use base_types::Text;
 use job_objects::{Canceler, Job};
 use std::marker::Model;
 
-/// An asker: the name that the request claims, and whether it is an operator's. In clauses it is a record of
+/// A requester: the name that the request claims, and whether it is an operator's. In clauses it is a record of
 /// the same fields.
 #[derive(Drop)]
-pub struct Asker<'a> {
+pub struct Requester<'a> {
     pub name: &'a Text,
     pub is_operator: bool,
 }
 
-impl<'a> Model for Asker<'a> {
-    ghost use Rattle.spool.specs.Asker.{AskerRecord};
+impl<'a> Model for Requester<'a> {
+    ghost use Rattle.spool.specs.Requester.{RequesterRecord};
 
-    ghost Value = { AskerRecord };
+    ghost Value = { RequesterRecord };
 
     ghost view = { λ a. record { name = a.name.now; is_operator = a.is_operator } };
 }
 
-impl Asker<'_> {
+impl Requester<'_> {
     /// Returns whether the name is that of the job's owner.
     fn owns(&self, job: &Job) -> bool
         ensures { result ≡ bytes_eq self.now.name job.now.owner }
@@ -31,14 +31,14 @@ impl Asker<'_> {
         self.name.as_bytes() == job.owner.as_bytes()
     }
 
-    /// Returns whether the asker may change the job: they own it, or are an operator.
+    /// Returns whether the requester may change the job: they own it, or are an operator.
     pub(crate) fn may_change(&self, job: &Job) -> bool
-        ensures { result ≡ may_ask self.now job.now }
+        ensures { result ≡ may_change self.now job.now }
     {
         self.is_operator || self.owns(job)
     }
 
-    /// The role in which the asker cancels a job.
+    /// The role in which the requester cancels a job.
     pub(crate) fn canceler(&self, job: &Job) -> Canceler
         ensures { result ≡ canceler_of self.now.name job.now }
     {

@@ -5,13 +5,13 @@ use Rattle.job_objects.specs.declared.job.Canceler.{Canceler}
 use Rattle.job_objects.specs.declared.job.Canceler.TheVariants.{Owner, Operator}
 use Rattle.job_objects.specs.Job.{JobRecord}
 
--- an asker: the name that a request claims, and whether it is an operator's
-pub record AskerRecord : Type 0 where
+-- a requester: the name that a request claims, and whether it is an operator's
+pub record RequesterRecord : Type 0 where
   pub name : List ℕ
   pub is_operator : Bool
 
-abbrev pub may_ask : AskerRecord → JobRecord → Bool
-may_ask asker job = asker.is_operator || bytes_eq asker.name job.owner
+abbrev pub may_change : RequesterRecord → JobRecord → Bool
+may_change requester job = requester.is_operator || bytes_eq requester.name job.owner
 
 -- an operator who cancels a job of their own does that as its owner
 abbrev pub canceler_of : List ℕ → JobRecord → Canceler
