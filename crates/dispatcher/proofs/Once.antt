@@ -64,7 +64,7 @@ same_answers status unsupported groups Nothing other a b = absurd a
 
 same_replies : (status : Status) (unsupported : List IppAttribute) (groups : List IppGroup) (one other : Effects) → Replies status unsupported groups one → Replies status unsupported groups other → SameReply one other
 same_replies status unsupported groups one other a b = record {
-  answer = same_answers status unsupported groups one.answer other.answer a.answer b.answer;
+  response = same_answers status unsupported groups one.response other.response a.response b.response;
   cancels = a.cancels ∙ sym b.cancels;
   documents = a.documents ∙ sym b.documents;
 }
@@ -87,7 +87,7 @@ same_as said one other a b =
     subst (λ x. SameAnswer one x) both (same_self one)
 
 lpd_replies : (said : LpdResponse) (one other : Effects) → AnswersLpd said one → AnswersLpd said other → SameReply one other
-lpd_replies said one other a b = record { answer = same_as (Lpd said) one.answer other.answer a.answer b.answer; cancels = a.cancels ∙ sym b.cancels; documents = a.documents ∙ sym b.documents }
+lpd_replies said one other a b = record { response = same_as (Lpd said) one.response other.response a.response b.response; cancels = a.cancels ∙ sym b.cancels; documents = a.documents ∙ sym b.documents }
 
 -- ---- judgments
 
@@ -136,7 +136,7 @@ listed_by : (now : ℕ) (request : ListQueue) (old : State) (r : Option ℕ) (on
 listed_by now request old None one new other new' a b = record { state = a.state ∙ sym b.state; effects_are = lpd_replies NoQueue one other a.answers b.answers }
 listed_by now request old (Some place) one new other new' a b = record {
   state = a.state ∙ sym b.state;
-  effects_are = record { answer = listed now place request old one.answer other.answer a.answer b.answer; cancels = a.cancels ∙ sym b.cancels; documents = a.documents ∙ sym b.documents };
+  effects_are = record { response = listed now place request old one.response other.response a.response b.response; cancels = a.cancels ∙ sym b.cancels; documents = a.documents ∙ sym b.documents };
 }
 
 -- a report leaves one state, and hands out one list of documents
@@ -171,7 +171,7 @@ at_once (Is.SendDocument request) now old one new other new' a b =
     (λ sent x y. record { state = x.state ∙ sym y.state; effects_are = same_replies _ _ _ one other x.replies y.replies })
 at_once (Is.CancelJob request) now old one new other new' a b =
     judged (canceled_of request old) (CancelsIt now old request.user) now old one new other new' a b
-    (λ id x y. record { state = x.state ∙ sym y.state; effects_are = record { answer = same_answers _ [] [] one.answer other.answer x.answer y.answer; cancels = x.cancels ∙ sym y.cancels; documents = x.documents ∙ sym y.documents } })
+    (λ id x y. record { state = x.state ∙ sym y.state; effects_are = record { response = same_answers _ [] [] one.response other.response x.response y.response; cancels = x.cancels ∙ sym y.cancels; documents = x.documents ∙ sym y.documents } })
 at_once (Is.GetJobAttributes request) now old one new other new' a b =
     judged (named_job request.target old) (λ job. Shows now old _) now old one new other new' a b (λ job x y. shown now old _ one new other new' x y)
 at_once (Is.GetJobs request) now old one new other new' a b =
@@ -190,14 +190,14 @@ at_once (Is.SubmitFiles request) now old one new other new' a b = filed now old 
 at_once (Is.ListQueue request) now old one new other new' a b = listed_by now request old (queue_of request.queue old) one new other new' a b
 at_once (Is.RemoveJobs request) now old one new other new' a b = record {
   state = a.state ∙ sym b.state;
-  effects_are = record { answer = same_as Nothing one.answer other.answer a.unanswered b.unanswered; cancels = a.cancels ∙ sym b.cancels; documents = a.documents ∙ sym b.documents };
+  effects_are = record { response = same_as Nothing one.response other.response a.unanswered b.unanswered; cancels = a.cancels ∙ sym b.cancels; documents = a.documents ∙ sym b.documents };
 }
 at_once (Is.Report device report) now old one new other new' a b =
     let same = reported now device report old one.documents.items new other.documents.items new' a.reports b.reports in
-    record { state = same.state; effects_are = record { answer = same_as Nothing one.answer other.answer a.unanswered b.unanswered; cancels = a.cancels ∙ sym b.cancels; documents = same.documents_are } }
+    record { state = same.state; effects_are = record { response = same_as Nothing one.response other.response a.unanswered b.unanswered; cancels = a.cancels ∙ sym b.cancels; documents = same.documents_are } }
 at_once Is.Tick now old one new other new' a b = record {
   state = a.state ∙ sym b.state;
-  effects_are = record { answer = same_as Nothing one.answer other.answer a.unanswered b.unanswered; cancels = a.cancels ∙ sym b.cancels; documents = a.documents ∙ sym b.documents };
+  effects_are = record { response = same_as Nothing one.response other.response a.unanswered b.unanswered; cancels = a.cancels ∙ sym b.cancels; documents = a.documents ∙ sym b.documents };
 }
 
 -- ---- two events with the same content
@@ -229,7 +229,7 @@ listed_as one other same now place old Nothing b = absurd b
 lists_at : (one other : ListQueue) → SameList one other → (now : ℕ) (old : State) (r : Option ℕ) (effects : Effects) (new : State)
     → MatchOption r (ListsNothing now old effects new) (λ place. ListsIt now old other place effects new) → MatchOption r (ListsNothing now old effects new) (λ place. ListsIt now old one place effects new)
 lists_at one other same now old None effects new b = b
-lists_at one other same now old (Some place) effects new b = record { answer = listed_as one other same now place old effects.answer b.answer; cancels = b.cancels; documents = b.documents; state = b.state }
+lists_at one other same now old (Some place) effects new b = record { response = listed_as one other same now place old effects.response b.response; cancels = b.cancels; documents = b.documents; state = b.state }
 
 lists_as : (one other : ListQueue) → SameList one other → (now : ℕ) (old : State) (effects : Effects) (new : State) → ListsQueue now other old effects new → ListsQueue now one old effects new
 lists_as one other same now old effects new b =

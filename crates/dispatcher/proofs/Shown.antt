@@ -10,13 +10,13 @@ use Rattle.job_objects.specs.declared.job_state.JobState.TheVariants.{Pending, P
 use Rattle.job_objects.specs.declared.job_change.JobChange.TheVariants.{Close}
 use Rattle.job_objects.specs.Job.{JobRecord}
 use Rattle.printer_objects.specs.Created.{created_group}
-use Rattle.spool.specs.Asker.{AskerRecord}
+use Rattle.spool.specs.Requester.{RequesterRecord}
 use Rattle.octets.specs.Document.{DocumentRecord}
 use Rattle.spool.specs.Spooled.{SpooledRecord, changed, attached}
 use Rattle.spool.specs.Jobs.{spooled_at, job_at}
 use Rattle.spool.specs.Sound.{FitsState, IsSound}
 use Rattle.spool.specs.Spool.{IsSpool}
-use Rattle.spool.specs.Calls.{or_else, asking_refusal, document_refusal, is_too_large, adds, with_document, closed_if, paused_at}
+use Rattle.spool.specs.Calls.{or_else, access_refusal, document_refusal, is_too_large, adds, with_document, closed_if, paused_at}
 use Rattle.spool.specs.declared.refusal.SpoolRefusal.{SpoolRefusal}
 use Rattle.spool.specs.declared.refusal.SpoolRefusal.TheVariants as Why
 use Rattle.spool.proofs.Ids.{changed_id}
@@ -35,8 +35,8 @@ use Rattle.dispatcher.specs.Target.{job_of, if_sent_to, printer_of}
 use Rattle.events.specs.declared.effects.Effects.{Effects}
 use Rattle.events.specs.Effects.{Replies}
 use Rattle.print_room.specs.State.{State}
-use Rattle.print_room.specs.Jobs.{asker_of, sending}
-use Rattle.dispatcher.proofs.Keeping.{IsSent, is_sent}
+use Rattle.print_room.specs.Jobs.{requester_of, sending}
+use Rattle.dispatcher.proofs.DocumentsStay.{IsSent, is_sent}
 
 -- ---- the job that the request names
 
@@ -87,8 +87,8 @@ known (Some one) job is = let same : one ≡ job = cc is in ap Some same
 
 -- ---- the documents of the job are still to come
 
-still_to_come : (asker : AskerRecord) (octets : ℕ) (last : Bool) (s : SpooledRecord) → document_refusal asker octets last (Some s) ≡ None → s.job.incoming ≡ true
-still_to_come asker octets last s free = at (asking_refusal asker (Some s)) s.job.incoming (adds octets last && is_too_large octets s.job) free
+still_to_come : (requester : RequesterRecord) (octets : ℕ) (last : Bool) (s : SpooledRecord) → document_refusal requester octets last (Some s) ≡ None → s.job.incoming ≡ true
+still_to_come requester octets last s free = at (access_refusal requester (Some s)) s.job.incoming (adds octets last && is_too_large octets s.job) free
   where
     at : (cause : Option SpoolRefusal) (incoming large : Bool) → or_else cause (cond (not incoming) (Some Why.NotPossible) (cond large (Some Why.TooLarge) None)) ≡ None → incoming ≡ true
     at (Some why) incoming large free = absurd (cc)
@@ -112,11 +112,11 @@ record ComesIn (job : JobRecord) (jobs : List SpooledRecord) : Type 0 where
   incoming : spooled.job.incoming ≡ true
   alike : (old : State) (last : Bool) → sent_group old spooled.job last ≡ sent_group old job last
 
-comes_in : (asker : AskerRecord) (octets : ℕ) (last : Bool) (jobs : List SpooledRecord) (job : JobRecord) → All IsSound jobs → IsIn jobs job → document_refusal asker octets last (spooled_at job.id jobs) ≡ None → ComesIn job jobs
-comes_in asker octets last jobs job sound in_jobs free =
+comes_in : (requester : RequesterRecord) (octets : ℕ) (last : Bool) (jobs : List SpooledRecord) (job : JobRecord) → All IsSound jobs → IsIn jobs job → document_refusal requester octets last (spooled_at job.id jobs) ≡ None → ComesIn job jobs
+comes_in requester octets last jobs job sound in_jobs free =
     let s = in_jobs.spooled in
     let fits : IsSound s = subst (λ (o : Option SpooledRecord). IfSome o IsSound) in_jobs.there (sound_found job.id jobs sound) in
-    let incoming : s.job.incoming ≡ true = still_to_come asker octets last s (subst (λ (o : Option SpooledRecord). document_refusal asker octets last o ≡ None) in_jobs.there free) in
+    let incoming : s.job.incoming ≡ true = still_to_come requester octets last s (subst (λ (o : Option SpooledRecord). document_refusal requester octets last o ≡ None) in_jobs.there free) in
     record {
       spooled = s;
       there = in_jobs.there;
@@ -174,7 +174,7 @@ job_shown request now document old sent spool is =
     let jobs = old.spool.jobs in
     let last = request.last in
     let found : IsIn jobs job = named_in request.job.target old job (known (job_of request.job.target old) job is.named) in
-    let comes : ComesIn job jobs = comes_in (asker_of request.job.user old) (length request.octets) last jobs job spool.sound found is.free in
+    let comes : ComesIn job jobs = comes_in (requester_of request.job.user old) (length request.octets) last jobs job spool.sound found is.free in
     let added = adds (length document.contents) last in
     let after = once_closed last old now (with_document added job.id document now jobs) job (with_it added document now jobs job comes) in
     let shown : IsShown job.id (sent_group old job last ∷ []) (sending now job.id document last old) = (after.spooled.job, ap (option_map (λ (s : SpooledRecord). s.job)) after.there, ap (λ (g : IppGroup). g ∷ []) (sym after.shown)) in

@@ -3,8 +3,8 @@ pub mod Sections
 pub mod Steps
 pub mod Fronts
 pub mod Laws
-pub mod Feeding
+pub mod ReaderPlace
 pub mod Orders
-pub mod Saying
-pub mod Deciding
-pub mod Telling
+pub mod WrittenRequest
+pub mod HeadsAreDecided
+pub mod StreamsSaySomething

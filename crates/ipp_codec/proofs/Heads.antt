@@ -12,7 +12,7 @@ use Rattle.ipp_codec.specs.FirstFault.{FirstFault}
 use Rattle.ipp_codec.specs.Reading.{Walks}
 use Rattle.ipp_codec.specs.Decoding.{Lengths}
 use Rattle.ipp_codec.proofs.Fields.{IsBytes, IsBytes-take}
-use Rattle.ipp_codec.proofs.Fitting.{groups_of, groups_only, can_end}
+use Rattle.ipp_codec.proofs.GroupsHaveSpelling.{groups_of, groups_only, can_end}
 
 -- the four numbers of a view
 abbrev pub front : ℕ → ℕ → ℕ → ℕ → List ℕ

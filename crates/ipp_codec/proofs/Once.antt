@@ -19,7 +19,7 @@ use Rattle.ipp_codec.specs.FirstFault.{First, FirstFault, HeadFault, AtPart, AtF
 use Rattle.ipp_codec.specs.Shown.{Level, levels_of, top}
 use Rattle.ipp_codec.specs.Decoding.{Lengths, fault_within}
 use Rattle.ipp_codec.proofs.Tree.{Closed, read_groups, groups_follow, groups_closed}
-use Rattle.ipp_codec.proofs.Fitting.{Follows-front}
+use Rattle.ipp_codec.proofs.GroupsHaveSpelling.{Follows-front}
 use Rattle.ipp_codec.proofs.Unique.{unique, end_stops, first_stops}
 use Rattle.ipp_codec.proofs.OneFault.{one_first}
 

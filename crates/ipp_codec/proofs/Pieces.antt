@@ -20,10 +20,10 @@ use Rattle.ipp_codec.specs.declared.stage.Stage.{Stage}
 use Rattle.ipp_codec.specs.declared.stage.Stage.TheVariants.{Awaiting, Whole, Faulty}
 use Rattle.ipp_codec.specs.Decoder.{DecoderState, IsBytes, Leads, IsAtStage, HasDecoded, TakesIn, MayCome, with_header, stage_of, stage_at, ended, kept_of, settled, Feeds, answer_at, reached_of, returned}
 use Rattle.ipp_codec.proofs.Fields.{IsBytes-drop}
-use Rattle.ipp_codec.proofs.Fitting.{Follows-append, place_from-append}
+use Rattle.ipp_codec.proofs.GroupsHaveSpelling.{Follows-append, place_from-append}
 use Rattle.ipp_codec.proofs.Heads.{lengths, failed}
-use Rattle.ipp_codec.proofs.Staying.{bytes_stay}
-use Rattle.ipp_codec.proofs.Viewing.{long_head}
+use Rattle.ipp_codec.proofs.FaultStays.{bytes_stay}
+use Rattle.ipp_codec.proofs.ViewedMessage.{long_head}
 use Rattle.ipp_codec.proofs.Once.{not_end}
 use Rattle.ipp_codec.proofs.Unique.{first_stops}
 

@@ -41,7 +41,7 @@ pub fn encode(message: &Message, out: &mut Vec<u8>) -> Result<(), EncodeFault>
 
 /// The bytes of a message whose front is spelt already: the front, then the groups, then the end byte. The front
 /// is the header, or the header and groups before these. The only error is out of memory.
-#[tactic(auto, using(crate::proofs::Writing::groups_is))]
+#[tactic(auto, using(crate::proofs::WrittenSpelling::groups_is))]
 pub fn encode_behind(alloc: Global, front: &[u8], groups: &[Group]) -> Result<Vec<u8>, AllocError>
     requires { AllByRecursion IsGroup groups.now }
     ensures { IfOk result (λ bytes. bytes.items ≡ front.now ++ (bytes_of (elements groups.now) ++ 3 ∷ [])) }

@@ -1,4 +1,4 @@
-mod Placing
-mod Showing
-mod Ordering
-pub mod Removing
+mod PlacedJobs
+mod PrinterGroup
+mod JobsByTurn
+pub mod RemovalCancels

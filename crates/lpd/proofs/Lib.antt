@@ -1,3 +1,3 @@
 mod Drafts
 pub mod Streams
-pub mod Standing
+pub mod ReaderPlace

@@ -37,9 +37,9 @@ item_record (item.Announced head) file = Announces head
 item_record item.File file = HasFile file
 
 -- the record of a line's item, or its fault
-abbrev pub told : Result LpdItem LpdFault → Result ItemRecord LpdFault
-told (Ok said) = Ok (item_record said [])
-told (Err fault) = Err fault
+abbrev pub line_record : Result LpdItem LpdFault → Result ItemRecord LpdFault
+line_record (Ok said) = Ok (item_record said [])
+line_record (Err fault) = Err fault
 
 -- the part that is awaited after an item: a subcommand after the command to receive a job, and the file after its announcement. Nothing is awaited after any other command, since a connection has one command
 abbrev pub awaited_after_command : CommandRecord → Awaited

@@ -1,7 +1,7 @@
 //! Commands and subcommands of LPD (RFC 1179, sections 5 and 6).
 ghost use Rattle.std.specs.Prelude.{◌≡◌, IfOk, MatchOption, ◌-◌, ◌^◌, map, min, true, false};
 ghost use Rattle.std.specs.Str.Parse.{digits_value};
-ghost use Rattle.lpd.specs.Items.{command_record, told};
+ghost use Rattle.lpd.specs.Items.{command_record, line_record};
 ghost use Rattle.lpd.specs.Command.{command_line, subcommand_line, announced, is_count, removal, most_bytes};
 
 use crate::fault::LpdFault;
@@ -18,7 +18,7 @@ pub(crate) fn read_command(
     alloc: Global,
     line: &[u8],
 ) -> Result<Result<LpdItem, LpdFault>, AllocError>
-    ensures { IfOk result (λ said. told said ≡ command_line line.now) }
+    ensures { IfOk result (λ said. line_record said ≡ command_line line.now) }
 {
     let Some((code, text)) = line.split_first() else {
         return Ok(Err(LpdFault::UnknownCode));
@@ -65,7 +65,7 @@ pub(crate) fn read_subcommand(
     alloc: Global,
     line: &[u8],
 ) -> Result<Result<LpdItem, LpdFault>, AllocError>
-    ensures { IfOk result (λ said. told said ≡ subcommand_line line.now) }
+    ensures { IfOk result (λ said. line_record said ≡ subcommand_line line.now) }
 {
     let Some((code, text)) = line.split_first() else {
         return Ok(Err(LpdFault::UnknownCode));
@@ -85,7 +85,7 @@ fn announced(
     kind: FileKind,
     words: &[&[u8]],
 ) -> Result<Result<LpdItem, LpdFault>, AllocError>
-    ensures { IfOk result (λ said. told said ≡ announced kind (map (λ word. word.now) words.now)) }
+    ensures { IfOk result (λ said. line_record said ≡ announced kind (map (λ word. word.now) words.now)) }
 {
     let Some(length) = file_length(first_word(words)) else {
         return Ok(Err(LpdFault::BadCount));

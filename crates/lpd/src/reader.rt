@@ -2,7 +2,7 @@
 ghost use Rattle.std.specs.Prelude.{◌≡◌, ◌<◌, ◌+◌, ◌++◌, [], List, ℕ, None, Some, Err, IsOk, IsSome, IfOk, IfSome, OnOk, OnErr, take, drop, length as length_of, true};
 ghost use Rattle.text.specs.FirstLine.{first_line_of};
 ghost use Rattle.text.specs.declared.line.FirstLine.TheVariants.{Whole};
-ghost use Rattle.lpd.specs.Items.{ItemRecord, item_record, awaited_after, told};
+ghost use Rattle.lpd.specs.Items.{ItemRecord, item_record, awaited_after, line_record};
 ghost use Rattle.lpd.specs.Command.{meaning_of, awaits_line};
 ghost use Rattle.lpd.specs.Stream.{HasRead, Answers, is_over, work};
 
@@ -87,7 +87,7 @@ impl LpdReader {
     ///
     /// After a fault it returns that fault at each call. If memory for the content of a line is refused, the
     /// line stays to be read.
-    #[tactic(auto, using(crate::proofs::Standing::answers_again))]
+    #[tactic(auto, using(crate::proofs::ReaderPlace::answers_again))]
     pub fn next_item(&mut self) -> Result<Option<LpdItem>, LpdError>
         ensures answer { Answers self.old result self.new }
         ensures falls { IfOk result (λ said. IsSome said → work self.new < work self.old) }
@@ -191,7 +191,7 @@ impl LpdReader {
     /// The content of the line of `length` bytes at the beginning.
     fn read_front(&self, length: usize) -> Result<Result<LpdItem, LpdFault>, AllocError>
         requires { length < length_of self.now.rest }
-        ensures { IfOk result (λ said. told said ≡ meaning_of self.now.awaited (take length self.now.rest)) }
+        ensures { IfOk result (λ said. line_record said ≡ meaning_of self.now.awaited (take length self.now.rest)) }
     {
         let line = &self.rest()[..length];
         match self.awaited() {

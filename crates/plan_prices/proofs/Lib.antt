@@ -11,7 +11,7 @@ pub mod Steps
 pub mod Timetables
 pub mod WayTimetable
 pub mod Starts
-pub mod Renaming
-pub mod Settling
+pub mod ExchangedJobs
+pub mod EqualJobsInOrder
 pub mod Written
 pub mod Latest

@@ -10,13 +10,13 @@ pub mod ColumnGrowth
 pub mod Listed
 pub mod Marked
 pub mod Nearest
-pub mod Opening
-pub mod Proving
+pub mod BegunSearch
+pub mod FairWay
 pub mod Queues
 pub mod Raised
-pub mod Reaching
-pub mod Reading
+pub mod PlaceCosts
+pub mod RowsRead
 pub mod Room
 pub mod Spread
 pub mod Step
-mod Beginning
+mod LaidOutJobs

@@ -7,5 +7,5 @@ pub mod Again
 pub mod Said
 pub mod Back
 pub mod Spelt
-pub mod Told
+pub mod DraftOfLines
 pub mod NextValues

@@ -27,7 +27,7 @@ use text::{parts, words};
 /// The fault of the first faulty line, or out of memory. A line is checked by itself, first for its form and
 /// then for its ranges, and then against the lines before it. A text without the line `end` has the fault
 /// [`TextFault::NoEnd`].
-#[tactic(auto, using(crate::proofs::Sound::judged_since, crate::proofs::Sound::written_since, crate::proofs::Told::told_since))]
+#[tactic(auto, using(crate::proofs::Sound::judged_since, crate::proofs::Sound::written_since, crate::proofs::DraftOfLines::told_since))]
 pub fn read_plan_text(alloc: Global, text: &[u8]) -> Result<PlanText, ReadError>
     ensures plan { Gives (λ plan. plan) result (plan_at text.now) }
     ensures text { IfOk result (λ named. IsTextOf text.now named) }

@@ -13,9 +13,9 @@ use Rattle.job_objects.specs.declared.job_change.JobChange.{JobChange}
 use Rattle.job_objects.specs.declared.job_change.JobChange.TheVariants.{Done, Fail}
 use Rattle.job_objects.specs.JobStep.{ends_print}
 use Rattle.spool.specs.Spooled.{SpooledRecord}
-use Rattle.spool.specs.Kept.{jobs_told}
+use Rattle.spool.specs.Kept.{jobs_reported}
 use Rattle.spool.specs.OnDevice.{is_on_device, AllStay}
-use Rattle.spool.proofs.OnDevice.{others_told, stay_told}
+use Rattle.spool.proofs.OnDevice.{others_reported, stay_reported}
 use Rattle.settings_file.specs.Settings.{DeviceEntry}
 use Rattle.print_room.specs.Opening.{opening_device}
 use Rattle.print_room.specs.Activity.{job_on, running_from, stopped_at, taking, idle}
@@ -196,30 +196,30 @@ same_or_none (Some change) old new is = by (ends_print change) is
     by false same = inl same
 
 -- the jobs of devices are on them, once the device at a place has reported about its job and has the job that this report leaves
-pub agree_told : (now place : ℕ) (refit : Device → Device) (devices : List Device) (jobs : List SpooledRecord) (d : Device) (change : Option JobChange) → slice_get devices place ≡ Some d → Leaves change (job_on d.activity) (job_on (refit d).activity) → Agree devices jobs → Agree (with_device place refit devices) (jobs_after now (job_on d.activity) change jobs)
-agree_told now place refit devices jobs d change found leaves agree = told (job_on d.activity) refl change leaves
+pub agree_reported : (now place : ℕ) (refit : Device → Device) (devices : List Device) (jobs : List SpooledRecord) (d : Device) (change : Option JobChange) → slice_get devices place ≡ Some d → Leaves change (job_on d.activity) (job_on (refit d).activity) → Agree devices jobs → Agree (with_device place refit devices) (jobs_after now (job_on d.activity) change jobs)
+agree_reported now place refit devices jobs d change found leaves agree = by_report (job_on d.activity) refl change leaves
   where
     fewer : Agree (with_device place refit devices) jobs
     fewer = agree_device place refit devices jobs d found (same_or_none change (job_on d.activity) (job_on (refit d).activity) leaves) agree
 
     -- no device has a job whose print ended
-    ended : (id : ℕ) (change : JobChange) → job_on d.activity ≡ Some id → job_on (refit d).activity ≡ None → Agree (with_device place refit devices) (jobs_told id change now jobs)
+    ended : (id : ℕ) (change : JobChange) → job_on d.activity ≡ Some id → job_on (refit d).activity ≡ None → Agree (with_device place refit devices) (jobs_reported id change now jobs)
     ended id change had none = record {
-      in_spool = λ k one has. (others_told id change now jobs one (λ same. elim (cases_eq k place) [
+      in_spool = λ k one has. (others_reported id change now jobs one (λ same. elim (cases_eq k place) [
         | inl here ↦ not_some (sym none ∙ (sym (job_here place refit devices d found) ∙ subst (λ (p : ℕ). job_of (with_device place refit devices) p ≡ Some one) here has))
         | inr differ ↦ differ (agree.apart k place one (sym (job_elsewhere place k refit devices differ) ∙ has) (job_found place devices d found ∙ (had ∙ ap (λ (n : ℕ). Some n) (sym same))))
       ]) (fewer.in_spool k one has)).on_device;
       apart = fewer.apart;
     }
 
-    changed : (id : ℕ) (change : JobChange) (ends : Bool) → ends_print change ≡ ends → job_on d.activity ≡ Some id → job_on (refit d).activity ≡ cond ends None (job_on d.activity) → Agree (with_device place refit devices) (jobs_told id change now jobs)
+    changed : (id : ℕ) (change : JobChange) (ends : Bool) → ends_print change ≡ ends → job_on d.activity ≡ Some id → job_on (refit d).activity ≡ cond ends None (job_on d.activity) → Agree (with_device place refit devices) (jobs_reported id change now jobs)
     changed id change true is had none = ended id change had none
-    changed id change false is had same = agree_stay (with_device place refit devices) jobs (jobs_told id change now jobs) (stay_told id change now jobs is) fewer
+    changed id change false is had same = agree_stay (with_device place refit devices) jobs (jobs_reported id change now jobs) (stay_reported id change now jobs is) fewer
 
-    told : (o : Option ℕ) → job_on d.activity ≡ o → (change : Option JobChange) → Leaves change (job_on d.activity) (job_on (refit d).activity) → Agree (with_device place refit devices) (jobs_after now o change jobs)
-    told None is change leaves = fewer
-    told (Some id) is None leaves = fewer
-    told (Some id) is (Some change) leaves = changed id change (ends_print change) refl is leaves
+    by_report : (o : Option ℕ) → job_on d.activity ≡ o → (change : Option JobChange) → Leaves change (job_on d.activity) (job_on (refit d).activity) → Agree (with_device place refit devices) (jobs_after now o change jobs)
+    by_report None is change leaves = fewer
+    by_report (Some id) is None leaves = fewer
+    by_report (Some id) is (Some change) leaves = changed id change (ends_print change) refl is leaves
 
 -- ---- a room that opens
 

@@ -1,12 +1,12 @@
 pub mod Devices
-pub mod Readying
-pub mod Building
+pub mod ReadyJobs
+pub mod ClassProblems
 pub mod Planned
 pub mod Priorities
 pub mod Checked
 pub mod Starts
 pub mod DeviceJobs
-pub mod Keeping
-pub mod Beginning
+pub mod DocumentsStay
+pub mod JobsCanBegin
 pub mod StillGood
 pub mod Formats

@@ -14,7 +14,7 @@ use Rattle.print_room.specs.Ready.{ready_of, belongs, class_of, cause_in}
 use Rattle.print_room.specs.GoodPlan.{is_some_job, falling, priorities_of, waits_of, IsPlannedBest, AllPlannedBest}
 use Rattle.print_room.specs.Gathered.{gathered_of, highest_within}
 use Rattle.print_room.proofs.Planned.{PlannedAbove, left_by, jobs_above}
-use Rattle.print_room.proofs.Readying.{highest_least, none_above}
+use Rattle.print_room.proofs.ReadyJobs.{highest_least, none_above}
 
 pub best_more : (s : State) (waits : List ℕ) (classes : List PlannedClass) (class : PlannedClass) → AllPlannedBest s waits classes → IsPlannedBest s (left_by waits classes) class → AllPlannedBest s waits (classes ++ class ∷ [])
 best_more s waits [] class h new = (new, tt)

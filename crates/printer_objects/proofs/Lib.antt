@@ -1,6 +1,6 @@
 pub mod Searches
-pub mod Listing
+pub mod ListedOnce
 pub mod Taken
 pub mod Spelt
-pub mod Asking
-pub mod Marking
+pub mod AskedByName
+pub mod NamedMarks

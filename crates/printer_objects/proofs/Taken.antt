@@ -8,7 +8,7 @@ use Rattle.printer_objects.specs.DocumentFormat.{is_same_format}
 use Rattle.text.specs.Trimmed.{without_parameters}
 use Rattle.printer_objects.specs.Offer.{OfferRecord, formats_of, media_of, finishings_of, format_named, medium_named, finishing_named}
 use Rattle.printer_objects.specs.Finishing.{finishing_code}
-use Rattle.printer_objects.proofs.Listing.{found_of}
+use Rattle.printer_objects.proofs.ListedOnce.{found_of}
 use Rattle.printer_objects.proofs.Searches.{find_mapped}
 
 is_itself : (format : List ℕ) → is_same_format format format ≡ true

@@ -199,7 +199,7 @@ impl<'a> Offer<'a> {
 
     /// The first of the printer's formats that is equal to the requested one. Each format that the printer
     /// shows is found.
-    #[tactic(auto, using(crate::proofs::Listing::find_offered, crate::proofs::Taken::format_taken), unfolding(crate::specs::Offer::format_named, crate::specs::Offer::formats_of))]
+    #[tactic(auto, using(crate::proofs::ListedOnce::find_offered, crate::proofs::Taken::format_taken), unfolding(crate::specs::Offer::format_named, crate::specs::Offer::formats_of))]
     pub fn format_named(&self, asked: &[u8]) -> Option<&'a Text>
         ensures found { option_copied result ≡ format_named self.now asked.now }
         ensures taken { Contains (formats_of self.now) asked.now → IsSome result }
@@ -213,7 +213,7 @@ impl<'a> Offer<'a> {
     }
 
     /// The medium of a name. Each medium that the printer shows is found.
-    #[tactic(auto, using(crate::proofs::Listing::find_offered, crate::proofs::Taken::medium_taken), unfolding(crate::specs::Offer::medium_named, crate::specs::Offer::media_of))]
+    #[tactic(auto, using(crate::proofs::ListedOnce::find_offered, crate::proofs::Taken::medium_taken), unfolding(crate::specs::Offer::medium_named, crate::specs::Offer::media_of))]
     pub fn medium_named(&self, name: &[u8]) -> Option<&'a Text>
         ensures found { option_copied result ≡ medium_named self.now name.now }
         ensures taken { Contains (media_of self.now) name.now → IsSome result }

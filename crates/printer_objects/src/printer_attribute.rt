@@ -155,7 +155,7 @@ impl PrinterAttribute {
 
     /// Returns whether requested-attributes asks for the attribute. `by_group` indicates whether it asks for a group,
     /// and `named` whether it has the attribute's name.
-    #[tactic(auto, using(crate::proofs::Asking::by_name))]
+    #[tactic(auto, using(crate::proofs::AskedByName::by_name))]
     pub(crate) fn is_wanted(self, by_group: bool, named: bool, requested: &[Text]) -> bool
         requires group { by_group ≡ has_group requested.now }
         requires named { named ≡ has_name (printer_attribute_name self) requested.now }

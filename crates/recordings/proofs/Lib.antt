@@ -1,2 +1,2 @@
-pub mod Escaping
+pub mod PlainPrefix
 pub mod Fronts

@@ -1,6 +1,6 @@
 mod LogObserves
 mod Reach
-mod Playing
+mod PlayedTrace
 mod Refusals
 mod Inputs
 mod Requests

@@ -81,7 +81,7 @@ abbrev pub BodyMeans : ParsedRequest → ℕ → Part → List ℕ → Type 0
 BodyMeans Body.TooShort moment part text = (part ≡ nothing) × (text ≡ codes "http 400\n")
 BodyMeans (Body.Refused status request_id) moment part text = (part ≡ nothing) × (text ≡ reply_line (refusal_bytes status request_id))
 BodyMeans (Body.Event request_id event) moment part text =
-    (reply : Effects) × (bytes : List ℕ) × IsOne event moment reply part × IsReplyOf reply.answer request_id bytes × (text ≡ reply_line bytes)
+    (reply : Effects) × (bytes : List ℕ) × IsOne event moment reply part × IsReplyOf reply.response request_id bytes × (text ≡ reply_line bytes)
 
 -- the part of a run for a line at the current moment of the trace, and the printed text of its reply
 abbrev pub Means : Line → ℕ → Part → List ℕ → Type 0

@@ -36,7 +36,7 @@ use Rattle.server.specs.Turn.{Outcome as Answer, OutOfMemory, BadRequest, is_due
 use Rattle.server.specs.State.{EngineState, slot_at}
 use Rattle.server.specs.Refinement.{Refines, RefinesQuietly, RefinesReporting, RefinesAnswering}
 use Rattle.server.proofs.Steps.{refines_then, refines_moved, quietly_then, quietly_as, quietly_nothing, aloud, reporting_as, reporting_flag, reporting_then}
-use Rattle.server.proofs.Happening.{notifies}
+use Rattle.server.proofs.DeviceOrders.{notifies}
 use Rattle.server.proofs.TurnsAndTicks.{ticks_due, covers, one_round}
 use Rattle.server.proofs.Accepts.{accepts_open}
 use Rattle.server.proofs.ServedBody.{answered_found, answered_refused}

@@ -27,7 +27,7 @@ use Rattle.server.specs.Happening.{was_refused, found_by, Sends, SendsAll, Start
 use Rattle.server.specs.Turn.{has_refusal}
 use Rattle.server.specs.Law.{refusal_note, core_note, core_notes, IsWhole}
 use Rattle.server.proofs.Steps.{refusals_append, right_false, seen_append}
-use Rattle.server.proofs.Happening.{found_unseen, notes_seen, refused_of}
+use Rattle.server.proofs.DeviceOrders.{found_unseen, notes_seen, refused_of}
 use Rattle.connections.specs.Entry.{Entry, broken, owing, needs_memory}
 
 -- ---- the notes

@@ -158,7 +158,7 @@ light_event moment event outcome l hs l' light none it =
     (there.0, one_event moment event outcome there.0 l hs l' none whole there.1 it)
 
 -- the bytes of a reply, if no memory was refused
-are_bytes : (request : ℕ) (reply : Option Effects) (bytes : List ℕ) (l : Ledger) (hs : List Happening) (l' : Ledger) → has_refusal hs ≡ false → Answers request reply bytes l hs l' → (it : Effects) × (reply ≡ Some it) × IsBytes request it.answer bytes
+are_bytes : (request : ℕ) (reply : Option Effects) (bytes : List ℕ) (l : Ledger) (hs : List Happening) (l' : Ledger) → has_refusal hs ≡ false → Answers request reply bytes l hs l' → (it : Effects) × (reply ≡ Some it) × IsBytes request it.response bytes
 are_bytes request (Some reply) bytes l hs l' none (inl (are, it)) = (reply, refl, are)
 are_bytes request (Some reply) bytes l hs l' none (inr it) = no_refusal_notified hs At.Reply None none it.0
 are_bytes request None bytes l hs l' none it = no_refusal_notified hs At.Event None none it.0

@@ -148,7 +148,7 @@ calm_replies key id request query (answered.Lpd answer) l hs l' it = calm_nothin
 calm_replies key id request query answered.Nothing l hs l' it = calm_nothing l hs l' it
 
 calm_answer : (key id request : ℕ) (query : Bool) (reply : Option Effects) → Calmly (Answering.Replies key id request query reply)
-calm_answer key id request query (Some reply) = calm_replies key id request query reply.answer
+calm_answer key id request query (Some reply) = calm_replies key id request query reply.response
 calm_answer key id request query None = calm_dropped key id request
 
 calm_shows : (key id : ℕ) (text : List ℕ) → Calmly (Answering.Shows key id text)
@@ -168,11 +168,11 @@ calm_declines : (place : AllocationSite) (key id : ℕ) → IsOther place (Some 
 calm_declines place key id other = calm_then (calm_refusal place (Some id) other) (calm_enqueues key (1 ∷ []))
 
 calm_acknowledges : (key id : ℕ) (reply : Option Effects) → Calmly (Answering.Acknowledges key id reply)
-calm_acknowledges key id (Some reply) = calm_answered key id reply.answer
+calm_acknowledges key id (Some reply) = calm_answered key id reply.response
 calm_acknowledges key id None = calm_declines At.Event key id refl
 
 calm_responds : (key id : ℕ) (reply : Option Effects) → Calmly (Answering.Responds key id reply)
-calm_responds key id (Some reply) = calm_answered key id reply.answer
+calm_responds key id (Some reply) = calm_answered key id reply.response
 calm_responds key id None = calm_then (calm_refusal At.Event (Some id) refl) (calm_breaks key)
 
 other_growth : (growth : AllocFailure) (id : ℕ) → IsOther (Acting.place_of growth) (Some id)

@@ -2,7 +2,7 @@ use Rattle.std.proofs.Common.{◌∙◌, ◌++◌, [], ap, subst}
 use Rattle.std.specs.Prelude.{◌≢◌}
 use Rattle.job_objects.specs.Job.{JobRecord}
 use Rattle.dispatcher.specs.RemoveJobs.{cancels_if_named}
-use Rattle.dispatcher.proofs.Removing.{added, on_err_so, some_sent}
+use Rattle.dispatcher.proofs.RemovalCancels.{added, on_err_so, some_sent}
 use Rattle.dispatcher.proofs.remove_jobs.cancels_of_named.Goals as goal
 
 pub returns-in_err-add_cancel-clause-err : goal.returns-in_err-add_cancel-clause-err

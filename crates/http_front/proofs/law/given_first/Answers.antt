@@ -1,4 +1,4 @@
-use Rattle.http_front.proofs.Feeding.{first_stays, hears_rest}
+use Rattle.http_front.proofs.ReaderPlace.{first_stays, hears_rest}
 use Rattle.http_front.proofs.law.given_first.Goals as goal
 
 pub returns-clause-first : goal.returns-clause-first

@@ -1,6 +1,6 @@
 use Rattle.http_front.specs.declared.awaited.Awaited.TheVariants.{Head}
 use Rattle.http_front.proofs.Laws.{says_one}
-use Rattle.http_front.proofs.Feeding.{all_stays}
+use Rattle.http_front.proofs.ReaderPlace.{all_stays}
 use Rattle.http_front.proofs.law.one_saying.Goals as goal
 
 pub returns-clause-one : goal.returns-clause-one

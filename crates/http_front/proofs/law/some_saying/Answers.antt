@@ -1,4 +1,4 @@
-use Rattle.http_front.proofs.Telling.{says_some, gives_front}
+use Rattle.http_front.proofs.StreamsSaySomething.{says_some, gives_front}
 use Rattle.http_front.proofs.law.some_saying.Goals as goal
 
 pub returns-clause-some : goal.returns-clause-some

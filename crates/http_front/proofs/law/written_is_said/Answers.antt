@@ -1,4 +1,4 @@
-use Rattle.http_front.proofs.Saying.{length_says, chunks_say}
+use Rattle.http_front.proofs.WrittenRequest.{length_says, chunks_say}
 use Rattle.http_front.proofs.law.written_is_said.Goals as goal
 
 pub returns-clause-length : goal.returns-clause-length

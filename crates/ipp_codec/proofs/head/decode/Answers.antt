@@ -1,5 +1,5 @@
 use Rattle.ipp_codec.specs.Views.{message_shown}
-use Rattle.ipp_codec.proofs.Viewing.{decoded_found, decoded_only, long_found}
+use Rattle.ipp_codec.proofs.ViewedMessage.{decoded_found, decoded_only, long_found}
 use Rattle.ipp_codec.proofs.head.decode.Goals as goal
 
 pub view_of-requires : goal.view_of-requires

@@ -1,5 +1,5 @@
 use Rattle.std.proofs.Common.{◌≡◌, ◌-◌, ℕ, length, take, drop, ap, arith}
-use Rattle.ipp_codec.proofs.Viewing.{view_shown}
+use Rattle.ipp_codec.proofs.ViewedMessage.{view_shown}
 use Rattle.ipp_codec.proofs.head.view_of.Goals as goal
 
 pub returns : goal.returns

@@ -1,4 +1,4 @@
-use Rattle.ipp_codec.proofs.Staying.{part_stays, bytes_stay}
+use Rattle.ipp_codec.proofs.FaultStays.{part_stays, bytes_stay}
 use Rattle.ipp_codec.proofs.law.fault_stays.Goals as goal
 
 pub returns-clause-part : goal.returns-clause-part

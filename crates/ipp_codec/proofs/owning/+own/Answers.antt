@@ -1,5 +1,5 @@
 use Rattle.ipp_codec.specs.Owned.{value_owned, members_owned}
-use Rattle.ipp_codec.proofs.Showing.{collection_shown}
+use Rattle.ipp_codec.proofs.ElementViews.{collection_shown}
 use Rattle.ipp_codec.proofs.owning.+own.Goals as goal
 
 pub own_value-returns-in_ok-members : goal.own_value-returns-in_ok-members

@@ -1,4 +1,4 @@
-use Rattle.ipp_codec.proofs.Showing.{nothing_behind}
+use Rattle.ipp_codec.proofs.ElementViews.{nothing_behind}
 use Rattle.ipp_codec.proofs.walk.behind.Goals as goal
 
 pub returns-clause-levels : goal.returns-clause-levels

@@ -1,5 +1,5 @@
 use Rattle.std.proofs.Common.{arith}
-use Rattle.ipp_codec.proofs.Showing.{first_shown}
+use Rattle.ipp_codec.proofs.ElementViews.{first_shown}
 use Rattle.ipp_codec.proofs.walk.first_of.Goals as goal
 
 pub returns : goal.returns

@@ -1,6 +1,6 @@
 use Rattle.std.proofs.Common.{arith}
 use Rattle.ipp_codec.specs.Views.{value_shown}
-use Rattle.ipp_codec.proofs.Showing.{member_shown_next}
+use Rattle.ipp_codec.proofs.ElementViews.{member_shown_next}
 use Rattle.ipp_codec.proofs.walk.next_member.Goals as goal
 
 pub returns-in-Some-next_value : goal.returns-in-Some-next_value

@@ -3,7 +3,7 @@ use Rattle.std.proofs.lemmas.Result.{IfOk-weaker}
 use Rattle.ipp_codec.specs.Views.{message_shown}
 use Rattle.events.specs.declared.status.Status.{Status}
 use Rattle.ipp_operations.specs.ParsedRequest.{Requests}
-use Rattle.ipp_operations.proofs.Hearing.{found_requests, fault_requests}
+use Rattle.ipp_operations.proofs.BodyInParts.{found_requests, fault_requests}
 use Rattle.ipp_operations.proofs.parsed_request.decode_event.Goals as goal
 
 pub returns-in-Ok-clause-requests : goal.returns-in-Ok-clause-requests

@@ -3,7 +3,7 @@ use Rattle.events.specs.declared.event.Event.{Event}
 use Rattle.events.specs.declared.status.Status.{Status}
 use Rattle.ipp_operations.specs.ParsedRequest.{answered}
 use Rattle.ipp_operations.specs.Reader.{AsksByOf}
-use Rattle.ipp_operations.proofs.Hearing.{asks_event}
+use Rattle.ipp_operations.proofs.BodyInParts.{asks_event}
 use Rattle.ipp_operations.proofs.parsed_request.parse_event.Goals as goal
 
 pub returns-in-Ok-clause-asked : goal.returns-in-Ok-clause-asked

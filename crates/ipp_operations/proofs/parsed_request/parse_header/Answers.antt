@@ -1,7 +1,7 @@
 use Rattle.std.proofs.Common.{◌≡◌, Some, sym, ap, ◌∙◌}
 use Rattle.std.proofs.lemmas.Result.{IfOk-weaker}
 use Rattle.ipp_operations.specs.ParsedRequest.{header_of}
-use Rattle.ipp_operations.proofs.Hearing.{asks_under, asks_short}
+use Rattle.ipp_operations.proofs.BodyInParts.{asks_under, asks_short}
 use Rattle.ipp_operations.proofs.parsed_request.parse_header.Goals as goal
 
 pub returns-in-Some-clause-asked : goal.returns-in-Some-clause-asked

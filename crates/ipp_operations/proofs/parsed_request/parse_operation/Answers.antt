@@ -1,6 +1,6 @@
 use Rattle.std.proofs.Common.{sym, ◌∙◌}
 use Rattle.std.proofs.lemmas.Result.{IfOk-weaker}
-use Rattle.ipp_operations.proofs.Hearing.{asks_by, asks_none}
+use Rattle.ipp_operations.proofs.BodyInParts.{asks_by, asks_none}
 use Rattle.ipp_operations.proofs.parsed_request.parse_operation.Goals as goal
 
 pub returns-in-Ok-clause-asked : goal.returns-in-Ok-clause-asked

@@ -1,7 +1,7 @@
 use Rattle.std.proofs.Common.{◌≡◌, false, IfOk, refl, subst, slice_get}
 use Rattle.std.specs.Option.{option_map_or}
 use Rattle.printer_objects.specs.PrinterShown.{ShownPrinter, printer_attributes}
-use Rattle.listings.proofs.Showing.{printer_shown_so}
+use Rattle.listings.proofs.PrinterGroup.{printer_shown_so}
 use Rattle.listings.proofs.groups.printer_group.Goals as goal
 
 pub returns : goal.returns

@@ -1,4 +1,4 @@
-use Rattle.listings.proofs.Ordering.{by_turn_permutes, by_turn_in_order}
+use Rattle.listings.proofs.JobsByTurn.{by_turn_permutes, by_turn_in_order}
 use Rattle.listings.proofs.law.listing_is_ordered.Goals as goal
 
 pub returns-clause-same : goal.returns-clause-same

@@ -1,5 +1,5 @@
 use Rattle.std.proofs.Common.{sym}
-use Rattle.listings.proofs.Removing.{active_free}
+use Rattle.listings.proofs.RemovalCancels.{active_free}
 use Rattle.listings.proofs.removal.remove_active.Goals as goal
 
 pub cancel-requires-clause-free : goal.cancel-requires-clause-free

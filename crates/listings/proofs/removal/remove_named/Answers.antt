@@ -2,7 +2,7 @@ use Rattle.std.proofs.Common.{◌≡◌, ◌≤◌, ◌∙◌, ◌∷◌, List, 
 use Rattle.print_room.specs.Jobs.{canceling, canceling_each}
 use Rattle.print_room.specs.State.{State}
 use Rattle.listings.specs.Removal.{named_jobs}
-use Rattle.listings.proofs.Removing.{next_named, none_named}
+use Rattle.listings.proofs.RemovalCancels.{next_named, none_named}
 use Rattle.listings.proofs.removal.remove_named.Goals as goal
 
 pub cancel-requires-clause-free : goal.cancel-requires-clause-free

@@ -1,4 +1,4 @@
-use Rattle.lpd.proofs.Standing.{first_stays, hears_rest}
+use Rattle.lpd.proofs.ReaderPlace.{first_stays, hears_rest}
 use Rattle.lpd.proofs.law.given_first.Goals as goal
 
 pub returns-clause-first : goal.returns-clause-first

@@ -1,4 +1,4 @@
-use Rattle.lpd.proofs.Standing.{all_stays, fault_stays}
+use Rattle.lpd.proofs.ReaderPlace.{all_stays, fault_stays}
 use Rattle.lpd.proofs.law.said_stays.Goals as goal
 
 pub returns-clause-front : goal.returns-clause-front

@@ -1,7 +1,7 @@
 use Rattle.std.proofs.Common.{◌++◌, List, ℕ, subst}
 use Rattle.std.specs.List.Sorted.{IsPermutation}
 use Rattle.std.proofs.lemmas.List.Sorted.{IsPermutation-trans}
-use Rattle.plan_solver.proofs.Beginning.{begun_by}
+use Rattle.plan_solver.proofs.LaidOutJobs.{begun_by}
 use Rattle.plan_solver.proofs.begun.begin_by.Goals as goal
 
 pub returns-then-fits : goal.returns-then-fits

@@ -6,7 +6,7 @@ use Rattle.plan_solver.specs.declared.begun.Begun.{Begun}
 use Rattle.plan_solver.specs.declared.costs.Place.{Place}
 use Rattle.plan_solver.specs.Costs.{cost_at, cost_of, nowhere}
 use Rattle.plan_solver.specs.Layout.{place_before}
-use Rattle.plan_solver.proofs.Beginning.{laid_out_more}
+use Rattle.plan_solver.proofs.LaidOutJobs.{laid_out_more}
 use Rattle.plan_solver.proofs.Laid.{shown_low}
 use Rattle.plan_solver.proofs.begun.match_at.Goals as goal
 

@@ -1,7 +1,7 @@
 use Rattle.std.proofs.Common.{◌≡◌, [], ◌∷◌, ◌++◌}
 use Rattle.std.specs.List.Sorted.{IsPermutation}
 use Rattle.std.proofs.lemmas.Result.{on_ok_weaker}
-use Rattle.plan_solver.proofs.Beginning.{matched_more}
+use Rattle.plan_solver.proofs.LaidOutJobs.{matched_more}
 use Rattle.plan_solver.proofs.begun.match_or_leave.Goals as goal
 
 pub returns-in-Some-clause-jobs : goal.returns-in-Some-clause-jobs

@@ -1,6 +1,6 @@
 use Rattle.std.proofs.Common.{arith}
 use Rattle.plan_solver.specs.declared.begun.Begun.{Begun}
-use Rattle.plan_solver.proofs.Beginning.{begun_none, laid_out_none}
+use Rattle.plan_solver.proofs.LaidOutJobs.{begun_none, laid_out_none}
 use Rattle.plan_solver.proofs.begun.nothing_matched.Goals as goal
 
 pub returns-clause-laid_out : goal.returns-clause-laid_out

@@ -1,6 +1,6 @@
 use Rattle.std.proofs.Common.{ℕ, ◌<◌, List, subst, vec_len}
 use Rattle.plan_solver.specs.Begun.{IsFairBeside}
-use Rattle.plan_solver.proofs.Beginning.{fair_free_from}
+use Rattle.plan_solver.proofs.LaidOutJobs.{fair_free_from}
 use Rattle.plan_solver.proofs.fit.fits.Goals as goal
 
 pub renew_slacks-requires-clause-fair : goal.renew_slacks-requires-clause-fair

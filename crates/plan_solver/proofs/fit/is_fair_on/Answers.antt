@@ -3,7 +3,7 @@ use Rattle.std.proofs.lemmas.Bool.{cases_lt}
 use Rattle.std.proofs.lemmas.List.{get_or_read}
 use Rattle.plan_solver.specs.AllPlaces.{place_on}
 use Rattle.plan_solver.specs.Costs.{nowhere}
-use Rattle.plan_solver.proofs.Reaching.{fair_on, left_more, left_none, left_placed}
+use Rattle.plan_solver.proofs.PlaceCosts.{fair_on, left_more, left_none, left_placed}
 use Rattle.plan_solver.proofs.fit.is_fair_on.Goals as goal
 
 pub returns-then-time-left-clause-columns : goal.returns-then-time-left-clause-columns

@@ -8,7 +8,7 @@ use Rattle.plan_solver.specs.Answer.{way_of}
 use Rattle.plan_solver.proofs.Filled.{Solves, charged_low, job_in}
 use Rattle.plan_solver.proofs.Fill.{can_fill}
 use Rattle.plan_solver.proofs.Marked.{are_marks}
-use Rattle.plan_solver.proofs.Proving.{IsCharged, is_way, proved_as, total_is}
+use Rattle.plan_solver.proofs.FairWay.{IsCharged, is_way, proved_as, total_is}
 use Rattle.plan_solver.proofs.planner.plan.Goals as goal
 
 pub way-requires-clause-known : goal.way-requires-clause-known

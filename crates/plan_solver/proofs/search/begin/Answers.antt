@@ -3,7 +3,7 @@ use Rattle.std.specs.Global.{Vec}
 use Rattle.plan_solver.specs.declared.search.Search.{Search}
 use Rattle.plan_solver.specs.Costs.{cost_of, nowhere}
 use Rattle.plan_solver.specs.Search.{IsBlank, IsListed}
-use Rattle.plan_solver.proofs.Opening.{Begins, begun, nears_begun}
+use Rattle.plan_solver.proofs.BegunSearch.{Begins, begun, nears_begun}
 use Rattle.plan_solver.proofs.Charges.{cost_of-low}
 use Rattle.plan_solver.proofs.search.begin.Goals as goal
 

@@ -7,7 +7,7 @@ use Rattle.plan_solver.specs.declared.search.Exit.{Exit}
 use Rattle.plan_solver.specs.declared.costs.TheConstants.{UNABLE}
 use Rattle.plan_solver.specs.Costs.{nowhere}
 use Rattle.plan_solver.proofs.Nearest.{relaxed_before, relaxed_here}
-use Rattle.plan_solver.proofs.Reaching.{dear_on, left_more, left_none, left_placed}
+use Rattle.plan_solver.proofs.PlaceCosts.{dear_on, left_more, left_none, left_placed}
 use Rattle.plan_solver.proofs.search.relax_device.Goals as goal
 
 pub returns-then-time-left-clause-relaxed : goal.returns-then-time-left-clause-relaxed

@@ -1,7 +1,7 @@
 use Rattle.std.proofs.Common.{◌≡◌, length, vec_len, get_or, ap, ◌∙◌, arith}
 use Rattle.std.proofs.lemmas.List.{get_or_read}
 use Rattle.std.proofs.lemmas.List.Elements.{All-push}
-use Rattle.plan_solver.proofs.Reading.{looked_more, rows_more}
+use Rattle.plan_solver.proofs.RowsRead.{looked_more, rows_more}
 use Rattle.plan_solver.proofs.times.read.Goals as goal
 
 pub loop-place-preserved : goal.loop-place-preserved

@@ -1,4 +1,4 @@
-use Rattle.plan_text.proofs.Told.{is_one_text}
+use Rattle.plan_text.proofs.DraftOfLines.{is_one_text}
 use Rattle.plan_text.proofs.round_trip.one_text.Goals as goal
 
 pub returns : goal.returns

@@ -1,7 +1,7 @@
 use Rattle.std.proofs.Common.{◌≡◌, ◌∙◌, ◌++◌, List, Option, option_to_list, sym, ap, rules}
 use Rattle.base_types.specs.declared.needs.Stranded.{Stranded}
 use Rattle.print_room.specs.Gathered.{entry_of}
-use Rattle.print_room.proofs.Readying.{stranded_more}
+use Rattle.print_room.proofs.ReadyJobs.{stranded_more}
 use Rattle.print_room.proofs.ready.stranded.Goals.{in-Some+in_ok-push, in_default}
 use Rattle.print_room.proofs.ready.stranded.Goals as goal
 

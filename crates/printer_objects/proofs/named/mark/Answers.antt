@@ -1,7 +1,7 @@
 use Rattle.std.proofs.Common.{◌≡◌, ◌<◌, ◌+◌, rules, sym, subst, List, ℕ, true, false, length, take, take_all, get_or}
 use Rattle.std.specs.Str.{bytes_eq}
 use Rattle.printer_objects.specs.PrinterAttribute.{printer_table}
-use Rattle.printer_objects.proofs.Marking.{MarkedSoFar, all_marked, both_true, low_at, name_at, one_met, one_unmet}
+use Rattle.printer_objects.proofs.NamedMarks.{MarkedSoFar, all_marked, both_true, low_at, name_at, one_met, one_unmet}
 use Rattle.printer_objects.proofs.named.mark.Goals.{then-eq, else-eq}
 use Rattle.printer_objects.proofs.named.mark.Goals as goal
 

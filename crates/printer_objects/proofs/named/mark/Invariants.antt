@@ -1,5 +1,5 @@
 use Rattle.std.proofs.Common.{take}
-use Rattle.printer_objects.proofs.Marking.{MarkedSoFar}
+use Rattle.printer_objects.proofs.NamedMarks.{MarkedSoFar}
 use Rattle.printer_objects.proofs.named.mark.Given as goal
 
 abbrev pub invariant-loop-place : goal.invariant-loop-place

@@ -1,7 +1,7 @@
 use Rattle.std.proofs.Common.{◌≡◌, ◌∙◌, ◌<◌, rules, ap, sym, List, Bool, length, get_or}
 use Rattle.printer_objects.specs.Named.{marked}
 use Rattle.printer_objects.specs.PrinterAttribute.{printer_table}
-use Rattle.printer_objects.proofs.Marking.{named_more, none_named}
+use Rattle.printer_objects.proofs.NamedMarks.{named_more, none_named}
 use Rattle.printer_objects.proofs.named.named.Goals as goal
 
 pub loop-asked-init : goal.loop-asked-init

@@ -1,7 +1,7 @@
 use Rattle.std.proofs.Common.{◌∙◌, sym, ap, List, Bool, false, get_or}
 use Rattle.printer_objects.specs.declared.printer_attribute.PrinterAttribute.{PrinterAttribute}
 use Rattle.printer_objects.specs.Requested.{has_name}
-use Rattle.printer_objects.proofs.Marking.{mark_of, name_at}
+use Rattle.printer_objects.proofs.NamedMarks.{mark_of, name_at}
 use Rattle.printer_objects.proofs.printer_shown.printer_attributes.Goals as goal
 
 pub is_wanted-requires-clause-named : goal.is_wanted-requires-clause-named

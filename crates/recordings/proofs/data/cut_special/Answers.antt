@@ -1,4 +1,4 @@
-use Rattle.recordings.proofs.Escaping.{all_plain, cut}
+use Rattle.recordings.proofs.PlainPrefix.{all_plain, cut}
 use Rattle.recordings.proofs.data.cut_special.Goals as goal
 
 pub returns-clause-cut : goal.returns-clause-cut

@@ -3,4 +3,4 @@ use Rattle.server.specs.declared.note_log.LoggedNote.TheVariants as handle
 use Rattle.server.proofs.note_log.put_stranded.Given as goal
 
 abbrev pub invariant-loop-job : goal.invariant-loop-job
-invariant-loop-job l = l.heard.items ≡ l.initial.heard.items ++ map handle.Stranded (take l.job-index l.stranded)
+invariant-loop-job l = l.notes.items ≡ l.initial.notes.items ++ map handle.Stranded (take l.job-index l.stranded)

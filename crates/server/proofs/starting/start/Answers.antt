@@ -1,4 +1,4 @@
-use Rattle.server.proofs.Happening.{starts_nowhere, starts_there}
+use Rattle.server.proofs.DeviceOrders.{starts_nowhere, starts_there}
 use Rattle.server.proofs.starting.start.Goals as goal
 
 pub returns-in_default : goal.returns-in_default

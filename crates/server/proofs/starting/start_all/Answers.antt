@@ -8,7 +8,7 @@ use Rattle.server.specs.Happening.{Starts}
 use Rattle.server.specs.State.{EngineState, with_slots}
 use Rattle.server.specs.Refinement.{RefinesReporting}
 use Rattle.server.proofs.Steps.{reporting_then, reporting_nothing, reporting_at, or_assoc, or_false, drop_past}
-use Rattle.server.proofs.Happening.{starts_all}
+use Rattle.server.proofs.DeviceOrders.{starts_all}
 use Rattle.server.proofs.starting.start_all.Goals as goal
 
 pub loop-started-init : goal.loop-started-init

@@ -2,7 +2,7 @@ use Rattle.std.proofs.Common.{◌≡◌, drop}
 use Rattle.server.specs.Polls.{alone}
 use Rattle.server.specs.Happening.{Starts}
 use Rattle.server.specs.State.{EngineState, with_slots}
-use Rattle.server.proofs.Happening.{Continues}
+use Rattle.server.proofs.DeviceOrders.{Continues}
 use Rattle.server.proofs.starting.start_all.Given as goal
 
 abbrev pub invariant-loop-started : goal.invariant-loop-started

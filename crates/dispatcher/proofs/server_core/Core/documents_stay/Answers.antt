@@ -9,7 +9,7 @@ use Rattle.events.specs.declared.event.Event.{Event}
 use Rattle.events.specs.declared.effects.Effects.{Effects}
 use Rattle.dispatcher.specs.Step.{Step}
 use Rattle.dispatcher.specs.Keeping.{StepKeeps}
-use Rattle.dispatcher.proofs.Keeping.{RoomKeeps, step_keeps}
+use Rattle.dispatcher.proofs.DocumentsStay.{RoomKeeps, step_keeps}
 use Rattle.dispatcher.proofs.server_core.Core.documents_stay.Goals as goal
 
 pub returns-clause-steps : goal.returns-clause-steps

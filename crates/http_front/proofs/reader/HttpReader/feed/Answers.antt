@@ -1,6 +1,6 @@
 use Rattle.std.proofs.Common.{sym, ◌≡◌, ◌∙◌}
 use Rattle.http_front.specs.declared.awaited.Awaited.TheVariants as await
-use Rattle.http_front.proofs.Feeding.{fed_by, stands_still}
+use Rattle.http_front.proofs.ReaderPlace.{fed_by, stands_still}
 use Rattle.http_front.proofs.reader.HttpReader.feed.Goals as goal
 
 pub returns-in-Nothing-clause-fed : goal.returns-in-Nothing-clause-fed

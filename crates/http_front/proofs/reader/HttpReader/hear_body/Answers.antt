@@ -1,6 +1,6 @@
 use Rattle.std.proofs.Common.{rules, ◌≡◌, []}
 use Rattle.http_front.specs.Stream.{past_body}
-use Rattle.http_front.proofs.Feeding.{body_heard}
+use Rattle.http_front.proofs.ReaderPlace.{body_heard}
 use Rattle.http_front.proofs.reader.HttpReader.hear_body.Goals as goal
 
 pub returns : goal.returns

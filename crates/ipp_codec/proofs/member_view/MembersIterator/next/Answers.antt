@@ -1,7 +1,7 @@
 use Rattle.std.proofs.Common.{ap, List}
 use Rattle.ipp_codec.specs.Message.{members_in}
 use Rattle.ipp_codec.specs.Shown.{Level, top}
-use Rattle.ipp_codec.proofs.Showing.{shown-nil}
+use Rattle.ipp_codec.proofs.ElementViews.{shown-nil}
 use Rattle.ipp_codec.proofs.member_view.MembersIterator.next.Goals as goal
 
 pub returns-in_default-clause-steps : goal.returns-in_default-clause-steps

@@ -1,4 +1,4 @@
-use Rattle.ipp_codec.proofs.Showing.{no_members}
+use Rattle.ipp_codec.proofs.ElementViews.{no_members}
 use Rattle.ipp_codec.proofs.view.ValueView.members.Goals as goal
 
 pub returns-else-self-eq-BEGIN_COLLECTION : goal.returns-else-self-eq-BEGIN_COLLECTION

@@ -2,7 +2,7 @@ use Rattle.std.proofs.Common.{ap, sym, ◌∙◌, Option, List, []}
 use Rattle.ipp_codec.specs.declared.view.ValueView.{ValueView}
 use Rattle.ipp_codec.specs.Shown.{Level, top}
 use Rattle.ipp_codec.specs.Views.{with_first, level}
-use Rattle.ipp_codec.proofs.Showing.{shown-nil}
+use Rattle.ipp_codec.proofs.ElementViews.{shown-nil}
 use Rattle.ipp_codec.proofs.view.ValuesIterator.next.Goals as goal
 
 pub returns-in_default-next_value-clause-steps : goal.returns-in_default-next_value-clause-steps

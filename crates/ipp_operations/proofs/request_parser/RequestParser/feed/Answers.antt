@@ -3,7 +3,7 @@ use Rattle.std.proofs.lemmas.List.{take_rest}
 use Rattle.std.proofs.lemmas.Result.{on_ok_weaker}
 use Rattle.ipp_codec.specs.declared.stage.Stage.TheVariants.{Awaiting, Whole, Faulty}
 use Rattle.ipp_operations.specs.Reader.{ReaderState, HasRead, reads_document}
-use Rattle.ipp_operations.proofs.Hearing.{heard_no_head, heard_head}
+use Rattle.ipp_operations.proofs.BodyInParts.{heard_no_head, heard_head}
 use Rattle.ipp_operations.proofs.request_parser.RequestParser.feed.Goals as goal
 
 pub returns-in-Ok-More-clause-fed : goal.returns-in-Ok-More-clause-fed

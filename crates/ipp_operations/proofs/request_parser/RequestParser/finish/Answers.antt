@@ -1,7 +1,7 @@
 use Rattle.std.proofs.Common.{sym, subst}
 use Rattle.std.proofs.lemmas.Result.{IfOk-weaker}
 use Rattle.ipp_operations.specs.Reader.{ReaderState, HasRead}
-use Rattle.ipp_operations.proofs.Hearing.{holds}
+use Rattle.ipp_operations.proofs.BodyInParts.{holds}
 use Rattle.ipp_operations.proofs.request_parser.RequestParser.finish.Goals as goal
 
 pub returns-clause-asked : goal.returns-clause-asked

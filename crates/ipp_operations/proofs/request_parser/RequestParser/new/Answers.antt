@@ -1,4 +1,4 @@
-use Rattle.ipp_operations.proofs.Hearing.{heard_nothing}
+use Rattle.ipp_operations.proofs.BodyInParts.{heard_nothing}
 use Rattle.ipp_operations.proofs.request_parser.RequestParser.new.Goals as goal
 
 pub returns : goal.returns

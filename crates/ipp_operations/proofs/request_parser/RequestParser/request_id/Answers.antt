@@ -1,7 +1,7 @@
 use Rattle.std.proofs.Common.{ap, sym, ◌∙◌, subst}
 use Rattle.ipp_operations.specs.ParsedRequest.{request_id_of}
 use Rattle.ipp_operations.specs.Reader.{ReaderState, HasRead}
-use Rattle.ipp_operations.proofs.Hearing.{id_kept}
+use Rattle.ipp_operations.proofs.BodyInParts.{id_kept}
 use Rattle.ipp_operations.proofs.request_parser.RequestParser.request_id.Goals as goal
 
 pub returns : goal.returns

@@ -1,6 +1,6 @@
 use Rattle.std.proofs.Common.{sym, ◌≡◌, ◌∙◌, true}
 use Rattle.lpd.specs.Stream.{is_over}
-use Rattle.lpd.proofs.Standing.{fed_by, stands_still}
+use Rattle.lpd.proofs.ReaderPlace.{fed_by, stands_still}
 use Rattle.lpd.proofs.reader.LpdReader.feed.Goals as goal
 
 pub returns-then-is_over-clause-fed : goal.returns-then-is_over-clause-fed

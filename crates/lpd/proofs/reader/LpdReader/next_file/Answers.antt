@@ -2,7 +2,7 @@ use Rattle.std.proofs.Common.{rules, ◌≡◌, ◌≢◌, ◌<◌, ◌≤◌, �
 use Rattle.lpd.specs.declared.item.LpdItem.TheVariants as item
 use Rattle.lpd.specs.declared.reader.Awaited.TheVariants.{Subcommand}
 use Rattle.lpd.specs.Stream.{LpdState, Answers}
-use Rattle.lpd.proofs.Standing.{answers_file, answers_no_file, answers_no_zero}
+use Rattle.lpd.proofs.ReaderPlace.{answers_file, answers_no_file, answers_no_zero}
 use Rattle.lpd.proofs.reader.LpdReader.next_file.Goals as goal
 
 pub returns-then-rest-length-clause-answer : goal.returns-then-rest-length-clause-answer

@@ -1,5 +1,5 @@
 use Rattle.std.proofs.Common.{rules, sym, ◌∙◌}
-use Rattle.lpd.proofs.Standing.{answers_again, answers_over}
+use Rattle.lpd.proofs.ReaderPlace.{answers_again, answers_over}
 use Rattle.lpd.proofs.reader.LpdReader.next_item.Goals as goal
 
 pub returns-in-Some-clause-answer : goal.returns-in-Some-clause-answer

@@ -2,7 +2,7 @@ use Rattle.std.proofs.Common.{◌≡◌, sym, ◌∙◌}
 use Rattle.text.specs.FirstLine.{first_line_of}
 use Rattle.text.specs.declared.line.FirstLine.TheVariants.{TooLong, Unfinished}
 use Rattle.base_types.specs.declared.limits.TheConstants.Limits.{LPD_LINE_BYTES}
-use Rattle.lpd.proofs.Standing.{answers_no_line, answers_too_long}
+use Rattle.lpd.proofs.ReaderPlace.{answers_no_line, answers_too_long}
 use Rattle.lpd.proofs.reader.LpdReader.next_line.Goals as goal
 
 pub returns-in-Unfinished-clause-answer : goal.returns-in-Unfinished-clause-answer

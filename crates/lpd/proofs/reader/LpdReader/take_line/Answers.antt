@@ -2,7 +2,7 @@ use Rattle.std.proofs.Common.{rules, [], subst, drop, ◌+◌, None, Some, ◌�
 use Rattle.lpd.specs.Items.{item_record, awaited_after}
 use Rattle.lpd.specs.Stream.{Answers}
 use Rattle.lpd.specs.Command.{meaning_of}
-use Rattle.lpd.proofs.Standing.{answers_line, answers_bad_line}
+use Rattle.lpd.proofs.ReaderPlace.{answers_line, answers_bad_line}
 use Rattle.lpd.proofs.reader.LpdReader.take_line.Goals as goal
 
 pub returns-in-Err-clause-answer : goal.returns-in-Err-clause-answer

@@ -7,7 +7,7 @@ use Rattle.spool.specs.Jobs.{SpoolRecord, with_job}
 use Rattle.print_room.specs.State.{State, with_device, doing}
 use Rattle.print_room.specs.DeviceJobs.{Agree}
 use Rattle.print_room.specs.Beginning.{waits_at}
-use Rattle.print_room.proofs.Beginning.{begin_agrees}
+use Rattle.print_room.proofs.JobsCanBegin.{begin_agrees}
 use Rattle.print_room.proofs.room.PrintRoom.begin.Goals as goal
 
 pub set_activity-requires-clause-agree : goal.set_activity-requires-clause-agree

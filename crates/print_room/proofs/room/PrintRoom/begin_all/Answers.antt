@@ -1,7 +1,7 @@
 use Rattle.std.proofs.Common.{◌≡◌, ◌∙◌, ℕ, ap}
 use Rattle.print_room.specs.Dispatch.{beginning}
 use Rattle.print_room.proofs.Starts.{begins_next, begins_devices}
-use Rattle.print_room.proofs.Beginning.{can_next}
+use Rattle.print_room.proofs.JobsCanBegin.{can_next}
 use Rattle.print_room.proofs.room.PrintRoom.begin_all.Goals as goal
 
 pub loop-start-preserved : goal.loop-start-preserved

@@ -2,8 +2,8 @@ use Rattle.std.proofs.Common.{refl, subst}
 use Rattle.spool.specs.Jobs.{SpoolRecord}
 use Rattle.spool.specs.Spool.{IsSpool}
 use Rattle.print_room.specs.State.{State}
-use Rattle.print_room.proofs.Keeping.{submits_keep, sends_keep, changes_keep, cancels_keep, removes_keep, expires_keep, reports_keep}
-use Rattle.print_room.proofs.Beginning.{dispatches_keep}
+use Rattle.print_room.proofs.DocumentsStay.{submits_keep, sends_keep, changes_keep, cancels_keep, removes_keep, expires_keep, reports_keep}
+use Rattle.print_room.proofs.JobsCanBegin.{dispatches_keep}
 use Rattle.print_room.proofs.room.PrintRoom.documents_stay.Goals as goal
 
 pub returns : goal.returns

@@ -4,8 +4,8 @@ use Rattle.print_room.specs.State.{State}
 use Rattle.print_room.specs.Ready.{ready_of, stranded_of}
 use Rattle.print_room.specs.GoodPlan.{waits_of}
 use Rattle.print_room.specs.Gathered.{Gathered, entry_of}
-use Rattle.print_room.proofs.Readying.{stranded_gathered}
-use Rattle.print_room.proofs.Building.{ready_rises}
+use Rattle.print_room.proofs.ReadyJobs.{stranded_gathered}
+use Rattle.print_room.proofs.ClassProblems.{ready_rises}
 use Rattle.print_room.proofs.Checked.{good_is_proved}
 use Rattle.print_room.proofs.room.PrintRoom.good_plan.Goals as goal
 

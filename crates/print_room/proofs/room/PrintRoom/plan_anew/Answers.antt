@@ -9,7 +9,7 @@ use Rattle.print_room.proofs.Starts.{starts_inside, begins_plan, some_ready}
 use Rattle.print_room.proofs.StillGood.{good_kept}
 use Rattle.print_room.specs.DeviceJobs.{Agree, AllKeep}
 use Rattle.print_room.specs.Beginning.{AllCanBegin}
-use Rattle.print_room.proofs.Beginning.{plan_can_begin, dispatch_keeps}
+use Rattle.print_room.proofs.JobsCanBegin.{plan_can_begin, dispatch_keeps}
 use Rattle.print_room.proofs.room.PrintRoom.plan_anew.Goals as goal
 
 pub start_all-requires-clause-inside : goal.start_all-requires-clause-inside

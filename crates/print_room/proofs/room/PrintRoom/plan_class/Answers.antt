@@ -1,7 +1,7 @@
 use Rattle.std.proofs.Common.{◌∙◌, List, map, filter, ap}
 use Rattle.print_room.specs.Ready.{ready_of}
 use Rattle.print_room.specs.Gathered.{Gathered, is_of_class, class_job_of}
-use Rattle.print_room.proofs.Readying.{class_gathered}
+use Rattle.print_room.proofs.ReadyJobs.{class_gathered}
 use Rattle.print_room.proofs.room.PrintRoom.plan_class.Goals as goal
 
 pub plan_jobs-requires-clause-jobs : goal.plan_jobs-requires-clause-jobs

@@ -4,7 +4,7 @@ use Rattle.plan_problem.specs.ClassJob.{JobOfClass, IsClassOf}
 use Rattle.print_room.specs.State.{State, sets_of}
 use Rattle.print_room.specs.Ready.{class_of}
 use Rattle.print_room.specs.GoodPlan.{job_of_class}
-use Rattle.print_room.proofs.Building.{can_build, each_able, jobs_able, total_bounded}
+use Rattle.print_room.proofs.ClassProblems.{can_build, each_able, jobs_able, total_bounded}
 use Rattle.print_room.proofs.room.PrintRoom.plan_jobs.Goals as goal
 
 pub build-requires : goal.build-requires

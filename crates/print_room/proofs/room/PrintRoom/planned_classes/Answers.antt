@@ -6,8 +6,8 @@ use Rattle.print_room.specs.Ready.{ready_of, class_of}
 use Rattle.print_room.specs.GoodPlan.{is_some_job, IsPlannedBest}
 use Rattle.print_room.specs.Gathered.{Gathered, gathered_of, highest_within}
 use Rattle.print_room.proofs.Planned.{PlannedAbove}
-use Rattle.print_room.proofs.Readying.{highest_least, some_highest}
-use Rattle.print_room.proofs.Building.{above_few, few_ids}
+use Rattle.print_room.proofs.ReadyJobs.{highest_least, some_highest}
+use Rattle.print_room.proofs.ClassProblems.{above_few, few_ids}
 use Rattle.print_room.proofs.Priorities.{none_planned, skip_to, next_some, all_planned}
 use Rattle.print_room.proofs.room.PrintRoom.planned_classes.Goals as goal
 

@@ -5,8 +5,8 @@ use Rattle.print_room.specs.Activity.{job_on}
 use Rattle.print_room.specs.State.{State, with_device, doing}
 use Rattle.print_room.specs.Report.{change_by, activity_after, refitted, jobs_after, documents_out, state_after}
 use Rattle.print_room.specs.DeviceJobs.{Agree}
-use Rattle.print_room.proofs.DeviceJobs.{read_device, activity_leaves, report_leaves, same_or_none, agree_device, agree_told}
-use Rattle.print_room.proofs.Keeping.{reports_keep}
+use Rattle.print_room.proofs.DeviceJobs.{read_device, activity_leaves, report_leaves, same_or_none, agree_device, agree_reported}
+use Rattle.print_room.proofs.DocumentsStay.{reports_keep}
 use Rattle.print_room.proofs.room.PrintRoom.report.Goals as goal
 
 pub refit-requires-clause-agree : goal.refit-requires-clause-agree
@@ -31,7 +31,7 @@ settle-requires c =
     let change : c.change_by-change.result ≡ change_by report d.activity = c.change_by-change.ensures ∙ ap (λ (x : Device). change_by report x.activity) c.device.view_is in
     subst (λ (t : State). Agree t.devices (jobs_after c.args.now c.job_on-job.result c.change_by-change.result t.spool.jobs)) (sym c.refit.ensures)
     (rw (job, change, c.activity_after-next.ensures.activity)
-    (agree_told c.args.now c.args.place (refitted s.last report (activity_after c.args.now report s.spool.jobs d)) s.devices s.spool.jobs d (change_by report d.activity) found (report_leaves s.last c.args.now report s.spool.jobs d) agree))
+    (agree_reported c.args.now c.args.place (refitted s.last report (activity_after c.args.now report s.spool.jobs d)) s.devices s.spool.jobs d (change_by report d.activity) found (report_leaves s.last c.args.now report s.spool.jobs d) agree))
 
 pub returns-clause-reports : goal.returns-clause-reports
 returns-clause-reports c =
@@ -44,13 +44,13 @@ returns-clause-reports c =
     let job : c.job_on-job.result ≡ job_on d.activity = c.job_on-job.ensures ∙ ap (λ (x : Device). job_on x.activity) c.device.view_is in
     let change : c.change_by-change.result ≡ change_by report d.activity = c.change_by-change.ensures ∙ ap (λ (x : Device). change_by report x.activity) c.device.view_is in
     let next : c.activity_after-next.result ≡ activity_after c.args.now report old.spool.jobs d = c.activity_after-next.ensures.activity ∙ ap (λ (t : State). activity_after c.args.now report t.spool.jobs d) same in
-    let told : State → State = λ (t : State). record t { spool = record t.spool { jobs = jobs_after c.args.now c.job_on-job.result c.change_by-change.result t.spool.jobs } } in
+    let with_jobs : State → State = λ (t : State). record t { spool = record t.spool { jobs = jobs_after c.args.now c.job_on-job.result c.change_by-change.result t.spool.jobs } } in
     let fitted : State → State = λ (t : State). record t { devices = with_device c.args.place (refitted t.last report c.activity_after-next.result) t.devices } in
-    let all : told (fitted (record old { last = c.args.now })) ≡ state_after c.args.now c.args.place report d old = rw (job, change, next) refl in
+    let all : with_jobs (fitted (record old { last = c.args.now })) ≡ state_after c.args.now c.args.place report d old = rw (job, change, next) refl in
     let jobs : State → List _ = λ (t : State). documents_out c.job_on-job.result c.change_by-change.result t.spool.jobs in
     let out : jobs old ≡ documents_out (job_on d.activity) (change_by report d.activity) old.spool.jobs = rw (job, change) refl in
     subst (λ (o : Option Device). MatchOption o ((c.settle.new.self ≡ record old { last = c.args.now }) × (c.settle.result.items ≡ [])) (λ device. (c.settle.new.self ≡ state_after c.args.now c.args.place report device old) × (c.settle.result.items ≡ documents_out (job_on device.activity) (change_by report device.activity) old.spool.jobs))) (sym found) (
-      c.settle.ensures.jobs ∙ (ap told (c.refit.ensures ∙ ap fitted same) ∙ all),
+      c.settle.ensures.jobs ∙ (ap with_jobs (c.refit.ensures ∙ ap fitted same) ∙ all),
       c.settle.ensures.documents ∙ (ap jobs (c.refit.ensures ∙ ap fitted same) ∙ out),
     )
 

@@ -3,7 +3,7 @@ use Rattle.std.specs.Option.{option_copied}
 use Rattle.printer_objects.specs.DocumentFormat.{is_same_format}
 use Rattle.printer_objects.specs.declared.together.Listed.TheVariants.{Formats}
 use Rattle.printer_objects.specs.Offer.{listed_of, formats_of, format_named}
-use Rattle.printer_objects.proofs.Listing.{none_offered}
+use Rattle.printer_objects.proofs.ListedOnce.{none_offered}
 use Rattle.printer_objects.proofs.Taken.{format_taken}
 use Rattle.printer_objects.proofs.offer.Offer.format_named.Goals as goal
 

@@ -3,7 +3,7 @@ use Rattle.std.specs.Option.{option_copied}
 use Rattle.std.specs.Str.{bytes_eq}
 use Rattle.printer_objects.specs.declared.together.Listed.TheVariants.{Media}
 use Rattle.printer_objects.specs.Offer.{listed_of, media_of, medium_named}
-use Rattle.printer_objects.proofs.Listing.{none_offered}
+use Rattle.printer_objects.proofs.ListedOnce.{none_offered}
 use Rattle.printer_objects.proofs.Taken.{medium_taken}
 use Rattle.printer_objects.proofs.offer.Offer.medium_named.Goals as goal
 

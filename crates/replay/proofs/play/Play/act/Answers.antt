@@ -1,5 +1,5 @@
 use Rattle.std.proofs.Common.{◌∙◌, ◌++◌, ap, sym, is_none}
-use Rattle.replay.proofs.Playing.{found_line}
+use Rattle.replay.proofs.PlayedTrace.{found_line}
 use Rattle.replay.proofs.play.Play.act.Goals as goal
 
 pub returns : goal.returns

@@ -1,5 +1,5 @@
 use Rattle.std.proofs.Common.{refl}
-use Rattle.replay.proofs.Playing.{printed_moment}
+use Rattle.replay.proofs.PlayedTrace.{printed_moment}
 use Rattle.replay.proofs.play.Play.give.Goals as goal
 
 pub returns-in-At : goal.returns-in-At

@@ -1,6 +1,6 @@
 use Rattle.std.proofs.Common.{refl}
 use Rattle.std.proofs.lemmas.Result.{IfOk-weaker}
-use Rattle.replay.proofs.Playing.{becomes, from_here, still_ready}
+use Rattle.replay.proofs.PlayedTrace.{becomes, from_here, still_ready}
 use Rattle.replay.proofs.play.Play.open.Goals as goal
 
 pub run-requires : goal.run-requires

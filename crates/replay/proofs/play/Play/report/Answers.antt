@@ -1,5 +1,5 @@
 use Rattle.std.proofs.Common.{refl}
-use Rattle.replay.proofs.Playing.{calls}
+use Rattle.replay.proofs.PlayedTrace.{calls}
 use Rattle.replay.proofs.play.Play.report.Goals as goal
 
 pub returns : goal.returns

@@ -1,5 +1,5 @@
 use Rattle.std.proofs.Common.{refl}
-use Rattle.replay.proofs.Playing.{ran}
+use Rattle.replay.proofs.PlayedTrace.{ran}
 use Rattle.replay.proofs.play.Play.run.Goals as goal
 
 pub returns : goal.returns

@@ -1,5 +1,5 @@
 use Rattle.std.proofs.Common.{refl, rules}
-use Rattle.replay.proofs.Playing.{serves}
+use Rattle.replay.proofs.PlayedTrace.{serves}
 use Rattle.replay.proofs.play.Play.serve.Goals as goal
 
 pub returns : goal.returns

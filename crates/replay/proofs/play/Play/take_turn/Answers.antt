@@ -1,5 +1,5 @@
 use Rattle.std.proofs.Common.{refl}
-use Rattle.replay.proofs.Playing.{took_turn}
+use Rattle.replay.proofs.PlayedTrace.{took_turn}
 use Rattle.replay.proofs.play.Play.take_turn.Goals as goal
 
 pub returns : goal.returns

@@ -1,5 +1,5 @@
 use Rattle.std.proofs.Common.{arith, refl}
-use Rattle.replay.proofs.Playing.{one_busy, till_quiet, till_most}
+use Rattle.replay.proofs.PlayedTrace.{one_busy, till_quiet, till_most}
 use Rattle.replay.proofs.play.Play.take_turns.Goals as goal
 
 pub returns-then-not-take_turn : goal.returns-then-not-take_turn

@@ -1,4 +1,4 @@
-use Rattle.replay.proofs.Playing.{AreBusy}
+use Rattle.replay.proofs.PlayedTrace.{AreBusy}
 use Rattle.replay.proofs.play.Play.take_turns.Given as goal
 
 abbrev pub invariant-loop-turn : goal.invariant-loop-turn

@@ -1,7 +1,7 @@
 use Rattle.std.proofs.Common.{refl}
 use Rattle.server.specs.Answering.{Responds}
 use Rattle.server.proofs.Steps.{quietly_from}
-use Rattle.server.proofs.Happening.{breaks}
+use Rattle.server.proofs.DeviceOrders.{breaks}
 use Rattle.server.proofs.Joins.{notifies_then}
 use Rattle.server.proofs.ResponseBytes.{as_none}
 use Rattle.server.proofs.engine.Engine.answer_command.Goals as goal

@@ -7,7 +7,7 @@ use Rattle.server.specs.Happening.{Unanswered}
 use Rattle.connections.specs.Slots.{LeavesAs}
 use Rattle.server.specs.State.{EngineState, with_slots}
 use Rattle.server.specs.Refinement.{RefinesReporting, RefinesClosing}
-use Rattle.server.proofs.Closing.{closed_alone, closed_device}
+use Rattle.server.proofs.ClosedConnections.{closed_alone, closed_device}
 use Rattle.server.proofs.engine.Engine.close.Goals as goal
 
 pub returns-in-Some : goal.returns-in-Some

@@ -1,6 +1,6 @@
 use Rattle.std.proofs.Common.{refl}
 use Rattle.server.proofs.Steps.{reporting_from}
-use Rattle.server.proofs.Happening.{decides}
+use Rattle.server.proofs.DeviceOrders.{decides}
 use Rattle.server.proofs.engine.Engine.decide.Goals as goal
 
 pub returns : goal.returns

@@ -1,5 +1,5 @@
 use Rattle.server.proofs.Joins.{notifies_then}
-use Rattle.server.proofs.Enqueuing.{enqueues_status}
+use Rattle.server.proofs.DueBytes.{enqueues_status}
 use Rattle.server.proofs.engine.Engine.drop_request.Goals as goal
 
 pub returns : goal.returns

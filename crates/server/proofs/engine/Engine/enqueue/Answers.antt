@@ -1,6 +1,6 @@
 use Rattle.std.proofs.Common.{refl}
 use Rattle.server.proofs.Steps.{quietly_from}
-use Rattle.server.proofs.Enqueuing.{enqueues}
+use Rattle.server.proofs.DueBytes.{enqueues}
 use Rattle.server.proofs.engine.Engine.enqueue.Goals as goal
 
 pub returns : goal.returns

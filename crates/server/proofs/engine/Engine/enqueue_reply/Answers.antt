@@ -1,7 +1,7 @@
 use Rattle.std.proofs.Common.{ap, ◌∙◌}
 use Rattle.connections.specs.Slots.{closes_at}
 use Rattle.server.specs.State.{EngineState}
-use Rattle.server.proofs.Enqueuing.{enqueues_reply}
+use Rattle.server.proofs.DueBytes.{enqueues_reply}
 use Rattle.server.proofs.engine.Engine.enqueue_reply.Goals as goal
 
 pub returns : goal.returns

@@ -2,7 +2,7 @@ use Rattle.std.proofs.Common.{◌∙◌, sym, ap, inl}
 use Rattle.connections.specs.Slots.{is_of}
 use Rattle.server.specs.State.{EngineState}
 use Rattle.server.proofs.Steps.{quietly_as}
-use Rattle.server.proofs.Happening.{device_alone}
+use Rattle.server.proofs.DeviceOrders.{device_alone}
 use Rattle.server.proofs.engine.Engine.handle_hello.Goals as goal
 
 pub returns-in-None : goal.returns-in-None

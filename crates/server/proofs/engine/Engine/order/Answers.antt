@@ -1,4 +1,4 @@
-use Rattle.server.proofs.Happening.{orders_none}
+use Rattle.server.proofs.DeviceOrders.{orders_none}
 use Rattle.server.proofs.engine.Engine.order.Goals as goal
 
 pub returns-in-None : goal.returns-in-None

@@ -8,7 +8,7 @@ use Rattle.server.specs.Happening.{Unanswered}
 use Rattle.server.specs.Polls.{alone}
 use Rattle.server.specs.Refinement.{RefinesReporting}
 use Rattle.server.specs.State.{EngineState, with_slots}
-use Rattle.server.proofs.Happening.{gives_way_to}
+use Rattle.server.proofs.DeviceOrders.{gives_way_to}
 use Rattle.server.proofs.Steps.{quietly_then}
 use Rattle.server.proofs.engine.Engine.replace_connection.Goals as goal
 

@@ -6,7 +6,7 @@ use Rattle.server.specs.Hello.{IsSuperseded}
 use Rattle.server.specs.Rel.{Rel, Notifies, Then}
 use Rattle.server.specs.State.{EngineState}
 use Rattle.server.proofs.Steps.{quietly_as, quietly_then, quietly_from}
-use Rattle.server.proofs.Happening.{other_there, gives_way_to, notifies}
+use Rattle.server.proofs.DeviceOrders.{other_there, gives_way_to, notifies}
 use Rattle.server.proofs.engine.Engine.resolve_name.Goals as goal
 
 pub returns-then-has_ended : goal.returns-then-has_ended

@@ -3,7 +3,7 @@ use Rattle.server.specs.Enqueuing.{Enqueues}
 use Rattle.server.specs.Polls.{Found}
 use Rattle.server.specs.Rel.{Chooses, Then}
 use Rattle.server.proofs.Steps.{quietly_as, quietly_chosen, quietly_from}
-use Rattle.server.proofs.Happening.{breaks}
+use Rattle.server.proofs.DeviceOrders.{breaks}
 use Rattle.server.proofs.Joins.{notifies_then}
 use Rattle.server.proofs.engine.Engine.show.Goals as goal
 

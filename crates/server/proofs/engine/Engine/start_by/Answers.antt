@@ -1,7 +1,7 @@
 use Rattle.std.proofs.Common.{refl, ap}
 use Rattle.server.specs.Happening.{StartsBy}
 use Rattle.server.proofs.Steps.{reporting_from, reporting_nothing}
-use Rattle.server.proofs.Happening.{started_as}
+use Rattle.server.proofs.DeviceOrders.{started_as}
 use Rattle.server.proofs.engine.Engine.start_by.Goals as goal
 
 pub returns-in-Query : goal.returns-in-Query

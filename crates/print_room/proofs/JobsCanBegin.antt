@@ -36,11 +36,11 @@ use Rattle.print_room.specs.GoodPlan.{IsGoodPlan, waits_of}
 use Rattle.print_room.specs.DeviceJobs.{job_of, Agree, AllKeep}
 use Rattle.print_room.specs.Beginning.{is_waiting, waits_at, CanBegin, AllCanBegin}
 use Rattle.spool.proofs.RisingIds.{RisesFrom, filter_rises, head_or, above_low, job_ids_rise}
-use Rattle.print_room.proofs.Building.{ready_rises}
+use Rattle.print_room.proofs.ClassProblems.{ready_rises}
 use Rattle.print_room.proofs.Checked.{all_ids, class_ids, apart_classes}
 use Rattle.print_room.proofs.Starts.{first_place, begins_devices, split_at, starts_inside}
 use Rattle.print_room.proofs.DeviceJobs.{job_elsewhere, job_found, found_device, agree_begins, agree_stay}
-use Rattle.print_room.proofs.Keeping.{keep_from, keep_then}
+use Rattle.print_room.proofs.DocumentsStay.{keep_from, keep_then}
 
 -- ---- the first job of a device's list is a job of its class, and of no other device
 

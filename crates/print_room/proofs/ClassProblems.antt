@@ -25,7 +25,7 @@ use Rattle.print_room.specs.Ready.{ready_of, belongs, class_of, cause_in}
 use Rattle.print_room.specs.GoodPlan.{job_of_class}
 use Rattle.print_room.proofs.Planned.{jobs_above}
 use Rattle.spool.proofs.RisingIds.{RisesFrom, increasing_from_rises, filter_rises, ready_ids_rise}
-use Rattle.print_room.proofs.Readying.{ready_unfinished, count_short}
+use Rattle.print_room.proofs.ReadyJobs.{ready_unfinished, count_short}
 
 -- a printer without devices has no device that is able
 none_able : (needs : JobNeeds) (devices : List Device) → HasAbleDevice needs [] devices → ⊥

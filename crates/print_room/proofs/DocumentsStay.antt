@@ -10,19 +10,19 @@ use Rattle.job_objects.specs.declared.job_change.JobChange.TheVariants.{Close}
 use Rattle.job_objects.specs.JobStep.{ends_print}
 use Rattle.octets.specs.Document.{DocumentRecord}
 use Rattle.spool.specs.Spooled.{SpooledRecord, attached, changed, handed_out, expired}
-use Rattle.spool.specs.Jobs.{spooled_at, with_job, documents_told}
+use Rattle.spool.specs.Jobs.{spooled_at, with_job, documents_released}
 use Rattle.spool.specs.OnDevice.{is_on_device, documents_at, AllStay}
 use Rattle.spool.specs.Submission.{Submission, spooled_of}
 use Rattle.spool.specs.Kept.{retained}
-use Rattle.print_room.specs.Jobs.{asker_of, with_job_taken, sending_refusal, sending, changing, cancel_by, canceling, canceling_each, expiring}
-use Rattle.spool.specs.Asker.{AskerRecord}
-use Rattle.spool.specs.Calls.{or_else, asking_refusal, taking_refusal, document_refusal, adds, is_too_large, with_document, closed_if}
+use Rattle.print_room.specs.Jobs.{requester_of, with_job_taken, sending_refusal, sending, changing, cancel_by, canceling, canceling_each, expiring}
+use Rattle.spool.specs.Requester.{RequesterRecord}
+use Rattle.spool.specs.Calls.{or_else, access_refusal, taking_refusal, document_refusal, adds, is_too_large, with_document, closed_if}
 use Rattle.spool.specs.declared.refusal.SpoolRefusal.{SpoolRefusal}
 use Rattle.spool.specs.declared.refusal.SpoolRefusal.TheVariants as Why
 use Rattle.spool.specs.Sound.{IsSound}
 use Rattle.spool.specs.Spool.{IsSpool}
 use Rattle.spool.proofs.Sound.{incoming_off, sound_found}
-use Rattle.spool.proofs.OnDevice.{there, others_told, stay_told, stay_same, stay_before, stay_then, stay_map, stay_with, stay_retained, others_with, changed_on, expired_on}
+use Rattle.spool.proofs.OnDevice.{there, others_reported, stay_reported, stay_same, stay_before, stay_then, stay_map, stay_with, stay_retained, others_with, changed_on, expired_on}
 use Rattle.print_room.specs.Activity.{job_on}
 use Rattle.print_room.specs.State.{State, with_device}
 use Rattle.print_room.specs.Report.{change_by, activity_after, refitted, jobs_after, documents_out, state_after, Reports}
@@ -40,15 +40,15 @@ keep_then old mid new one two place id has =
     (second.0, second.1 ∙ first.1)
 
 -- a job hands out no document while its print goes on, and all of its documents when the print ends
-told_nothing : (change : JobChange) → ends_print change ≡ false → (id : ℕ) (jobs : List SpooledRecord) → documents_told id change jobs ≡ []
-told_nothing change goes_on id jobs = at (spooled_at id jobs)
+reported_nothing : (change : JobChange) → ends_print change ≡ false → (id : ℕ) (jobs : List SpooledRecord) → documents_released id change jobs ≡ []
+reported_nothing change goes_on id jobs = at (spooled_at id jobs)
   where
     at : (o : Option SpooledRecord) → option_map_or (handed_out change) o [] ≡ []
     at None = refl
     at (Some s) = ap (λ (b : Bool). cond b (cond s.on_device s.documents []) []) goes_on
 
-told_all : (change : JobChange) → ends_print change ≡ true → (id : ℕ) (jobs : List SpooledRecord) → is_on_device id jobs ≡ true → documents_told id change jobs ≡ documents_at id jobs
-told_all change ends id jobs on =
+reported_all : (change : JobChange) → ends_print change ≡ true → (id : ℕ) (jobs : List SpooledRecord) → is_on_device id jobs ≡ true → documents_released id change jobs ≡ documents_at id jobs
+reported_all change ends id jobs on =
     let s = there id jobs on in
     let out : Option SpooledRecord → List DocumentRecord = λ o. option_map_or (handed_out change) o [] in
     let of : Option SpooledRecord → List DocumentRecord = λ o. option_map_or (λ x. x.documents) o [] in
@@ -74,7 +74,7 @@ module _ (now place : ℕ) (report : Report) (d : Device) (old : State) (found :
       same : (o : Option ℕ) → job_on d.activity ≡ o → (change : Option JobChange) → documents_at id (jobs_after now o change old.spool.jobs) ≡ documents_at id old.spool.jobs
       same None is change = refl
       same (Some one) is None = refl
-      same (Some one) is (Some change) = (others_told one change now old.spool.jobs id (λ e. differ (agree.apart other place id has (old_here ∙ (is ∙ ap (λ (n : ℕ). Some n) (sym e))))) (agree.in_spool other id has)).documents
+      same (Some one) is (Some change) = (others_reported one change now old.spool.jobs id (λ e. differ (agree.apart other place id has (old_here ∙ (is ∙ ap (λ (n : ℕ). Some n) (sym e))))) (agree.in_spool other id has)).documents
 
   -- the device keeps its job with its documents, or it has no job any more and the documents are handed out
   abbrev Settled : Option JobChange → Option ℕ → Type 0
@@ -83,8 +83,8 @@ module _ (now place : ℕ) (report : Report) (d : Device) (old : State) (found :
       ⊎ ((id : ℕ) × (o ≡ Some id) × (job_of (with_device place (refitted now report (activity_after now report old.spool.jobs d)) old.devices) place ≡ None) × (documents_out o change old.spool.jobs ≡ documents_at id old.spool.jobs))
 
   changed_own : (change : JobChange) (ends : Bool) → ends_print change ≡ ends → job_on (refitted now report (activity_after now report old.spool.jobs d) d).activity ≡ cond ends None (job_on d.activity) → (id : ℕ) → job_on d.activity ≡ Some id → Settled (Some change) (Some id)
-  changed_own change true ends none id is = inr (id, refl, new_here ∙ none, told_all change ends id old.spool.jobs (agree.in_spool place id (old_here ∙ is)))
-  changed_own change false goes_on same id is = inl (new_here ∙ (same ∙ is), stay_told id change now old.spool.jobs goes_on, told_nothing change goes_on id old.spool.jobs)
+  changed_own change true ends none id is = inr (id, refl, new_here ∙ none, reported_all change ends id old.spool.jobs (agree.in_spool place id (old_here ∙ is)))
+  changed_own change false goes_on same id is = inl (new_here ∙ (same ∙ is), stay_reported id change now old.spool.jobs goes_on, reported_nothing change goes_on id old.spool.jobs)
 
   own : (change : Option JobChange) → Leaves change (job_on d.activity) (job_on (refitted now report (activity_after now report old.spool.jobs d) d).activity) → (o : Option ℕ) → job_on d.activity ≡ o → Settled change o
   own None leaves None is = inl (new_here ∙ (leaves ∙ is), stay_same old.spool.jobs, refl)
@@ -150,13 +150,13 @@ still_incoming true large free = refl
 still_incoming false large free = absurd (cc)
 
 -- a job that takes a document isn't on a device
-sent_off : (id : ℕ) (asker : AskerRecord) (octets : ℕ) (last : Bool) (jobs : List SpooledRecord) → All IsSound jobs → document_refusal asker octets last (spooled_at id jobs) ≡ None → is_on_device id jobs ≡ false
-sent_off id asker octets last jobs sound free = at (spooled_at id jobs) (sound_found id jobs sound) free
+sent_off : (id : ℕ) (requester : RequesterRecord) (octets : ℕ) (last : Bool) (jobs : List SpooledRecord) → All IsSound jobs → document_refusal requester octets last (spooled_at id jobs) ≡ None → is_on_device id jobs ≡ false
+sent_off id requester octets last jobs sound free = at (spooled_at id jobs) (sound_found id jobs sound) free
   where
-    at : (o : Option SpooledRecord) → IfSome o IsSound → document_refusal asker octets last o ≡ None → option_map_or (λ s. s.on_device) o false ≡ false
+    at : (o : Option SpooledRecord) → IfSome o IsSound → document_refusal requester octets last o ≡ None → option_map_or (λ s. s.on_device) o false ≡ false
     at None fits free = refl
     at (Some s) fits free =
-        incoming_off s fits (still_incoming s.job.incoming (adds octets last && is_too_large octets s.job) (later_free (asking_refusal asker (Some s)) (taking_refusal octets (adds octets last) (Some s)) free))
+        incoming_off s fits (still_incoming s.job.incoming (adds octets last && is_too_large octets s.job) (later_free (access_refusal requester (Some s)) (taking_refusal octets (adds octets last) (Some s)) free))
 
 attached_stay : (added : Bool) (id : ℕ) (document : DocumentRecord) (now : ℕ) (jobs : List SpooledRecord) → is_on_device id jobs ≡ false → AllStay jobs (with_document added id document now jobs)
 attached_stay false id document now jobs off one on = stay_same jobs one on
@@ -173,7 +173,7 @@ pub sends_keep : (now id : ℕ) (name : List ℕ) (document : DocumentRecord) (l
 sends_keep now id name document last old spool agree free =
     let jobs = old.spool.jobs in
     let taken = with_document (adds (length document.contents) last) id document now jobs in
-    let off = sent_off id (asker_of name old) (length document.contents) last jobs spool.sound free in
+    let off = sent_off id (requester_of name old) (length document.contents) last jobs spool.sound free in
     keep_from old (sending now id document last old) (λ place one has. has) (stay_then jobs taken (closed_if last id now taken) (attached_stay (adds (length document.contents) last) id document now jobs off) (closed_stay last id now taken)) agree
 
 pub expires_keep : (now : ℕ) (old : State) → Agree old.devices old.spool.jobs → AllKeep old (expiring now old)

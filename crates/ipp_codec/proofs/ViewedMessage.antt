@@ -11,7 +11,7 @@ use Rattle.ipp_codec.specs.Grammar.{IsMessage, Spells}
 use Rattle.ipp_codec.specs.Shown.{Level, levels_of, top}
 use Rattle.ipp_codec.specs.Views.{level}
 use Rattle.ipp_codec.proofs.Tree.{read_groups, groups_follow}
-use Rattle.ipp_codec.proofs.Showing.{elements_in-bytes_of}
+use Rattle.ipp_codec.proofs.ElementViews.{elements_in-bytes_of}
 use Rattle.ipp_codec.proofs.Heads.{message_of}
 use Rattle.ipp_codec.proofs.Once.{one_spelling}
 

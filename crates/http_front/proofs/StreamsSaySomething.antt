@@ -30,7 +30,7 @@ use Rattle.http_front.specs.Head.{Asks, judged}
 use Rattle.http_front.specs.Stream.{HttpElement, Waits, FrontIs, body_front, body_by, after_head, after_body, begins_head, is_last, elements_of, Exchanges, HttpState, HasRead, Steps, work}
 use Rattle.http_front.proofs.Fronts.{behind, rank_passed, waits_blank, passes_blank, waits_head, refuses_long, refuses_head, takes_head, invites, waits_size, refuses_long_size, refuses_size, last_size, large_size, some_size, waits_chunk, breaks_chunk, ends_chunk, ends_body, waits_trailer, refuses_trailer, ends_trailer}
 use Rattle.http_front.proofs.Steps.{tells_all, lends, lends_less}
-use Rattle.http_front.proofs.Deciding.{Decided, request_decides, chunk_decides}
+use Rattle.http_front.proofs.HeadsAreDecided.{Decided, request_decides, chunk_decides}
 
 -- ---- the request of a head
 

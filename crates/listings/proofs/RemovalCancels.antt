@@ -14,7 +14,7 @@ use Rattle.job_objects.specs.declared.job_change.JobChange.TheVariants.{Cancel}
 use Rattle.job_objects.specs.declared.job_state.JobState.{JobState}
 use Rattle.job_objects.specs.declared.job_state.JobState.TheVariants.{Pending, PendingHeld, Processing, Stopped, Canceled, Aborted, Completed}
 use Rattle.printer_objects.specs.PrinterState.{is_busy_with, is_printing_or_stopped}
-use Rattle.spool.specs.Asker.{AskerRecord, may_ask, canceler_of}
+use Rattle.spool.specs.Requester.{RequesterRecord, may_change, canceler_of}
 use Rattle.base_types.specs.declared.limits.TheConstants.Limits.{FINISHED_JOBS_KEPT}
 use Rattle.spool.specs.Calls.{cancel_refusal, or_else}
 use Rattle.spool.specs.declared.refusal.SpoolRefusal.TheVariants as Why
@@ -147,10 +147,10 @@ canceled_ends by now s unfinished = at s.job.state unfinished
 unfinished_kept : (jobs : List SpooledRecord) (s : SpooledRecord) → is_finished s.job.state ≡ false → is_kept jobs s ≡ true
 unfinished_kept jobs s unfinished = ap (λ (b : Bool). not (b && not s.on_device) || nat_lt (later_jobs jobs s) FINISHED_JOBS_KEPT) unfinished
 
--- no check refuses the cancel of a found job by an asker who may cancel the job
-free : (asker : AskerRecord) (test : SpooledRecord → Bool) (jobs : List SpooledRecord) (s : SpooledRecord) → Rises (map (λ s. s.job.id) jobs) → find test jobs ≡ Some s → may_ask asker s.job ≡ true → is_finished s.job.state ≡ false → cancel_refusal asker (spooled_at s.job.id jobs) ≡ None
-free asker test jobs s rising is may unfinished =
-    ap (λ (o : Option SpooledRecord). cancel_refusal asker o) (found_at test jobs s rising is)
+-- no check refuses the cancel of a found job by a requester who may cancel the job
+free : (requester : RequesterRecord) (test : SpooledRecord → Bool) (jobs : List SpooledRecord) (s : SpooledRecord) → Rises (map (λ s. s.job.id) jobs) → find test jobs ≡ Some s → may_change requester s.job ≡ true → is_finished s.job.state ≡ false → cancel_refusal requester (spooled_at s.job.id jobs) ≡ None
+free requester test jobs s rising is may unfinished =
+    ap (λ (o : Option SpooledRecord). cancel_refusal requester o) (found_at test jobs s rising is)
     ∙ (ap (λ (b : Bool). or_else (cond b None (Some Why.NotAuthorized)) (cond (is_finished s.job.state) (Some Why.NotPossible) None)) may
     ∙ ap (λ (b : Bool). cond b (Some Why.NotPossible) None) unfinished)
 
