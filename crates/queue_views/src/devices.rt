@@ -1,6 +1,5 @@
 //! The printers and the devices of a view.
 use crate::ledger::Ledger;
-use crate::overdue::{is_overdue, lateness};
 use crate::standing::Standing;
 use crate::totals::PrinterTotals;
 use crate::view::{DeviceState, DeviceView, MediumView, PrinterView, TakenJob};
@@ -9,6 +8,7 @@ use job_objects::Job;
 use plan_prices::Planner;
 use plan_problem::rate;
 use server::Engine;
+use server_log::{is_overdue, lateness};
 use settings_file::PrinterSettings;
 use std::alloc::{AllocError, Global};
 

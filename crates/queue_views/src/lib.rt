@@ -8,7 +8,7 @@
 //! that keeps accounts has a [`JobAccount`] of each job, too, also of those that the engine no longer keeps.
 //!
 //! Nothing is proved of a view, except that its functions are safe and end. The rows of the crate are recorded days of
-//! `play_examples`, and tests of `server_tests`.
+//! `play_examples`, and tests of `unit_tests`.
 #![tactic(auto)]
 
 mod accounts;
@@ -18,7 +18,6 @@ mod figures;
 mod jobs;
 mod last_plan;
 mod ledger;
-mod overdue;
 mod standing;
 mod totals;
 mod unended;
@@ -28,7 +27,6 @@ pub use accounts::{DayAccounts, JobAccount};
 pub use clock::{Clock, read_clock};
 pub use figures::{Figures, PrintedJob};
 pub use ledger::{LAST_FINISHED, Ledger};
-pub use overdue::{is_overdue, lateness};
 pub use totals::PrinterTotals;
 pub use view::{
     DeviceState, DeviceView, FinishedJob, JobView, MediumView, NeedsView, PrinterView, Prospect,

@@ -42,7 +42,7 @@ pub enum DeviceState {
     Ready,
     /// It runs, and has a job.
     Printing,
-    /// It prints, and its job should have ended this many seconds ago, by [`crate::is_overdue`].
+    /// It prints, and its job should have ended this many seconds ago, by [`server_log::is_overdue`].
     Late { seconds: u64 },
 }
 

@@ -1,7 +1,10 @@
 //! The date of a log.
 use base_types::Moment;
-use jiff::Timestamp;
+use jiff_core::civil::DateTime;
 use std::alloc::{AllocError, Global};
+
+/// The ns of a ms.
+const MILLI: i128 = 1_000_000;
 
 /// The ms of a day.
 const DAY: u64 = 86_400_000;
@@ -30,14 +33,18 @@ impl Calendar {
         due
     }
 
-    /// The time of moment 0 (RFC 3339), if the year has four digits.
+    /// The time of moment 0 (RFC 3339) with its ms, if the year has four digits.
     pub(crate) fn zero(&self, alloc: Global) -> Result<Option<String>, AllocError> {
-        let Ok(millis) = i64::try_from(self.zero) else {
+        let Ok(DateTime { date, time }) = DateTime::from_nanosecond(i128::from(self.zero) * MILLI)
+        else {
             return Ok(None);
         };
-        match Timestamp::from_millisecond(millis) {
-            Ok(zero) => Ok(Some(format!(in alloc; "{zero}")?)),
-            Err(_) => Ok(None),
-        }
+        let (year, month, day) = (date.year, date.month, date.day);
+        let (hour, minute, second) = (time.hour, time.minute, time.second);
+        let millis = time.subsec_nanosecond / 1_000_000;
+        let text = format!(in alloc;
+            "{year:04}-{month:02}-{day:02}T{hour:02}:{minute:02}:{second:02}.{millis:03}Z"
+        )?;
+        Ok(Some(text))
     }
 }

@@ -63,8 +63,8 @@ impl<'a> LogLines<'a> {
     }
 
     /// Adds the lines for the notes of the engine.
-    pub(crate) fn add_heard(&mut self, heard: &[LoggedNote], plan: &mut LoggedPlan) {
-        for one in heard {
+    pub(crate) fn add_notes(&mut self, notes: &[LoggedNote], plan: &mut LoggedPlan) {
+        for one in notes {
             self.add_one(one, plan);
         }
         self.add_plan(plan, false);
@@ -152,8 +152,8 @@ impl<'a> LogLines<'a> {
     }
 
     /// Adds what a note needs: a line, or a word in the line of its plan.
-    fn add_one(&mut self, heard: &LoggedNote, plan: &mut LoggedPlan) {
-        match heard {
+    fn add_one(&mut self, note: &LoggedNote, plan: &mut LoggedPlan) {
+        match note {
             LoggedNote::Class { priority, total } => self.record_result(plan.add_class(
                 *priority, *total,
             )),

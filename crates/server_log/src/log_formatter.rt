@@ -61,11 +61,11 @@ impl LogFormatter {
         &mut self,
         moment: Moment,
         visits: &[ConnectionEvent],
-        heard: &[LoggedNote],
+        notes: &[LoggedNote],
         engine: &JournaledEngine,
     ) -> Result<Vec<u8>, AllocError> {
         let news = self.arrivals.take(engine)?;
-        self.begun.add(heard)?;
+        self.begun.add(notes)?;
         let ended = self.begun.take_ended(self.alloc, engine)?;
         let late = self.overdue.take(engine, self.begun.jobs(), moment)?;
         let date = self.date()?;
@@ -73,7 +73,7 @@ impl LogFormatter {
         lines.add_date(date.as_deref());
         lines.add_comings(visits);
         lines.add_arrivals(&news.came, engine);
-        lines.add_heard(heard, &mut self.plan);
+        lines.add_notes(notes, &mut self.plan);
         lines.add_ended(&ended);
         lines.add_unbegun(&news.ended, engine);
         lines.add_late(&late);

@@ -61,7 +61,7 @@ impl<'a, W: Write> LogWriter<'a, W> {
             }
             let (lines, others) = rest.split_at(front(rest));
             rest = others;
-            if !self.tells_lost() || !self.writes(lines) {
+            if !self.writes_lost() || !self.writes(lines) {
                 self.lost = self.lost.saturating_add(lines_in(lines));
             }
         }
@@ -69,7 +69,7 @@ impl<'a, W: Write> LogWriter<'a, W> {
 
     /// Ends a line that was cut, and writes the number of dropped lines. Returns whether that was written, or
     /// wasn't needed.
-    fn tells_lost(&mut self) -> bool {
+    fn writes_lost(&mut self) -> bool {
         if self.lost == 0 {
             return true;
         }
@@ -78,12 +78,12 @@ impl<'a, W: Write> LogWriter<'a, W> {
         let Ok(line) = format!(in self.alloc; "{end}{lost} lines of the log lost\n") else {
             return false;
         };
-        let told = self.output.write(line.as_bytes()).is_ok();
-        if told {
+        let written = self.output.write(line.as_bytes()).is_ok();
+        if written {
             self.lost = 0;
             self.cut = false;
         }
-        told
+        written
     }
 
     /// Writes bytes in pieces. Returns whether all of them were taken.

@@ -91,10 +91,10 @@ impl RunningJobs {
 
     /// Appends the jobs that began by the notes. The only error is out of memory, and some may be appended
     /// then.
-    pub(crate) fn add(&mut self, heard: &[LoggedNote]) -> Result<(), AllocError>
-        ensures { OnOk result (self.new ≡ self.old ++ flat_map begun_by heard.now) }
+    pub(crate) fn add(&mut self, notes: &[LoggedNote]) -> Result<(), AllocError>
+        ensures { OnOk result (self.new ≡ self.old ++ flat_map begun_by notes.now) }
     {
-        put_begun(&mut self.started, heard)
+        put_begun(&mut self.started, notes)
     }
 
     /// The jobs that devices began, and that hadn't ended at the last call of `take_ended`.
@@ -122,10 +122,10 @@ impl RunningJobs {
 }
 
 /// Appends the jobs that began by the notes.
-fn put_begun(begun: &mut Vec<Started>, heard: &[LoggedNote]) -> Result<(), AllocError>
-    ensures { OnOk result (begun.new.items ≡ begun.old.items ++ flat_map begun_by heard.now) }
+fn put_begun(begun: &mut Vec<Started>, notes: &[LoggedNote]) -> Result<(), AllocError>
+    ensures { OnOk result (begun.new.items ≡ begun.old.items ++ flat_map begun_by notes.now) }
 {
-    for one in heard {
+    for one in notes {
         if let LoggedNote::Began(started) = one {
             begun.push(*started)?;
         }
