@@ -49,22 +49,14 @@ pub fn serve<W: Write, T: Tape>(
 ) -> io::Result<()>
     requires { MeetsLimits settings }
 {
-    let mut server = dated(alloc, clock, sockets, settings)?;
-    run(alloc, clock, &mut server, turns, log, recording)
-}
-
-/// Creates a server whose first moment is now.
-fn dated(
-    alloc: Global,
-    clock: &impl Clock,
-    sockets: Sockets,
-    settings: Settings,
-) -> io::Result<Server>
-    requires { MeetsLimits settings }
-{
-    let mut server = Server::new(alloc, sockets, settings)?;
-    server.date(clock, Moment::start())?;
-    Ok(server)
+    let mut server = match Server::new(alloc, sockets, settings) {
+        Ok(server) => server,
+        Err(error) => return Err(io::Error::from(error)),
+    };
+    match server.date(clock, Moment::start()) {
+        Ok(()) => run(alloc, clock, &mut server, turns, log, recording),
+        Err(error) => Err(error),
+    }
 }
 
 /// Takes the turns, with a log and a recording if they are given.

@@ -181,9 +181,9 @@ impl Server {
     ) -> Result<Vec<u8>, AllocError>
         ensures { Rests self.old self.new }
     {
-        let heard = taken.observer.take()?;
+        let notes = taken.observer.take()?;
         match &taken.visits {
-            Ok(visits) => self.formatter.lines(moment, visits, &heard, &self.engine),
+            Ok(visits) => self.formatter.lines(moment, visits, &notes, &self.engine),
             Err(_) => Err(AllocError),
         }
     }

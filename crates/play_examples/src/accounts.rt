@@ -1,5 +1,6 @@
 //! Accounts: the table of the jobs of each recorded day must equal its file.
 
+use crate::pages::plays;
 use playback::Follower;
 use queue_reports::AccountTable;
 use std::alloc::Global;
@@ -21,15 +22,25 @@ pub const ACCOUNTED: [Accounted; 2] = [
     },
 ];
 
-/// The table of a day.
-fn table_of(alloc: Global, day: &[u8]) -> Option<Vec<u8>> {
+/// Adds the jobs of a day to a table. Returns whether the day can be played.
+fn adds_day(alloc: Global, table: &mut AccountTable, day: &[u8]) -> bool {
     let mut follower = Follower::new(alloc);
     follower.keep_accounts();
-    follower.add(day).ok()?;
-    follower.turns().ok()?;
-    let accounts = follower.into_accounts().ok()??;
+    if !plays(&mut follower, day) {
+        return false;
+    }
+    match follower.into_accounts() {
+        Ok(Some(accounts)) => table.add_day(&accounts).is_ok(),
+        _ => false,
+    }
+}
+
+/// The table of a day.
+fn table_of(alloc: Global, day: &[u8]) -> Option<Vec<u8>> {
     let mut table = AccountTable::new(alloc).ok()?;
-    table.add_day(&accounts).ok()?;
+    if !adds_day(alloc, &mut table, day) {
+        return None;
+    }
     table.finish().ok()
 }
 

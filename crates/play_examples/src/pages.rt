@@ -48,29 +48,40 @@ pub const PAGED: [PagedMoment; 4] = [
     },
 ];
 
-/// The follower of a day that has been played up to a moment, if it can be played.
-fn followed(alloc: Global, day: &[u8], at: Option<Moment>) -> Option<Follower> {
-    let mut follower = Follower::new(alloc);
+/// Plays a day. Returns whether it can be played.
+pub fn plays(follower: &mut Follower, day: &[u8]) -> bool {
+    follower.add(day).is_ok() && follower.turns().is_ok()
+}
+
+/// The page of a day at a moment, or at its end, by a follower of which nothing was played.
+fn page_at(
+    alloc: Global,
+    follower: &mut Follower,
+    day: &[u8],
+    at: Option<Moment>,
+    options: &PageOptions<'_>,
+) -> Option<String> {
     if let Some(at) = at {
         follower.stop_after(at);
     }
-    follower.add(day).ok()?;
-    follower.turns().ok()?;
-    Some(follower)
+    if !plays(follower, day) {
+        return None;
+    }
+    let view = follower.view_at(at.unwrap_or(Moment::start())).ok()??;
+    write_page(alloc, &view, options).ok()
 }
 
 /// The page of a day.
 fn page_of(alloc: Global, day: &[u8], paged: &PagedMoment) -> Option<String> {
-    let at = paged.at.and_then(Moment::new);
-    let follower = followed(alloc, day, at)?;
-    let view = follower.view_at(at.unwrap_or(Moment::start())).ok()??;
     let options = PageOptions {
         zone: TimeZone::fixed(Offset::from_hours(paged.ahead).ok()?),
         names: paged.names,
         refresh: None,
         quiet_since: None,
     };
-    write_page(alloc, &view, &options).ok()
+    let mut follower = Follower::new(alloc);
+    let at = paged.at.and_then(Moment::new);
+    page_at(alloc, &mut follower, day, at, &options)
 }
 
 /// Whether the page of a day has just this body.

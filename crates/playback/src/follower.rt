@@ -213,14 +213,25 @@ impl Follower {
             FollowingStage::Turns(playing) => playing.take(&self.file, self.last, number, line),
             FollowingStage::Settings(text) => {
                 let text = mem::replace(text, Vec::new(self.alloc));
-                self.stage = self.after_settings(text, number, line)?;
-                Ok(FollowedLine::Within)
+                let next = self.after_settings(text, number, line);
+                self.enter(next)
             }
             FollowingStage::Start(text) => {
                 let text = mem::replace(text, Vec::new(self.alloc));
-                self.stage = FollowingStage::Turns(self.started(&text, line)?);
+                let next = self.after_start(&text, line);
+                self.enter(next)
+            }
+        }
+    }
+
+    /// Goes on with a stage, unless the line before it was at fault.
+    fn enter(&mut self, next: Result<FollowingStage, DayFault>) -> Result<FollowedLine, DayFault> {
+        match next {
+            Ok(stage) => {
+                self.stage = stage;
                 Ok(FollowedLine::Within)
             }
+            Err(fault) => Err(fault),
         }
     }
 
@@ -247,16 +258,15 @@ impl Follower {
     }
 
     /// The server with the settings of a text, after the line after them.
-    fn started(&self, text: &[u8], line: &[u8]) -> Result<FollowedServer, DayFault> {
+    fn after_start(&self, text: &[u8], line: &[u8]) -> Result<FollowingStage, DayFault> {
         let Some(first) = first_in(line) else {
             return Err(DayFault::no_start(self.alloc, &self.file));
         };
         let settings = settings_of(self.alloc, &self.file, text)?;
-        let mut playing = FollowedServer::new(self.alloc, settings, first)?;
-        if self.keeps_accounts {
-            playing.ledger.keep_accounts();
+        match FollowedServer::new(self.alloc, settings, first, self.keeps_accounts) {
+            Ok(playing) => Ok(FollowingStage::Turns(playing)),
+            Err(AllocError) => Err(DayFault::from(AllocError)),
         }
-        Ok(playing)
     }
 }
 
@@ -269,13 +279,28 @@ fn is_later(moment: Moment, last: Option<Moment>) -> bool {
 }
 
 impl FollowedServer {
-    /// Creates a server that has only started, and whose first job gets the id `first`. The only error is out of memory.
-    fn new(alloc: Global, settings: Settings, first: JobId) -> Result<FollowedServer, AllocError>
+    /// Creates a server that has only started, and whose first job gets the id `first`. `keeps_accounts` is whether it
+    /// keeps accounts of the jobs. The only error is out of memory.
+    fn new(
+        alloc: Global,
+        settings: Settings,
+        first: JobId,
+        keeps_accounts: bool,
+    ) -> Result<FollowedServer, AllocError>
         requires { MeetsLimits settings }
     {
         let planner = Pausable::new(AugmentingPaths::new(alloc));
-        let engine = Engine::starting_at(alloc, settings, planner, first)?;
-        let ledger = Ledger::new(alloc, &engine)?;
+        let engine = match Engine::starting_at(alloc, settings, planner, first) {
+            Ok(engine) => engine,
+            Err(error) => return Err(error),
+        };
+        let mut ledger = match Ledger::new(alloc, &engine) {
+            Ok(ledger) => ledger,
+            Err(error) => return Err(error),
+        };
+        if keeps_accounts {
+            ledger.keep_accounts();
+        }
         Ok(FollowedServer {
             alloc,
             engine,

@@ -18,7 +18,7 @@ pub(crate) struct Observation {
     shows: Shows,
     names: Vec<Text>,
     text: Vec<u8>,
-    heard: NoteLog,
+    notes: NoteLog,
     lost: bool,
     /// Whether no plan is made in the turn: each dispatch is one that was refused memory.
     unplanned: bool,
@@ -30,7 +30,7 @@ impl Observer for Observation {
     fn dispatched(&mut self, made: &Dispatched<'_>) {
         match self.shows {
             Shows::Happenings { texts } => self.put_dispatched(made, texts),
-            Shows::Log => self.heard.dispatched(made),
+            Shows::Log => self.notes.dispatched(made),
             Shows::Verdict => {}
         }
     }
@@ -38,14 +38,14 @@ impl Observer for Observation {
     fn canceled(&mut self, cancel: Cancel) {
         match self.shows {
             Shows::Happenings { .. } => self.put_canceled(cancel),
-            Shows::Log => self.heard.canceled(cancel),
+            Shows::Log => self.notes.canceled(cancel),
             Shows::Verdict => {}
         }
     }
 
     fn device_refused(&mut self, id: WireId, why: DeviceRefusal) {
         if self.shows == Shows::Log {
-            self.heard.device_refused(id, why);
+            self.notes.device_refused(id, why);
         }
     }
 
@@ -64,7 +64,7 @@ impl Observation {
             shows,
             names,
             text: Vec::new(alloc),
-            heard: NoteLog::new(alloc),
+            notes: NoteLog::new(alloc),
             lost: false,
             unplanned: false,
         }
@@ -105,7 +105,7 @@ impl Observation {
     }
 
     /// Removes and returns the notes. The error is that memory for them was refused.
-    pub(crate) fn take_heard(&mut self) -> Result<Vec<LoggedNote>, AllocError> {
-        self.heard.take()
+    pub(crate) fn take_notes(&mut self) -> Result<Vec<LoggedNote>, AllocError> {
+        self.notes.take()
     }
 }

@@ -294,11 +294,11 @@ impl<'a> Player<'a> {
     /// Appends the lines of a log: connections that came, notes that were received, jobs that ended, and
     /// connections that went.
     fn put_log(&mut self, moment: Moment, output: &mut Vec<u8>) -> Result<(), AllocError> {
-        let heard = self.sinks.observation.take_heard()?;
+        let notes = self.sinks.observation.take_notes()?;
         let lines = self
             .sinks
             .formatter
-            .lines(moment, &[], &heard, self.engine)?;
+            .lines(moment, &[], &notes, self.engine)?;
         put_dated(self.alloc, output, moment, &self.comings)?;
         output.extend_from_slice(&lines)?;
         put_dated(self.alloc, output, moment, &self.goings)?;

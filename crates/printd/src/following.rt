@@ -9,7 +9,6 @@ use program::ExitStatus;
 use queue_reports::{PageOptions, write_page};
 use recordings::fill;
 use spool_directory::{millis_of, now};
-use std::alloc::AllocError;
 use std::fs::File;
 use std::os::unix::fs::MetadataExt;
 use std::time::{Duration, Instant};
@@ -88,13 +87,6 @@ fn time_written(file: &File) -> io::Result<u64> {
     )
 }
 
-/// The follower of a day that begins with the file of a name. The only error is out of memory.
-fn follower_of(rt: &HostRuntime, name: &str) -> Result<Follower, AllocError> {
-    let mut follower = Follower::new(rt.alloc());
-    follower.begin_file(name)?;
-    Ok(follower)
-}
-
 impl<'a> FollowedRecording<'a> {
     /// Begins to follow a recording or a spool, of which nothing was read.
     fn new(
@@ -104,20 +96,41 @@ impl<'a> FollowedRecording<'a> {
     ) -> io::Result<FollowedRecording<'a>> {
         let chain = FileChain::new(rt, path)?;
         let number = chain.first()?;
-        let follower = follower_of(rt, &chain.name(number)?)?;
+        let file = chain.open(number)?;
+        let chunk = vec![in rt.alloc(); 0; CHUNK]?;
+        let start = Instant::now(rt)?;
         Ok(FollowedRecording {
             rt,
             chain,
             outputs,
-            follower,
-            file: chain.open(number)?,
+            follower: Follower::new(rt.alloc()),
+            file,
             number,
-            chunk: vec![in rt.alloc(); 0; CHUNK]?,
-            start: Instant::now(rt)?,
+            chunk,
+            start,
             has_caught_up: false,
             is_changed: false,
             written: None,
         })
+    }
+
+    /// Begins the file that is read, by its name, in the follower.
+    fn name_file(&mut self) -> io::Result<()> {
+        let name = self.chain.name(self.number)?;
+        self.follower.begin_file(&name)?;
+        Ok(())
+    }
+
+    /// Follows the recording of a path. An error is reported, and its exit status returned.
+    fn run(&mut self, path: &str) -> Result<ExitStatus, ExitStatus> {
+        let rt = self.rt;
+        or_cannot_with(rt, "follow", path, self.name_file())?;
+        for _ in 0..u64::MAX {
+            if self.step()? {
+                thread::sleep(rt, Duration::from_millis(PAUSE));
+            }
+        }
+        Ok(ExitStatus::Done)
     }
 
     /// Reports that the recording can't be read, and returns the exit status.
@@ -193,11 +206,9 @@ impl<'a> FollowedRecording<'a> {
         if !self.chain.goes_on(number)? {
             self.follower = Follower::new(self.rt.alloc());
         }
-        let name = self.chain.name(number)?;
-        self.follower.begin_file(&name)?;
         self.file = file;
         self.number = number;
-        Ok(())
+        self.name_file()
     }
 
     /// The time since which nothing was written to the file, in ms since the beginning of 1970, if that is long ago.
@@ -275,12 +286,8 @@ pub(crate) fn follow(
         names: paging.names,
         zone,
     };
-    let followed = FollowedRecording::new(rt, path, outputs);
-    let mut following = or_cannot_with(rt, "follow", path, followed)?;
-    for _ in 0..u64::MAX {
-        if following.step()? {
-            thread::sleep(rt, Duration::from_millis(PAUSE));
-        }
+    match FollowedRecording::new(rt, path, outputs) {
+        Ok(mut following) => following.run(path),
+        Err(error) => Err(cannot_with(rt, "follow", path, error)),
     }
-    Ok(ExitStatus::Done)
 }

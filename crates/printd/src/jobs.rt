@@ -29,7 +29,7 @@ enum JobsFault {
 struct JobDays<'a> {
     rt: &'a HostRuntime,
     follower: Follower,
-    table: AccountTable,
+    table: &'a mut AccountTable,
     /// Whether a file of the day was begun.
     has_begun: bool,
 }
@@ -59,15 +59,15 @@ fn new_follower(rt: &HostRuntime) -> Follower {
     follower
 }
 
-impl JobDays<'_> {
-    /// Creates the days of no files.
-    fn new(rt: &HostRuntime) -> Result<JobDays<'_>, AllocError> {
-        Ok(JobDays {
+impl<'a> JobDays<'a> {
+    /// Creates the days of no files, whose rows are added to a table.
+    fn new(rt: &'a HostRuntime, table: &'a mut AccountTable) -> JobDays<'a> {
+        JobDays {
             rt,
             follower: new_follower(rt),
-            table: AccountTable::new(rt.alloc())?,
+            table,
             has_begun: false,
-        })
+        }
     }
 
     /// Plays the turns of these bytes.
@@ -113,13 +113,6 @@ impl JobDays<'_> {
             None => Ok(()),
         }
     }
-
-    /// The table of all days.
-    fn finish(self) -> Result<Vec<u8>, AllocError> {
-        let mut days = self;
-        days.end_day()?;
-        days.table.finish()
-    }
 }
 
 /// Reports why the jobs of a file aren't written, and returns the exit status.
@@ -149,16 +142,37 @@ fn play_all(
     Ok(ExitStatus::Done)
 }
 
+/// Plays the files, and adds the rows of the last day. An error is reported, and its exit status returned.
+fn add_all(
+    rt: &HostRuntime,
+    days: &mut JobDays<'_>,
+    files: &[&str],
+) -> Result<ExitStatus, ExitStatus> {
+    let status = play_all(rt, days, files)?;
+    or_no_memory(rt, WRITE, days.end_day())?;
+    Ok(status)
+}
+
+/// Adds the jobs of the days of some files to a table. An error is reported, and its exit status returned.
+fn add_days(
+    rt: &HostRuntime,
+    table: &mut AccountTable,
+    files: &[&str],
+) -> Result<ExitStatus, ExitStatus> {
+    let mut days = JobDays::new(rt, table);
+    add_all(rt, &mut days, files)
+}
+
 /// Writes the jobs of the days of some files, up to the first line that can't be played. An error is reported, and its
 /// exit status returned.
 pub(crate) fn run_jobs(rt: &HostRuntime, files: &[&str]) -> Result<ExitStatus, ExitStatus> {
-    let mut days = or_no_memory(rt, WRITE, JobDays::new(rt))?;
-    let status = play_all(rt, &mut days, files)?;
-    let table = or_no_memory(rt, WRITE, days.finish())?;
+    let mut table = or_no_memory(rt, WRITE, AccountTable::new(rt.alloc()))?;
+    let status = add_days(rt, &mut table, files)?;
+    let rows = or_no_memory(rt, WRITE, table.finish())?;
     or_cannot(
         rt,
         "write to standard output",
-        io::writer(rt).write_all(&table),
+        io::writer(rt).write_all(&rows),
     )?;
     Ok(status)
 }

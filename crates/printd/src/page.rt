@@ -190,6 +190,12 @@ impl<'a> Reading<'a> {
         }
     }
 
+    /// The view of the day of files, or of standard input. An error is reported, and its exit status returned.
+    fn view_of(&mut self, files: &[&str]) -> Result<QueueView, ExitStatus> {
+        self.read(files)?;
+        self.view()
+    }
+
     /// The view of the day that was read. An error is reported, and its exit status returned.
     fn view(&self) -> Result<QueueView, ExitStatus> {
         let rt = self.rt;
@@ -248,9 +254,10 @@ fn view_of_day(
     zone: TimeZone<'_>,
 ) -> Result<QueueView, ExitStatus> {
     let when = when_of(rt, paging.at)?;
-    let mut reading = Reading::new(rt, when, zone)?;
-    reading.read(&paging.files)?;
-    reading.view()
+    match Reading::new(rt, when, zone) {
+        Ok(mut reading) => reading.view_of(&paging.files),
+        Err(status) => Err(status),
+    }
 }
 
 /// Writes the page of a recorded day. An error is reported, and its exit status returned.

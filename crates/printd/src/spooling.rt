@@ -89,6 +89,30 @@ fn fresh_engine(
     or_no_memory(rt, SERVE, Engine::starting_at(alloc, given, planner, first))
 }
 
+/// Begins the journal of an engine anew. Returns the engine that goes on. An error is reported, and its exit status
+/// returned.
+fn renewed(
+    rt: &HostRuntime,
+    settings: SettingsText<'_>,
+    files: &mut SpoolFiles<'_>,
+    engine: &JournaledEngine,
+) -> Result<JournaledEngine, ExitStatus> {
+    let Some(first) = engine.next_job_id() else {
+        return Err(cannot(rt, "begin the journal anew", out_of_memory()));
+    };
+    let mut fresh = match fresh_engine(rt, settings, first) {
+        Ok(fresh) => fresh,
+        Err(status) => return Err(status),
+    };
+    match or_refused(
+        rt,
+        files.begin_anew(settings.text, first, engine, &mut fresh),
+    ) {
+        Ok(()) => Ok(fresh),
+        Err(status) => Err(status),
+    }
+}
+
 /// Begins the journal anew. An error is reported, and its exit status returned.
 fn begin_anew(
     rt: &HostRuntime,
@@ -96,19 +120,31 @@ fn begin_anew(
     files: &mut SpoolFiles<'_>,
     server: Server,
     turns: u64,
-) -> Result<SpooledDay, ExitStatus> {
-    let Some(first) = server.engine().next_job_id() else {
-        return Err(cannot(rt, "begin the journal anew", out_of_memory()));
-    };
-    let mut engine = fresh_engine(rt, settings, first)?;
-    let begun = files.begin_anew(settings.text, first, server.engine(), &mut engine);
-    or_refused(rt, begun)?;
-    Ok(SpooledDay {
-        sockets: server.into_sockets(),
-        engine,
-        last: Moment::start(),
-        turns,
-    })
+) -> Result<Option<SpooledDay>, ExitStatus> {
+    match renewed(rt, settings, files, server.engine()) {
+        Ok(engine) => Ok(Some(SpooledDay {
+            sockets: server.into_sockets(),
+            engine,
+            last: Moment::start(),
+            turns,
+        })),
+        Err(status) => Err(status),
+    }
+}
+
+/// Takes rounds until the journal may begin anew. An error is reported, and its exit status returned.
+fn serve_until_quiet(
+    rt: &HostRuntime,
+    server: &mut Server,
+    last: Moment,
+    turns: u64,
+    log: Option<&mut LogOutput<'_>>,
+    files: &mut SpoolFiles<'_>,
+) -> Result<Ended, ExitStatus> {
+    or_cannot(rt, "read the clock", server.date(rt, last))?;
+    let end = end_of_day(files, last);
+    let ended = serve_journaled(rt.alloc(), rt, server, turns, last, end, log, files);
+    or_cannot(rt, SERVE, ended)
 }
 
 /// Serves until the journal may begin anew, and begins it. `None` once all rounds were taken. An error is reported,
@@ -121,20 +157,17 @@ fn serve_day(
     log: Option<&mut LogOutput<'_>>,
     files: &mut SpoolFiles<'_>,
 ) -> Result<Option<SpooledDay>, ExitStatus> {
-    let alloc = rt.alloc();
     let SpooledDay {
         sockets,
         engine,
         last,
         turns,
     } = day;
-    let end = end_of_day(files, last);
-    let mut server = Server::journaled(alloc, sockets, engine, names);
-    or_cannot(rt, "read the clock", server.date(rt, last))?;
-    match serve_journaled(alloc, rt, &mut server, turns, last, end, log, files) {
+    let mut server = Server::journaled(rt.alloc(), sockets, engine, names);
+    match serve_until_quiet(rt, &mut server, last, turns, log, files) {
         Ok(Ended::Served) => Ok(None),
-        Ok(Ended::Quiet { left }) => Ok(Some(begin_anew(rt, settings, files, server, left)?)),
-        Err(error) => Err(cannot(rt, SERVE, error)),
+        Ok(Ended::Quiet { left }) => begin_anew(rt, settings, files, server, left),
+        Err(status) => Err(status),
     }
 }
 
@@ -142,6 +175,29 @@ fn serve_day(
 fn names_in(rt: &HostRuntime, settings: SettingsText<'_>) -> Result<Vec<Text>, ExitStatus> {
     let given = settings_in(rt, settings.file, settings.text)?;
     or_no_memory(rt, SERVE, given.device_names(rt.alloc()))
+}
+
+/// Serves day after day, until all rounds were taken. An error is reported, and its exit status returned.
+fn serve_days(
+    rt: &HostRuntime,
+    first: SpooledDay,
+    text: SettingsText<'_>,
+    log: &mut Option<LogOutput<'_>>,
+    files: &mut SpoolFiles<'_>,
+) -> Result<ExitStatus, ExitStatus> {
+    let mut day = first;
+    for _ in 0..u64::MAX {
+        let names = match names_in(rt, text) {
+            Ok(names) => names,
+            Err(status) => return Err(status),
+        };
+        day = match serve_day(rt, day, text, names, log.as_mut(), files) {
+            Ok(Some(next)) => next,
+            Ok(None) => return Ok(ExitStatus::Done),
+            Err(status) => return Err(status),
+        };
+    }
+    Ok(ExitStatus::Done)
 }
 
 /// Serves with these settings over these sockets, and keeps the queue in a directory. An error is reported, and its
@@ -157,25 +213,24 @@ pub(crate) fn serve_spooled(
 ) -> Result<ExitStatus, ExitStatus>
     requires { MeetsLimits settings }
 {
+    let starting = match start_in(rt, spooling, settings, text.text) {
+        Ok(starting) => starting,
+        Err(status) => return Err(status),
+    };
+    if let Err(status) = announce_doors(rt, &sockets) {
+        return Err(status);
+    }
     let StartingServer {
         engine,
         last,
         mut files,
         ..
-    } = start_in(rt, spooling, settings, text.text)?;
-    announce_doors(rt, &sockets)?;
-    let mut day = SpooledDay {
+    } = starting;
+    let first = SpooledDay {
         sockets,
         engine,
         last,
         turns,
     };
-    for _ in 0..u64::MAX {
-        let names = names_in(rt, text)?;
-        match serve_day(rt, day, text, names, log.as_mut(), &mut files)? {
-            Some(next) => day = next,
-            None => break,
-        }
-    }
-    Ok(ExitStatus::Done)
+    serve_days(rt, first, text, log, &mut files)
 }

@@ -145,6 +145,7 @@ impl RecordedText {
         ensures { Notes (Reads id (bytes_read answer buffer.now)) self.old self.new }
     {
         match answer {
+            Progress::Waiting => {}
             Progress::Done(count) if self.heads => self.read_heads(id, &buffer[..count]),
             _ => self.lines.read(id, answer, buffer),
         }

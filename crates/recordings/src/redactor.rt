@@ -28,7 +28,7 @@ struct RedactedConnection {
 #[derive(Drop)]
 pub(crate) struct Redactor {
     alloc: Global,
-    heard: Vec<RedactedConnection>,
+    connections: Vec<RedactedConnection>,
 }
 
 /// The number of bytes up to and with the first line feed, or of all bytes.
@@ -88,7 +88,7 @@ impl Redactor {
     pub(crate) fn new(alloc: Global) -> Redactor {
         Redactor {
             alloc,
-            heard: Vec::new(alloc),
+            connections: Vec::new(alloc),
         }
     }
 
@@ -99,25 +99,27 @@ impl Redactor {
             Door::Lpd => Stream::Lpd(LpdStream::new(self.alloc)),
             Door::Devices => Stream::Device,
         };
-        self.heard.push(RedactedConnection { id, stream })?;
+        self.connections.push(RedactedConnection { id, stream })?;
         Ok(())
     }
 
     /// Removes a connection that was closed.
     pub(crate) fn close(&mut self, id: WireId) {
-        self.heard.retain(|heard| heard.id != id);
+        self.connections.retain(|connection| connection.id != id);
     }
 
     /// The place of a connection.
     fn place_of(&self, id: WireId) -> Option<usize> {
-        self.heard.iter().position(|heard| heard.id == id)
+        self.connections
+            .iter()
+            .position(|connection| connection.id == id)
     }
 
     /// Returns whether a connection is that of a device.
     pub(crate) fn is_device(&self, id: WireId) -> bool {
         match self.place_of(id) {
-            Some(place) if place < self.heard.len() => {
-                matches!(&self.heard[place].stream, Stream::Device)
+            Some(place) if place < self.connections.len() => {
+                matches!(&self.connections[place].stream, Stream::Device)
             }
             _ => false,
         }
@@ -133,8 +135,8 @@ impl Redactor {
         ensures { OnOk result (output.new ≡ output.old + length bytes.now) }
     {
         match self.place_of(id) {
-            Some(place) if place < self.heard.len() => {
-                self.heard[place].stream.redact_all(bytes, output)
+            Some(place) if place < self.connections.len() => {
+                self.connections[place].stream.redact_all(bytes, output)
             }
             _ => output.leave_out(bytes.len()),
         }

@@ -44,7 +44,7 @@ fn moment_at(millis: u64) -> Moment {
 
 /// The result of a job by the core's response.
 fn sent_by(reply: &Effects) -> Sent {
-    match &reply.answer {
+    match &reply.response {
         Response::Ipp(answer) => match answer.status {
             Status::Ok | Status::OkIgnoredOrSubstituted => Sent::Taken,
             Status::Busy => Sent::Busy,

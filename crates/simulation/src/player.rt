@@ -16,9 +16,9 @@ pub(crate) struct Player<'a> {
     alloc: Global,
     engine: &'a mut Engine<AugmentingPaths>,
     peers: Peers,
-    heard: NoteLog,
+    notes: NoteLog,
     /// The current moment of the trace.
-    told: Moment,
+    moment: Moment,
     /// The moment of the last event.
     now: Moment,
     recorder: Recorder,
@@ -31,8 +31,8 @@ impl<'a> Player<'a> {
             alloc,
             engine,
             peers: Peers::new(alloc),
-            heard: NoteLog::new(alloc),
-            told: Moment::start(),
+            notes: NoteLog::new(alloc),
+            moment: Moment::start(),
             now: Moment::start(),
             recorder: Recorder::new(alloc),
         }
@@ -68,7 +68,7 @@ impl<'a> Player<'a> {
     fn give(&mut self, line: Line) -> Result<(), AllocError> {
         match line {
             Line::At(moment) => {
-                self.told = moment;
+                self.moment = moment;
                 Ok(())
             }
             Line::Ipp(body) => self.serve(&body),
@@ -82,28 +82,28 @@ impl<'a> Player<'a> {
 
     /// Serves the body of a request, without a connection.
     fn serve(&mut self, body: &[u8]) -> Result<(), AllocError> {
-        let _served = self.engine.serve_body(body, &mut self.heard, self.told)?;
-        self.look()
+        let _served = self.engine.serve_body(body, &mut self.notes, self.moment)?;
+        self.record_outcome()
     }
 
     /// Acts on a device's report.
     fn report(&mut self, device: DeviceId, report: Report) -> Result<(), AllocError> {
         self.engine
-            .report(device, report, &mut self.heard, self.told)?;
-        self.look()
+            .report(device, report, &mut self.notes, self.moment)?;
+        self.record_outcome()
     }
 
     /// Acts on a tick.
     fn tick(&mut self) -> Result<(), AllocError> {
-        self.engine.tick(&mut self.heard, self.told)?;
-        self.look()
+        self.engine.tick(&mut self.notes, self.moment)?;
+        self.record_outcome()
     }
 
     /// Records the result of an event.
-    fn look(&mut self) -> Result<(), AllocError> {
-        self.now = self.told.later(self.now);
-        let heard = self.heard.take()?;
-        self.recorder.look(self.engine, &heard, self.now.millis())
+    fn record_outcome(&mut self) -> Result<(), AllocError> {
+        self.now = self.moment.later(self.now);
+        let notes = self.notes.take()?;
+        self.recorder.record(self.engine, &notes, self.now.millis())
     }
 
     /// Opens a connection.
@@ -129,8 +129,8 @@ impl<'a> Player<'a> {
         for _turn in 0..MOST_TURNS {
             self.peers.wire.stirred = false;
             self.engine
-                .turn(&mut self.peers.wire, &mut self.heard, self.told);
-            self.look()?;
+                .turn(&mut self.peers.wire, &mut self.notes, self.moment);
+            self.record_outcome()?;
             if self.peers.wire.failed {
                 return Err(AllocError);
             }

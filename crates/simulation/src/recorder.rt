@@ -31,10 +31,10 @@ pub(crate) struct Recorder {
 }
 
 /// The greatest number of a job that was begun according to a note; 0 if there is none.
-fn last_begun(heard: &[LoggedNote]) -> u32 {
+fn last_begun(notes: &[LoggedNote]) -> u32 {
     let mut last = 0;
-    for one in heard {
-        if let LoggedNote::Began(started) = one {
+    for note in notes {
+        if let LoggedNote::Began(started) = note {
             last = started.job.number().max(last);
         }
     }
@@ -76,14 +76,14 @@ impl Recorder {
     }
 
     /// Records the changes of a server up to a moment, and its notes. The only error is out of memory.
-    pub(crate) fn look(
+    pub(crate) fn record(
         &mut self,
         engine: &Engine<AugmentingPaths>,
-        heard: &[LoggedNote],
+        notes: &[LoggedNote],
         now: u64,
     ) -> Result<(), AllocError> {
-        self.find_jobs(engine, last_begun(heard))?;
-        self.hear(heard, now)?;
+        self.find_jobs(engine, last_begun(notes))?;
+        self.record_notes(notes, now)?;
         self.note_jobs(engine, now)?;
         self.end_prints(engine, now);
         Ok(())
@@ -119,9 +119,9 @@ impl Recorder {
     }
 
     /// Records notes. The only error is out of memory.
-    fn hear(&mut self, heard: &[LoggedNote], now: u64) -> Result<(), AllocError> {
-        for one in heard {
-            match one {
+    fn record_notes(&mut self, notes: &[LoggedNote], now: u64) -> Result<(), AllocError> {
+        for note in notes {
+            match note {
                 LoggedNote::Planned => self.stranded.clear(),
                 LoggedNote::Stranded(stranded) => self.stranded.push(*stranded)?,
                 LoggedNote::Began(started) => self.begin(*started, now)?,

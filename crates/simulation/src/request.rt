@@ -65,6 +65,16 @@ fn template_of(
     Ok(RequestAttributes::from_vec(group.attributes))
 }
 
+/// The job group of a request for a job of a list.
+fn listed_template(
+    alloc: Global,
+    printer: &PrinterSettings,
+    listed: &ListedJob,
+) -> Result<RequestAttributes, AllocError> {
+    let job = job_of(alloc, listed)?;
+    template_of(alloc, printer, &job)
+}
+
 /// The format of a job's document, if it has one.
 fn format_of(alloc: Global, listed: &ListedJob) -> Result<Option<Text>, AllocError> {
     match listed.needs.formats.first() {
@@ -80,21 +90,23 @@ pub(crate) fn print_job(
     printer: &PrinterSettings,
     listed: &ListedJob,
 ) -> Result<PrintJob, AllocError> {
-    let job = job_of(alloc, listed)?;
-    let template = template_of(alloc, printer, &job)?;
+    let template = listed_template(alloc, printer, listed)?;
+    let name = printer.name.copied(alloc)?;
+    let format = format_of(alloc, listed)?;
+    let octets = Octets::copy_of(alloc, &[])?;
     Ok(PrintJob {
         job: JobCreation {
-            target: Target::Named(printer.name.copied(alloc)?),
-            user: job.owner,
-            name: job.name,
-            impressions: job.impressions,
+            target: Target::Named(name),
+            user: no_text(alloc),
+            name: no_text(alloc),
+            impressions: Some(listed.needs.impressions),
             fidelity: true,
             template,
         },
         form: DocumentForm {
             compression: None,
-            format: format_of(alloc, listed)?,
+            format,
         },
-        octets: Octets::copy_of(alloc, &[])?,
+        octets,
     })
 }

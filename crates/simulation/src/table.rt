@@ -183,8 +183,8 @@ pub(crate) fn put_stranded(page: Page, stranded: &[Stranded]) -> Page {
         .put("no device can print ")
         .put_shown(stranded.len())
         .put(" of the jobs");
-    let told = stranded.len().min(STRANDED);
-    for (place, one) in stranded[..told].iter().enumerate() {
+    let named = stranded.len().min(STRANDED);
+    for (place, one) in stranded[..named].iter().enumerate() {
         page = put_stranded_job(page, place, one);
     }
     page
