@@ -1,7 +1,7 @@
 //! The commands of the program in the form of `clap`, made from the tables in `words`.
 
 use crate::read::VERSION;
-use crate::words::{ArgumentWords, CommandWords, plan_commands, server_commands};
+use crate::words::{ArgumentWords, COMMANDS, CommandWords, arguments_of};
 use clap::{Arg, Command};
 use std::alloc::{AllocError, Global};
 
@@ -51,7 +51,7 @@ fn argument_of<'a>(alloc: Global, words: &'static ArgumentWords) -> Result<Arg<'
 /// A command with its arguments. The only error is out of memory.
 fn command_of<'a>(alloc: Global, words: &CommandWords) -> Result<Command<'a>, AllocError> {
     let mut command = Command::new(alloc, words.name).about(words.about);
-    for words in words.arguments {
+    for words in arguments_of(words.name) {
         let argument = argument_of(alloc, words)?;
         command = command.arg(argument)?;
     }
@@ -67,22 +67,12 @@ fn bare_program<'a>(alloc: Global) -> Command<'a> {
         .subcommand_required(true)
 }
 
-/// The program with further commands. The only error is out of memory.
-fn with_commands<'a>(
-    alloc: Global,
-    program: Command<'a>,
-    commands: &'static [CommandWords],
-) -> Result<Command<'a>, AllocError> {
-    let mut program = program;
-    for words in commands {
+/// The program with its commands. The only error is out of memory.
+pub(crate) fn program<'a>(alloc: Global) -> Result<Command<'a>, AllocError> {
+    let mut program = bare_program(alloc);
+    for words in COMMANDS {
         let command = command_of(alloc, words)?;
         program = program.subcommand(command)?;
     }
     Ok(program)
-}
-
-/// The program with its commands. The only error is out of memory.
-pub(crate) fn program<'a>(alloc: Global) -> Result<Command<'a>, AllocError> {
-    let program = with_commands(alloc, bare_program(alloc), server_commands())?;
-    with_commands(alloc, program, plan_commands())
 }

@@ -170,7 +170,7 @@ fn asked<'a>(alloc: Global, found: &ArgMatches<'a>) -> Result<Subcommand<'a>, Wo
 }
 
 /// The text of `clap` about the words: help, the version, or an error.
-fn told(alloc: Global, error: &Error) -> WordsError {
+fn error_text(alloc: Global, error: &Error) -> WordsError {
     if error.kind() == ErrorKind::OutOfMemory {
         return WordsError::OutOfMemory;
     }
@@ -190,6 +190,6 @@ fn told(alloc: Global, error: &Error) -> WordsError {
 pub fn read_words<'a>(alloc: Global, words: &'a [&'a str]) -> Result<Subcommand<'a>, WordsError> {
     match parse(alloc, words) {
         Ok(matches) => asked(alloc, &matches),
-        Err(error) => Err(told(alloc, &error)),
+        Err(error) => Err(error_text(alloc, &error)),
     }
 }

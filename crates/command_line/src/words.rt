@@ -18,13 +18,11 @@ const POLICIES: &[&str] = &[
     "shortest-first",
 ];
 
-/// A command's name, its help and its arguments.
+/// A command's name and its help.
 pub(crate) struct CommandWords {
     pub(crate) name: &'static str,
     /// The text of help about the command.
     pub(crate) about: &'static str,
-    /// The arguments of the command, in the order of help.
-    pub(crate) arguments: &'static [ArgumentWords],
 }
 
 /// An argument of a command.
@@ -482,70 +480,113 @@ const ATTACH: &[ArgumentWords] = &[
     },
 ];
 
-/// The commands for a server and its recorded days, in the order of help.
-const SERVER_COMMANDS: &[CommandWords] = &[
+/// The commands, in the order of help.
+pub(crate) const COMMANDS: &[CommandWords] = &[
     CommandWords {
         name: "serve",
         about: "Serve print clients and devices over the network",
-        arguments: SERVE,
     },
     CommandWords {
         name: "settings",
         about: "Print the built-in settings; or judge those of a file, as `serve` does: ok, or their first fault",
-        arguments: SETTINGS,
     },
     CommandWords {
         name: "replay",
         about: "Play a trace, and write what the server does",
-        arguments: REPLAY,
     },
     CommandWords {
         name: "log",
         about: "Write the log's lines of a recorded day",
-        arguments: LOG,
     },
     CommandWords {
         name: "jobs",
         about: "Print the jobs of a recorded day as comma-separated values",
-        arguments: JOBS,
     },
     CommandWords {
         name: "page",
         about: "Write a page of HTML with the queue of a recorded day, at its end or at a moment",
-        arguments: PAGE,
     },
-];
-
-/// The commands for plans, days of jobs and printers, in the order of help after those.
-const PLAN_COMMANDS: &[CommandWords] = &[
     CommandWords {
         name: "check",
         about: "Judge the text of a plan: yes, or its first fault",
-        arguments: CHECK,
     },
     CommandWords {
         name: "draw",
         about: "Draw the plan of a text, or the day of a trace, as SVG",
-        arguments: DRAW,
     },
     CommandWords {
         name: "simulate",
         about: "Play a day of jobs as the server plans it, and as simpler rules would print it",
-        arguments: SIMULATE,
     },
     CommandWords {
         name: "attach",
         about: "Be a device of a server, and have a printer print what it is given",
-        arguments: ATTACH,
     },
 ];
 
-/// The commands for a server and its recorded days.
-pub(crate) fn server_commands() -> &'static [CommandWords] {
-    SERVER_COMMANDS
+/// The arguments of `printd serve`, in the order of help.
+fn serve_arguments() -> &'static [ArgumentWords] {
+    SERVE
 }
 
-/// The commands for plans, days of jobs and printers.
-pub(crate) fn plan_commands() -> &'static [CommandWords] {
-    PLAN_COMMANDS
+/// The arguments of `printd settings`, in the order of help.
+fn settings_arguments() -> &'static [ArgumentWords] {
+    SETTINGS
+}
+
+/// The arguments of `printd replay`, in the order of help.
+fn replay_arguments() -> &'static [ArgumentWords] {
+    REPLAY
+}
+
+/// The arguments of `printd log`, in the order of help.
+fn log_arguments() -> &'static [ArgumentWords] {
+    LOG
+}
+
+/// The arguments of `printd jobs`, in the order of help.
+fn jobs_arguments() -> &'static [ArgumentWords] {
+    JOBS
+}
+
+/// The arguments of `printd page`, in the order of help.
+fn page_arguments() -> &'static [ArgumentWords] {
+    PAGE
+}
+
+/// The arguments of `printd check`, in the order of help.
+fn check_arguments() -> &'static [ArgumentWords] {
+    CHECK
+}
+
+/// The arguments of `printd draw`, in the order of help.
+fn draw_arguments() -> &'static [ArgumentWords] {
+    DRAW
+}
+
+/// The arguments of `printd simulate`, in the order of help.
+fn simulate_arguments() -> &'static [ArgumentWords] {
+    SIMULATE
+}
+
+/// The arguments of `printd attach`, in the order of help.
+fn attach_arguments() -> &'static [ArgumentWords] {
+    ATTACH
+}
+
+/// The arguments of the command of this name, in the order of help.
+pub(crate) fn arguments_of(name: &str) -> &'static [ArgumentWords] {
+    match name {
+        "serve" => serve_arguments(),
+        "settings" => settings_arguments(),
+        "replay" => replay_arguments(),
+        "log" => log_arguments(),
+        "jobs" => jobs_arguments(),
+        "page" => page_arguments(),
+        "check" => check_arguments(),
+        "draw" => draw_arguments(),
+        "simulate" => simulate_arguments(),
+        "attach" => attach_arguments(),
+        _ => &[],
+    }
 }
