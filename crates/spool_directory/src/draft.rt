@@ -4,7 +4,7 @@ ghost use Rattle.std.specs.Prelude.{◌≡◌, [], IfOk};
 use crate::clock::{millis_of, now};
 use crate::directory::Directory;
 use crate::fault::SpoolFault;
-use crate::writer::{Tail, base_head, next_head, number_behind};
+use crate::writer::{Tail, base_head, next_head, number_after};
 use base_types::JobId;
 use journal::{ResubmissionFault, Storage, StoredLines};
 use std::fs::File;
@@ -61,7 +61,7 @@ impl<'a> DraftFile<'a> {
     {
         let time = now(directory.rt)?;
         let head = base_head(directory.alloc(), settings, millis_of(time), version, first)?;
-        DraftFile::begin(directory, number_behind(last)?, &head, time)
+        DraftFile::begin(directory, number_after(last)?, &head, time)
     }
 
     /// Begins a file after that with the number `last`. It goes on after the file with the number `before`, with
@@ -76,11 +76,11 @@ impl<'a> DraftFile<'a> {
         let time = now(directory.rt)?;
         let mut head = next_head(directory.alloc(), before, millis_of(time), version)?;
         head.extend_from_slice(lines)?;
-        DraftFile::begin(directory, number_behind(last)?, &head, time)
+        DraftFile::begin(directory, number_after(last)?, &head, time)
     }
 
     /// The same file, whose lines come after others that are stored.
-    pub(crate) fn behind(self, stored: StoredLines) -> DraftFile<'a>
+    pub(crate) fn after(self, stored: StoredLines) -> DraftFile<'a>
         ensures { result.stored ≡ stored }
     {
         DraftFile { stored, ..self }

@@ -15,14 +15,14 @@ use std::alloc::Global;
 use std::fs::File;
 
 /// The fault of a file that goes on after a file of this name, which isn't the one before it.
-fn not_behind(alloc: Global, listing: &Listing, behind: &[u8]) -> ReadTrouble {
-    let there = match read_name(behind) {
+fn not_continued(alloc: Global, listing: &Listing, continued: &[u8]) -> ReadTrouble {
+    let there = match read_name(continued) {
         Named::Trace(number) => listing.traces.contains(&number),
         _ => false,
     };
-    match String::from_utf8_lossy(alloc, behind) {
-        Ok(name) if there => ReadTrouble::File(None, Why::BehindOther(name)),
-        Ok(name) => ReadTrouble::File(None, Why::BehindMissing(name)),
+    match String::from_utf8_lossy(alloc, continued) {
+        Ok(name) if there => ReadTrouble::File(None, Why::ContinuesOther(name)),
+        Ok(name) => ReadTrouble::File(None, Why::ContinuesMissing(name)),
         Err(error) => ReadTrouble::from(error),
     }
 }
@@ -41,8 +41,8 @@ fn play_next(
     let mut lines = LineReader::new(alloc, file)?;
     let head = read_next(alloc, &mut lines)?;
     let name = trace_name(alloc, before)?;
-    if head.behind.as_slice() != name.as_bytes() {
-        return Err(not_behind(alloc, listing, &head.behind));
+    if head.continues.as_slice() != name.as_bytes() {
+        return Err(not_continued(alloc, listing, &head.continues));
     }
     let whole = play_turns(alloc, &mut lines, &head.version, head.length, resumption)?;
     Ok(FileEnd { whole, length })
@@ -52,7 +52,7 @@ fn play_next(
 fn orphan(alloc: Global, listing: &Listing, file: &mut File) -> Result<(), ReadTrouble> {
     let mut lines = LineReader::new(alloc, file)?;
     let head = read_next(alloc, &mut lines)?;
-    Err(not_behind(alloc, listing, &head.behind))
+    Err(not_continued(alloc, listing, &head.continues))
 }
 
 impl Directory<'_> {

@@ -25,7 +25,7 @@ pub(crate) struct BaseHead {
 #[derive(Drop)]
 pub(crate) struct NextHead {
     /// The name of the file before.
-    pub(crate) behind: Vec<u8>,
+    pub(crate) continues: Vec<u8>,
     pub(crate) version: Vec<u8>,
     /// The number of bytes of these lines.
     pub(crate) length: u64,
@@ -90,7 +90,7 @@ pub(crate) fn read_next(
     let mut first = Vec::new(alloc);
     let mut second = Vec::new(alloc);
     let there = lines.read(&mut first)? && lines.read(&mut second)?;
-    let (Some(behind), Some(version)) = (first.strip_prefix(GOES_ON), version_of(&second)) else {
+    let (Some(continues), Some(version)) = (first.strip_prefix(GOES_ON), version_of(&second)) else {
         return Err(bad_line(lines.passed()));
     };
     if !there {
@@ -98,7 +98,7 @@ pub(crate) fn read_next(
     }
     Ok(NextHead {
         length: length_of(&first).saturating_add(length_of(&second)),
-        behind: Vec::from_slice(alloc, behind)?,
+        continues: Vec::from_slice(alloc, continues)?,
         version: Vec::from_slice(alloc, version)?,
     })
 }

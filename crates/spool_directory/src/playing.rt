@@ -108,7 +108,7 @@ pub(crate) fn length_of_file(file: &File) -> io::Result<u64> {
     Ok(file.metadata()?.len())
 }
 
-/// Plays the turns of a base behind its first lines. Gives the number of bytes, too, up to the end of the last turn.
+/// Plays the turns of a base after its first lines. Gives the number of bytes, too, up to the end of the last turn.
 fn play_from(
     alloc: Global,
     path: &str,

@@ -176,7 +176,7 @@ impl<'a> SpoolDirectory<'a> {
         };
         let listing = directory.or_refused("list", directory.path, directory.list())?;
         match directory.last_base(&listing)? {
-            Some(base) => self.start_behind(&listing, base, settings, given),
+            Some(base) => self.start_after(&listing, base, settings, given),
             None => {
                 let first = JobId::new(JobId::FIRST).unwrap();
                 let carried = Carried::nothing(directory.alloc());
@@ -186,7 +186,7 @@ impl<'a> SpoolDirectory<'a> {
     }
 
     /// Starts a server after the journal that begins with the base with a number.
-    fn start_behind(
+    fn start_after(
         self,
         listing: &Listing,
         base: u32,
@@ -303,13 +303,13 @@ impl<'a> SpoolDirectory<'a> {
             Err(fault) => return Err(fault),
         };
         match directory.next_draft(listing, place, &restarted.text, options.version) {
-            Ok(next) => self.go_on_behind(listing, place, restarted, in_hand, next, options),
+            Ok(next) => self.continue_after(listing, place, restarted, in_hand, next, options),
             Err(fault) => Err(fault),
         }
     }
 
     /// As [`SpoolDirectory::go_on`], with the file that goes on after the place.
-    fn go_on_behind(
+    fn continue_after(
         self,
         listing: &Listing,
         place: JournalPlace,
@@ -328,7 +328,7 @@ impl<'a> SpoolDirectory<'a> {
             stored,
             ..
         } = restarted;
-        let mut next = next.behind(stored);
+        let mut next = next.after(stored);
         if let Err(fault) = directory.end_jobs(
             in_hand,
             options.reprint,

@@ -48,7 +48,7 @@ pub(crate) struct JournalWriter<'a> {
 }
 
 /// The number after a file's number.
-pub(crate) fn number_behind(number: u32) -> io::Result<u32> {
+pub(crate) fn number_after(number: u32) -> io::Result<u32> {
     match number.checked_add(1) {
         Some(next) => Ok(next),
         None => Err(io::Error::from(ErrorKind::AlreadyExists)),
@@ -150,7 +150,7 @@ impl JournalWriter<'_> {
         if sync {
             self.tail.file.sync_data()?;
         }
-        self.tail = Tail::make(directory, number_behind(before)?, &head, time, sync)?;
+        self.tail = Tail::make(directory, number_after(before)?, &head, time, sync)?;
         Ok(())
     }
 
