@@ -87,7 +87,7 @@ fn additions<'a>(alloc: Global, found: &ArgMatches<'a>) -> Result<Vec<Addition<'
                 alloc,
                 text,
                 "with <NAME=LIKE>",
-                "a device more is its name, and behind = that of the device that it is like, or behind : words as rate_one=1000 setup=2000",
+                "an additional device is NAME=LIKE, where LIKE is a device of the settings, or NAME: and words as rate_one=1000 setup=2000",
             ));
         };
         all.push(addition)?;
@@ -127,7 +127,7 @@ fn load_in(alloc: Global, found: &ArgMatches<'_>) -> Result<u32, WordsError> {
             alloc,
             text,
             "load <FACTOR>",
-            "a load is 0.001 to 100, with up to three digits behind the point",
+            "a load is 0.001 to 100, with up to three digits after the point",
         )),
     }
 }

@@ -163,7 +163,7 @@ const SERVE: &[ArgumentWords] = &[
     },
     ArgumentWords {
         name: "record",
-        help: "Record the day to this file, which is made, or, where it is there, to the next: day.1.trace behind day.trace",
+        help: "Record the day to this file, which is created, or if it exists to the next: day.1.trace after day.trace",
         ..FILE
     },
     ArgumentWords {
@@ -330,7 +330,7 @@ const SIMULATE: &[ArgumentWords] = &[
         name: "jobs",
         action: ArgAction::Append,
         is_required: true,
-        help: "The jobs of a day, as comma-separated values or a trace; of several days the middle one is told",
+        help: "The jobs of a day, as comma-separated values or a trace; of several days the middle one is shown",
         ..FILE
     },
     ArgumentWords {
@@ -430,7 +430,7 @@ const ATTACH: &[ArgumentWords] = &[
     ArgumentWords {
         name: "format",
         value_name: Some("MIME"),
-        help: "What every document is; without it, the first bytes tell",
+        help: "The format of every document; by default, found by its first bytes",
         ..TEXT
     },
     ArgumentWords {
@@ -455,7 +455,7 @@ const ATTACH: &[ArgumentWords] = &[
     },
     ArgumentWords {
         name: "pjl",
-        help: "Wrap each job in PJL, and hear of its pages and its end",
+        help: "Wrap each job in PJL, and read reports of its pages and its end",
         ..FLAG
     },
     ArgumentWords {

@@ -50,9 +50,8 @@ fn text_meaning(fault: TextFault) -> &'static str {
 fn plan_meaning(fault: Fault) -> &'static str {
     match fault {
         Fault::UnknownName => "a way names a job that is not of the class",
-        Fault::Twice => "a job stands twice in the plan",
-        Fault::Missing =>
-            "a job stands in no way, or the prices are not as many as the jobs or the places",
+        Fault::Twice => "a job appears twice in the plan",
+        Fault::Missing => "a job is in no way, or there are not as many prices as jobs or places",
         Fault::NotAble => "a job is on a device that cannot print it",
         Fault::WrongWait => "the waits are not those that the class above leaves",
         Fault::PositivePlacePrice => "the price of a place is above 0",

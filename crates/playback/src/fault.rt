@@ -32,7 +32,7 @@ impl DayFault {
     /// The line after the settings isn't that of a recording.
     pub(crate) fn no_start(alloc: Global, file: &str) -> DayFault {
         let sentence = format!(in alloc;
-            "{file}: this is no recorded day: the line behind \".\" isn't recorded and a number"
+            "{file}: this is no recorded day: the line after \".\" isn't recorded and a number"
         );
         DayFault::said(ExitStatus::Refused, sentence)
     }
@@ -40,16 +40,14 @@ impl DayFault {
     /// The file continues another.
     pub(crate) fn goes_on(alloc: Global, file: &str) -> DayFault {
         let sentence = format!(in alloc;
-            "{file}: this goes on where another file ends, which its first line names: play both, the earlier first, as one"
+            "{file}: this continues another file, which its first line names: play both as one, the earlier first"
         );
         DayFault::said(ExitStatus::Refused, sentence)
     }
 
     /// The file has no line after the settings.
     pub(crate) fn no_stop(alloc: Global, file: &str) -> DayFault {
-        let sentence = format!(in alloc;
-            "{file}: no line is \".\" alone, as the one behind the settings is"
-        );
+        let sentence = format!(in alloc; "{file}: no line after the settings is \".\" alone");
         DayFault::said(ExitStatus::Refused, sentence)
     }
 

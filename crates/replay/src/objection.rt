@@ -27,10 +27,7 @@ impl fmt::Display for Objection {
         match self {
             Objection::Size => write!(f, "{INPUT}: this has more than 67,108,864 bytes"),
             Objection::NoPoint => {
-                write!(
-                    f,
-                    "{INPUT}: no line is \".\" alone, as the one behind the settings is"
-                )
+                write!(f, "{INPUT}: no line after the settings is \".\" alone")
             }
             Objection::Settings(Some(sentence)) => f.write_str(sentence),
             Objection::Settings(None) => write!(f, "{INPUT}: the settings are refused"),

@@ -168,7 +168,7 @@ fn play_settings(
 /// The fault that no line ends the settings.
 fn no_settings(alloc: Global, file: &str) -> DayFault {
     let sentence = of_file(alloc, file);
-    refused(sentence.put("no line is \".\" alone, as the one behind the settings is"))
+    refused(sentence.put("no line after the settings is \".\" alone"))
 }
 
 /// Reads the day of a trace, whose text is that of a file of this name (`docs/TRACES.md`). `first` is the id of its

@@ -16,9 +16,9 @@ pub enum Why {
     /// The file ends within a turn, and another goes on after it.
     Torn,
     /// The file goes on after the file of this name, which is missing.
-    BehindMissing(String),
+    ContinuesMissing(String),
     /// The file goes on after the file of this name, which isn't the one before it.
-    BehindOther(String),
+    ContinuesOther(String),
 }
 
 /// A fault of a file.
@@ -57,10 +57,10 @@ impl fmt::Display for Why {
     fn fmt<W: fmt::Write>(&self, f: &mut fmt::Formatter<W>) -> fmt::Result {
         let words = match self {
             Why::BadLine => ": this is no line of a journal",
-            Why::NoSettings => ": no line is \".\" alone, as the one behind the settings is",
+            Why::NoSettings => ": no line after the settings is \".\" alone",
             Why::Torn => {
                 return f.write_str(
-                    ": it ends within a turn, and another file goes on behind it: put the files behind it aside, or restore the directory from a backup",
+                    ": it ends within a turn, and another file continues it: move the later files away, or restore the directory from a backup",
                 );
             }
             Why::Differs(version) => {
@@ -69,13 +69,13 @@ impl fmt::Display for Why {
                     ": here this server does something else than the file says, which a server of version {version} wrote: if this is that version, the file was changed: restore it from a backup; else start that version, and start it again once no job is unfinished"
                 );
             }
-            Why::BehindMissing(name) => {
-                return write!(f, " goes on behind {name}, which is missing: put it back");
+            Why::ContinuesMissing(name) => {
+                return write!(f, " continues {name}, which is missing: put it back");
             }
-            Why::BehindOther(name) => {
+            Why::ContinuesOther(name) => {
                 return write!(
                     f,
-                    " goes on behind {name}, which isn't the file before it: put the right files back"
+                    " continues {name}, which isn't the file before it: put the right files back"
                 );
             }
         };

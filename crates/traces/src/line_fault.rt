@@ -30,18 +30,18 @@ impl fmt::Display for LineFault {
         f.write_str(match self {
             LineFault::Word =>
                 "a line is tick, or begins with at, ipp, dev, open, in or end and a space",
-            LineFault::Moment => "behind at stands a moment, 0 to 281,474,976,710,656",
-            LineFault::Body => "behind ipp stand bytes, each in two digits 0 to 9 and a to f",
+            LineFault::Moment => "at is followed by a moment, 0 to 281,474,976,710,656",
+            LineFault::Body => "ipp is followed by bytes, each in two digits 0 to 9 and a to f",
             LineFault::Device => {
-                "behind dev stand a device of the settings and a line that it may write, but not HELLO"
+                "dev is followed by a device of the settings and a line that it may write, but not HELLO"
             }
             LineFault::Opening => {
-                "behind open stand a number, 0 to 2,147,483,647, and ipp, lpd or device"
+                "open is followed by a number, 0 to 2,147,483,647, and ipp, lpd or device"
             }
             LineFault::Input => {
-                "behind in stand a number and bytes, each in two digits 0 to 9 and a to f"
+                "in is followed by a number and bytes, each in two digits 0 to 9 and a to f"
             }
-            LineFault::End => "behind end stands a number, 0 to 2,147,483,647",
+            LineFault::End => "end is followed by a number, 0 to 2,147,483,647",
             LineFault::Given => "an earlier line opened a connection of this number",
             LineFault::NotOpen => "no connection of this number is open, or its end has come",
         })

@@ -49,11 +49,11 @@ fn body_then_report(rt: HostRuntime) -> Result<(), Fail> {
     let mut notes = NoteLog::new(rt.alloc());
     let replied = is_reply(served(rt.alloc(), BODY, &mut notes), REPLY);
     assert!(rt; replied);
-    let heard = notes.take()?;
-    assert_eq!(rt; heard.len(), 5);
-    assert!(rt; matches!(heard.get(1), Some(LoggedNote::Stranded(_))));
-    assert!(rt; matches!(heard.get(3), Some(LoggedNote::Class { total: 10, .. })));
-    assert!(rt; matches!(heard.get(4), Some(LoggedNote::Began(_))));
+    let logged = notes.take()?;
+    assert_eq!(rt; logged.len(), 5);
+    assert!(rt; matches!(logged.get(1), Some(LoggedNote::Stranded(_))));
+    assert!(rt; matches!(logged.get(3), Some(LoggedNote::Class { total: 10, .. })));
+    assert!(rt; matches!(logged.get(4), Some(LoggedNote::Began(_))));
     Ok(())
 }
 
@@ -63,7 +63,7 @@ fn short_body(rt: HostRuntime) -> Result<(), Fail> {
     let mut notes = NoteLog::new(rt.alloc());
     let served = served(rt.alloc(), b"\x01\x01\x00\x02\x00\x00\x00", &mut notes);
     assert!(rt; matches!(&served, Some(Served::BadRequest)));
-    let heard = notes.take()?;
-    assert_eq!(rt; heard.len(), 0);
+    let logged = notes.take()?;
+    assert_eq!(rt; logged.len(), 0);
     Ok(())
 }
