@@ -139,7 +139,8 @@ impl RecordedText {
         }
     }
 
-    /// Notes a read with its answer.
+    /// Notes a read with its answer. It is inlined, since most reads of a turn have to wait and aren't noted.
+    #[inline(always)]
     fn read(&mut self, id: WireId, answer: Progress<usize>, buffer: &[u8])
         requires { IsCount answer (length buffer.now) }
         ensures { Notes (Reads id (bytes_read answer buffer.now)) self.old self.new }

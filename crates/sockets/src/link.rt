@@ -89,10 +89,10 @@ impl Link {
         over
     }
 
-    /// Returns whether a read would have to wait: no bytes were read ahead, and the poll has reported none
-    /// since the last read that had to wait.
-    pub(crate) fn has_nothing(&self) -> bool {
-        !self.readable && self.ahead.is_empty()
+    /// Returns whether a read would have to wait: no bytes were read ahead, the poll has reported none since the
+    /// last read that had to wait, and the peer has time left.
+    pub(crate) fn is_idle(&self, moment: Moment) -> bool {
+        !self.readable && self.ahead.is_empty() && self.idle_timeout.left(moment) != Some(0)
     }
 
     /// Returns whether a write may take bytes: the poll has reported room since the last write that had to wait, or

@@ -372,21 +372,19 @@ impl Sockets {
         if buffer.is_empty() {
             return Progress::Waiting;
         }
-        let moment = self.moment;
-        let Some(link) = self.links.get_mut(id as usize) else {
+        let Some(link) = self.links.get(id as usize) else {
             return Progress::End;
         };
-        let over = link.is_over(moment);
-        if link.has_nothing() {
+        if link.is_idle(self.moment) {
             return Progress::Waiting;
         }
-        self.read_link(id, buffer, over)
+        self.read_link(id, buffer)
     }
 
-    /// Reads bytes of a connection that may have some. Most reads of a turn are of idle connections: so this call isn't
-    /// inlined there. `over` indicates whether the peer has no time left.
+    /// Reads bytes of a connection that may have some. It isn't inlined into [`Sockets::try_read`], since most reads of
+    /// a turn are of idle connections.
     #[inline(never)]
-    fn read_link(&mut self, id: WireId, buffer: &mut [u8], over: bool) -> Progress<usize>
+    fn read_link(&mut self, id: WireId, buffer: &mut [u8]) -> Progress<usize>
         ensures count { IsCount result (length buffer.old) }
         ensures cause { HasCause self.old.failures self.new.failures result }
         ensures calls { self.new.history ≡ self.old.history }
@@ -395,6 +393,7 @@ impl Sockets {
         let Some(link) = self.links.get_mut(id as usize) else {
             return Progress::End;
         };
+        let over = link.is_over(moment);
         match link.read(buffer, moment) {
             Ok(0) => {
                 link.leaves(CloseReason::Left);
