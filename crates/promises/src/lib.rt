@@ -1,11 +1,11 @@
 //! The promises of the server, as laws above all of its crates.
 //!
 //! Plans: the text of each good plan of a core is read back as that plan, and the checker, which reads
-//! nothing but the text, accepts it. Bytes: one trace leads to one ledger, so the wire's answers, the
-//! refusals of memory and the plans determine the bytes due on each connection; and after any calls an engine
+//! nothing but the text, accepts it. Bytes: one trace leads to one ledger, so the wire's calls with their
+//! answers, the notes and the choices determine the bytes due on each connection; and after any calls an engine
 //! is at the trace of exactly these calls. Devices: the reports of each device, and the end of each of
 //! its connections, reach the core. Events: the observer was notified of each event that was dropped. The
-//! functions do nothing; their contracts are the laws.
+//! functions compute nothing; their contracts are the laws.
 #![tactic(auto)]
 
 mod bytes;
