@@ -3,11 +3,12 @@ use crate::figures::AdapterFigures;
 use crate::line::{ServerInput, ServerLine};
 use crate::log::{Log, LogEntry};
 use crate::overdue::OverdueJob;
-use attach_orders::{JobOrder, Order, OrderError, OrderItem};
+use adapter_core::{
+    AdapterState, JobOrder, LoadedMedia, Order, OrderError, OrderItem, PrinterState,
+};
 use attach_printers::{
     Breach, Connector, HostPort, Network, Peer, Printer, PrinterEvent, Reached, Readiness, Stream,
 };
-use attachment::{Attachment, LoadedMedia, PrinterState};
 use base_types::{JobId, Report, Text};
 use std::alloc::{AllocError, Global};
 use std::rt::Files;
@@ -43,12 +44,12 @@ pub struct Device {
     pub measures: bool,
 }
 
-/// An adapter, with its attachment between the server and the printer.
+/// An adapter, with its state between the server and the printer.
 #[derive(Drop)]
 pub struct Adapter<S: Stream, P: Printer<S>> {
     alloc: Global,
     name: String,
-    attachment: Attachment,
+    state: AdapterState,
     media: LoadedMedia,
     line: ServerLine<S>,
     printer: P,
@@ -88,12 +89,12 @@ impl<S: Stream, P: Printer<S>> Adapter<S, P> {
     /// out of memory.
     pub fn new(alloc: Global, device: Device, printer: P) -> Result<Adapter<S, P>, AllocError> {
         let log = Log::new(alloc, device.name.clone()?, device.logs);
-        let mut attachment = Attachment::new(alloc);
-        attachment.set_printer(PrinterState::Stopped);
+        let mut state = AdapterState::new(alloc);
+        state.set_printer(PrinterState::Stopped);
         Ok(Adapter {
             alloc,
             name: device.name,
-            attachment,
+            state,
             media: LoadedMedia::new(alloc),
             line: ServerLine::new(alloc, Connector::new(alloc, device.server, Peer::Server))?,
             printer,
@@ -167,7 +168,7 @@ impl<S: Stream, P: Printer<S>> Adapter<S, P> {
             return 0;
         }
         let line = self.line.pause(now).unwrap_or(LONGEST_PAUSE);
-        let has_job = self.attachment.job().is_some();
+        let has_job = self.state.job().is_some();
         let printer = self.printer.pause(now, has_job).unwrap_or(LONGEST_PAUSE);
         let overdue = self.overdue.left(now).unwrap_or(LONGEST_PAUSE);
         line.min(printer).min(overdue).min(LONGEST_PAUSE)
@@ -181,7 +182,7 @@ impl<S: Stream, P: Printer<S>> Adapter<S, P> {
             Reached::Now => {
                 self.linked = now;
                 self.received = false;
-                self.attachment.link();
+                self.state.link();
                 self.media.link();
                 let name = Text::copy_of(self.alloc, self.name.as_bytes())?;
                 self.line.say(&Report::Hello(name))?;
@@ -241,12 +242,12 @@ impl<S: Stream, P: Printer<S>> Adapter<S, P> {
     /// Begins a job.
     fn begin(&mut self, order: &JobOrder, now: u64) -> Result<(), Stop> {
         let job = order.job.number();
-        if self.attachment.job().is_some() {
+        if self.state.job().is_some() {
             self.log.note(LogEntry::JobTooEarly(job));
             return Err(Stop::Lost);
         }
         let times = self.printer.times(order);
-        self.attachment.order(order.job, order.octets, times);
+        self.state.order(order.job, order.octets, times);
         self.printer.begin(order);
         self.figures.begin(order);
         self.overdue = OverdueJob::begun(self.figures.expected(), now);
@@ -261,13 +262,13 @@ impl<S: Stream, P: Printer<S>> Adapter<S, P> {
     /// Takes octets of the job, if it is still in hand.
     fn take_octets<F: Files>(&mut self, files: &F, now: u64) -> Result<(), Stop> {
         let part = self.line.part();
-        let Some(room) = self.attachment.room() else {
+        let Some(room) = self.state.room() else {
             return Ok(());
         };
         if part.len() > room {
             return Ok(());
         }
-        match self.attachment.take(part) {
+        match self.state.take(part) {
             Ok(()) => Ok(()),
             Err(AllocError) => self.fail(files, Breach::OutOfMemory, now),
         }
@@ -275,8 +276,8 @@ impl<S: Stream, P: Printer<S>> Adapter<S, P> {
 
     /// Gives up the job that the server cancels, if it is in hand.
     fn cancel<F: Files>(&mut self, files: &F, job: JobId, now: u64) -> Result<(), Stop> {
-        self.attachment.cancel(job);
-        if self.attachment.job() == Some(job) {
+        self.state.cancel(job);
+        if self.state.job() == Some(job) {
             self.fail(files, Breach::Canceled, now)?;
         }
         Ok(())
@@ -289,7 +290,7 @@ impl<S: Stream, P: Printer<S>> Adapter<S, P> {
         network: &N,
         now: u64,
     ) -> Result<(), Stop> {
-        match self.printer.turn(files, network, &mut self.attachment, now) {
+        match self.printer.turn(files, network, &mut self.state, now) {
             PrinterEvent::Nothing => Ok(()),
             PrinterEvent::Away => self.stop(LogEntry::PrinterAway),
             PrinterEvent::Stops => self.stop(LogEntry::PrinterStopped),
@@ -306,7 +307,7 @@ impl<S: Stream, P: Printer<S>> Adapter<S, P> {
     /// Records that the printer prints nothing for now.
     fn stop(&mut self, note: LogEntry) -> Result<(), Stop> {
         self.figures.leave();
-        self.attachment.set_printer(PrinterState::Stopped);
+        self.state.set_printer(PrinterState::Stopped);
         self.tried = true;
         self.troubled = true;
         self.log.note(note);
@@ -316,7 +317,7 @@ impl<S: Stream, P: Printer<S>> Adapter<S, P> {
     /// Records that the printer prints. The log has that only if it has trouble before.
     fn run(&mut self, note: LogEntry) {
         self.figures.leave();
-        self.attachment.set_printer(PrinterState::Running);
+        self.state.set_printer(PrinterState::Running);
         self.tried = true;
         if std::mem::replace(&mut self.troubled, false) {
             self.log.note(note);
@@ -328,10 +329,10 @@ impl<S: Stream, P: Printer<S>> Adapter<S, P> {
     /// no other job there.
     fn distrust(&mut self, breach: Breach, now: u64) -> Result<(), Stop> {
         self.failures = self.failures.saturating_add(1);
-        self.attachment.set_printer(PrinterState::Stopped);
+        self.state.set_printer(PrinterState::Stopped);
         self.tried = true;
         self.troubled = true;
-        if let Some(report) = self.attachment.next_report() {
+        if let Some(report) = self.state.next_report() {
             self.line.say(&report)?;
         }
         if self.failures < FAILURES {
@@ -346,7 +347,7 @@ impl<S: Stream, P: Printer<S>> Adapter<S, P> {
     /// Reports that the printer has printed this many pages of the job.
     fn report_pages(&mut self, printed: u32) -> Result<(), Stop> {
         self.figures.pages(printed);
-        if let Some(report) = self.attachment.pages(printed) {
+        if let Some(report) = self.state.pages(printed) {
             self.line.say(&report)?;
         }
         Ok(())
@@ -355,13 +356,13 @@ impl<S: Stream, P: Printer<S>> Adapter<S, P> {
     /// Reports that the printer has printed the job. If the number of its pages comes only now, that is
     /// reported first. A job that wasn't sent to its end has failed.
     fn finish<F: Files>(&mut self, files: &F, printed: Option<u32>, now: u64) -> Result<(), Stop> {
-        if !self.attachment.is_sent() {
+        if !self.state.is_sent() {
             return self.fail(files, Breach::Broken, now);
         }
         if let Some(printed) = printed {
             self.report_pages(printed)?;
         }
-        let report = self.attachment.finish();
+        let report = self.state.finish();
         self.printer.drop_job(files);
         self.answer(report)
     }
@@ -369,13 +370,13 @@ impl<S: Stream, P: Printer<S>> Adapter<S, P> {
     /// Reports that the job can't be printed.
     fn fail<F: Files>(&mut self, files: &F, breach: Breach, now: u64) -> Result<(), Stop> {
         self.printer.drop_job(files);
-        if let Some(job) = self.attachment.job() {
+        if let Some(job) = self.state.job() {
             self.log.note(LogEntry::Failed(job.number(), breach));
         }
         if breach.is_the_printers() {
             self.distrust(breach, now)?;
         }
-        let report = self.attachment.fail();
+        let report = self.state.fail();
         self.answer(report)
     }
 
@@ -411,7 +412,7 @@ impl<S: Stream, P: Printer<S>> Adapter<S, P> {
         if !self.tried {
             return Ok(());
         }
-        if let Some(report) = self.attachment.next_report() {
+        if let Some(report) = self.state.next_report() {
             self.line.say(&report)?;
         }
         Ok(())
@@ -448,7 +449,7 @@ impl<S: Stream, P: Printer<S>> Adapter<S, P> {
     pub fn give_up<F: Files>(&mut self, files: &F, now: u64) {
         self.log.set_now(now);
         self.figures.leave();
-        let report = self.attachment.fail();
+        let report = self.state.fail();
         self.printer.drop_job(files);
         if let Some(report) = report {
             self.report_given_up(&report);
@@ -472,14 +473,14 @@ impl<S: Stream, P: Printer<S>> Adapter<S, P> {
 
     /// Drops the connection to the server, which is of no more use. The server aborts the job.
     fn unlink<F: Files>(&mut self, files: &F, breach: Breach, now: u64) {
-        if let Some(job) = self.attachment.job() {
+        if let Some(job) = self.state.job() {
             self.log.note(LogEntry::Failed(job.number(), breach));
         }
         self.line.lose(now);
         self.figures.leave();
         self.overdue = OverdueJob::none();
         self.printer.drop_job(files);
-        self.attachment.link();
+        self.state.link();
         self.log.note(LogEntry::Unlinked);
         self.note_turned_away(now);
     }

@@ -1,6 +1,5 @@
 //! The measurements of the printer, which are written after each job.
-use attach_orders::JobOrder;
-use attachment::Measurement;
+use adapter_core::{JobOrder, Measurement};
 use base_types::Limits;
 use job_objects::estimated_impressions;
 use std::alloc::{AllocError, Global};

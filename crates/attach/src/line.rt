@@ -1,6 +1,6 @@
 //! The connection to the server.
 
-use attach_orders::{OrderError, OrderItem, OrderReader, write_report};
+use adapter_core::{OrderError, OrderItem, OrderReader, write_report};
 use attach_printers::{Connector, Network, Reached, Readiness, Stream, has_to_wait};
 use base_types::Report;
 use std::alloc::{AllocError, Global};

@@ -1,5 +1,5 @@
 //! The lines of a log.
-use attach_orders::OrderFault;
+use adapter_core::OrderFault;
 use attach_printers::{Breach, LeftOut, ReplyBreach};
 use std::alloc::{AllocError, Global};
 use std::fmt;

@@ -4,8 +4,7 @@ use crate::printer_event::{Breach, PrinterEvent};
 use crate::printer_link::{CALLS, IoOutcome, PIECE, PrinterLink};
 use crate::protocol::Protocol;
 use crate::stream::Stream;
-use attach_orders::JobOrder;
-use attachment::Attachment;
+use adapter_core::{AdapterState, JobOrder};
 use std::alloc::AllocError;
 
 /// The client's side of AppSocket.
@@ -33,18 +32,18 @@ impl AppSocket {
     fn send_all<S: Stream>(
         &mut self,
         session: &mut PrinterLink<S>,
-        attachment: &mut Attachment,
+        adapter: &mut AdapterState,
         now: u64,
     ) -> IoOutcome {
         for _ in 0..CALLS {
-            if attachment.is_copy_sent() {
-                attachment.end_copy();
+            if adapter.is_copy_sent() {
+                adapter.end_copy();
             }
-            if attachment.is_sent() {
+            if adapter.is_sent() {
                 self.ends = true;
                 return session.end_writing(now);
             }
-            match session.send_due(attachment, now) {
+            match session.send_due(adapter, now) {
                 IoOutcome::Bytes(_) => {}
                 moved => return moved,
             }
@@ -86,7 +85,7 @@ impl Protocol for AppSocket {
     fn exchange<S: Stream>(
         &mut self,
         session: &mut PrinterLink<S>,
-        attachment: &mut Attachment,
+        adapter: &mut AdapterState,
         now: u64,
     ) -> Result<PrinterEvent, AllocError> {
         match self.listen(session, now) {
@@ -94,7 +93,7 @@ impl Protocol for AppSocket {
             IoOutcome::End | IoOutcome::Broken => return Ok(PrinterEvent::Failed(Breach::Broken)),
             IoOutcome::Bytes(_) | IoOutcome::Nothing => {}
         }
-        if !self.ends && self.send_all(session, attachment, now) == IoOutcome::Broken {
+        if !self.ends && self.send_all(session, adapter, now) == IoOutcome::Broken {
             return Ok(PrinterEvent::Failed(Breach::Broken));
         }
         if !self.ends || session.has_backlog() {

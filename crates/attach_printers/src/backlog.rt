@@ -1,5 +1,5 @@
 //! The bytes of a job that wait in this machine, once all of them are written.
-use attachment::Pauses;
+use adapter_core::Pauses;
 
 /// The first and the longest pause between two looks, in ms.
 const FIRST_PAUSE: u64 = 125;

@@ -1,7 +1,7 @@
 //! The caller, which connects to a peer, and connects again when the connection is lost.
 use crate::host_port::HostPort;
 use crate::stream::{Network, Peer, Readiness, Stream};
-use attachment::Pauses;
+use adapter_core::Pauses;
 use std::alloc::Global;
 use std::io;
 use std::rt::Files;

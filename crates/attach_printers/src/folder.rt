@@ -3,8 +3,7 @@ use crate::format::{Format, MediaType};
 use crate::printer::Printer;
 use crate::printer_event::{Breach, PrinterEvent};
 use crate::stream::{Network, Readiness, Stream};
-use attach_orders::JobOrder;
-use attachment::{Attachment, Pauses};
+use adapter_core::{AdapterState, JobOrder, Pauses};
 use base_types::Limits;
 use std::alloc::{AllocError, Global};
 use std::fs::OpenOptions;
@@ -79,14 +78,14 @@ impl Folder {
     }
 
     /// Writes the job to a temporary file, once all its octets are there.
-    fn write_job(&mut self, files: &impl Files, attachment: &Attachment, now: u64) -> PrinterEvent {
-        let Some(job) = attachment.job() else {
+    fn write_job(&mut self, files: &impl Files, adapter: &AdapterState, now: u64) -> PrinterEvent {
+        let Some(job) = adapter.job() else {
             return PrinterEvent::Nothing;
         };
-        if attachment.room() != Some(0) {
+        if adapter.room() != Some(0) {
             return PrinterEvent::Nothing;
         }
-        let octets = attachment.due();
+        let octets = adapter.due();
         match self.put(files, job.number(), octets, now) {
             Ok(sheet) => {
                 self.sheet = Some(sheet);
@@ -157,16 +156,16 @@ impl<S: Stream> Printer<S> for Folder {
         &mut self,
         files: &F,
         _network: &N,
-        attachment: &mut Attachment,
+        adapter: &mut AdapterState,
         now: u64,
     ) -> PrinterEvent {
         match &self.sheet {
             None if self.doubted => self.try_again(files, now),
-            None => self.write_job(files, attachment, now),
+            None => self.write_job(files, adapter, now),
             Some(sheet) if now < sheet.end => PrinterEvent::Nothing,
             Some(sheet) => {
                 let named = keep(self.alloc, files, sheet);
-                take_all(attachment);
+                take_all(adapter);
                 match named {
                     Ok(()) => PrinterEvent::Printed(None),
                     Err(_) => PrinterEvent::Failed(Breach::Unwritten),
@@ -259,12 +258,12 @@ fn claim(files: &impl Files, path: &str) -> io::Result<()> {
 }
 
 /// Takes all octets of a job.
-fn take_all(attachment: &mut Attachment) {
-    let count = attachment.due().len();
+fn take_all(adapter: &mut AdapterState) {
+    let count = adapter.due().len();
     if count > 0 {
-        attachment.send(count);
+        adapter.send(count);
     }
-    if attachment.is_copy_sent() {
-        attachment.end_copy();
+    if adapter.is_copy_sent() {
+        adapter.end_copy();
     }
 }

@@ -6,8 +6,7 @@ use crate::printer_link::{CALLS, IoOutcome, PIECE, PrinterLink};
 use crate::protocol::Protocol;
 use crate::stream::Stream;
 use crate::task_outcome::TaskOutcome;
-use attach_orders::JobOrder;
-use attachment::Attachment;
+use adapter_core::{AdapterState, JobOrder};
 use base_types::Text;
 use std::alloc::AllocError;
 
@@ -58,12 +57,12 @@ impl Ipp {
     fn send_all<S: Stream>(
         &mut self,
         session: &mut PrinterLink<S>,
-        attachment: &mut Attachment,
+        adapter: &mut AdapterState,
         now: u64,
     ) -> Result<IoOutcome, AllocError> {
         for _ in 0..CALLS {
-            self.printer.go_on(attachment)?;
-            match self.send(session, attachment, now)? {
+            self.printer.go_on(adapter)?;
+            match self.send(session, adapter, now)? {
                 IoOutcome::Bytes(_) => {}
                 moved => return Ok(moved),
             }
@@ -75,7 +74,7 @@ impl Ipp {
     fn send<S: Stream>(
         &mut self,
         session: &mut PrinterLink<S>,
-        attachment: &mut Attachment,
+        adapter: &mut AdapterState,
         now: u64,
     ) -> Result<IoOutcome, AllocError> {
         if self.printer.waits_for_octets() {
@@ -84,7 +83,7 @@ impl Ipp {
         }
         let octets = self.printer.octets();
         let moved = if self.printer.text().is_empty() {
-            session.send_some(attachment, octets, now)
+            session.send_some(adapter, octets, now)
         } else {
             session.write(self.printer.text(), now)
         };
@@ -106,7 +105,7 @@ impl Ipp {
     fn conclude<S: Stream>(
         &mut self,
         session: &mut PrinterLink<S>,
-        attachment: &mut Attachment,
+        adapter: &mut AdapterState,
         now: u64,
     ) -> Result<PrinterEvent, AllocError> {
         session.close();
@@ -116,7 +115,7 @@ impl Ipp {
             self.answered = now;
         }
         if self.printer.take_restart() {
-            return Ok(self.restart(session, attachment, now));
+            return Ok(self.restart(session, adapter, now));
         }
         Ok(event_of(outcome))
     }
@@ -125,10 +124,10 @@ impl Ipp {
     fn restart<S: Stream>(
         &mut self,
         session: &PrinterLink<S>,
-        attachment: &mut Attachment,
+        adapter: &mut AdapterState,
         now: u64,
     ) -> PrinterEvent {
-        attachment.restart();
+        adapter.restart();
         let since = self.busy_since.unwrap_or(now);
         self.busy_since = Some(since);
         if now.saturating_sub(since) < session.timeout() {
@@ -165,14 +164,14 @@ impl Protocol for Ipp {
     }
 
     /// Returns whether there is a task. The time of an answer for a job begins once it is owed.
-    fn wants_connection(&mut self, attachment: &Attachment, now: u64) -> bool {
+    fn wants_connection(&mut self, adapter: &AdapterState, now: u64) -> bool {
         self.ended = false;
-        let owes = self.printer.owes_answer(attachment);
+        let owes = self.printer.owes_answer(adapter);
         if owes && !self.owes {
             self.answered = now;
         }
         self.owes = owes;
-        self.printer.wants_connection(attachment, now)
+        self.printer.wants_connection(adapter, now)
     }
 
     /// A job fails if the printer doesn't answer for it for too long. A job that isn't sent yet waits for a
@@ -196,7 +195,7 @@ impl Protocol for Ipp {
 
     fn open(
         &mut self,
-        attachment: &Attachment,
+        adapter: &AdapterState,
         event: PrinterEvent,
     ) -> Result<PrinterEvent, AllocError> {
         if matches!(event, PrinterEvent::Back) {
@@ -204,7 +203,7 @@ impl Protocol for Ipp {
         }
         let format = match &self.format {
             Some(format) => format.name.as_str(),
-            None => Format::sniffed(attachment.due()).media_type(),
+            None => Format::sniffed(adapter.due()).media_type(),
         };
         self.printer.open(format)?;
         Ok(match event {
@@ -216,7 +215,7 @@ impl Protocol for Ipp {
     fn exchange<S: Stream>(
         &mut self,
         session: &mut PrinterLink<S>,
-        attachment: &mut Attachment,
+        adapter: &mut AdapterState,
         now: u64,
     ) -> Result<PrinterEvent, AllocError> {
         match self.listen(session)? {
@@ -225,9 +224,9 @@ impl Protocol for Ipp {
             IoOutcome::Bytes(_) | IoOutcome::Nothing => {}
         }
         if self.printer.has_reply() {
-            return self.conclude(session, attachment, now);
+            return self.conclude(session, adapter, now);
         }
-        if self.send_all(session, attachment, now)? == IoOutcome::Broken {
+        if self.send_all(session, adapter, now)? == IoOutcome::Broken {
             return Ok(self.break_off(session, now));
         }
         if self.is_overdue(session, now) {

@@ -6,8 +6,7 @@ use crate::job::JobWish;
 use crate::printer_event::{Breach, PrinterEvent};
 use crate::task::{Task, TaskStage};
 use crate::task_outcome::{LeftOut, ReplyBreach, TaskOutcome};
-use attach_orders::JobOrder;
-use attachment::{Attachment, Pauses};
+use adapter_core::{AdapterState, JobOrder, Pauses};
 use base_types::Text;
 use ipp_codec::EncodeFault;
 use ipp_requests::{
@@ -145,15 +144,15 @@ impl IppPrinter {
     }
 
     /// Returns whether a connection is wanted: there is a task now.
-    pub fn wants_connection(&mut self, attachment: &Attachment, now: u64) -> bool {
+    pub fn wants_connection(&mut self, adapter: &AdapterState, now: u64) -> bool {
         if self.task == Task::Nothing {
-            self.task = self.next_task(attachment, now);
+            self.task = self.next_task(adapter, now);
         }
         self.task != Task::Nothing
     }
 
     /// Returns the next task: a cancel first, then a due question about the printer's state, then the job.
-    fn next_task(&self, attachment: &Attachment, now: u64) -> Task {
+    fn next_task(&self, adapter: &AdapterState, now: u64) -> Task {
         if let Some(job) = self.cancels {
             return Task::Cancel(job);
         }
@@ -162,7 +161,7 @@ impl IppPrinter {
         }
         match self.stage {
             TaskStage::Printing(job) if self.looks.is_due(now) => Task::Follow(job),
-            TaskStage::Waits if self.can_send(now) && has_front(attachment) => Task::Print,
+            TaskStage::Waits if self.can_send(now) && has_front(adapter) => Task::Print,
             _ => Task::Nothing,
         }
     }
@@ -174,10 +173,10 @@ impl IppPrinter {
     }
 
     /// Returns whether the printer is to answer for the job now.
-    pub fn owes_answer(&self, attachment: &Attachment) -> bool {
+    pub fn owes_answer(&self, adapter: &AdapterState) -> bool {
         match self.stage {
             TaskStage::None => false,
-            TaskStage::Waits => has_front(attachment),
+            TaskStage::Waits => has_front(adapter),
             TaskStage::Sending | TaskStage::Sent | TaskStage::Printing(_) => true,
         }
     }
@@ -279,16 +278,16 @@ impl IppPrinter {
 
     /// Begins the next chunk of the job, or ends the job, if nothing else is to be written. The only error is
     /// out of memory.
-    pub fn go_on(&mut self, attachment: &mut Attachment) -> Result<(), AllocError> {
+    pub fn go_on(&mut self, adapter: &mut AdapterState) -> Result<(), AllocError> {
         if self.stage != TaskStage::Sending || !self.output.is_empty() || self.chunk > 0 {
             return Ok(());
         }
-        if attachment.is_copy_sent() {
-            attachment.end_copy();
+        if adapter.is_copy_sent() {
+            adapter.end_copy();
             self.stage = TaskStage::Sent;
             return self.exchange.write_end(&mut self.output);
         }
-        let count = attachment.due().len().min(CHUNK);
+        let count = adapter.due().len().min(CHUNK);
         if count == 0 {
             return Ok(());
         }
@@ -577,6 +576,6 @@ fn encoded(body: Result<Vec<u8>, EncodeFault>) -> Result<Vec<u8>, AllocError> {
 }
 
 /// Returns whether enough of the job is there to determine the document's format.
-fn has_front(attachment: &Attachment) -> bool {
-    attachment.room() == Some(0) || attachment.due().len() >= FRONT
+fn has_front(adapter: &AdapterState) -> bool {
+    adapter.room() == Some(0) || adapter.due().len() >= FRONT
 }

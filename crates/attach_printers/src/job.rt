@@ -1,6 +1,6 @@
 //! The options of a job, and those that a printer supports.
 use crate::task_outcome::LeftOut;
-use attach_orders::JobOrder;
+use adapter_core::JobOrder;
 use base_types::{Finishings, Sides, Text};
 use ipp_codec::{GroupTag, MessageView};
 use ipp_requests::{Ticket, copies_up_to, lists, lists_number};

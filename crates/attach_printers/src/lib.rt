@@ -1,20 +1,21 @@
 //! The printers of an adapter: printers on the network, and a folder.
 //!
-//! A [`Printer`] takes a job, and goes on with it in each turn: it sends the octets that an `attachment`
-//! allows, and returns the result. There are two kinds: a [`Folder`], and a [`NetworkPrinter`] with a
-//! [`Protocol`]: [`AppSocket`], [`Pjl`], [`Lpd`] or [`Ipp`]. A [`Connector`] makes a connection, and tries again
-//! after a pause if it can't be made. The connections are those of a [`Network`]: [`Sockets`] has `mio`'s.
+//! A [`Printer`] takes a job, and goes on with it in each turn: it sends the octets that an
+//! [`adapter_core::AdapterState`] allows, and returns the result. There are two kinds: a [`Folder`], and a
+//! [`NetworkPrinter`] with a [`Protocol`]: [`AppSocket`], [`Pjl`], [`Lpd`] or [`Ipp`]. A [`Connector`] makes a
+//! connection, and tries again after a pause if it can't be made. The connections are those of a [`Network`]:
+//! [`Sockets`] has `mio`'s.
 //!
 //! [`IppPrinter`] has the bytes that are written to a printer of IPP, and the effect of its replies on a job
 //! (RFC 8010, RFC 8011), without sockets. It does one task after the other, each on a connection of its own.
 //! It asks for the printer's state every ten seconds, sends a job, asks about the job until the job has
 //! ended, soon at first and finally every second, and cancels a job that was given up. It keeps the printer's
 //! last reply, and passes only those options of a job that the reply reports as supported. The octets of a
-//! job stay with its attachment. The requests are framed, and the replies read, by the client of `http1`.
+//! job stay in the adapter's state. The requests are framed, and the replies read, by the client of `http1`.
 //!
 //! The functions are proved safe and to end. For each answer of IPP about a job, the impressions that are new
 //! are reported, also those of the last answer. The contracts of the octets that a printer is sent and of the
-//! reports are in `attachment`.
+//! reports are in `adapter_core`.
 //!
 //! Tests: `attach_tests`.
 #![tactic(auto)]

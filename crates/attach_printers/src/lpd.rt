@@ -3,8 +3,7 @@ use crate::printer_event::{Breach, PrinterEvent};
 use crate::printer_link::{CALLS, IoOutcome, PrinterLink};
 use crate::protocol::Protocol;
 use crate::stream::Stream;
-use attach_orders::JobOrder;
-use attachment::Attachment;
+use adapter_core::{AdapterState, JobOrder};
 use std::alloc::{AllocError, Global};
 
 /// The host in the names of files.
@@ -159,14 +158,14 @@ impl Lpd {
     fn send<S: Stream>(
         &mut self,
         session: &mut PrinterLink<S>,
-        attachment: &mut Attachment,
+        adapter: &mut AdapterState,
         now: u64,
     ) -> Result<IoOutcome, AllocError> {
         if self.part == LpdStage::Data {
-            if !attachment.is_copy_sent() {
-                return Ok(session.send_due(attachment, now));
+            if !adapter.is_copy_sent() {
+                return Ok(session.send_due(adapter, now));
             }
-            attachment.end_copy();
+            adapter.end_copy();
             self.go_on(LpdStage::End)?;
         }
         Ok(session.write_front(&mut self.output, now))
@@ -183,7 +182,7 @@ impl Protocol for Lpd {
     /// Begins to write the first part.
     fn open(
         &mut self,
-        _attachment: &Attachment,
+        _adapter: &AdapterState,
         event: PrinterEvent,
     ) -> Result<PrinterEvent, AllocError> {
         self.go_on(LpdStage::Queue)?;
@@ -194,7 +193,7 @@ impl Protocol for Lpd {
     fn exchange<S: Stream>(
         &mut self,
         session: &mut PrinterLink<S>,
-        attachment: &mut Attachment,
+        adapter: &mut AdapterState,
         now: u64,
     ) -> Result<PrinterEvent, AllocError> {
         for _ in 0..CALLS {
@@ -202,7 +201,7 @@ impl Protocol for Lpd {
                 PrinterEvent::Nothing => {}
                 event => return Ok(event),
             }
-            match self.send(session, attachment, now)? {
+            match self.send(session, adapter, now)? {
                 IoOutcome::Bytes(_) => {}
                 IoOutcome::Broken | IoOutcome::End => return Ok(PrinterEvent::Failed(
                     Breach::Broken,

@@ -4,8 +4,7 @@ use crate::printer_event::{NO_MEMORY, PrinterEvent};
 use crate::printer_link::{LinkStage, PrinterLink};
 use crate::protocol::Protocol;
 use crate::stream::{Network, Readiness, Stream};
-use attach_orders::JobOrder;
-use attachment::Attachment;
+use adapter_core::{AdapterState, JobOrder};
 use base_types::Text;
 use std::rt::Files;
 
@@ -36,14 +35,14 @@ impl<S: Stream, P: Protocol> Printer<S> for NetworkPrinter<S, P> {
         &mut self,
         files: &F,
         network: &N,
-        attachment: &mut Attachment,
+        adapter: &mut AdapterState,
         now: u64,
     ) -> PrinterEvent {
-        let wanted = self.protocol.wants_connection(attachment, now);
+        let wanted = self.protocol.wants_connection(adapter, now);
         let event = match self.session.reach(files, network, wanted, now) {
             LinkStage::Waits(event) => Ok(self.protocol.wait(&self.session, event, now)),
-            LinkStage::Opened(event) => self.protocol.open(attachment, event),
-            LinkStage::Open => self.protocol.exchange(&mut self.session, attachment, now),
+            LinkStage::Opened(event) => self.protocol.open(adapter, event),
+            LinkStage::Open => self.protocol.exchange(&mut self.session, adapter, now),
         };
         event.unwrap_or(NO_MEMORY)
     }

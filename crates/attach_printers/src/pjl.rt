@@ -5,9 +5,7 @@ use crate::printer_event::{Breach, PrinterEvent};
 use crate::printer_link::{CALLS, IoOutcome, PIECE, PrinterLink};
 use crate::protocol::Protocol;
 use crate::stream::Stream;
-use attach_orders::JobOrder;
-use attach_pjl::{Status, StatusReader};
-use attachment::Attachment;
+use adapter_core::{AdapterState, JobOrder, PjlReader, PjlStatus};
 use base_types::Sides;
 use std::alloc::{AllocError, Global};
 use text::{cut_at, drop_front};
@@ -34,7 +32,7 @@ enum PjlStage {
 #[derive(Drop)]
 pub struct Pjl {
     alloc: Global,
-    reader: StatusReader,
+    reader: PjlReader,
     job: u32,
     copies: u32,
     sides: Sides,
@@ -52,7 +50,7 @@ impl Pjl {
     pub fn new(alloc: Global) -> Pjl {
         Pjl {
             alloc,
-            reader: StatusReader::new(alloc),
+            reader: PjlReader::new(alloc),
             job: 0,
             copies: 1,
             sides: Sides::One,
@@ -111,7 +109,7 @@ impl Pjl {
         let name = self.name()?;
         let read = read_front(&mut self.reader, &self.input, name.as_bytes())?;
         drop_front(&mut self.input, read.0);
-        if read.1 == Status::Other {
+        if read.1 == PjlStatus::Other {
             return Ok(PrinterEvent::Nothing);
         }
         session.rest(now);
@@ -134,7 +132,7 @@ impl Pjl {
     fn send<S: Stream>(
         &mut self,
         session: &mut PrinterLink<S>,
-        attachment: &mut Attachment,
+        adapter: &mut AdapterState,
         now: u64,
     ) -> Result<IoOutcome, AllocError> {
         if self.output.is_empty() {
@@ -145,10 +143,10 @@ impl Pjl {
             }
         }
         if self.part == PjlStage::Data {
-            if !attachment.is_copy_sent() {
-                return Ok(session.send_due(attachment, now));
+            if !adapter.is_copy_sent() {
+                return Ok(session.send_due(adapter, now));
             }
-            attachment.end_copy();
+            adapter.end_copy();
             self.output = self.foot()?;
             self.part = PjlStage::Foot;
         }
@@ -205,10 +203,10 @@ impl Protocol for Pjl {
     /// Begins to write the head.
     fn open(
         &mut self,
-        _attachment: &Attachment,
+        _adapter: &AdapterState,
         event: PrinterEvent,
     ) -> Result<PrinterEvent, AllocError> {
-        self.reader = StatusReader::new(self.alloc);
+        self.reader = PjlReader::new(self.alloc);
         self.input.clear();
         self.output = self.head()?;
         self.part = PjlStage::Head;
@@ -218,7 +216,7 @@ impl Protocol for Pjl {
     fn exchange<S: Stream>(
         &mut self,
         session: &mut PrinterLink<S>,
-        attachment: &mut Attachment,
+        adapter: &mut AdapterState,
         now: u64,
     ) -> Result<PrinterEvent, AllocError> {
         match self.read_report(session, now)? {
@@ -226,7 +224,7 @@ impl Protocol for Pjl {
             event => return Ok(event),
         }
         for _ in 0..CALLS {
-            match self.send(session, attachment, now)? {
+            match self.send(session, adapter, now)? {
                 IoOutcome::Bytes(_) => {}
                 IoOutcome::Nothing => break,
                 IoOutcome::End | IoOutcome::Broken => return Ok(PrinterEvent::Failed(
@@ -255,21 +253,21 @@ impl Protocol for Pjl {
 /// Reads bytes up to the first status of the printer or of the job of a name. Returns how many were read, and
 /// the status; `Other` if there is none.
 fn read_front(
-    reader: &mut StatusReader,
+    reader: &mut PjlReader,
     input: &[u8],
     name: &[u8],
-) -> Result<(usize, Status), AllocError>
+) -> Result<(usize, PjlStatus), AllocError>
     ensures { IfOk result (λ read. read.0 ≤ length input.now) }
 {
     for (place, byte) in input.iter().enumerate() {
         let is_of_another = *byte == FORM_FEED && names_another(reader.message(), name);
         if let Some(status) = reader.take(*byte)? {
-            if status != Status::Other && !(status == Status::JobEnded && is_of_another) {
+            if status != PjlStatus::Other && !(status == PjlStatus::JobEnded && is_of_another) {
                 return Ok((place + 1, status));
             }
         }
     }
-    Ok((input.len(), Status::Other))
+    Ok((input.len(), PjlStatus::Other))
 }
 
 /// Returns whether a message has the name of another job, in a line such as `NAME="printd-7"`.
@@ -303,16 +301,16 @@ fn unquoted(value: &[u8]) -> &[u8] {
 }
 
 /// The report of a status, where this part of the job is sent, and the printer was stopped or not.
-fn event_of(status: Status, part: PjlStage, stopped: bool) -> PrinterEvent {
+fn event_of(status: PjlStatus, part: PjlStage, stopped: bool) -> PrinterEvent {
     match status {
-        Status::Page(page) => PrinterEvent::Pages(page),
-        Status::JobEnded if part == PjlStage::Nothing => PrinterEvent::Printed(None),
-        Status::JobEnded => PrinterEvent::Failed(Breach::Broken),
-        Status::Device(code) => match (code >= NEEDS_SOMEONE, stopped) {
+        PjlStatus::Page(page) => PrinterEvent::Pages(page),
+        PjlStatus::JobEnded if part == PjlStage::Nothing => PrinterEvent::Printed(None),
+        PjlStatus::JobEnded => PrinterEvent::Failed(Breach::Broken),
+        PjlStatus::Device(code) => match (code >= NEEDS_SOMEONE, stopped) {
             (true, false) => PrinterEvent::Stops,
             (false, true) => PrinterEvent::Runs,
             _ => PrinterEvent::Nothing,
         },
-        Status::Other => PrinterEvent::Nothing,
+        PjlStatus::Other => PrinterEvent::Nothing,
     }
 }

@@ -1,8 +1,7 @@
 //! The trait of printers.
 use crate::printer_event::PrinterEvent;
 use crate::stream::{Network, Readiness, Stream};
-use attach_orders::JobOrder;
-use attachment::Attachment;
+use adapter_core::{AdapterState, JobOrder};
 use base_types::Text;
 use std::rt::Files;
 
@@ -18,12 +17,12 @@ pub trait Printer<S: Stream>: Drop {
         1
     }
 
-    /// Goes on with the job of an attachment, if there is one, without blocking. `now` is the moment in ms.
+    /// Goes on with the adapter's job, if there is one, without blocking. `now` is the moment in ms.
     fn turn<F: Files, N: Network<Stream = S>>(
         &mut self,
         files: &F,
         network: &N,
-        attachment: &mut Attachment,
+        adapter: &mut AdapterState,
         now: u64,
     ) -> PrinterEvent;
 

@@ -9,7 +9,7 @@ use crate::connector::{Connector, Reached};
 use crate::link::has_to_wait;
 use crate::printer_event::{Breach, PrinterEvent};
 use crate::stream::{Network, Readiness, Stream};
-use attachment::Attachment;
+use adapter_core::AdapterState;
 use std::io;
 use std::rt::Files;
 use text::drop_front;
@@ -183,25 +183,25 @@ impl<S: Stream> PrinterLink<S> {
     }
 
     /// Sends some octets of a job that are due. If none are due, the printer's time isn't counted.
-    pub(crate) fn send_due(&mut self, attachment: &mut Attachment, now: u64) -> IoOutcome {
-        if attachment.due().is_empty() {
+    pub(crate) fn send_due(&mut self, adapter: &mut AdapterState, now: u64) -> IoOutcome {
+        if adapter.due().is_empty() {
             self.rest(now);
             return IoOutcome::Nothing;
         }
-        self.send_some(attachment, usize::MAX, now)
+        self.send_some(adapter, usize::MAX, now)
     }
 
     /// Sends some octets of a job that are due, at most `most`.
     pub(crate) fn send_some(
         &mut self,
-        attachment: &mut Attachment,
+        adapter: &mut AdapterState,
         most: usize,
         now: u64,
     ) -> IoOutcome {
-        let due = attachment.due();
+        let due = adapter.due();
         let moved = self.write(&due[..due.len().min(most)], now);
         if let IoOutcome::Bytes(count) = moved {
-            attachment.send(count);
+            adapter.send(count);
         }
         moved
     }

@@ -2,8 +2,7 @@
 use crate::printer_event::PrinterEvent;
 use crate::printer_link::PrinterLink;
 use crate::stream::Stream;
-use attach_orders::JobOrder;
-use attachment::Attachment;
+use adapter_core::{AdapterState, JobOrder};
 use base_types::Text;
 use std::alloc::AllocError;
 
@@ -18,8 +17,8 @@ pub trait Protocol: Drop {
     }
 
     /// Returns whether a connection is wanted now: while there is a job.
-    fn wants_connection(&mut self, attachment: &Attachment, _now: u64) -> bool {
-        attachment.job().is_some()
+    fn wants_connection(&mut self, adapter: &AdapterState, _now: u64) -> bool {
+        adapter.job().is_some()
     }
 
     /// The result of a turn without a connection; `event` is the result of the try to connect.
@@ -35,7 +34,7 @@ pub trait Protocol: Drop {
     /// The result of a turn in which the connection was made; `event` is the result of the connection.
     fn open(
         &mut self,
-        _attachment: &Attachment,
+        _adapter: &AdapterState,
         event: PrinterEvent,
     ) -> Result<PrinterEvent, AllocError> {
         Ok(event)
@@ -45,7 +44,7 @@ pub trait Protocol: Drop {
     fn exchange<S: Stream>(
         &mut self,
         session: &mut PrinterLink<S>,
-        attachment: &mut Attachment,
+        adapter: &mut AdapterState,
         now: u64,
     ) -> Result<PrinterEvent, AllocError>;
 

@@ -5,7 +5,7 @@ use command_line::Attaching;
 use program::ExitStatus;
 use std::io;
 
-/// Attaches a printer until the attachment is asked to stop. An error is reported, and its exit status
+/// Attaches a printer until the adapter is asked to stop. An error is reported, and its exit status
 /// returned.
 pub(crate) fn run_attach(
     rt: &HostRuntime,

@@ -1,8 +1,8 @@
-//! The orders from the server to a device, the reports of an attachment, and the status messages of a printer
+//! The orders from the server to a device, the reports of an adapter, and the status messages of a printer
 //! in PJL.
-use attach_orders::{Order, OrderError, OrderItem, OrderReader, write_report};
-use attach_pjl::{Status, StatusReader};
-use attachment::Attachment;
+use adapter_core::{
+    AdapterState, Order, OrderError, OrderItem, OrderReader, PjlReader, PjlStatus, write_report,
+};
 use base_types::{JobId, Report};
 use std::alloc::{AllocError, Global};
 use std::test::Fail;
@@ -77,38 +77,38 @@ fn orders_in_two_pieces(rt: HostRuntime) -> Result<(), Fail> {
     Ok(())
 }
 
-/// The octets that an attachment sends for a job of two copies, whose octets have all come, to a printer that
-/// takes two octets at a time; and whether the attachment then reports the job as done.
+/// The octets that an adapter sends for a job of two copies, whose octets have all come, to a printer that
+/// takes two octets at a time; and whether the adapter then reports the job as done.
 fn printed(alloc: Global, job: JobId, cancels: bool) -> Result<(Vec<u8>, bool), AllocError> {
     let mut sent = Vec::new(alloc);
-    let mut attachment = Attachment::new(alloc);
-    if attachment.job().is_some() {
+    let mut state = AdapterState::new(alloc);
+    if state.job().is_some() {
         return Ok((sent, false));
     }
-    attachment.order(job, 5, 2);
-    if attachment.room() == Some(5) {
-        attachment.take(b"hello")?;
+    state.order(job, 5, 2);
+    if state.room() == Some(5) {
+        state.take(b"hello")?;
     }
     if cancels {
-        attachment.cancel(job);
+        state.cancel(job);
     }
     for _ in 0..8 {
-        send_two(&mut attachment, &mut sent)?;
+        send_two(&mut state, &mut sent)?;
     }
-    let done = matches!(&attachment.finish(), Some(Report::Done { .. }));
+    let done = matches!(&state.finish(), Some(Report::Done { .. }));
     Ok((sent, done))
 }
 
 /// Sends at most two octets, and ends the copy if all of it is sent.
-fn send_two(attachment: &mut Attachment, sent: &mut Vec<u8>) -> Result<(), AllocError> {
-    let due = attachment.due();
+fn send_two(state: &mut AdapterState, sent: &mut Vec<u8>) -> Result<(), AllocError> {
+    let due = state.due();
     let count = due.len().min(2);
     sent.extend_from_slice(&due[..count])?;
     if count > 0 {
-        attachment.send(count);
+        state.send(count);
     }
-    if attachment.is_copy_sent() {
-        attachment.end_copy();
+    if state.is_copy_sent() {
+        state.end_copy();
     }
     Ok(())
 }
@@ -146,17 +146,17 @@ fn reports_as_lines(rt: HostRuntime) -> Result<(), Fail> {
 #[test]
 fn statuses_of_a_printer(rt: HostRuntime) -> Result<(), Fail> {
     let mut statuses = Vec::new(rt.alloc());
-    let mut reader = StatusReader::new(rt.alloc());
+    let mut reader = PjlReader::new(rt.alloc());
     for byte in STATUSES {
         if let Some(status) = reader.take(*byte)? {
             statuses.push(status)?;
         }
     }
     let wanted = [
-        Status::Page(3),
-        Status::JobEnded,
-        Status::Device(42_000),
-        Status::Other,
+        PjlStatus::Page(3),
+        PjlStatus::JobEnded,
+        PjlStatus::Device(42_000),
+        PjlStatus::Other,
     ];
     assert!(rt; statuses.as_slice() == wanted.as_slice());
     Ok(())

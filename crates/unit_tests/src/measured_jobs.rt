@@ -1,5 +1,5 @@
 //! The rates and the setup time measured from jobs: the expected values were computed by hand.
-use attachment::Measurement;
+use adapter_core::Measurement;
 use base_types::Sides;
 use std::alloc::{AllocError, Global};
 use std::test::Fail;

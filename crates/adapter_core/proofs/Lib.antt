@@ -1,0 +1,7 @@
+mod OrderWords
+mod OrderStreams
+mod Written
+mod ReadBack
+mod Lives
+mod SamplesOnLine
+mod PjlSegmentation

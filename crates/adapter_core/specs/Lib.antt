@@ -1,0 +1,12 @@
+pub mod OrderLine
+pub mod OrderStream
+pub mod SentOrders
+pub mod Reports
+pub mod Life
+pub mod Media
+pub mod Promises
+pub mod AdapterState
+pub mod Sums
+pub mod LeastSquares
+pub mod PjlMessage
+pub mod PjlStream

@@ -1,4 +1,0 @@
-mod Words
-mod Streams
-mod Written
-mod ReadBack

@@ -1,4 +1,0 @@
-pub mod Line
-pub mod Stream
-pub mod Sent
-pub mod Reports

@@ -1,2 +1,0 @@
-pub mod Message
-pub mod Stream

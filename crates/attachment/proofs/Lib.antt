@@ -1,2 +1,0 @@
-mod Lives
-mod OnLine

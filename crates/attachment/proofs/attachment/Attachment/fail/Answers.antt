@@ -1,7 +1,0 @@
-use Rattle.std.proofs.Common.{sym, subst}
-use Rattle.attachment.specs.State.{AttachmentRecord, Lives, said_by}
-use Rattle.attachment.proofs.Lives.{lives_failed}
-use Rattle.attachment.proofs.attachment.Attachment.fail.Goals as goal
-
-pub returns-clause-life : goal.returns-clause-life
-returns-clause-life c = subst (λ (n : AttachmentRecord). Lives c.args.self.now (said_by c.fail_report-report.result) n) (sym c.drop_work.ensures) (lives_failed c.args.self.now c.fail_report-report.result c.fail_report-report.ensures)

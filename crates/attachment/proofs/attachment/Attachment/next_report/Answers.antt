@@ -1,7 +1,0 @@
-use Rattle.std.proofs.Common.{sym, subst}
-use Rattle.attachment.specs.State.{AttachmentRecord, Lives, said_by}
-use Rattle.attachment.proofs.Lives.{lives_reported}
-use Rattle.attachment.proofs.attachment.Attachment.next_report.Goals as goal
-
-pub returns-clause-life : goal.returns-clause-life
-returns-clause-life c = subst (λ (n : AttachmentRecord). Lives c.args.self.now (said_by c.due_report-report.result) n) (sym c.mark_reported.ensures) (lives_reported c.args.self.now c.due_report-report.result c.due_report-report.ensures)
