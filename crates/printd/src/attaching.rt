@@ -1,6 +1,6 @@
 //! `printd attach`.
 use crate::failure::{cannot, cannot_with, out_of_memory};
-use attach::{ConfigWords, WordFault, attach, read_config, try_target};
+use adapter::{ConfigWords, WordFault, attach, read_config, try_target};
 use command_line::Attaching;
 use program::ExitStatus;
 use std::io;

@@ -6,7 +6,7 @@ use crate::overdue::OverdueJob;
 use adapter_core::{
     AdapterState, JobOrder, LoadedMedia, Order, OrderError, OrderItem, PrinterState,
 };
-use attach_printers::{
+use adapter_printers::{
     Breach, Connector, HostPort, Network, Peer, Printer, PrinterEvent, Reached, Readiness, Stream,
 };
 use base_types::{JobId, Report, Text};

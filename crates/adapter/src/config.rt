@@ -1,5 +1,5 @@
 //! The configuration of an adapter.
-use attach_printers::{HostPort, IppAddress, MediaType};
+use adapter_printers::{HostPort, IppAddress, MediaType};
 use base_types::is_name;
 use std::alloc::{AllocError, Global};
 use url::{ParseError, Url};

@@ -1,7 +1,7 @@
 //! Rows, played.
 use crate::script::{Script, Scripted, ScriptedStream, Step};
-use attach::{Adapter, Device};
-use attach_printers::{Connector, HostPort, NetworkPrinter, Peer, Printer, PrinterLink, Protocol};
+use adapter::{Adapter, Device};
+use adapter_printers::{Connector, HostPort, NetworkPrinter, Peer, Printer, PrinterLink, Protocol};
 use std::alloc::{AllocError, Global};
 use std::cell::RefCell;
 use std::rc::Rc;

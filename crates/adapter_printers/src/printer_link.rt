@@ -1,8 +1,8 @@
 //! The connection to a printer, while it has a job.
 ghost use Rattle.std.specs.Prelude.{ℕ, ◌≡◌, ◌⊎◌, List};
 ghost use Rattle.std.specs.Io.{WritesAtMost};
-ghost use Rattle.attach_printers.specs.declared.printer_link.IoOutcome.TheVariants.{End, Nothing};
-ghost use Rattle.attach_printers.specs.IoOutcome.{MovesAtMost};
+ghost use Rattle.adapter_printers.specs.declared.printer_link.IoOutcome.TheVariants.{End, Nothing};
+ghost use Rattle.adapter_printers.specs.IoOutcome.{MovesAtMost};
 
 use crate::backlog::Backlog;
 use crate::connector::{Connector, Reached};

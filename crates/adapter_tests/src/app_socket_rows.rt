@@ -2,8 +2,8 @@
 use crate::play::{AdapterRow, LINKED, NOTHING, READY, network, play};
 use crate::script::Step;
 use crate::script::Step::{Breaks, Connects, Ends, Finishes, Holds, Misses, Passes, Sends, Writes};
-use attach_printers::AppSocket;
-use attach_printers::Peer::{Printer, Server};
+use adapter_printers::AppSocket;
+use adapter_printers::Peer::{Printer, Server};
 use std::alloc::AllocError;
 use std::test::Fail;
 

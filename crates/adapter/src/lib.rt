@@ -2,11 +2,11 @@
 //!
 //! [`attach`] connects to the devices' port, connects again after a lost connection, and takes turns by the
 //! clock. The server's orders go to an [`adapter_core::AdapterState`], and the work that it allows goes to one
-//! of the `attach_printers`. The contracts of the reports and of the bytes that are sent are in
+//! of the `adapter_printers`. The contracts of the reports and of the bytes that are sent are in
 //! `adapter_core`. This crate has the connection to the server, the clock and the log. An [`Adapter`] takes
 //! its turns over any network.
 //!
-//! Tests: `attach_tests`, and with the program `tools/clients/try_printers.py` and
+//! Tests: `adapter_tests`, and with the program `tools/clients/try_printers.py` and
 //! `tools/clients/try_cups.sh`.
 #![tactic(auto)]
 

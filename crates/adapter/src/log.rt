@@ -1,6 +1,6 @@
 //! The lines of a log.
 use adapter_core::OrderFault;
-use attach_printers::{Breach, LeftOut, ReplyBreach};
+use adapter_printers::{Breach, LeftOut, ReplyBreach};
 use std::alloc::{AllocError, Global};
 use std::fmt;
 

@@ -3,7 +3,7 @@ use crate::ipp_printer_rows::FIRST;
 use crate::ipp_rows::played;
 use crate::play::AdapterRow;
 use crate::script::Step::{Ends, Sends, Writes};
-use attach_printers::Peer::{Printer, Server};
+use adapter_printers::Peer::{Printer, Server};
 use std::test::Fail;
 
 /// Replies whose body is the state of a printer that is idle.

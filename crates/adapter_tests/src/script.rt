@@ -2,7 +2,7 @@
 ghost use Rattle.std.specs.Prelude.{◌≤◌, length};
 ghost use Rattle.std.specs.Io.{ReadsAtMost, WritesAtMost};
 
-use attach_printers::{HostPort, Network, Peer, Stream};
+use adapter_printers::{HostPort, Network, Peer, Stream};
 use std::alloc::{AllocError, Global};
 use std::cell::RefCell;
 use std::io;

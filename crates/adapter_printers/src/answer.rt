@@ -1,6 +1,6 @@
 //! The content of a whole reply.
 ghost use Rattle.std.specs.Prelude.{◌≡◌};
-ghost use Rattle.attach_printers.specs.TaskOutcome.{is_completed, is_printed, more_than, pages_due, pages_reported};
+ghost use Rattle.adapter_printers.specs.TaskOutcome.{is_completed, is_printed, more_than, pages_due, pages_reported};
 
 use crate::exchange::Exchange;
 use crate::task_outcome::{ReplyBreach, TaskOutcome};

@@ -1,24 +1,24 @@
 //! Folders, in a folder of the test's own.
 use crate::play::{AdapterRow, NOTHING, play};
 use crate::script::Step::{Connects, Passes, Sends, Writes};
-use attach_printers::Folder;
-use attach_printers::Peer::Server;
+use adapter_printers::Folder;
+use adapter_printers::Peer::Server;
 use std::alloc::AllocError;
 use std::os::unix::fs::{MetadataExt, PermissionsExt};
 use std::test::Fail;
 use std::{fs, io};
 
 /// The folders of the jobs, and a file that is no folder.
-const FOLDER: &str = "attach_tests_printed";
+const FOLDER: &str = "adapter_tests_printed";
 
-const FORMATS_FOLDER: &str = "attach_tests_formats";
+const FORMATS_FOLDER: &str = "adapter_tests_formats";
 
-const FILE: &str = "attach_tests_file";
+const FILE: &str = "adapter_tests_file";
 
 /// A folder, and one in the place of a file in it.
-const TAKEN: &str = "attach_tests_taken";
+const TAKEN: &str = "adapter_tests_taken";
 
-const TAKEN_FILE: &str = "attach_tests_taken/.7-hall.txt.part";
+const TAKEN_FILE: &str = "adapter_tests_taken/.7-hall.txt.part";
 
 /// Two jobs of the same id, as before and after a restart of the server.
 const TWICE: AdapterRow = AdapterRow {
@@ -76,14 +76,14 @@ const FORMATS: AdapterRow = AdapterRow {
 
 /// The files of these documents.
 const FILES: [(&str, &[u8]); 8] = [
-    ("attach_tests_formats/1-hall.pdf", b"%PDF-"),
-    ("attach_tests_formats/2-hall.ps", b"%!PS-"),
-    ("attach_tests_formats/3-hall.pcl", b"\x1bE\x1b&l"),
-    ("attach_tests_formats/4-hall.pwg", b"RaS2\0"),
-    ("attach_tests_formats/5-hall.urf", b"UNIRAST"),
-    ("attach_tests_formats/6-hall.jpg", b"\xff\xd8\xff\xe0\0"),
-    ("attach_tests_formats/7-hall.png", b"\x89PNG\r"),
-    ("attach_tests_formats/8-hall.bin", b"\0\0\0\0\0"),
+    ("adapter_tests_formats/1-hall.pdf", b"%PDF-"),
+    ("adapter_tests_formats/2-hall.ps", b"%!PS-"),
+    ("adapter_tests_formats/3-hall.pcl", b"\x1bE\x1b&l"),
+    ("adapter_tests_formats/4-hall.pwg", b"RaS2\0"),
+    ("adapter_tests_formats/5-hall.urf", b"UNIRAST"),
+    ("adapter_tests_formats/6-hall.jpg", b"\xff\xd8\xff\xe0\0"),
+    ("adapter_tests_formats/7-hall.png", b"\x89PNG\r"),
+    ("adapter_tests_formats/8-hall.bin", b"\0\0\0\0\0"),
 ];
 
 /// A folder that can't be written to.
@@ -134,8 +134,8 @@ fn holds(rt: &HostRuntime, path: &str, octets: &[u8]) -> io::Result<bool> {
 fn printed(rt: &HostRuntime) -> io::Result<String> {
     let _absent = fs::remove_dir_all(rt, FOLDER);
     let wrong = play(rt.alloc(), rt, TWICE, folder(rt, FOLDER)?)?;
-    if !holds(rt, "attach_tests_printed/7-hall.txt", b"hello")?
-        || !holds(rt, "attach_tests_printed/7-hall-2.txt", b"world")?
+    if !holds(rt, "adapter_tests_printed/7-hall.txt", b"hello")?
+        || !holds(rt, "adapter_tests_printed/7-hall-2.txt", b"world")?
     {
         return Ok(String::from_str(rt.alloc(), "files")?);
     }

@@ -1,10 +1,10 @@
 -- The impressions that are reported for a printer's answer about a job.
 use Rattle.std.specs.Prelude.{ℕ, if◌then◌else◌, nat_lt, Bool, true, false, Option, Some, None}
-use Rattle.attach_printers.specs.declared.answer.PrinterJobState.{PrinterJobState}
-use Rattle.attach_printers.specs.declared.answer.PrinterJobState.TheVariants.{Completed, GivenUp}
-use Rattle.attach_printers.specs.declared.answer.JobAnswer.{JobAnswer}
-use Rattle.attach_printers.specs.declared.task_outcome.TaskOutcome.{TaskOutcome}
-use Rattle.attach_printers.specs.declared.task_outcome.TaskOutcome.TheVariants.{Pages, Printed}
+use Rattle.adapter_printers.specs.declared.answer.PrinterJobState.{PrinterJobState}
+use Rattle.adapter_printers.specs.declared.answer.PrinterJobState.TheVariants.{Completed, GivenUp}
+use Rattle.adapter_printers.specs.declared.answer.JobAnswer.{JobAnswer}
+use Rattle.adapter_printers.specs.declared.task_outcome.TaskOutcome.{TaskOutcome}
+use Rattle.adapter_printers.specs.declared.task_outcome.TaskOutcome.TheVariants.{Pages, Printed}
 
 -- the number of impressions, if it is greater than before
 abbrev pub more_than : ℕ → Option ℕ → Option ℕ

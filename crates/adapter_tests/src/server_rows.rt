@@ -3,8 +3,8 @@ use crate::play::{AdapterRow, Detail, LINKED, NOTHING, READY, network, play_with
 use crate::script::Step::{
     Breaks, Closes, Connects, Ends, Finishes, Misses, Passes, Sends, Writes,
 };
-use attach_printers::AppSocket;
-use attach_printers::Peer::{Printer, Server};
+use adapter_printers::AppSocket;
+use adapter_printers::Peer::{Printer, Server};
 use std::alloc::AllocError;
 use std::test::Fail;
 

@@ -3,7 +3,7 @@ use crate::ipp_rows::{COMPLETED, GET_PRINTER, IDLE, PRINT_JOB, played};
 use crate::play::{AdapterRow, NOTHING};
 use crate::script::Step;
 use crate::script::Step::{Answers, Asks, Connects, Passes, Sends, Writes};
-use attach_printers::Peer::{Printer, Server};
+use adapter_printers::Peer::{Printer, Server};
 use std::test::Fail;
 
 /// A printer that makes 99 copies, prints on one side or over the long edge, has two media, staples, and takes PDF and

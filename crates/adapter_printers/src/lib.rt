@@ -17,7 +17,7 @@
 //! are reported, also those of the last answer. The contracts of the octets that a printer is sent and of the
 //! reports are in `adapter_core`.
 //!
-//! Tests: `attach_tests`.
+//! Tests: `adapter_tests`.
 #![tactic(auto)]
 
 mod address;

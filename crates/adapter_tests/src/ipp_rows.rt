@@ -2,8 +2,8 @@
 use crate::play::{AdapterRow, NOTHING, READY, patient, play};
 use crate::script::Step;
 use crate::script::Step::{Answers, Asks, Connects, Ends, Passes, Sends, Writes};
-use attach_printers::Peer::{Printer, Server};
-use attach_printers::{Ipp, IppAddress, IppPrinter};
+use adapter_printers::Peer::{Printer, Server};
+use adapter_printers::{Ipp, IppAddress, IppPrinter};
 use std::alloc::AllocError;
 use std::test::Fail;
 

@@ -1,7 +1,7 @@
 //! The connection to the server.
 
 use adapter_core::{OrderError, OrderItem, OrderReader, write_report};
-use attach_printers::{Connector, Network, Reached, Readiness, Stream, has_to_wait};
+use adapter_printers::{Connector, Network, Reached, Readiness, Stream, has_to_wait};
 use base_types::Report;
 use std::alloc::{AllocError, Global};
 use text::drop_front;

@@ -2,7 +2,7 @@
 use crate::adapter::{Adapter, Device};
 use crate::clock::millis_since;
 use crate::config::{AdapterConfig, Target};
-use attach_printers::{
+use adapter_printers::{
     AppSocket, Connector, Folder, HostPort, Ipp, IppPrinter, Link, Lpd, NetworkPrinter, Peer, Pjl,
     Printer, PrinterLink, Protocol, Readiness, Sockets, try_folder,
 };

@@ -2,8 +2,8 @@
 use crate::play::{AdapterRow, LINKED, READY, network, play};
 use crate::script::Step;
 use crate::script::Step::{Connects, Ends, Passes, Sends, Writes};
-use attach_printers::Lpd;
-use attach_printers::Peer::{Printer, Server};
+use adapter_printers::Lpd;
+use adapter_printers::Peer::{Printer, Server};
 use std::alloc::AllocError;
 use std::test::Fail;
 

@@ -8,7 +8,7 @@ use crate::script::Step;
 use crate::script::Step::{
     Answers, Asks, Begins, Breaks, Connects, Ends, Misses, Passes, Sends, Writes,
 };
-use attach_printers::Peer::{Printer, Server};
+use adapter_printers::Peer::{Printer, Server};
 use std::test::Fail;
 
 /// The group of job 12, which was canceled at the printer (RFC 8011, section 5.3.7).

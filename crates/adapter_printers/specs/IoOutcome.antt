@@ -1,7 +1,7 @@
 -- The result of a call on a connection.
 use Rattle.std.specs.Prelude.{ℕ, ◌<◌, ◌≤◌, List, length}
-use Rattle.attach_printers.specs.declared.printer_link.IoOutcome.{IoOutcome}
-use Rattle.attach_printers.specs.declared.printer_link.IoOutcome.TheVariants.{Nothing, Bytes, End, Broken}
+use Rattle.adapter_printers.specs.declared.printer_link.IoOutcome.{IoOutcome}
+use Rattle.adapter_printers.specs.declared.printer_link.IoOutcome.TheVariants.{Nothing, Bytes, End, Broken}
 
 -- at least one byte was moved, and at most all bytes
 abbrev pub MovesAtMost : IoOutcome → List ℕ → Type 0

@@ -2,8 +2,8 @@
 use crate::play::{AdapterRow, READY, network, play};
 use crate::script::Step;
 use crate::script::Step::{Connects, Ends, Passes, Sends, Writes};
-use attach_printers::Peer::{Printer, Server};
-use attach_printers::Pjl;
+use adapter_printers::Peer::{Printer, Server};
+use adapter_printers::Pjl;
 use std::alloc::AllocError;
 use std::test::Fail;
 
