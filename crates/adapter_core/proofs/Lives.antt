@@ -5,7 +5,7 @@ use Rattle.std.proofs.lemmas.Bool.{and_parts}
 use Rattle.std.proofs.lemmas.List.{append_assoc, append-nil, length-append, length-take-le}
 use Rattle.std.specs.declared.alloc.AllocError.{AllocError}
 use Rattle.base_types.specs.declared.report.Report.{Report}
-use Rattle.base_types.specs.Report.{ReportRecord, report_of, SaysReady, SaysStop, SaysPages, SaysDone, SaysFail}
+use Rattle.base_types.specs.Report.{ReportRecord, report_of, ReadyReport, StopReport, PagesReport, DoneReport, FailReport}
 use Rattle.adapter_core.specs.declared.printer_state.PrinterState.{PrinterState}
 use Rattle.adapter_core.specs.declared.printer_state.PrinterState.TheVariants.{Running, Stopped}
 use Rattle.adapter_core.specs.Life.{Event, Links, Ordered, Came, Canceled, Sent, EndsCopy, Restarts, Printed, Is, Reported, Leads}
@@ -171,14 +171,14 @@ said_events (Some report) said is = ap events_of is
 
 pages_by : (work : Option WorkRecord) (printer : PrinterState) (reported : Option PrinterState) (printed : ℕ) → Lives (record { work = work; printer = printer; reported = reported }) (events_of (option_map (pages_report printed) work)) (record { work = work; printer = printer; reported = reported })
 pages_by None printer reported printed = lives_still (record { work = None; printer = printer; reported = reported })
-pages_by (Some work) printer reported printed = lives_by (record { work = Some work; printer = printer; reported = reported }) (Reported (SaysPages work.job printed)) _ (record { answers = (refl, refl); sends = refl; heeds = refl; reports = refl })
+pages_by (Some work) printer reported printed = lives_by (record { work = Some work; printer = printer; reported = reported }) (Reported (PagesReport work.job printed)) _ (record { answers = (refl, refl); sends = refl; heeds = refl; reports = refl })
 
 pub lives_pages : (at : AdapterStateRecord) (report : Option Report) (printed : ℕ) → option_map report_of report ≡ option_map (pages_report printed) at.work → Lives at (said_by report) at
 lives_pages at report printed is = subst (λ (e : List Event). Lives at e at) (sym (said_events report (option_map (pages_report printed) at.work) is)) (pages_by at.work at.printer at.reported printed)
 
 fail_by : (work : Option WorkRecord) (printer : PrinterState) (reported : Option PrinterState) → Lives (record { work = work; printer = printer; reported = reported }) (events_of (option_map fail_report work)) (record { work = None; printer = printer; reported = reported })
 fail_by None printer reported = lives_still (record { work = None; printer = printer; reported = reported })
-fail_by (Some work) printer reported = lives_by (record { work = Some work; printer = printer; reported = reported }) (Reported (SaysFail work.job)) _ (record { answers = (refl, refl); sends = refl; heeds = refl; reports = refl })
+fail_by (Some work) printer reported = lives_by (record { work = Some work; printer = printer; reported = reported }) (Reported (FailReport work.job)) _ (record { answers = (refl, refl); sends = refl; heeds = refl; reports = refl })
 
 pub lives_failed : (old : AdapterStateRecord) (report : Option Report) → option_map report_of report ≡ option_map fail_report old.work → Lives old (said_by report) (record old { work = None })
 lives_failed old report is = subst (λ (e : List Event). Lives old e (record old { work = None })) (sym (said_events report (option_map fail_report old.work) is)) (fail_by old.work old.printer old.reported)
@@ -198,20 +198,20 @@ printed_by life work printer reported stands = record {
   reports = leads_then ReportsState unreported life _ Printed _ stands.reports refl;
 }
 
-ended_by : (life : List Event) (work : WorkRecord) (printer : PrinterState) (reported : Option PrinterState) (all : Bool) → (work.copies == work.times) ≡ all → IsPrinted life work printer reported → IsAfter (life ++ Reported (if all then SaysDone work.job else SaysFail work.job) ∷ []) (record { work = None; printer = printer; reported = reported })
+ended_by : (life : List Event) (work : WorkRecord) (printer : PrinterState) (reported : Option PrinterState) (all : Bool) → (work.copies == work.times) ≡ all → IsPrinted life work printer reported → IsAfter (life ++ Reported (if all then DoneReport work.job else FailReport work.job) ∷ []) (record { work = None; printer = printer; reported = reported })
 ended_by life work printer reported true is at =
     let done : work.copies ≡ work.times = grind (arith, is) in
     record {
-      answers = leads_then AnswersOnce None life _ (Reported (SaysDone work.job)) None at.answers (refl, refl);
-      sends = leads_then SendsTheJob None life _ (Reported (SaysDone work.job)) None at.sends (done, refl, refl);
-      heeds = leads_then HeedsCancel None life _ (Reported (SaysDone work.job)) None at.heeds refl;
-      reports = leads_then ReportsState unreported life _ (Reported (SaysDone work.job)) _ at.reports refl;
+      answers = leads_then AnswersOnce None life _ (Reported (DoneReport work.job)) None at.answers (refl, refl);
+      sends = leads_then SendsTheJob None life _ (Reported (DoneReport work.job)) None at.sends (done, refl, refl);
+      heeds = leads_then HeedsCancel None life _ (Reported (DoneReport work.job)) None at.heeds refl;
+      reports = leads_then ReportsState unreported life _ (Reported (DoneReport work.job)) _ at.reports refl;
     }
 ended_by life work printer reported false is at = record {
-  answers = leads_then AnswersOnce None life _ (Reported (SaysFail work.job)) None at.answers (refl, refl);
-  sends = leads_then SendsTheJob None life _ (Reported (SaysFail work.job)) None at.sends refl;
-  heeds = leads_then HeedsCancel None life _ (Reported (SaysFail work.job)) None at.heeds refl;
-  reports = leads_then ReportsState unreported life _ (Reported (SaysFail work.job)) _ at.reports refl;
+  answers = leads_then AnswersOnce None life _ (Reported (FailReport work.job)) None at.answers (refl, refl);
+  sends = leads_then SendsTheJob None life _ (Reported (FailReport work.job)) None at.sends refl;
+  heeds = leads_then HeedsCancel None life _ (Reported (FailReport work.job)) None at.heeds refl;
+  reports = leads_then ReportsState unreported life _ (Reported (FailReport work.job)) _ at.reports refl;
 }
 
 nothing_printed : (printer : PrinterState) (reported : Option PrinterState) → Lives (record { work = None; printer = printer; reported = reported }) (Printed ∷ []) (record { work = None; printer = printer; reported = reported })
@@ -227,24 +227,24 @@ pub lives_finished : (old : AdapterStateRecord) (report : Option Report) → opt
 lives_finished old report is = subst (λ (e : List Event). Lives old (Printed ∷ e) (record old { work = None })) (sym (said_events report (option_map end_report old.work) is)) (finish_by old.work old.printer old.reported)
 
 abbrev IsState : ReportRecord → Type 0
-IsState SaysReady = Unit {0}
-IsState SaysStop = Unit {0}
+IsState ReadyReport = Unit {0}
+IsState StopReport = Unit {0}
 IsState report = ⊥
 
-says_state : (work : Option WorkRecord) (printer : PrinterState) (reported new : Option PrinterState) (report : ReportRecord) → ReportsState (record { printer = printer; reported = reported }) (Reported report) (record { printer = printer; reported = new }) → IsState report → Lives (record { work = work; printer = printer; reported = reported }) (Reported report ∷ []) (record { work = work; printer = printer; reported = new })
-says_state None printer reported new SaysReady reports is = lives_by _ (Reported SaysReady) _ (record { answers = refl; sends = refl; heeds = refl; reports = reports })
-says_state None printer reported new SaysStop reports is = lives_by _ (Reported SaysStop) _ (record { answers = refl; sends = refl; heeds = refl; reports = reports })
-says_state (Some work) printer reported new SaysReady reports is = lives_by _ (Reported SaysReady) _ (record { answers = refl; sends = refl; heeds = refl; reports = reports })
-says_state (Some work) printer reported new SaysStop reports is = lives_by _ (Reported SaysStop) _ (record { answers = refl; sends = refl; heeds = refl; reports = reports })
-says_state work printer reported new report reports is = absurd is
+reports_state : (work : Option WorkRecord) (printer : PrinterState) (reported new : Option PrinterState) (report : ReportRecord) → ReportsState (record { printer = printer; reported = reported }) (Reported report) (record { printer = printer; reported = new }) → IsState report → Lives (record { work = work; printer = printer; reported = reported }) (Reported report ∷ []) (record { work = work; printer = printer; reported = new })
+reports_state None printer reported new ReadyReport reports is = lives_by _ (Reported ReadyReport) _ (record { answers = refl; sends = refl; heeds = refl; reports = reports })
+reports_state None printer reported new StopReport reports is = lives_by _ (Reported StopReport) _ (record { answers = refl; sends = refl; heeds = refl; reports = reports })
+reports_state (Some work) printer reported new ReadyReport reports is = lives_by _ (Reported ReadyReport) _ (record { answers = refl; sends = refl; heeds = refl; reports = reports })
+reports_state (Some work) printer reported new StopReport reports is = lives_by _ (Reported StopReport) _ (record { answers = refl; sends = refl; heeds = refl; reports = reports })
+reports_state work printer reported new report reports is = absurd is
 
 report_by : (work : Option WorkRecord) (printer : PrinterState) (reported : Option PrinterState) → Lives (record { work = work; printer = printer; reported = reported }) (events_of (state_report printer reported)) (record { work = work; printer = printer; reported = Some printer })
 report_by work Running (Some Running) = lives_still _
-report_by work Running (Some Stopped) = says_state work Running (Some Stopped) (Some Running) SaysReady (refl, (λ is. cc is), refl) tt
-report_by work Running None = says_state work Running None (Some Running) SaysReady (refl, (λ is. cc is), refl) tt
+report_by work Running (Some Stopped) = reports_state work Running (Some Stopped) (Some Running) ReadyReport (refl, (λ is. cc is), refl) tt
+report_by work Running None = reports_state work Running None (Some Running) ReadyReport (refl, (λ is. cc is), refl) tt
 report_by work Stopped (Some Stopped) = lives_still _
-report_by work Stopped (Some Running) = says_state work Stopped (Some Running) (Some Stopped) SaysStop (refl, (λ is. cc is), refl) tt
-report_by work Stopped None = says_state work Stopped None (Some Stopped) SaysStop (refl, (λ is. cc is), refl) tt
+report_by work Stopped (Some Running) = reports_state work Stopped (Some Running) (Some Stopped) StopReport (refl, (λ is. cc is), refl) tt
+report_by work Stopped None = reports_state work Stopped None (Some Stopped) StopReport (refl, (λ is. cc is), refl) tt
 
 pub lives_reported : (old : AdapterStateRecord) (report : Option Report) → option_map report_of report ≡ state_report old.printer old.reported → Lives old (said_by report) (record old { reported = Some old.printer })
 lives_reported old report is = subst (λ (e : List Event). Lives old e (record old { reported = Some old.printer })) (sym (said_events report (state_report old.printer old.reported) is)) (report_by old.work old.printer old.reported)

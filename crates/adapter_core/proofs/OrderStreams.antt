@@ -165,9 +165,9 @@ line_at old count faultless outside line =
 
 pub answers_order : (old : OrderReaderState) (count : ℕ) (order : Order) → old.fault ≡ None → old.octets ≡ 0 → first_line_of DEVICE_LINE_BYTES old.rest ≡ front.Whole count → order_in (take count old.rest) ≡ Some order
     → Advances old (Orders order ∷ []) (record { part = []; rest = drop (count + 1) old.rest; octets = octets_after order; fault = old.fault })
-answers_order old count order faultless outside line says =
+answers_order old count order faultless outside line parses =
     let parsed = line_at old count faultless outside line in
-    let here : parsed_from (place_of old) old.rest ≡ with_front (Orders order ∷ []) (parsed_from (octets_left (octets_after order)) (drop (count + 1) old.rest)) = subst (λ (o : Option Order). parsed_from (place_of old) old.rest ≡ with_front (line_parsed o).said (parsed_from (line_parsed o).place (drop (count + 1) old.rest))) says parsed in
+    let here : parsed_from (place_of old) old.rest ≡ with_front (Orders order ∷ []) (parsed_from (octets_left (octets_after order)) (drop (count + 1) old.rest)) = subst (λ (o : Option Order). parsed_from (place_of old) old.rest ≡ with_front (line_parsed o).said (parsed_from (line_parsed o).place (drop (count + 1) old.rest))) parses parsed in
     advance old (Orders order ∷ []) (record { part = []; rest = drop (count + 1) old.rest; octets = octets_after order; fault = old.fault })
     (subst (λ (f : Option OrderFault). parsed_from (place_of old) old.rest ≡ with_front (Orders order ∷ []) (parsed_from (place_by f (octets_after order)) (drop (count + 1) old.rest))) (sym faultless) here)
 
@@ -188,9 +188,9 @@ fault_stands old fault is = (
 )
 
 pub answers_bad_line : (old : OrderReaderState) (count : ℕ) → old.fault ≡ None → old.octets ≡ 0 → first_line_of DEVICE_LINE_BYTES old.rest ≡ front.Whole count → order_in (take count old.rest) ≡ None → Answers old (Err (Fault BadLine)) (record old { fault = Some BadLine })
-answers_bad_line old count faultless outside line says =
+answers_bad_line old count faultless outside line parses =
     let parsed = line_at old count faultless outside line in
-    let here : parsed_from (place_of old) old.rest ≡ with_front [] (parsed_from (AtFault BadLine) (drop (count + 1) old.rest)) = subst (λ (o : Option Order). parsed_from (place_of old) old.rest ≡ with_front (line_parsed o).said (parsed_from (line_parsed o).place (drop (count + 1) old.rest))) says parsed in
+    let here : parsed_from (place_of old) old.rest ≡ with_front [] (parsed_from (AtFault BadLine) (drop (count + 1) old.rest)) = subst (λ (o : Option Order). parsed_from (place_of old) old.rest ≡ with_front (line_parsed o).said (parsed_from (line_parsed o).place (drop (count + 1) old.rest))) parses parsed in
     fault_stands old BadLine (here ∙ ap (λ (h : ParsedOrders). with_front [] h) (parsed_over BadLine (drop (count + 1) old.rest)))
 
 pub answers_too_long : (old : OrderReaderState) → old.fault ≡ None → old.octets ≡ 0 → first_line_of DEVICE_LINE_BYTES old.rest ≡ front.TooLong → Answers old (Err (Fault LineTooLong)) (record old { fault = Some LineTooLong })

@@ -8,7 +8,7 @@ use Rattle.std.proofs.lemmas.List.{append_assoc, append-nil}
 use Rattle.std.proofs.lemmas.List.Elements.{All-cons, All-head, All-tail}
 use Rattle.base_types.specs.declared.limits.TheConstants.Limits.{LAST_JOB_ID, BUSY, NAME_BYTES}
 use Rattle.base_types.specs.Forms.{is_name, is_media, is_name_byte, is_media_byte, has_length}
-use Rattle.base_types.specs.Report.{ReportRecord, SaysHello, SaysMedia, SaysReady, SaysStop, SaysBusy, SaysPages, SaysDone, SaysFail, IsGone}
+use Rattle.base_types.specs.Report.{ReportRecord, HelloReport, MediaReport, ReadyReport, StopReport, BusyReport, PagesReport, DoneReport, FailReport, GoneReport}
 use Rattle.text.specs.Parts.{parts_at, words_of, Lacks}
 use Rattle.text.proofs.Cuts.{parts_cut, parts_uncut}
 use Rattle.device_link.specs.declared.number.TheConstants.{MOST_PRINTED}
@@ -23,7 +23,7 @@ one_said word operand w o = ap said (word_then word operand w ∙ ap (λ (r : Li
 record ReadsBack (text : List ℕ) (report : ReportRecord) : Type 0 where
   line : List ℕ
   spelled : text ≡ line ++ codes "\n"
-  says : said (words_of line) ≡ Some report
+  parses : said (words_of line) ≡ Some report
 
 -- ---- names
 
@@ -31,12 +31,12 @@ name_all : (name : List ℕ) → is_name name ≡ true → list_all is_name_byte
 unfolding is_name
 name_all name is = if_true (has_length NAME_BYTES name) (list_all is_name_byte name) is
 
-hello_read : (name : List ℕ) → is_name name ≡ true → ReadsBack (report_line (SaysHello name)) (SaysHello name)
+hello_read : (name : List ℕ) → is_name name ≡ true → ReadsBack (report_line (HelloReport name)) (HelloReport name)
 unfolding said_of_one name_in
 hello_read name is = record {
   line = codes "HELLO" ++ (32 ∷ name);
   spelled = sym (append_assoc (codes "HELLO ") name (codes "\n"));
-  says = one_said (codes "HELLO") name (lacks_by (isnt 32) 32 refl (codes "HELLO") refl) (lacks_by is_name_byte 32 refl name (name_all name is)) ∙ rw is refl;
+  parses = one_said (codes "HELLO") name (lacks_by (isnt 32) 32 refl (codes "HELLO") refl) (lacks_by is_name_byte 32 refl name (name_all name is)) ∙ rw is refl;
 }
 
 -- the names after the first
@@ -74,33 +74,33 @@ media_back : (name : List ℕ) (names : List (List ℕ)) → AreMedia (name ∷ 
 unfolding media_in
 media_back name names all = rw (joined_parts name names all, all_media (name ∷ names) all) refl
 
-media_said : (operand : List ℕ) (names : List (List ℕ)) → media_in operand ≡ Some names → said_of_one (codes "MEDIA") operand ≡ Some (SaysMedia names)
+media_said : (operand : List ℕ) (names : List (List ℕ)) → media_in operand ≡ Some names → said_of_one (codes "MEDIA") operand ≡ Some (MediaReport names)
 unfolding said_of_one
-media_said operand names is = ap (λ (m : Option (List (List ℕ))). option_map SaysMedia m) is
+media_said operand names is = ap (λ (m : Option (List (List ℕ))). option_map MediaReport m) is
 
-nothing_loaded : said (words_of (codes "MEDIA")) ≡ Some (SaysMedia [])
+nothing_loaded : said (words_of (codes "MEDIA")) ≡ Some (MediaReport [])
 unfolding said_alone
 nothing_loaded = ap said (word_alone (codes "MEDIA") (lacks_by (isnt 32) 32 refl (codes "MEDIA") refl))
 
-media_read : (names : List (List ℕ)) → AreMedia names → ReadsBack (report_line (SaysMedia names)) (SaysMedia names)
-media_read [] all = record { line = codes "MEDIA"; spelled = refl; says = nothing_loaded }
+media_read : (names : List (List ℕ)) → AreMedia names → ReadsBack (report_line (MediaReport names)) (MediaReport names)
+media_read [] all = record { line = codes "MEDIA"; spelled = refl; parses = nothing_loaded }
 media_read (name ∷ names) all =
     let P : List ℕ → Type 0 = λ n. IsTrue (is_media n) in
     record {
       line = codes "MEDIA" ++ (32 ∷ joined name names);
       spelled = sym (append_assoc (codes "MEDIA ") (joined name names) (codes "\n"));
-      says = one_said (codes "MEDIA") (joined name names) (lacks_by (isnt 32) 32 refl (codes "MEDIA") refl) (joined_lacks 32 name (listed 44 names) (media_lacks 32 name refl (All-head P name names all)) (listed_lacks names (All-tail P name names all))) ∙ media_said (joined name names) (name ∷ names) (media_back name names all);
+      parses = one_said (codes "MEDIA") (joined name names) (lacks_by (isnt 32) 32 refl (codes "MEDIA") refl) (joined_lacks 32 name (listed 44 names) (media_lacks 32 name refl (All-head P name names all)) (listed_lacks names (All-tail P name names all))) ∙ media_said (joined name names) (name ∷ names) (media_back name names all);
     }
 
 -- ---- words alone
 
-ready_read : ReadsBack (report_line SaysReady) SaysReady
+ready_read : ReadsBack (report_line ReadyReport) ReadyReport
 unfolding said_alone
-ready_read = record { line = codes "READY"; spelled = refl; says = ap said (word_alone (codes "READY") (lacks_by (isnt 32) 32 refl (codes "READY") refl)) }
+ready_read = record { line = codes "READY"; spelled = refl; parses = ap said (word_alone (codes "READY") (lacks_by (isnt 32) 32 refl (codes "READY") refl)) }
 
-stop_read : ReadsBack (report_line SaysStop) SaysStop
+stop_read : ReadsBack (report_line StopReport) StopReport
 unfolding said_alone
-stop_read = record { line = codes "STOP"; spelled = refl; says = ap said (word_alone (codes "STOP") (lacks_by (isnt 32) 32 refl (codes "STOP") refl)) }
+stop_read = record { line = codes "STOP"; spelled = refl; parses = ap said (word_alone (codes "STOP") (lacks_by (isnt 32) 32 refl (codes "STOP") refl)) }
 
 -- ---- numbers
 
@@ -110,35 +110,35 @@ number_space number few = decimal_lacks 32 number refl (omega (arith, few))
 number_line_is : (word : List ℕ) (number : ℕ) → word ++ (codes " " ++ (decimal number ++ codes "\n")) ≡ (word ++ (32 ∷ decimal number)) ++ codes "\n"
 number_line_is word number = sym (append_assoc word (32 ∷ decimal number) (codes "\n"))
 
-busy_read : (time : ℕ) → time ≤ BUSY → ReadsBack (report_line (SaysBusy time)) (SaysBusy time)
+busy_read : (time : ℕ) → time ≤ BUSY → ReadsBack (report_line (BusyReport time)) (BusyReport time)
 unfolding said_of_one
 busy_read time few = record {
   line = codes "BUSY" ++ (32 ∷ decimal time);
   spelled = number_line_is (codes "BUSY") time;
-  says = one_said (codes "BUSY") (decimal time) (lacks_by (isnt 32) 32 refl (codes "BUSY") refl) (number_space time few) ∙ ap (λ (n : Option ℕ). option_map SaysBusy n) (number_back BUSY time few (omega (arith, few)));
+  parses = one_said (codes "BUSY") (decimal time) (lacks_by (isnt 32) 32 refl (codes "BUSY") refl) (number_space time few) ∙ ap (λ (n : Option ℕ). option_map BusyReport n) (number_back BUSY time few (omega (arith, few)));
 }
 
-done_read : (job : ℕ) → job ≤ LAST_JOB_ID → ReadsBack (report_line (SaysDone job)) (SaysDone job)
+done_read : (job : ℕ) → job ≤ LAST_JOB_ID → ReadsBack (report_line (DoneReport job)) (DoneReport job)
 unfolding said_of_one
 done_read job few = record {
   line = codes "DONE" ++ (32 ∷ decimal job);
   spelled = number_line_is (codes "DONE") job;
-  says = one_said (codes "DONE") (decimal job) (lacks_by (isnt 32) 32 refl (codes "DONE") refl) (number_space job few) ∙ ap (λ (n : Option ℕ). option_map SaysDone n) (number_back LAST_JOB_ID job few (omega (arith, few)));
+  parses = one_said (codes "DONE") (decimal job) (lacks_by (isnt 32) 32 refl (codes "DONE") refl) (number_space job few) ∙ ap (λ (n : Option ℕ). option_map DoneReport n) (number_back LAST_JOB_ID job few (omega (arith, few)));
 }
 
-fail_read : (job : ℕ) → job ≤ LAST_JOB_ID → ReadsBack (report_line (SaysFail job)) (SaysFail job)
+fail_read : (job : ℕ) → job ≤ LAST_JOB_ID → ReadsBack (report_line (FailReport job)) (FailReport job)
 unfolding said_of_one
 fail_read job few = record {
   line = codes "FAIL" ++ (32 ∷ decimal job);
   spelled = number_line_is (codes "FAIL") job;
-  says = one_said (codes "FAIL") (decimal job) (lacks_by (isnt 32) 32 refl (codes "FAIL") refl) (number_space job few) ∙ ap (λ (n : Option ℕ). option_map SaysFail n) (number_back LAST_JOB_ID job few (omega (arith, few)));
+  parses = one_said (codes "FAIL") (decimal job) (lacks_by (isnt 32) 32 refl (codes "FAIL") refl) (number_space job few) ∙ ap (λ (n : Option ℕ). option_map FailReport n) (number_back LAST_JOB_ID job few (omega (arith, few)));
 }
 
-pages_said : (job printed : ℕ) → job ≤ LAST_JOB_ID → printed ≤ MOST_PRINTED → said_of_two (codes "PAGES") (decimal job) (decimal printed) ≡ Some (SaysPages job printed)
+pages_said : (job printed : ℕ) → job ≤ LAST_JOB_ID → printed ≤ MOST_PRINTED → said_of_two (codes "PAGES") (decimal job) (decimal printed) ≡ Some (PagesReport job printed)
 unfolding said_of_two
 pages_said job printed few also = rw (number_back LAST_JOB_ID job few (omega (arith, few)), number_back MOST_PRINTED printed also (omega (arith, also))) refl
 
-pages_read : (job printed : ℕ) → job ≤ LAST_JOB_ID → printed ≤ MOST_PRINTED → ReadsBack (report_line (SaysPages job printed)) (SaysPages job printed)
+pages_read : (job printed : ℕ) → job ≤ LAST_JOB_ID → printed ≤ MOST_PRINTED → ReadsBack (report_line (PagesReport job printed)) (PagesReport job printed)
 pages_read job printed few also =
     let a = decimal job in
     let b = decimal printed in
@@ -146,21 +146,21 @@ pages_read job printed few also =
     record {
       line = codes "PAGES" ++ (32 ∷ (a ++ (32 ∷ b)));
       spelled = ap (λ (r : List ℕ). codes "PAGES " ++ r) (sym (append_assoc a (32 ∷ b) (codes "\n"))) ∙ sym (append_assoc (codes "PAGES ") (a ++ (32 ∷ b)) (codes "\n"));
-      says = ap said words ∙ pages_said job printed few also;
+      parses = ap said words ∙ pages_said job printed few also;
     }
 
 -- ---- any report
 
 each_read : (report : ReportRecord) → HasLine report → ReadsBack (report_line report) report
-each_read (SaysHello name) has = hello_read name has
-each_read (SaysMedia names) has = media_read names has
-each_read SaysReady has = ready_read
-each_read SaysStop has = stop_read
-each_read (SaysBusy time) has = busy_read time has
-each_read (SaysPages job printed) has = pages_read job printed has.0 has.1
-each_read (SaysDone job) has = done_read job has
-each_read (SaysFail job) has = fail_read job has
-each_read IsGone has = absurd has
+each_read (HelloReport name) has = hello_read name has
+each_read (MediaReport names) has = media_read names has
+each_read ReadyReport has = ready_read
+each_read StopReport has = stop_read
+each_read (BusyReport time) has = busy_read time has
+each_read (PagesReport job printed) has = pages_read job printed has.0 has.1
+each_read (DoneReport job) has = done_read job has
+each_read (FailReport job) has = fail_read job has
+each_read GoneReport has = absurd has
 
 pub read_back : (report : ReportRecord) → HasLine report → (line : List ℕ) × (report_line report ≡ line ++ codes "\n") × (said (words_of line) ≡ Some report)
-read_back report has = let it = each_read report has in (it.line, it.spelled, it.says)
+read_back report has = let it = each_read report has in (it.line, it.spelled, it.parses)

@@ -115,8 +115,8 @@ cancel_back id is =
 
 -- a line that is one of the server's
 line_ordered : (line : List ℕ) (order : Order) (rest : List ℕ) → Lacks 10 line → length line ≤ 1000 → order_in line ≡ Some order → orders_in (line ++ (10 ∷ rest)) ≡ with_front (Orders order ∷ []) (parsed_from (octets_left (octets_after order)) rest)
-line_ordered line order rest lacks short says =
-    line_whole [] line rest lacks (omega (arith, short)) ∙ ap (λ (o : Option Order). with_front (line_parsed o).said (parsed_from (line_parsed o).place rest)) says
+line_ordered line order rest lacks short parses =
+    line_whole [] line rest lacks (omega (arith, short)) ∙ ap (λ (o : Option Order). with_front (line_parsed o).said (parsed_from (line_parsed o).place rest)) parses
 
 cancel_parsed : (id : ℕ) → IsJobId id → orders_in (cancel_line id) ≡ record { said = Orders (Cancel id) ∷ []; place = InLine [] }
 cancel_parsed id is =

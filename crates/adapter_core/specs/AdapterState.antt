@@ -1,7 +1,7 @@
 -- The state of an adapter, and its life so far.
 use Rattle.std.specs.Prelude.{ℕ, ◌+◌, ◌≤◌, ◌==◌, ◌&&◌, if◌then◌else◌, nat_lt, Bool, true, false, List, [], ◌∷◌, ◌++◌, length, drop, Option, Some, None, option_map}
 use Rattle.base_types.specs.declared.report.Report.{Report}
-use Rattle.base_types.specs.Report.{ReportRecord, report_of, SaysReady, SaysStop, SaysPages, SaysDone, SaysFail}
+use Rattle.base_types.specs.Report.{ReportRecord, report_of, ReadyReport, StopReport, PagesReport, DoneReport, FailReport}
 use Rattle.adapter_core.specs.declared.printer_state.PrinterState.{PrinterState}
 use Rattle.adapter_core.specs.declared.printer_state.PrinterState.TheVariants.{Running, Stopped}
 use Rattle.adapter_core.specs.Life.{Event, Reported, Leads}
@@ -80,20 +80,20 @@ said_by (Some report) = Reported (report_of report) ∷ []
 
 -- a job that the printer has printed is done if it was sent as often as it was to be
 abbrev pub end_report : WorkRecord → ReportRecord
-end_report work = if work.copies == work.times then SaysDone work.job else SaysFail work.job
+end_report work = if work.copies == work.times then DoneReport work.job else FailReport work.job
 
 abbrev pub pages_report : ℕ → WorkRecord → ReportRecord
-pages_report printed work = SaysPages work.job printed
+pages_report printed work = PagesReport work.job printed
 
 abbrev pub fail_report : WorkRecord → ReportRecord
-fail_report work = SaysFail work.job
+fail_report work = FailReport work.job
 
 -- the report of the printer's state, if the server doesn't know it
 abbrev pub state_report : PrinterState → Option PrinterState → Option ReportRecord
 state_report Running (Some Running) = None
-state_report Running reported = Some SaysReady
+state_report Running reported = Some ReadyReport
 state_report Stopped (Some Stopped) = None
-state_report Stopped reported = Some SaysStop
+state_report Stopped reported = Some StopReport
 
 -- ---- changes
 

@@ -1,6 +1,6 @@
 -- The promises of an adapter about its life. Each promise states which events may come next, and allows the events that it isn't about.
 use Rattle.std.specs.Prelude.{ℕ, ◌≡◌, ◌+◌, ◌<◌, ◌≤◌, ◌==◌, if◌then◌else◌, Bool, true, false, List, [], ◌++◌, length, take, drop, Option, Some, None}
-use Rattle.base_types.specs.Report.{SaysReady, SaysStop, SaysPages, SaysDone, SaysFail}
+use Rattle.base_types.specs.Report.{ReadyReport, StopReport, PagesReport, DoneReport, FailReport}
 use Rattle.adapter_core.specs.declared.printer_state.PrinterState.{PrinterState}
 use Rattle.adapter_core.specs.declared.printer_state.PrinterState.TheVariants.{Running, Stopped}
 use Rattle.adapter_core.specs.Life.{Event, Links, Ordered, Came, Canceled, Sent, EndsCopy, Restarts, Printed, Is, Reported}
@@ -10,9 +10,9 @@ use Rattle.adapter_core.specs.Life.{Event, Links, Ordered, Came, Canceled, Sent,
 abbrev pub AnswersOnce : Option ℕ → Event → Option ℕ → Type 0
 AnswersOnce asked Links next = next ≡ None
 AnswersOnce asked (Ordered job octets times) next = (asked ≡ None) × (next ≡ Some job)
-AnswersOnce asked (Reported (SaysDone job)) next = (asked ≡ Some job) × (next ≡ None)
-AnswersOnce asked (Reported (SaysFail job)) next = (asked ≡ Some job) × (next ≡ None)
-AnswersOnce asked (Reported (SaysPages job printed)) next = (asked ≡ Some job) × (next ≡ asked)
+AnswersOnce asked (Reported (DoneReport job)) next = (asked ≡ Some job) × (next ≡ None)
+AnswersOnce asked (Reported (FailReport job)) next = (asked ≡ Some job) × (next ≡ None)
+AnswersOnce asked (Reported (PagesReport job printed)) next = (asked ≡ Some job) × (next ≡ asked)
 AnswersOnce asked event next = next ≡ asked
 
 -- ---- the octets that are sent are the job's: the octets of each copy as they came, in order, and the next copy once the copy before is sent, from the first copy on if the printer took none; DONE is reported once the job was sent in all its copies, and is printed.
@@ -39,8 +39,8 @@ JobSends job (Sent octets) next = (job.copies < job.times) × AreNext octets job
 JobSends job EndsCopy next = (job.copies < job.times) × (job.sent ≡ job.octets) × (next ≡ Some (record job { sent = 0; copies = job.copies + 1 }))
 JobSends job Restarts next = next ≡ Some (record job { sent = 0; copies = 0 })
 JobSends job Printed next = next ≡ Some (record job { printed = true })
-JobSends job (Reported (SaysDone id)) next = (job.copies ≡ job.times) × (job.printed ≡ true) × (next ≡ None)
-JobSends job (Reported (SaysFail id)) next = next ≡ None
+JobSends job (Reported (DoneReport id)) next = (job.copies ≡ job.times) × (job.printed ≡ true) × (next ≡ None)
+JobSends job (Reported (FailReport id)) next = next ≡ None
 JobSends job event next = next ≡ Some job
 
 -- no octet comes or is sent without a job
@@ -68,8 +68,8 @@ abbrev pub JobHeeds : Heeded → Event → Option Heeded → Type 0
 JobHeeds at Links next = next ≡ None
 JobHeeds at (Canceled job) next = next ≡ Some (canceled_if job at)
 JobHeeds at (Sent octets) next = (at.canceled ≡ false) × (next ≡ Some at)
-JobHeeds at (Reported (SaysDone job)) next = next ≡ None
-JobHeeds at (Reported (SaysFail job)) next = next ≡ None
+JobHeeds at (Reported (DoneReport job)) next = next ≡ None
+JobHeeds at (Reported (FailReport job)) next = next ≡ None
 JobHeeds at event next = next ≡ Some at
 
 abbrev pub HeedsCancel : Option Heeded → Event → Option Heeded → Type 0
@@ -86,6 +86,6 @@ pub record Reporting : Type 0 where
 abbrev pub ReportsState : Reporting → Event → Reporting → Type 0
 ReportsState at Links next = next ≡ record at { reported = None }
 ReportsState at (Is printer) next = next ≡ record at { printer = printer }
-ReportsState at (Reported SaysReady) next = (at.printer ≡ Running) × (at.reported ≡ Some Running → ⊥) × (next ≡ record at { reported = Some Running })
-ReportsState at (Reported SaysStop) next = (at.printer ≡ Stopped) × (at.reported ≡ Some Stopped → ⊥) × (next ≡ record at { reported = Some Stopped })
+ReportsState at (Reported ReadyReport) next = (at.printer ≡ Running) × (at.reported ≡ Some Running → ⊥) × (next ≡ record at { reported = Some Running })
+ReportsState at (Reported StopReport) next = (at.printer ≡ Stopped) × (at.reported ≡ Some Stopped → ⊥) × (next ≡ record at { reported = Some Stopped })
 ReportsState at event next = next ≡ at

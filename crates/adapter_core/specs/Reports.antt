@@ -3,7 +3,7 @@ use Rattle.std.specs.Prelude.{ℕ, ◌≡◌, ◌≤◌, All, IsTrue, List, [], 
 use Rattle.std.specs.Fmt.{decimal}
 use Rattle.base_types.specs.declared.limits.TheConstants.Limits.{LAST_JOB_ID, BUSY}
 use Rattle.base_types.specs.Forms.{is_name, is_media}
-use Rattle.base_types.specs.Report.{ReportRecord, SaysHello, SaysMedia, SaysReady, SaysStop, SaysBusy, SaysPages, SaysDone, SaysFail, IsGone}
+use Rattle.base_types.specs.Report.{ReportRecord, HelloReport, MediaReport, ReadyReport, StopReport, BusyReport, PagesReport, DoneReport, FailReport, GoneReport}
 use Rattle.device_link.specs.declared.number.TheConstants.{MOST_PRINTED}
 use Rattle.device_link.specs.Line.{said}
 use Rattle.text.specs.Parts.{words_of}
@@ -27,27 +27,27 @@ pages_line job printed = codes "PAGES " ++ (decimal job ++ (codes " " ++ (decima
 
 -- the line of a report; the end of the connection has none
 abbrev pub report_line : ReportRecord → List ℕ
-report_line (SaysHello name) = hello_line name
-report_line (SaysMedia names) = media_line names
-report_line SaysReady = codes "READY\n"
-report_line SaysStop = codes "STOP\n"
-report_line (SaysBusy time) = number_line (codes "BUSY") time
-report_line (SaysPages job printed) = pages_line job printed
-report_line (SaysDone job) = number_line (codes "DONE") job
-report_line (SaysFail job) = number_line (codes "FAIL") job
-report_line IsGone = []
+report_line (HelloReport name) = hello_line name
+report_line (MediaReport names) = media_line names
+report_line ReadyReport = codes "READY\n"
+report_line StopReport = codes "STOP\n"
+report_line (BusyReport time) = number_line (codes "BUSY") time
+report_line (PagesReport job printed) = pages_line job printed
+report_line (DoneReport job) = number_line (codes "DONE") job
+report_line (FailReport job) = number_line (codes "FAIL") job
+report_line GoneReport = []
 
 -- the report has a line: names are names, and numbers are in range
 abbrev pub HasLine : ReportRecord → Type 0
-HasLine (SaysHello name) = IsTrue (is_name name)
-HasLine (SaysMedia names) = All (λ name. IsTrue (is_media name)) names
-HasLine SaysReady = Unit {0}
-HasLine SaysStop = Unit {0}
-HasLine (SaysBusy time) = time ≤ BUSY
-HasLine (SaysPages job printed) = (job ≤ LAST_JOB_ID) × (printed ≤ MOST_PRINTED)
-HasLine (SaysDone job) = job ≤ LAST_JOB_ID
-HasLine (SaysFail job) = job ≤ LAST_JOB_ID
-HasLine IsGone = ⊥
+HasLine (HelloReport name) = IsTrue (is_name name)
+HasLine (MediaReport names) = All (λ name. IsTrue (is_media name)) names
+HasLine ReadyReport = Unit {0}
+HasLine StopReport = Unit {0}
+HasLine (BusyReport time) = time ≤ BUSY
+HasLine (PagesReport job printed) = (job ≤ LAST_JOB_ID) × (printed ≤ MOST_PRINTED)
+HasLine (DoneReport job) = job ≤ LAST_JOB_ID
+HasLine (FailReport job) = job ≤ LAST_JOB_ID
+HasLine GoneReport = ⊥
 
 -- the line of a report, without its line feed, is read as exactly that report
 abbrev pub ReadAsMeant : Type 0

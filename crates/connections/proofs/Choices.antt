@@ -2,7 +2,7 @@
 use Rattle.std.proofs.Common.{◌≡◌, ◌⊎◌, ℕ, ◌+◌, Bool, true, false, List, [], ◌∷◌, ◌++◌, length, map, refl, sym, ◌∙◌, ap, subst, Option, Some, None, inl, inr}
 use Rattle.std.proofs.lemmas.List.{append_cancel_left, length-append, length-map}
 use Rattle.base_types.specs.declared.report.Report.{Report}
-use Rattle.base_types.specs.Report.{ReportRecord, SaysHello, report_of}
+use Rattle.base_types.specs.Report.{ReportRecord, HelloReport, report_of}
 use Rattle.settings_file.specs.Settings.{ServerSettings, device_named}
 use Rattle.device_link.specs.Stream as Link
 use Rattle.http_front.specs.declared.item.HttpItem.{HttpItem}
@@ -28,12 +28,12 @@ use Rattle.connections.specs.declared.step.Due.{Due}
 use Rattle.connections.specs.declared.step.Due.TheVariants as due
 use Rattle.connections.specs.declared.step.Step.{Step}
 use Rattle.connections.specs.declared.step.Step.TheVariants as step
-use Rattle.connections.specs.Session.{Hearing, Goes, Stops, Submits, Commands, heard, file_lost, is_queue}
+use Rattle.connections.specs.Session.{ItemResult, Goes, Stops, Submits, Commands, result_of, file_lost, is_queue}
 use Rattle.connections.specs.Commands.{SubmitsJob, IsCommand}
 use Rattle.connections.specs.Entry.{PeerRecord, Http as OfIpp, Queue as OfLpd, Link as OfDevice, Entry, with_progress, finishing}
 use Rattle.connections.specs.Steps.{silent, no_memory, asked_step, EndsBody as EndsSo, StepsIpp, closes_after, body_after, byte_due, refused, AsksAs, AsksForFile, StepsLpd, StepsHello, StepsDevice, faulty, due_bytes}
 use Rattle.connections.specs.Asking.{IppItemComes, LpdItemComes, FindsFault, LosesLine, ReportComes, FindsLinkFault, ItemComes, Owes, StepsTo, AsksNext}
-use Rattle.connections.specs.Choice.{part_taken, part_heard, part_of, Loss, OfGrowth, OfPart, OfBody, lost_of, SameAsk}
+use Rattle.connections.specs.Choice.{part_taken, part_acted_on, part_of, Loss, OfGrowth, OfPart, OfBody, lost_of, SameAsk}
 
 -- the laws of the elements of streams and of the contents of bodies
 pub record Laws : Type 0 where
@@ -198,9 +198,9 @@ bytes_are : (part : List ℕ) → bytes_said (map HasByte part) ≡ part
 bytes_are [] = refl
 bytes_are (byte ∷ part) = ap (λ (bytes : List ℕ). byte ∷ bytes) (bytes_are part)
 
--- the entry after an item that says this
+-- the entry after an item with these elements
 abbrev after_item : HttpItem → List HttpElement → Entry → List HttpElement → Bool → List ℕ → Step → Entry
-after_item it told e said closes body what = with_progress (OfIpp (said ++ told) (closes_after it closes) (body_after it what (bytes_said told) body)) e
+after_item it added e said closes body what = with_progress (OfIpp (said ++ added) (closes_after it closes) (body_after it what (bytes_said added) body)) e
 
 after_is : (it : HttpItem) (part : List ℕ) (e : Entry) (said : List HttpElement) (closes : Bool) (body : List ℕ) (what : Step)
     → with_progress (OfIpp (said ++ elements_of it part) (closes_after it closes) (body_after it what part body)) e ≡ after_item it (elements_of it part) e said closes body what
@@ -239,25 +239,25 @@ part_agrees comes comes' after (inr a) (inl b) = no_memory_agrees comes comes' (
 part_agrees comes comes' after (inr a) (inr b) = agree_at comes comes' no_memory (after comes) (after comes') (after no_memory) a b (ap after a) (ap after b)
 
 -- two steps of one item agree
-item_agrees : Laws → (it : HttpItem) (told : List HttpElement) (e : Entry) (said : List HttpElement) (closes : Bool) (body : List ℕ) (comes comes' : Step) → StepsIpp it closes body comes → StepsIpp it closes body comes'
-    → Agree comes (after_item it told e said closes body comes) comes' (after_item it told e said closes body comes')
-item_agrees laws (item.Head next) told e said closes body comes comes' a b = agree_at comes comes' silent _ _ (after_item (item.Head next) told e said closes body silent) a b refl refl
-item_agrees laws item.Continue told e said closes body comes comes' a b = agree_at comes comes' (step.Due due.Continue false) _ _ (after_item item.Continue told e said closes body silent) a b refl refl
-item_agrees laws item.BodyPart told e said closes body comes comes' a b = part_agrees comes comes' (after_item item.BodyPart told e said closes body) a b
-item_agrees laws item.BodyEnd told e said closes body comes comes' a b = ends_agree laws closes body comes comes' (after_item item.BodyEnd told e said closes body silent) a b
-item_agrees laws (item.Refuse refusal) told e said closes body comes comes' a b = agree_at comes comes' (step.Due (due.Refusal refusal) true) _ _ (after_item (item.Refuse refusal) told e said closes body silent) a b refl refl
+item_agrees : Laws → (it : HttpItem) (added : List HttpElement) (e : Entry) (said : List HttpElement) (closes : Bool) (body : List ℕ) (comes comes' : Step) → StepsIpp it closes body comes → StepsIpp it closes body comes'
+    → Agree comes (after_item it added e said closes body comes) comes' (after_item it added e said closes body comes')
+item_agrees laws (item.Head next) added e said closes body comes comes' a b = agree_at comes comes' silent _ _ (after_item (item.Head next) added e said closes body silent) a b refl refl
+item_agrees laws item.Continue added e said closes body comes comes' a b = agree_at comes comes' (step.Due due.Continue false) _ _ (after_item item.Continue added e said closes body silent) a b refl refl
+item_agrees laws item.BodyPart added e said closes body comes comes' a b = part_agrees comes comes' (after_item item.BodyPart added e said closes body) a b
+item_agrees laws item.BodyEnd added e said closes body comes comes' a b = ends_agree laws closes body comes comes' (after_item item.BodyEnd added e said closes body silent) a b
+item_agrees laws (item.Refuse refusal) added e said closes body comes comes' a b = agree_at comes comes' (step.Due (due.Refusal refusal) true) _ _ (after_item (item.Refuse refusal) added e said closes body silent) a b refl refl
 
 ipp_agrees : Laws → (e : Entry) (said : List HttpElement) (closes : Bool) (body : List ℕ) (comes comes' : Step) (mid mid' : Entry) (a : IppItemComes e said closes body comes mid) (b : IppItemComes e said closes body comes' mid')
     → part_taken a.item a.part ≡ part_taken b.item b.part → Agree comes mid comes' mid'
 ipp_agrees laws e said closes body comes comes' mid mid' a b parts =
     let long : length (elements_of a.item a.part) ≡ length (elements_of b.item b.part) = long_is a.item a.part ∙ ap said_long parts ∙ sym (long_is b.item b.part) in
     let all : length (said ++ elements_of a.item a.part) ≡ length (said ++ elements_of b.item b.part) = length-append said (elements_of a.item a.part) ∙ ap (λ (n : ℕ). length said + n) long ∙ sym (length-append said (elements_of b.item b.part)) in
-    let told : elements_of b.item b.part ≡ elements_of a.item a.part = append_cancel_left said (elements_of b.item b.part) (elements_of a.item a.part) (sym (laws.http e.read (said ++ elements_of a.item a.part) (said ++ elements_of b.item b.part) a.next b.next all)) in
-    let same : b.item ≡ a.item = sym (item_is b.item b.part) ∙ ap (λ (o : Option ℕ). item_of o (elements_of b.item b.part)) (sym parts) ∙ ap (λ (s : List HttpElement). item_of (part_taken a.item a.part) s) told ∙ item_is a.item a.part in
+    let added : elements_of b.item b.part ≡ elements_of a.item a.part = append_cancel_left said (elements_of b.item b.part) (elements_of a.item a.part) (sym (laws.http e.read (said ++ elements_of a.item a.part) (said ++ elements_of b.item b.part) a.next b.next all)) in
+    let same : b.item ≡ a.item = sym (item_is b.item b.part) ∙ ap (λ (o : Option ℕ). item_of o (elements_of b.item b.part)) (sym parts) ∙ ap (λ (s : List HttpElement). item_of (part_taken a.item a.part) s) added ∙ item_is a.item a.part in
     let there : StepsIpp a.item closes body comes' = subst (λ (it : HttpItem). StepsIpp it closes body comes') same b.comes in
     let at : mid ≡ after_item a.item (elements_of a.item a.part) e said closes body comes = a.after ∙ after_is a.item a.part e said closes body comes in
     let at' : mid' ≡ after_item a.item (elements_of a.item a.part) e said closes body comes' =
-    b.after ∙ after_is b.item b.part e said closes body comes' ∙ ap (λ (s : List HttpElement). after_item b.item s e said closes body comes') told ∙ ap (λ (it : HttpItem). after_item it (elements_of a.item a.part) e said closes body comes') same in
+    b.after ∙ after_is b.item b.part e said closes body comes' ∙ ap (λ (s : List HttpElement). after_item b.item s e said closes body comes') added ∙ ap (λ (it : HttpItem). after_item it (elements_of a.item a.part) e said closes body comes') same in
     subst (λ (m : Entry). Agree comes m comes' mid') (sym at)
     (subst (λ (m : Entry). Agree comes (after_item a.item (elements_of a.item a.part) e said closes body comes) comes' m) (sym at') (item_agrees laws a.item (elements_of a.item a.part) e said closes body comes comes' a.comes there))
 
@@ -279,7 +279,7 @@ command_one (ListsLong queue operands) (Is.ListQueue one) other a b = absurd b
 command_one (RemovesJobs queue agent operands) (Is.RemoveJobs one) other a b = absurd b
 command_one command one other a b = absurd a
 
--- the ask, by the items that were heard
+-- the ask, by the items that were acted on
 
 abbrev TakesJob : SentRecord → Step → Type 0
 TakesJob job comes = ((event : Event) × SubmitsJob job event × (comes ≡ step.Asks (ask.Event client.LpdJob event) false)) ⊎ (comes ≡ step.Asks (ask.Lost part.Job) false)
@@ -311,7 +311,7 @@ takes_usual : (job : SentRecord) (comes : Step) → TakesJob job comes → (loss
 takes_usual job comes (inl a) loss x = loses_usual comes (step.Asks (ask.Event client.LpdJob a.0) false) loss a.2 x (λ loss none. inl none)
 takes_usual job comes (inr a) loss x = loses_usual comes (step.Asks (ask.Lost part.Job) false) loss a x (λ loss lost. inr (inr lost))
 
-asks_usual : (hearing : Hearing) (comes : Step) (after : Option SessionState) → AsksAs hearing comes after → (loss : Option Loss) → Loses comes loss → IsUsual loss
+asks_usual : (result : ItemResult) (comes : Step) (after : Option SessionState) → AsksAs result comes after → (loss : Option Loss) → Loses comes loss → IsUsual loss
 asks_usual (Goes answer next) comes after a loss x = loses_usual comes (step.Due (byte_due answer) false) loss (goes_as answer next comes after a).0 x due_usual
 asks_usual (Stops answer) comes after a loss x = loses_usual comes (step.Due (byte_due answer) true) loss (stops_as answer comes after a).0 x due_usual
 asks_usual (Submits job next) comes after a loss x = takes_usual job comes (submits_as job next comes after a).0 loss x
@@ -332,7 +332,7 @@ jobs_agree job comes comes' mid mid' e (inr a) (inl b) at at' =
     (λ loss x y. no_loss (OfPart part.Job) (sym (subst (λ (c : Step). Loses c loss) b.2 y) ∙ subst (λ (c : Step). Loses c loss) a x))
 jobs_agree job comes comes' mid mid' e (inr a) (inr b) at at' = agree_at comes comes' (step.Asks (ask.Lost part.Job) false) mid mid' e a b at at'
 
-asks_agree : (hearing : Hearing) (comes comes' : Step) (after after' : Option SessionState) (entry : Option SessionState → Entry) → AsksAs hearing comes after → AsksAs hearing comes' after' → Agree comes (entry after) comes' (entry after')
+asks_agree : (result : ItemResult) (comes comes' : Step) (after after' : Option SessionState) (entry : Option SessionState → Entry) → AsksAs result comes after → AsksAs result comes' after' → Agree comes (entry after) comes' (entry after')
 asks_agree (Goes answer next) comes comes' after after' entry a b =
     let x = goes_as answer next comes after a in
     let y = goes_as answer next comes' after' b in
@@ -352,30 +352,30 @@ asks_agree (Commands command) comes comes' after after' entry a b =
     (agree_asks (ask.Event client.LpdCommand x.0.0) (ask.Event client.LpdCommand y.0.0) true (entry None) (refl, command_one command x.0.0 y.0.0 x.0.1 y.0.1))
 
 -- a file is kept, or lost
-files_agree : (hearing : Hearing) (before : Option SessionState) (comes comes' : Step) (after after' : Option SessionState) (entry : Option SessionState → Entry) → AsksForFile hearing before comes after → AsksForFile hearing before comes' after' → Agree comes (entry after) comes' (entry after')
-files_agree hearing before comes comes' after after' entry (inl a) (inl b) = agree_at comes comes' (step.Asks (ask.Lost part.File) false) (entry after) (entry after') (entry (file_lost before)) a.0 b.0 (ap entry a.1) (ap entry b.1)
-files_agree hearing before comes comes' after after' entry (inl a) (inr b) =
-    agree_never comes comes' (entry after) (entry after') (λ loss x y. not_file loss (asks_usual hearing comes' after' b loss y) (subst (λ (c : Step). Loses c loss) a.0 x))
-files_agree hearing before comes comes' after after' entry (inr a) (inl b) =
-    agree_never comes comes' (entry after) (entry after') (λ loss x y. not_file loss (asks_usual hearing comes after a loss x) (subst (λ (c : Step). Loses c loss) b.0 y))
-files_agree hearing before comes comes' after after' entry (inr a) (inr b) = asks_agree hearing comes comes' after after' entry a b
+files_agree : (result : ItemResult) (before : Option SessionState) (comes comes' : Step) (after after' : Option SessionState) (entry : Option SessionState → Entry) → AsksForFile result before comes after → AsksForFile result before comes' after' → Agree comes (entry after) comes' (entry after')
+files_agree result before comes comes' after after' entry (inl a) (inl b) = agree_at comes comes' (step.Asks (ask.Lost part.File) false) (entry after) (entry after') (entry (file_lost before)) a.0 b.0 (ap entry a.1) (ap entry b.1)
+files_agree result before comes comes' after after' entry (inl a) (inr b) =
+    agree_never comes comes' (entry after) (entry after') (λ loss x y. not_file loss (asks_usual result comes' after' b loss y) (subst (λ (c : Step). Loses c loss) a.0 x))
+files_agree result before comes comes' after after' entry (inr a) (inl b) =
+    agree_never comes comes' (entry after) (entry after') (λ loss x y. not_file loss (asks_usual result comes after a loss x) (subst (λ (c : Step). Loses c loss) b.0 y))
+files_agree result before comes comes' after after' entry (inr a) (inr b) = asks_agree result comes comes' after after' entry a b
 
 lpd_agrees : (queues : List ℕ → Bool) (before : Option SessionState) (said : ItemRecord) (comes comes' : Step) (after after' : Option SessionState) (entry : Option SessionState → Entry) → StepsLpd queues before said comes after → StepsLpd queues before said comes' after' → Agree comes (entry after) comes' (entry after')
-lpd_agrees queues before (HasFile contents) comes comes' after after' entry a b = files_agree (heard queues before (HasFile contents)) before comes comes' after after' entry a b
-lpd_agrees queues before (HasCommand command) comes comes' after after' entry a b = asks_agree (heard queues before (HasCommand command)) comes comes' after after' entry a b
-lpd_agrees queues before Aborts comes comes' after after' entry a b = asks_agree (heard queues before Aborts) comes comes' after after' entry a b
-lpd_agrees queues before (Announces head) comes comes' after after' entry a b = asks_agree (heard queues before (Announces head)) comes comes' after after' entry a b
+lpd_agrees queues before (HasFile contents) comes comes' after after' entry a b = files_agree (result_of queues before (HasFile contents)) before comes comes' after after' entry a b
+lpd_agrees queues before (HasCommand command) comes comes' after after' entry a b = asks_agree (result_of queues before (HasCommand command)) comes comes' after after' entry a b
+lpd_agrees queues before Aborts comes comes' after after' entry a b = asks_agree (result_of queues before Aborts) comes comes' after after' entry a b
+lpd_agrees queues before (Announces head) comes comes' after after' entry a b = asks_agree (result_of queues before (Announces head)) comes comes' after after' entry a b
 
 -- no step for a file lacks memory for a line
-file_no_line : (hearing : Hearing) (before : Option SessionState) (comes : Step) (after : Option SessionState) → AsksForFile hearing before comes after → (loss : Option Loss) → Loses comes loss → loss ≡ Some (OfGrowth growth.Input) → ⊥
-file_no_line hearing before comes after (inl a) loss x is = let no : Some (OfPart part.File) ≡ Some (OfGrowth growth.Input) = sym (subst (λ (c : Step). Loses c loss) a.0 x) ∙ is in cc
-file_no_line hearing before comes after (inr a) loss x is = not_input loss (asks_usual hearing comes after a loss x) is
+file_no_line : (result : ItemResult) (before : Option SessionState) (comes : Step) (after : Option SessionState) → AsksForFile result before comes after → (loss : Option Loss) → Loses comes loss → loss ≡ Some (OfGrowth growth.Input) → ⊥
+file_no_line result before comes after (inl a) loss x is = let no : Some (OfPart part.File) ≡ Some (OfGrowth growth.Input) = sym (subst (λ (c : Step). Loses c loss) a.0 x) ∙ is in cc
+file_no_line result before comes after (inr a) loss x is = not_input loss (asks_usual result comes after a loss x) is
 
 item_no_line : (queues : List ℕ → Bool) (before : Option SessionState) (said : ItemRecord) (comes : Step) (after : Option SessionState) → StepsLpd queues before said comes after → (loss : Option Loss) → Loses comes loss → loss ≡ Some (OfGrowth growth.Input) → ⊥
-item_no_line queues before (HasFile contents) comes after a loss x is = file_no_line (heard queues before (HasFile contents)) before comes after a loss x is
-item_no_line queues before (HasCommand command) comes after a loss x is = not_input loss (asks_usual (heard queues before (HasCommand command)) comes after a loss x) is
-item_no_line queues before Aborts comes after a loss x is = not_input loss (asks_usual (heard queues before Aborts) comes after a loss x) is
-item_no_line queues before (Announces head) comes after a loss x is = not_input loss (asks_usual (heard queues before (Announces head)) comes after a loss x) is
+item_no_line queues before (HasFile contents) comes after a loss x is = file_no_line (result_of queues before (HasFile contents)) before comes after a loss x is
+item_no_line queues before (HasCommand command) comes after a loss x is = not_input loss (asks_usual (result_of queues before (HasCommand command)) comes after a loss x) is
+item_no_line queues before Aborts comes after a loss x is = not_input loss (asks_usual (result_of queues before Aborts) comes after a loss x) is
+item_no_line queues before (Announces head) comes after a loss x is = not_input loss (asks_usual (result_of queues before (Announces head)) comes after a loss x) is
 
 -- of one length, so that the last is one
 last_one : {X : Type 0} (xs : List X) (x y : X) → xs ++ x ∷ [] ≡ xs ++ y ∷ [] → x ≡ y
@@ -430,14 +430,14 @@ reported_usual : (device : ℕ) (said : ReportRecord) (comes : Step) → Reporte
 reported_usual device said comes a loss x = loses_usual comes (step.Asks (ask.Report device a.0) false) loss a.2 x (λ loss none. inl none)
 
 device_agrees : (named : List ℕ → Option ℕ) (device : Option ℕ) (said : ReportRecord) (comes comes' : Step) (after after' : Option ℕ) (entry : Option ℕ → Entry) → StepsDevice named device said comes after → StepsDevice named device said comes' after' → Agree comes (entry after) comes' (entry after')
-device_agrees named None (SaysHello name) comes comes' after after' entry a b = hello_agrees name (named name) comes comes' after after' entry a b
+device_agrees named None (HelloReport name) comes comes' after after' entry a b = hello_agrees name (named name) comes comes' after after' entry a b
 device_agrees named None said comes comes' after after' entry a b = absurd a
 device_agrees named (Some device) said comes comes' after after' entry a b =
     agree_as comes comes' (step.Asks (ask.Report device a.0.0) false) (step.Asks (ask.Report device b.0.0) false) (entry after) (entry after') (entry (Some device)) a.0.2 b.0.2 (ap entry a.1) (ap entry b.1)
     (agree_asks (ask.Report device a.0.0) (ask.Report device b.0.0) false (entry (Some device)) (refl, a.0.1 ∙ sym b.0.1))
 
 device_usual : (named : List ℕ → Option ℕ) (device : Option ℕ) (said : ReportRecord) (comes : Step) (after : Option ℕ) → StepsDevice named device said comes after → (loss : Option Loss) → Loses comes loss → IsUsual loss
-device_usual named None (SaysHello name) comes after a loss x = hello_usual name (named name) comes after a loss x
+device_usual named None (HelloReport name) comes after a loss x = hello_usual name (named name) comes after a loss x
 device_usual named None said comes after a loss x = absurd a
 device_usual named (Some device) said comes after a loss x = reported_usual device said comes a.0 loss x
 
@@ -470,13 +470,13 @@ link_agrees laws named e reports device comes comes' mid mid' (inr (inr a)) (inr
 
 -- ---- each peer
 
-hears_agree : Laws → (settings : ServerSettings) (progress : PeerRecord) (e : Entry) (comes comes' : Step) (mid mid' : Entry) (a : ItemComes settings progress e comes mid) (b : ItemComes settings progress e comes' mid')
-    → part_heard settings progress e comes mid a ≡ part_heard settings progress e comes' mid' b → Agree comes mid comes' mid'
-hears_agree laws settings (OfIpp said closes body) e comes comes' mid mid' a b parts = ipp_agrees laws e said closes body comes comes' mid mid' a b parts
-hears_agree laws settings (OfLpd items session) e comes comes' mid mid' a b parts = queue_agrees laws (is_queue settings) e items session comes comes' mid mid' a b
-hears_agree laws settings (OfDevice reports device) e comes comes' mid mid' a b parts = link_agrees laws (device_named settings) e reports device comes comes' mid mid' a b
+item_steps_agree : Laws → (settings : ServerSettings) (progress : PeerRecord) (e : Entry) (comes comes' : Step) (mid mid' : Entry) (a : ItemComes settings progress e comes mid) (b : ItemComes settings progress e comes' mid')
+    → part_acted_on settings progress e comes mid a ≡ part_acted_on settings progress e comes' mid' b → Agree comes mid comes' mid'
+item_steps_agree laws settings (OfIpp said closes body) e comes comes' mid mid' a b parts = ipp_agrees laws e said closes body comes comes' mid mid' a b parts
+item_steps_agree laws settings (OfLpd items session) e comes comes' mid mid' a b parts = queue_agrees laws (is_queue settings) e items session comes comes' mid mid' a b
+item_steps_agree laws settings (OfDevice reports device) e comes comes' mid mid' a b parts = link_agrees laws (device_named settings) e reports device comes comes' mid mid' a b
 
 pub asks_one : Laws → (settings : ServerSettings) (e : Entry) (what said : Ask) (new after : Entry) (one : AsksNext settings what e new) (other : AsksNext settings said e after)
     → part_of one ≡ part_of other → lost_of what ≡ lost_of said → SameAsk what said × (new ≡ after)
 asks_one laws settings e what said new after one other parts lost =
-    hears_agree laws settings e.progress e one.comes other.comes one.mid other.mid one.hears other.hears parts what said new after one.steps other.steps lost
+    item_steps_agree laws settings e.progress e one.comes other.comes one.mid other.mid one.takes_item other.takes_item parts what said new after one.steps other.steps lost

@@ -15,7 +15,7 @@ use Rattle.connections.specs.Asking.{StepsTo, Asking, Feeds}
 use Rattle.connections.specs.Peers.{NextPeer, IsFedPeer}
 use Rattle.connections.specs.Connections.{ConnectionState, with_peer, Takes}
 use Rattle.connections.specs.Representation.{FitsPeer, RepresentsConnection, Becomes}
-use Rattle.connections.proofs.Readers.{Goes, heard, rested, fed_peer}
+use Rattle.connections.proofs.Readers.{Goes, peer_comes, rested, fed_peer}
 
 -- ---- the waiting bytes
 
@@ -84,9 +84,9 @@ pub asks : (settings : ServerSettings) (what : Step) (asked : Ask) (c d : Connec
 asks settings what asked c d p counts next takes_ e f =
     let counts' : (e.draining || e.broken) ≡ false = counts_as e c false f counts in
     let whole : e.broken ≡ false = right_false e.draining e.broken counts' in
-    let h = heard settings e c.peer p what (subst (λ (b : Bool). FitsPeer e.read e.progress b c.peer) whole f.peer) next in
+    let h = peer_comes settings e c.peer p what (subst (λ (b : Bool). FitsPeer e.read e.progress b c.peer) whole f.peer) next in
     let t = takes e h.progress c d p what asked f whole h.broken h.whole takes_ in
-    (t.0, record { counts = counts'; comes = what; mid = with_progress h.progress e; hears = h.hears; steps = t.1 }, t.2)
+    (t.0, record { counts = counts'; comes = what; mid = with_progress h.progress e; takes_item = h.takes_item; steps = t.1 }, t.2)
 
 pub rests : (settings : ServerSettings) (c d : ConnectionState) (p : Peer) → (c.draining || c.broken) ≡ false → NextPeer settings None c.peer p → d ≡ with_peer p c → Becomes (Asking settings None) c d
 rests settings c d p counts next is e f =

@@ -68,7 +68,7 @@ part_reader (step.Breaks ask) t u it = ap (λ (x : IppClientState). x.reader) it
 item_reader : (what : Step) (it : HttpItem) (t u : IppClientState) → HandlesIpp it what t u → u.reader ≡ t.reader
 item_reader what (item.Head closes) t u (is, same, begun) = ap (λ (x : IppClientState). x.reader) same
 item_reader what item.Continue t u (is, same) = ap (λ (x : IppClientState). x.reader) same
-item_reader what item.BodyPart t u hears = part_reader what t u hears
+item_reader what item.BodyPart t u takes_item = part_reader what t u takes_item
 item_reader what item.BodyEnd t u (same, begun, ends) = ap (λ (x : IppClientState). x.reader) same
 item_reader what (item.Refuse refusal) t u (is, same) = ap (λ (x : IppClientState). x.reader) same
 
@@ -80,7 +80,7 @@ part_unreported (step.Breaks ask) t u it = ap (λ (x : IppClientState). x.unrepo
 item_unreported : (what : Step) (it : HttpItem) (t u : IppClientState) → HandlesIpp it what t u → u.unreported ≡ t.unreported
 item_unreported what (item.Head closes) t u (is, same, begun) = ap (λ (x : IppClientState). x.unreported) same
 item_unreported what item.Continue t u (is, same) = ap (λ (x : IppClientState). x.unreported) same
-item_unreported what item.BodyPart t u hears = part_unreported what t u hears
+item_unreported what item.BodyPart t u takes_item = part_unreported what t u takes_item
 item_unreported what item.BodyEnd t u (same, begun, ends) = ap (λ (x : IppClientState). x.unreported) same
 item_unreported what (item.Refuse refusal) t u (is, same) = ap (λ (x : IppClientState). x.unreported) same
 
@@ -91,14 +91,14 @@ Less what x y = (work y < work x) ⊎ IsLast what
 less : (settings : ServerSettings) (what : Step) (x y : Peer) → NextPeer settings (Some what) x y → Less what x y
 less settings what (of.Ipp t) (of.Ipp u) (inl (on, is, same)) =
     inl (rw (ap (λ (x : IppClientState). x.reader) same, ap (λ (x : IppClientState). x.unreported) same, on) (omega arith))
-less settings what (of.Ipp t) (of.Ipp u) (inr (off, (it, reader, answers, falls, hears))) =
-    let reads : u.reader ≡ reader = item_reader what it (record t { reader = reader }) u hears in
-    let told : u.unreported ≡ false = item_unreported what it (record t { reader = reader }) u hears ∙ off in
-    inl (rw (reads, told, off) (omega (arith, falls)))
-less settings what (of.Lpd t) (of.Lpd u) (inl (it, reader, answers, falls, hears)) = inl (subst (λ r. Lpd.work r < Lpd.work t.reader) (sym hears.0) falls)
+less settings what (of.Ipp t) (of.Ipp u) (inr (off, (it, reader, answers, falls, takes_item))) =
+    let reads : u.reader ≡ reader = item_reader what it (record t { reader = reader }) u takes_item in
+    let all_reported : u.unreported ≡ false = item_unreported what it (record t { reader = reader }) u takes_item ∙ off in
+    inl (rw (reads, all_reported, off) (omega (arith, falls)))
+less settings what (of.Lpd t) (of.Lpd u) (inl (it, reader, answers, falls, takes_item)) = inl (subst (λ r. Lpd.work r < Lpd.work t.reader) (sym takes_item.0) falls)
 less settings what (of.Lpd t) (of.Lpd u) (inr (inl (fault, answers, is, same))) = inr (subst IsLast (sym is) refl)
 less settings what (of.Lpd t) (of.Lpd u) (inr (inr (answers, is, same))) = inr (subst IsLast (sym is) tt)
-less settings what (of.Device t) (of.Device u) (inl (it, reader, answers, falls, hears)) = inl (subst (λ r. Link.work r < Link.work t.reader) (sym hears.0) falls)
+less settings what (of.Device t) (of.Device u) (inl (it, reader, answers, falls, takes_item)) = inl (subst (λ r. Link.work r < Link.work t.reader) (sym takes_item.0) falls)
 less settings what (of.Device t) (of.Device u) (inr (inl (fault, answers, is, same))) = inr (subst IsLast (sym is) tt)
 less settings what (of.Device t) (of.Device u) (inr (inr (answers, is, same))) = inr (subst IsLast (sym is) tt)
 less settings what (of.Ipp t) (of.Lpd u) next = absurd next

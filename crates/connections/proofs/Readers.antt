@@ -6,7 +6,7 @@ use Rattle.std.proofs.lemmas.List.{append_assoc, append-nil}
 use Rattle.text.specs.Parts.{words_of}
 use Rattle.base_types.specs.declared.report.Report.{Report}
 use Rattle.base_types.specs.declared.report.Report.TheVariants as reported
-use Rattle.base_types.specs.Report.{ReportRecord, SaysHello, SaysMedia, SaysReady, SaysStop, SaysBusy, SaysPages, SaysDone, SaysFail, IsGone, report_of}
+use Rattle.base_types.specs.Report.{ReportRecord, HelloReport, MediaReport, ReadyReport, StopReport, BusyReport, PagesReport, DoneReport, FailReport, GoneReport, report_of}
 use Rattle.settings_file.specs.Settings.{ServerSettings, device_named}
 use Rattle.device_link.specs.Line.{in_turn, said}
 use Rattle.device_link.specs.declared.fault.LinkError.{LinkError}
@@ -34,7 +34,7 @@ use Rattle.connections.specs.Entry.{PeerRecord, Entry, with_progress}
 use Rattle.connections.specs.Entry as entry
 use Rattle.connections.specs.Steps.{StepsDevice, StepsHello, silent, step_of}
 use Rattle.connections.specs.Peers.{with_http, with_lpd, with_link, HandlesIpp, HandlesLpdIfAny, HandlesReportIfAny, IsNewIpp, IsFedIpp, TakesIfItem, NextIpp, NextLpd, NextDevice, NextPeer, IsFedPeer, link_step, Greets, ComesOf}
-use Rattle.connections.specs.Asking.{IppItemComes as NextItem, LpdItemComes, FindsFault, ReportComes, FindsLinkFault, ItemComes, IsHeardAs}
+use Rattle.connections.specs.Asking.{IppItemComes as NextItem, LpdItemComes, FindsFault, ReportComes, FindsLinkFault, ItemComes, IsActedOnAs}
 use Rattle.connections.specs.Representation.{FitsIpp, FitsLpd, FitsDevice, FitsPeer}
 
 -- the step for the first fault of an LPD client's stream, or for the lack of memory for a line
@@ -43,21 +43,21 @@ next_failed queues t u (lpd.Fault fault) answers is = inr (inl (fault, answers, 
 next_failed queues t u lpd.OutOfMemory answers is = inr (inr (answers, refl, is))
 
 -- the item taken off the stream, if it is whole
-pub item_heard : (queues : List ℕ → Bool) (t u : LpdClientState) (reader : LpdState) (it : Option LpdItem) (what : Option Step) → Lpd.Answers t.reader (Ok it) reader → (IsSome it → Lpd.work reader < Lpd.work t.reader) → HandlesLpdIfAny queues it what (with_lpd reader t) u → NextLpd queues what t u
-item_heard queues t u reader None None answers falls hears =
-    let same : reader ≡ u.reader = sym (ap (λ (x : LpdClientState). x.reader) hears) in
-    (subst (λ (r : LpdState). Lpd.Answers t.reader (Ok None) r) same answers, hears ∙ ap (λ (r : LpdState). with_lpd r t) same)
-item_heard queues t u reader (Some it) (Some what) answers falls hears = inl (it, reader, answers, falls refl, hears)
-item_heard queues t u reader None (Some what) answers falls hears = absurd hears
-item_heard queues t u reader (Some it) None answers falls hears = absurd hears
+pub item_acted_on : (queues : List ℕ → Bool) (t u : LpdClientState) (reader : LpdState) (it : Option LpdItem) (what : Option Step) → Lpd.Answers t.reader (Ok it) reader → (IsSome it → Lpd.work reader < Lpd.work t.reader) → HandlesLpdIfAny queues it what (with_lpd reader t) u → NextLpd queues what t u
+item_acted_on queues t u reader None None answers falls takes_item =
+    let same : reader ≡ u.reader = sym (ap (λ (x : LpdClientState). x.reader) takes_item) in
+    (subst (λ (r : LpdState). Lpd.Answers t.reader (Ok None) r) same answers, takes_item ∙ ap (λ (r : LpdState). with_lpd r t) same)
+item_acted_on queues t u reader (Some it) (Some what) answers falls takes_item = inl (it, reader, answers, falls refl, takes_item)
+item_acted_on queues t u reader None (Some what) answers falls takes_item = absurd takes_item
+item_acted_on queues t u reader (Some it) None answers falls takes_item = absurd takes_item
 
-pub report_heard : (named : List ℕ → Option ℕ) (t u : DeviceState) (reader : LinkState) (it : Option Report) (what : Option Step) → Link.Answers t.reader (Ok it) reader → (IsSome it → Link.work reader < Link.work t.reader) → HandlesReportIfAny named it what (with_link reader t) u → NextDevice named what t u
-report_heard named t u reader None None answers falls hears =
-    let same : reader ≡ u.reader = sym (ap (λ (x : DeviceState). x.reader) hears) in
-    (subst (λ (r : LinkState). Link.Answers t.reader (Ok None) r) same answers, hears ∙ ap (λ (r : LinkState). with_link r t) same)
-report_heard named t u reader (Some it) (Some what) answers falls hears = inl (it, reader, answers, falls refl, hears)
-report_heard named t u reader None (Some what) answers falls hears = absurd hears
-report_heard named t u reader (Some it) None answers falls hears = absurd hears
+pub report_acted_on : (named : List ℕ → Option ℕ) (t u : DeviceState) (reader : LinkState) (it : Option Report) (what : Option Step) → Link.Answers t.reader (Ok it) reader → (IsSome it → Link.work reader < Link.work t.reader) → HandlesReportIfAny named it what (with_link reader t) u → NextDevice named what t u
+report_acted_on named t u reader None None answers falls takes_item =
+    let same : reader ≡ u.reader = sym (ap (λ (x : DeviceState). x.reader) takes_item) in
+    (subst (λ (r : LinkState). Link.Answers t.reader (Ok None) r) same answers, takes_item ∙ ap (λ (r : LinkState). with_link r t) same)
+report_acted_on named t u reader (Some it) (Some what) answers falls takes_item = inl (it, reader, answers, falls refl, takes_item)
+report_acted_on named t u reader None (Some what) answers falls takes_item = absurd takes_item
+report_acted_on named t u reader (Some it) None answers falls takes_item = absurd takes_item
 
 -- the step for the first fault of a device's stream, or for the lack of memory for a line
 pub report_failed : (named : List ℕ → Option ℕ) (t u : DeviceState) (error : LinkError) → Link.Answers t.reader (Err error) u.reader → u ≡ with_link u.reader t → NextDevice named (Some (link_step error t.device)) t u
@@ -76,111 +76,111 @@ broken_peer read progress off (of.Ipp t) f = f
 broken_peer read progress off (of.Lpd t) f = f
 broken_peer read progress off (of.Device t) f = record { reports = f.reports; is = f.is; linked = λ no. let never : true ≡ false = no in cc }
 
--- the next of a stream was acted on, and the entry says so
+-- the next of a stream was acted on, as the entry has it
 pub record HasCome (settings : ServerSettings) (e : Entry) (what : Step) (p : Peer) : Type 0 where
   pub progress : PeerRecord
-  pub hears : ItemComes settings e.progress e what (with_progress progress e)
+  pub takes_item : ItemComes settings e.progress e what (with_progress progress e)
   pub broken : FitsPeer e.read progress true p
   pub whole : Goes what → FitsPeer e.read progress false p
 
 -- ---- an IPP client
 
--- where no bytes of a body are to be told of, the next item is the next step
+-- where no bytes of a body are unreported, the next item is the next step
 pub next_is_item : (what : Option Step) (t u : IppClientState) → t.unreported ≡ false → TakesIfItem what t u → NextIpp what t u
-next_is_item None t u told takes = (told, takes)
-next_is_item (Some what) t u told takes = inr (told, takes)
+next_is_item None t u all_reported takes = (all_reported, takes)
+next_is_item (Some what) t u all_reported takes = inr (all_reported, takes)
 
 fits_ipp : (read : List ℕ) (said : List HttpElement) (closes : Bool) (body : List ℕ) (reader : HttpState) (u : IppClientState) → Http.HasRead read said reader → u.reader ≡ reader → u.closes ≡ closes → Body.HasRead body u.body → FitsIpp read (entry.Http said closes body) u
-fits_ipp read said closes body reader u stands same is heard = record {
+fits_ipp read said closes body reader u stands same is body_read = record {
   said = said;
   body = body;
   unreported = [];
   is = ap (λ (x : Bool). entry.Http said x body) (sym is);
-  told = λ off. refl;
+  all_reported = λ off. refl;
   stands = subst (λ (xs : List HttpElement). Http.HasRead read xs u.reader) (sym (append-nil said)) (subst (λ (r : HttpState). Http.HasRead read said r) (sym same) stands);
-  heard = subst (λ (xs : List ℕ). Body.HasRead xs u.body) (sym (append-nil body)) heard;
+  body_read = subst (λ (xs : List ℕ). Body.HasRead xs u.body) (sym (append-nil body)) body_read;
 }
 
--- all that the body was fed was told
-stands_told : (read : List ℕ) (progress : PeerRecord) (t : IppClientState) (f : FitsIpp read progress t) → t.unreported ≡ false → Http.HasRead read f.said t.reader
-stands_told read progress t f off =
-    let none : Http.HasRead read (f.said ++ map HasByte []) t.reader = subst (λ (xs : List ℕ). Http.HasRead read (f.said ++ map HasByte xs) t.reader) (f.told off) f.stands in
+-- all that the body was fed was reported
+stands_reported : (read : List ℕ) (progress : PeerRecord) (t : IppClientState) (f : FitsIpp read progress t) → t.unreported ≡ false → Http.HasRead read f.said t.reader
+stands_reported read progress t f off =
+    let none : Http.HasRead read (f.said ++ map HasByte []) t.reader = subst (λ (xs : List ℕ). Http.HasRead read (f.said ++ map HasByte xs) t.reader) (f.all_reported off) f.stands in
     subst (λ (xs : List HttpElement). Http.HasRead read xs t.reader) (append-nil f.said) none
 
-heard_told : (read : List ℕ) (progress : PeerRecord) (t : IppClientState) (f : FitsIpp read progress t) → t.unreported ≡ false → Body.HasRead f.body t.body
-heard_told read progress t f off =
-    let none : Body.HasRead (f.body ++ []) t.body = subst (λ (xs : List ℕ). Body.HasRead (f.body ++ xs) t.body) (f.told off) f.heard in
+body_reported : (read : List ℕ) (progress : PeerRecord) (t : IppClientState) (f : FitsIpp read progress t) → t.unreported ≡ false → Body.HasRead f.body t.body
+body_reported read progress t f off =
+    let none : Body.HasRead (f.body ++ []) t.body = subst (λ (xs : List ℕ). Body.HasRead (f.body ++ xs) t.body) (f.all_reported off) f.body_read in
     subst (λ (xs : List ℕ). Body.HasRead xs t.body) (append-nil f.body) none
 
-says_first : (read : List ℕ) (said : List HttpElement) (reader : HttpState) → Http.HasRead read said reader → Http.ParsesFirst read said
-says_first read said reader stands = record { next = reader.awaited; left = stands.left; leads = stands.leads }
+parses_first : (read : List ℕ) (said : List HttpElement) (reader : HttpState) → Http.HasRead read said reader → Http.ParsesFirst read said
+parses_first read said reader stands = record { next = reader.awaited; left = stands.left; leads = stands.leads }
 
 -- the step for an item
 abbrev Comes : Entry → List HttpElement → Bool → List ℕ → Step → IppClientState → Type 0
 Comes e said closes body what u = (progress : PeerRecord) × NextItem e said closes body what (with_progress progress e) × FitsIpp e.read progress u
 
 part_comes : (e : Entry) (said : List HttpElement) (t u : IppClientState) (body : List ℕ) (reader : HttpState) (what : Step) → Http.HasRead e.read (said ++ elements_of item.BodyPart reader.part) reader → Body.HasRead body t.body → HandlesIpp item.BodyPart what (with_http reader t) u → Comes e said t.closes body what u
-part_comes e said t u body reader (step.Due due last) stands heard it = (
+part_comes e said t u body reader (step.Due due last) stands body_read it = (
   entry.Http (said ++ elements_of item.BodyPart reader.part) t.closes (body ++ reader.part),
-  record { item = item.BodyPart; part = reader.part; next = says_first e.read (said ++ elements_of item.BodyPart reader.part) reader stands; comes = inl it.0; after = refl },
-  fits_ipp e.read (said ++ elements_of item.BodyPart reader.part) t.closes (body ++ reader.part) reader u stands (ap (λ (x : IppClientState). x.reader) it.1) (ap (λ (x : IppClientState). x.closes) it.1) (it.2 body heard),
+  record { item = item.BodyPart; part = reader.part; next = parses_first e.read (said ++ elements_of item.BodyPart reader.part) reader stands; comes = inl it.0; after = refl },
+  fits_ipp e.read (said ++ elements_of item.BodyPart reader.part) t.closes (body ++ reader.part) reader u stands (ap (λ (x : IppClientState). x.reader) it.1) (ap (λ (x : IppClientState). x.closes) it.1) (it.2 body body_read),
 )
-part_comes e said t u body reader (step.Asks ask last) stands heard it = absurd it
-part_comes e said t u body reader (step.Breaks ask) stands heard it = (
+part_comes e said t u body reader (step.Asks ask last) stands body_read it = absurd it
+part_comes e said t u body reader (step.Breaks ask) stands body_read it = (
   entry.Http (said ++ elements_of item.BodyPart reader.part) t.closes body,
-  record { item = item.BodyPart; part = reader.part; next = says_first e.read (said ++ elements_of item.BodyPart reader.part) reader stands; comes = inr it.0; after = refl },
-  fits_ipp e.read (said ++ elements_of item.BodyPart reader.part) t.closes body reader u stands (ap (λ (x : IppClientState). x.reader) it.1) (ap (λ (x : IppClientState). x.closes) it.1) (subst (λ (x : IppClientState). Body.HasRead body x.body) (sym it.1) heard),
+  record { item = item.BodyPart; part = reader.part; next = parses_first e.read (said ++ elements_of item.BodyPart reader.part) reader stands; comes = inr it.0; after = refl },
+  fits_ipp e.read (said ++ elements_of item.BodyPart reader.part) t.closes body reader u stands (ap (λ (x : IppClientState). x.reader) it.1) (ap (λ (x : IppClientState). x.closes) it.1) (subst (λ (x : IppClientState). Body.HasRead body x.body) (sym it.1) body_read),
 )
 
 item_comes : (e : Entry) (said : List HttpElement) (t u : IppClientState) (body : List ℕ) (reader : HttpState) (what : Step) (it : HttpItem) → Http.HasRead e.read (said ++ elements_of it reader.part) reader → Body.HasRead body t.body → HandlesIpp it what (with_http reader t) u → Comes e said t.closes body what u
-item_comes e said t u body reader what (item.Head closes) stands heard (is, same, begun) = (
+item_comes e said t u body reader what (item.Head closes) stands body_read (is, same, begun) = (
   entry.Http (said ++ elements_of (item.Head closes) reader.part) closes [],
-  record { item = item.Head closes; part = reader.part; next = says_first e.read (said ++ elements_of (item.Head closes) reader.part) reader stands; comes = is; after = refl },
+  record { item = item.Head closes; part = reader.part; next = parses_first e.read (said ++ elements_of (item.Head closes) reader.part) reader stands; comes = is; after = refl },
   fits_ipp e.read (said ++ elements_of (item.Head closes) reader.part) closes [] reader u stands (ap (λ (x : IppClientState). x.reader) same) (ap (λ (x : IppClientState). x.closes) same) begun,
 )
-item_comes e said t u body reader what item.Continue stands heard (is, same) = (
+item_comes e said t u body reader what item.Continue stands body_read (is, same) = (
   entry.Http (said ++ elements_of item.Continue reader.part) t.closes body,
-  record { item = item.Continue; part = reader.part; next = says_first e.read (said ++ elements_of item.Continue reader.part) reader stands; comes = is; after = refl },
-  fits_ipp e.read (said ++ elements_of item.Continue reader.part) t.closes body reader u stands (ap (λ (x : IppClientState). x.reader) same) (ap (λ (x : IppClientState). x.closes) same) (subst (λ (x : IppClientState). Body.HasRead body x.body) (sym same) heard),
+  record { item = item.Continue; part = reader.part; next = parses_first e.read (said ++ elements_of item.Continue reader.part) reader stands; comes = is; after = refl },
+  fits_ipp e.read (said ++ elements_of item.Continue reader.part) t.closes body reader u stands (ap (λ (x : IppClientState). x.reader) same) (ap (λ (x : IppClientState). x.closes) same) (subst (λ (x : IppClientState). Body.HasRead body x.body) (sym same) body_read),
 )
-item_comes e said t u body reader what item.BodyPart stands heard it = part_comes e said t u body reader what stands heard it
-item_comes e said t u body reader what item.BodyEnd stands heard (same, begun, ends) = (
+item_comes e said t u body reader what item.BodyPart stands body_read it = part_comes e said t u body reader what stands body_read it
+item_comes e said t u body reader what item.BodyEnd stands body_read (same, begun, ends) = (
   entry.Http (said ++ elements_of item.BodyEnd reader.part) t.closes [],
-  record { item = item.BodyEnd; part = reader.part; next = says_first e.read (said ++ elements_of item.BodyEnd reader.part) reader stands; comes = ends body heard; after = refl },
+  record { item = item.BodyEnd; part = reader.part; next = parses_first e.read (said ++ elements_of item.BodyEnd reader.part) reader stands; comes = ends body body_read; after = refl },
   fits_ipp e.read (said ++ elements_of item.BodyEnd reader.part) t.closes [] reader u stands (ap (λ (x : IppClientState). x.reader) same) (ap (λ (x : IppClientState). x.closes) same) begun,
 )
-item_comes e said t u body reader what (item.Refuse refusal) stands heard (is, same) = (
+item_comes e said t u body reader what (item.Refuse refusal) stands body_read (is, same) = (
   entry.Http (said ++ elements_of (item.Refuse refusal) reader.part) t.closes body,
-  record { item = item.Refuse refusal; part = reader.part; next = says_first e.read (said ++ elements_of (item.Refuse refusal) reader.part) reader stands; comes = is; after = refl },
-  fits_ipp e.read (said ++ elements_of (item.Refuse refusal) reader.part) t.closes body reader u stands (ap (λ (x : IppClientState). x.reader) same) (ap (λ (x : IppClientState). x.closes) same) (subst (λ (x : IppClientState). Body.HasRead body x.body) (sym same) heard),
+  record { item = item.Refuse refusal; part = reader.part; next = parses_first e.read (said ++ elements_of (item.Refuse refusal) reader.part) reader stands; comes = is; after = refl },
+  fits_ipp e.read (said ++ elements_of (item.Refuse refusal) reader.part) t.closes body reader u stands (ap (λ (x : IppClientState). x.reader) same) (ap (λ (x : IppClientState). x.closes) same) (subst (λ (x : IppClientState). Body.HasRead body x.body) (sym same) body_read),
 )
 
-heard_ipp : (settings : ServerSettings) (e : Entry) (t u : IppClientState) (what : Step) → FitsIpp e.read e.progress t → NextIpp (Some what) t u → HasCome settings e what (of.Ipp u)
-heard_ipp settings e t u what f (inl (on, is, same)) =
+ipp_comes : (settings : ServerSettings) (e : Entry) (t u : IppClientState) (what : Step) → FitsIpp e.read e.progress t → NextIpp (Some what) t u → HasCome settings e what (of.Ipp u)
+ipp_comes settings e t u what f (inl (on, is, same)) =
     let fits : FitsIpp e.read (entry.Http (f.said ++ map HasByte f.unreported) t.closes (f.body ++ f.unreported)) u =
-    fits_ipp e.read (f.said ++ map HasByte f.unreported) t.closes (f.body ++ f.unreported) t.reader u f.stands (ap (λ (x : IppClientState). x.reader) same) (ap (λ (x : IppClientState). x.closes) same) (subst (λ (x : IppClientState). Body.HasRead (f.body ++ f.unreported) x.body) (sym same) f.heard) in
+    fits_ipp e.read (f.said ++ map HasByte f.unreported) t.closes (f.body ++ f.unreported) t.reader u f.stands (ap (λ (x : IppClientState). x.reader) same) (ap (λ (x : IppClientState). x.closes) same) (subst (λ (x : IppClientState). Body.HasRead (f.body ++ f.unreported) x.body) (sym same) f.body_read) in
     let next : NextItem e f.said t.closes f.body silent (with_progress (entry.Http (f.said ++ map HasByte f.unreported) t.closes (f.body ++ f.unreported)) e) = record {
       item = item.BodyPart;
       part = f.unreported;
-      next = says_first e.read (f.said ++ map HasByte f.unreported) t.reader f.stands;
+      next = parses_first e.read (f.said ++ map HasByte f.unreported) t.reader f.stands;
       comes = inl refl;
       after = refl;
     } in
-    let heard : HasCome settings e silent (of.Ipp u) = record {
+    let comes : HasCome settings e silent (of.Ipp u) = record {
       progress = entry.Http (f.said ++ map HasByte f.unreported) t.closes (f.body ++ f.unreported);
-      hears = subst (λ (k : PeerRecord). ItemComes settings k e silent (with_progress (entry.Http (f.said ++ map HasByte f.unreported) t.closes (f.body ++ f.unreported)) e)) (sym f.is) next;
+      takes_item = subst (λ (k : PeerRecord). ItemComes settings k e silent (with_progress (entry.Http (f.said ++ map HasByte f.unreported) t.closes (f.body ++ f.unreported)) e)) (sym f.is) next;
       broken = fits;
       whole = λ goes. fits;
     } in
-    subst (λ (w : Step). HasCome settings e w (of.Ipp u)) (sym is) heard
-heard_ipp settings e t u what f (inr (off, (it, reader, answers, falls, hears))) =
-    let c = item_comes e f.said t u f.body reader what it (answers.0 e.read f.said (stands_told e.read e.progress t f off)) (heard_told e.read e.progress t f off) hears in
-    record { progress = c.0; hears = subst (λ (k : PeerRecord). ItemComes settings k e what (with_progress c.0 e)) (sym f.is) c.1; broken = c.2; whole = λ goes. c.2 }
+    subst (λ (w : Step). HasCome settings e w (of.Ipp u)) (sym is) comes
+ipp_comes settings e t u what f (inr (off, (it, reader, answers, falls, takes_item))) =
+    let c = item_comes e f.said t u f.body reader what it (answers.0 e.read f.said (stands_reported e.read e.progress t f off)) (body_reported e.read e.progress t f off) takes_item in
+    record { progress = c.0; takes_item = subst (λ (k : PeerRecord). ItemComes settings k e what (with_progress c.0 e)) (sym f.is) c.1; broken = c.2; whole = λ goes. c.2 }
 
 -- ---- an LPD client
 
-heard_lpd : (settings : ServerSettings) (e : Entry) (t u : LpdClientState) (what : Step) → FitsLpd e.read e.progress t → NextLpd (is_queue settings) (Some what) t u → HasCome settings e what (of.Lpd u)
-heard_lpd settings e t u what f (inl (it, reader, answers, falls, (same, comes))) =
+lpd_comes : (settings : ServerSettings) (e : Entry) (t u : LpdClientState) (what : Step) → FitsLpd e.read e.progress t → NextLpd (is_queue settings) (Some what) t u → HasCome settings e what (of.Lpd u)
+lpd_comes settings e t u what f (inl (it, reader, answers, falls, (same, comes))) =
     let items : List ItemRecord = f.items ++ item_record it reader.file ∷ [] in
     let stands : Lpd.HasRead e.read items reader = answers e.read f.items f.stands in
     let fits : FitsLpd e.read (entry.Queue (f.items ++ item_record it reader.file ∷ []) u.session) u = record { items = f.items ++ item_record it reader.file ∷ []; is = refl; stands = subst (λ (r : LpdState). Lpd.HasRead e.read (f.items ++ item_record it reader.file ∷ []) r) (sym same) stands } in
@@ -191,38 +191,38 @@ heard_lpd settings e t u what f (inl (it, reader, answers, falls, (same, comes))
       comes = comes;
       after = refl;
     } in
-    record { progress = entry.Queue (f.items ++ item_record it reader.file ∷ []) u.session; hears = subst (λ (k : PeerRecord). ItemComes settings k e what (with_progress (entry.Queue (f.items ++ item_record it reader.file ∷ []) u.session) e)) (sym f.is) (inl next); broken = fits; whole = λ goes. fits }
-heard_lpd settings e t u what f (inr (inl (fault, answers, comes, is))) =
+    record { progress = entry.Queue (f.items ++ item_record it reader.file ∷ []) u.session; takes_item = subst (λ (k : PeerRecord). ItemComes settings k e what (with_progress (entry.Queue (f.items ++ item_record it reader.file ∷ []) u.session) e)) (sym f.is) (inl next); broken = fits; whole = λ goes. fits }
+lpd_comes settings e t u what f (inr (inl (fault, answers, comes, is))) =
     let found = answers.1 e.read f.items f.stands in
     let fits : FitsLpd e.read e.progress u = record { items = f.items; is = f.is ∙ sym (ap (λ (x : LpdClientState). entry.Queue f.items x.session) is); stands = found.1 } in
     let next : FindsFault e f.items what (with_progress e.progress e) = record { fault = fault; is = found.0; comes = comes; after = refl } in
-    record { progress = e.progress; hears = subst (λ (k : PeerRecord). ItemComes settings k e what (with_progress e.progress e)) (sym f.is) (inr (inl next)); broken = fits; whole = λ goes. fits }
-heard_lpd settings e t u what f (inr (inr (answers, comes, is))) =
+    record { progress = e.progress; takes_item = subst (λ (k : PeerRecord). ItemComes settings k e what (with_progress e.progress e)) (sym f.is) (inr (inl next)); broken = fits; whole = λ goes. fits }
+lpd_comes settings e t u what f (inr (inr (answers, comes, is))) =
     let fits : FitsLpd e.read e.progress u = record { items = f.items; is = f.is ∙ sym (ap (λ (x : LpdClientState). entry.Queue f.items x.session) is); stands = subst (λ (r : LpdState). Lpd.HasRead e.read f.items r) (sym answers.0) f.stands } in
-    record { progress = e.progress; hears = subst (λ (k : PeerRecord). ItemComes settings k e what (with_progress e.progress e)) (sym f.is) (inr (inr (comes, refl))); broken = fits; whole = λ goes. fits }
+    record { progress = e.progress; takes_item = subst (λ (k : PeerRecord). ItemComes settings k e what (with_progress e.progress e)) (sym f.is) (inr (inr (comes, refl))); broken = fits; whole = λ goes. fits }
 
 -- ---- a device
 
 abbrev IsHello : ReportRecord → Type 0
-IsHello (SaysHello name) = Unit {0}
+IsHello (HelloReport name) = Unit {0}
 IsHello _ = ⊥
 
 first_is_hello : (o : Option ReportRecord) (r : ReportRecord) → in_turn false o ≡ Some r → IsHello r
 first_is_hello None r is = cc
-first_is_hello (Some (SaysHello name)) r is = let same : SaysHello name ≡ r = cc in subst IsHello same tt
-first_is_hello (Some (SaysMedia names)) r is = cc
-first_is_hello (Some SaysReady) r is = cc
-first_is_hello (Some SaysStop) r is = cc
-first_is_hello (Some (SaysBusy time)) r is = cc
-first_is_hello (Some (SaysPages job printed)) r is = cc
-first_is_hello (Some (SaysDone job)) r is = cc
-first_is_hello (Some (SaysFail job)) r is = cc
-first_is_hello (Some IsGone) r is = cc
+first_is_hello (Some (HelloReport name)) r is = let same : HelloReport name ≡ r = cc in subst IsHello same tt
+first_is_hello (Some (MediaReport names)) r is = cc
+first_is_hello (Some ReadyReport) r is = cc
+first_is_hello (Some StopReport) r is = cc
+first_is_hello (Some (BusyReport time)) r is = cc
+first_is_hello (Some (PagesReport job printed)) r is = cc
+first_is_hello (Some (DoneReport job)) r is = cc
+first_is_hello (Some (FailReport job)) r is = cc
+first_is_hello (Some GoneReport) r is = cc
 
 hello_first : (read : List ℕ) (r : ReportRecord) (reader : LinkState) → Link.HasRead read (r ∷ []) reader → IsHello r
 hello_first read r reader stands =
     let front = stands.leads.1 in
-    first_is_hello (said (words_of (strip_carriage_return (take front.count read)))) r front.says
+    first_is_hello (said (words_of (strip_carriage_return (take front.count read)))) r front.parses
 
 -- the step for a report, and the device then: the device has given its name, unless the connection breaks
 record Comes_of (named : List ℕ → Option ℕ) (device : Option ℕ) (it : ReportRecord) (what : Step) (after : Option ℕ) : Type 0 where
@@ -256,8 +256,8 @@ report_comes named read given (Some device) it reader what after unnamed stands 
 off_device : (read : List ℕ) (reports : List ReportRecord) (u : DeviceState) → FitsDevice read (entry.Link reports u.device) true u
 off_device read reports u = record { reports = reports; is = refl; linked = λ no. let never : true ≡ false = no in cc }
 
-heard_device : (settings : ServerSettings) (e : Entry) (t u : DeviceState) (what : Step) → FitsDevice e.read e.progress false t → NextDevice (device_named settings) (Some what) t u → HasCome settings e what (of.Device u)
-heard_device settings e t u what f (inl (it, reader, answers, falls, (same, comes))) =
+device_comes : (settings : ServerSettings) (e : Entry) (t u : DeviceState) (what : Step) → FitsDevice e.read e.progress false t → NextDevice (device_named settings) (Some what) t u → HasCome settings e what (of.Device u)
+device_comes settings e t u what f (inl (it, reader, answers, falls, (same, comes))) =
     let linked = f.linked refl in
     let stands : Link.HasRead e.read (f.reports ++ report_of it ∷ []) reader = answers e.read f.reports linked.stands in
     let c = report_comes (device_named settings) e.read f.reports t.device it reader what u.device linked.unnamed stands comes in
@@ -270,7 +270,7 @@ heard_device settings e t u what f (inl (it, reader, answers, falls, (same, come
     } in
     record {
       progress = entry.Link (f.reports ++ report_of it ∷ []) u.device;
-      hears = subst (λ (k : PeerRecord). ItemComes settings k e what (with_progress (entry.Link (f.reports ++ report_of it ∷ []) u.device) e)) (sym f.is) (inl next);
+      takes_item = subst (λ (k : PeerRecord). ItemComes settings k e what (with_progress (entry.Link (f.reports ++ report_of it ∷ []) u.device) e)) (sym f.is) (inl next);
       broken = off_device e.read (f.reports ++ report_of it ∷ []) u;
       whole = λ goes. record {
         reports = f.reports ++ report_of it ∷ [];
@@ -278,55 +278,55 @@ heard_device settings e t u what f (inl (it, reader, answers, falls, (same, come
         linked = λ on. record { stands = subst (λ (r : LinkState). Link.HasRead e.read (f.reports ++ report_of it ∷ []) r) (sym same) stands; unnamed = λ none. absurd (c.goes goes none) };
       };
     }
-heard_device settings e t u what f (inr (inl (fault, answers, comes, is))) =
+device_comes settings e t u what f (inr (inl (fault, answers, comes, is))) =
     let found = answers.1 e.read f.reports (f.linked refl).stands in
     let progress : e.progress ≡ entry.Link f.reports u.device = f.is ∙ sym (ap (λ (x : DeviceState). entry.Link f.reports x.device) is) in
     let next : FindsLinkFault e f.reports t.device what (with_progress e.progress e) = record { fault = fault; is = found.0; comes = comes; after = refl } in
     record {
       progress = e.progress;
-      hears = subst (λ (k : PeerRecord). ItemComes settings k e what (with_progress e.progress e)) (sym f.is) (inr (inl next));
+      takes_item = subst (λ (k : PeerRecord). ItemComes settings k e what (with_progress e.progress e)) (sym f.is) (inr (inl next));
       broken = record { reports = f.reports; is = progress; linked = λ no. let never : true ≡ false = no in cc };
       whole = λ goes. absurd (subst Goes comes goes);
     }
-heard_device settings e t u what f (inr (inr (answers, comes, is))) =
+device_comes settings e t u what f (inr (inr (answers, comes, is))) =
     let progress : e.progress ≡ entry.Link f.reports u.device = f.is ∙ sym (ap (λ (x : DeviceState). entry.Link f.reports x.device) is) in
     record {
       progress = e.progress;
-      hears = subst (λ (k : PeerRecord). ItemComes settings k e what (with_progress e.progress e)) (sym f.is) (inr (inr (comes, refl)));
+      takes_item = subst (λ (k : PeerRecord). ItemComes settings k e what (with_progress e.progress e)) (sym f.is) (inr (inr (comes, refl)));
       broken = record { reports = f.reports; is = progress; linked = λ no. let never : true ≡ false = no in cc };
       whole = λ goes. absurd (subst Goes comes goes);
     }
 
 -- ---- any of them
 
-pub heard : (settings : ServerSettings) (e : Entry) (x y : Peer) (what : Step) → FitsPeer e.read e.progress false x → NextPeer settings (Some what) x y → HasCome settings e what y
-heard settings e (of.Ipp t) (of.Ipp u) what f next = heard_ipp settings e t u what f next
-heard settings e (of.Lpd t) (of.Lpd u) what f next = heard_lpd settings e t u what f next
-heard settings e (of.Device t) (of.Device u) what f next = heard_device settings e t u what f next
-heard settings e (of.Ipp t) (of.Lpd u) what f next = absurd next
-heard settings e (of.Ipp t) (of.Device u) what f next = absurd next
-heard settings e (of.Lpd t) (of.Ipp u) what f next = absurd next
-heard settings e (of.Lpd t) (of.Device u) what f next = absurd next
-heard settings e (of.Device t) (of.Ipp u) what f next = absurd next
-heard settings e (of.Device t) (of.Lpd u) what f next = absurd next
+pub peer_comes : (settings : ServerSettings) (e : Entry) (x y : Peer) (what : Step) → FitsPeer e.read e.progress false x → NextPeer settings (Some what) x y → HasCome settings e what y
+peer_comes settings e (of.Ipp t) (of.Ipp u) what f next = ipp_comes settings e t u what f next
+peer_comes settings e (of.Lpd t) (of.Lpd u) what f next = lpd_comes settings e t u what f next
+peer_comes settings e (of.Device t) (of.Device u) what f next = device_comes settings e t u what f next
+peer_comes settings e (of.Ipp t) (of.Lpd u) what f next = absurd next
+peer_comes settings e (of.Ipp t) (of.Device u) what f next = absurd next
+peer_comes settings e (of.Lpd t) (of.Ipp u) what f next = absurd next
+peer_comes settings e (of.Lpd t) (of.Device u) what f next = absurd next
+peer_comes settings e (of.Device t) (of.Ipp u) what f next = absurd next
+peer_comes settings e (of.Device t) (of.Lpd u) what f next = absurd next
 
 -- the bytes that are left have no whole item
-pub rested : (settings : ServerSettings) (read : List ℕ) (progress : PeerRecord) (x y : Peer) → FitsPeer read progress false x → NextPeer settings None x y → IsHeardAs read progress × FitsPeer read progress false y
+pub rested : (settings : ServerSettings) (read : List ℕ) (progress : PeerRecord) (x y : Peer) → FitsPeer read progress false x → NextPeer settings None x y → IsActedOnAs read progress × FitsPeer read progress false y
 rested settings read progress (of.Ipp t) (of.Ipp u) f (off, (answers, is)) =
-    let all : Exchanges read f.said = answers.1 read f.said (stands_told read progress t f off) in
-    let stands : Http.HasRead read f.said u.reader = subst (λ (xs : List HttpElement). Http.HasRead read xs u.reader) (append-nil f.said) (answers.0 read f.said (stands_told read progress t f off)) in
-    let heard : Body.HasRead f.body u.body = subst (λ (v : IppClientState). Body.HasRead f.body v.body) (sym is) (heard_told read progress t f off) in
-    let fits : FitsIpp read (entry.Http f.said t.closes f.body) u = fits_ipp read f.said t.closes f.body u.reader u stands refl (ap (λ (v : IppClientState). v.closes) is) heard in
-    (subst (λ (k : PeerRecord). IsHeardAs read k) (sym f.is) all, subst (λ (k : PeerRecord). FitsIpp read k u) (sym f.is) fits)
+    let all : Exchanges read f.said = answers.1 read f.said (stands_reported read progress t f off) in
+    let stands : Http.HasRead read f.said u.reader = subst (λ (xs : List HttpElement). Http.HasRead read xs u.reader) (append-nil f.said) (answers.0 read f.said (stands_reported read progress t f off)) in
+    let body_read : Body.HasRead f.body u.body = subst (λ (v : IppClientState). Body.HasRead f.body v.body) (sym is) (body_reported read progress t f off) in
+    let fits : FitsIpp read (entry.Http f.said t.closes f.body) u = fits_ipp read f.said t.closes f.body u.reader u stands refl (ap (λ (v : IppClientState). v.closes) is) body_read in
+    (subst (λ (k : PeerRecord). IsActedOnAs read k) (sym f.is) all, subst (λ (k : PeerRecord). FitsIpp read k u) (sym f.is) fits)
 rested settings read progress (of.Lpd t) (of.Lpd u) f (answers, is) =
     let all : LpdItems read f.items Open = answers.1 read f.items f.stands in
     let same : entry.Queue f.items t.session ≡ entry.Queue f.items u.session = sym (ap (λ (v : LpdClientState). entry.Queue f.items v.session) is) in
-    (subst (λ (k : PeerRecord). IsHeardAs read k) (sym f.is) all, record { items = f.items; is = f.is ∙ same; stands = subst (λ (r : LpdState). Lpd.HasRead read f.items r) (sym answers.0) f.stands })
+    (subst (λ (k : PeerRecord). IsActedOnAs read k) (sym f.is) all, record { items = f.items; is = f.is ∙ same; stands = subst (λ (r : LpdState). Lpd.HasRead read f.items r) (sym answers.0) f.stands })
 rested settings read progress (of.Device t) (of.Device u) f (answers, is) =
     let linked = f.linked refl in
     let all = answers.1 read f.reports linked.stands in
     let same : entry.Link f.reports t.device ≡ entry.Link f.reports u.device = sym (ap (λ (v : DeviceState). entry.Link f.reports v.device) is) in (
-      subst (λ (k : PeerRecord). IsHeardAs read k) (sym f.is) all,
+      subst (λ (k : PeerRecord). IsActedOnAs read k) (sym f.is) all,
       record {
         reports = f.reports;
         is = f.is ∙ same;
@@ -352,11 +352,11 @@ fed_ipp read piece progress t u f (inl (is, stands)) =
       body = f.body;
       unreported = f.unreported;
       is = f.is ∙ same;
-      told = λ off. f.told (sym (ap (λ (v : IppClientState). v.unreported) is) ∙ off);
+      all_reported = λ off. f.all_reported (sym (ap (λ (v : IppClientState). v.unreported) is) ∙ off);
       stands = stands read (f.said ++ map HasByte f.unreported) f.stands;
-      heard = subst (λ (v : IppClientState). Body.HasRead (f.body ++ f.unreported) v.body) (sym is) f.heard;
+      body_read = subst (λ (v : IppClientState). Body.HasRead (f.body ++ f.unreported) v.body) (sym is) f.body_read;
     }
-fed_ipp read piece progress t u f (inr (is, stands, heard)) =
+fed_ipp read piece progress t u f (inr (is, stands, body_read)) =
     let same : entry.Http f.said t.closes f.body ≡ entry.Http f.said u.closes f.body = sym (ap (λ (v : IppClientState). entry.Http f.said v.closes f.body) is) in
     let on : u.unreported ≡ true = ap (λ (v : IppClientState). v.unreported) is in
     let said : (f.said ++ map HasByte f.unreported) ++ map HasByte piece ≡ f.said ++ map HasByte (f.unreported ++ piece) =
@@ -366,9 +366,9 @@ fed_ipp read piece progress t u f (inr (is, stands, heard)) =
       body = f.body;
       unreported = f.unreported ++ piece;
       is = f.is ∙ same;
-      told = λ off. let never : true ≡ false = sym on ∙ off in cc;
+      all_reported = λ off. let never : true ≡ false = sym on ∙ off in cc;
       stands = subst (λ (xs : List HttpElement). Http.HasRead (read ++ piece) xs u.reader) said (stands read (f.said ++ map HasByte f.unreported) f.stands);
-      heard = subst (λ (xs : List ℕ). Body.HasRead xs u.body) (append_assoc f.body f.unreported piece) (heard (f.body ++ f.unreported) f.heard);
+      body_read = subst (λ (xs : List ℕ). Body.HasRead xs u.body) (append_assoc f.body f.unreported piece) (body_read (f.body ++ f.unreported) f.body_read);
     }
 
 -- a piece was fed
@@ -393,4 +393,4 @@ fed_peer read piece progress off (of.Device t) (of.Lpd u) f it = absurd it
 
 -- a client of which nothing was read
 pub new_ipp : (t : IppClientState) → IsNewIpp t → FitsIpp [] (entry.Http [] false []) t
-new_ipp t (stands, closes, heard, unreported) = fits_ipp [] [] false [] t.reader t stands refl closes heard
+new_ipp t (stands, closes, body_read, unreported) = fits_ipp [] [] false [] t.reader t stands refl closes body_read

@@ -90,26 +90,26 @@ StepsTo (step.Breaks asked) e what new = (what ≡ asked) × (new ≡ broken e)
 -- ---- the whole relation
 
 -- all bytes that were read were acted on
-abbrev pub IsHeardAs : List ℕ → PeerRecord → Type 0
-IsHeardAs read (OfIpp said closes body) = Exchanges read said
-IsHeardAs read (OfLpd items session) = LpdItems read items Open
-IsHeardAs read (OfDevice reports device) = device_reports read ≡ record { reports = reports; ending = Unfinished }
+abbrev pub IsActedOnAs : List ℕ → PeerRecord → Type 0
+IsActedOnAs read (OfIpp said closes body) = Exchanges read said
+IsActedOnAs read (OfLpd items session) = LpdItems read items Open
+IsActedOnAs read (OfDevice reports device) = device_reports read ≡ record { reports = reports; ending = Unfinished }
 
 -- the connection is draining or broken, or all bytes that it read were acted on
-abbrev pub IsHeard : Entry → Type 0
-IsHeard e = ((e.draining || e.broken) ≡ true) ⊎ IsHeardAs e.read e.progress
+abbrev pub IsActedOn : Entry → Type 0
+IsActedOn e = ((e.draining || e.broken) ≡ true) ⊎ IsActedOnAs e.read e.progress
 
 -- a connection that is neither draining nor broken has an ask
 pub record AsksNext (settings : ServerSettings) (what : Ask) (e new : Entry) : Type 0 where
   pub counts : (e.draining || e.broken) ≡ false
   pub comes : Step
   pub mid : Entry
-  pub hears : ItemComes settings e.progress e comes mid
+  pub takes_item : ItemComes settings e.progress e comes mid
   pub steps : StepsTo comes mid what new
 
 -- the connection has this ask, or no ask
 abbrev pub Asking : ServerSettings → Option Ask → Entry → Entry → Type 0
-Asking settings None e new = IsHeard e × (new ≡ e)
+Asking settings None e new = IsActedOn e × (new ≡ e)
 Asking settings (Some what) e new = AsksNext settings what e new
 
 -- ---- the bytes of a peer

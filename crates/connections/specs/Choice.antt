@@ -23,14 +23,14 @@ part_taken item.BodyPart part = Some (length part)
 part_taken item.BodyEnd part = None
 part_taken (item.Refuse refusal) part = None
 
-abbrev pub part_heard : (settings : ServerSettings) (progress : PeerRecord) (e : Entry) (comes : Step) (mid : Entry) → ItemComes settings progress e comes mid → Option ℕ
-part_heard settings (OfIpp said closes body) e comes mid next = part_taken next.item next.part
-part_heard settings (OfLpd items session) e comes mid next = None
-part_heard settings (OfDevice reports device) e comes mid next = None
+abbrev pub part_acted_on : (settings : ServerSettings) (progress : PeerRecord) (e : Entry) (comes : Step) (mid : Entry) → ItemComes settings progress e comes mid → Option ℕ
+part_acted_on settings (OfIpp said closes body) e comes mid next = part_taken next.item next.part
+part_acted_on settings (OfLpd items session) e comes mid next = None
+part_acted_on settings (OfDevice reports device) e comes mid next = None
 
 -- the length of the part of a body that is taken with an ask, where a part is taken
 abbrev pub part_of : {settings : ServerSettings} {what : Ask} {e new : Entry} → AsksNext settings what e new → Option ℕ
-part_of {settings} {e} asks = part_heard settings e.progress e asks.comes asks.mid asks.hears
+part_of {settings} {e} asks = part_acted_on settings e.progress e asks.comes asks.mid asks.takes_item
 
 -- the purpose of the memory that was refused, as an ask is made
 pub data Loss : Type 0 where

@@ -21,9 +21,9 @@ pub record FitsIpp (read : List ℕ) (progress : PeerRecord) (t : IppClientState
   -- bytes that the body was fed, and that no step has reported yet
   pub unreported : List ℕ
   pub is : progress ≡ entry.Http said t.closes body
-  pub told : t.unreported ≡ false → unreported ≡ []
+  pub all_reported : t.unreported ≡ false → unreported ≡ []
   pub stands : Http.HasRead read (said ++ map HasByte unreported) t.reader
-  pub heard : Body.HasRead (body ++ unreported) t.body
+  pub body_read : Body.HasRead (body ++ unreported) t.body
 
 -- the reader of an LPD client has been fed all bytes read
 pub record FitsLpd (read : List ℕ) (progress : PeerRecord) (t : LpdClientState) : Type 0 where

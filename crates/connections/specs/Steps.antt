@@ -1,7 +1,7 @@
 -- The step for the next item of a peer's stream: for an IPP client an item of HTTP (RFC 9112), for an LPD client an item of RFC 1179, for a device a report.
 use Rattle.std.specs.Prelude.{ℕ, ◌≡◌, ◌⊎◌, Bool, true, false, List, [], ◌∷◌, ◌++◌, Option, Some, None}
 use Rattle.base_types.specs.declared.report.Report.{Report}
-use Rattle.base_types.specs.Report.{ReportRecord, SaysHello, report_of}
+use Rattle.base_types.specs.Report.{ReportRecord, HelloReport, report_of}
 use Rattle.http_front.specs.Reply.{continue_head}
 use Rattle.http_front.specs.declared.refusal.HttpRejection.TheVariants.{BadRequest}
 use Rattle.http_front.specs.declared.item.HttpItem.{HttpItem}
@@ -25,7 +25,7 @@ use Rattle.connections.specs.declared.step.Due.{Due}
 use Rattle.connections.specs.declared.step.Due.TheVariants as due
 use Rattle.connections.specs.declared.step.Step.{Step}
 use Rattle.connections.specs.declared.step.Step.TheVariants as step
-use Rattle.connections.specs.Session.{Hearing, Goes, Stops, Submits, Commands, heard, file_lost}
+use Rattle.connections.specs.Session.{ItemResult, Goes, Stops, Submits, Commands, result_of, file_lost}
 use Rattle.connections.specs.Commands.{SubmitsJob, IsCommand}
 
 -- ---- bytes
@@ -108,7 +108,7 @@ step_of (fault.Fault it) = refused
 step_of fault.OutOfMemory = no_memory
 
 -- the step for an item of LPD, and the session after it; memory for a job may be refused
-abbrev pub AsksAs : Hearing → Step → Option SessionState → Type 0
+abbrev pub AsksAs : ItemResult → Step → Option SessionState → Type 0
 AsksAs (Goes answer next) (step.Due what last) after = (what ≡ byte_due answer) × (last ≡ false) × (after ≡ next)
 AsksAs (Stops answer) (step.Due what last) after = (what ≡ byte_due answer) × (last ≡ true) × (after ≡ None)
 AsksAs (Submits job next) (step.Asks (ask.Event client.LpdJob event) last) after = SubmitsJob job event × (last ≡ false) × (after ≡ Some next)
@@ -120,15 +120,15 @@ AsksAs _ _ _ = ⊥
 abbrev pub IsFileLost : Option SessionState → Step → Option SessionState → Type 0
 IsFileLost before what after = (what ≡ step.Asks (ask.Lost part.File) false) × (after ≡ file_lost before)
 
-abbrev pub AsksForFile : Hearing → Option SessionState → Step → Option SessionState → Type 0
-AsksForFile hearing before what after = IsFileLost before what after ⊎ AsksAs hearing what after
+abbrev pub AsksForFile : ItemResult → Option SessionState → Step → Option SessionState → Type 0
+AsksForFile result before what after = IsFileLost before what after ⊎ AsksAs result what after
 
 -- the step for an item, and the session after it, where is_queue states which queues there are
 abbrev pub StepsLpd : (List ℕ → Bool) → Option SessionState → ItemRecord → Step → Option SessionState → Type 0
-StepsLpd is_queue before (HasFile contents) what after = AsksForFile (heard is_queue before (HasFile contents)) before what after
-StepsLpd is_queue before (HasCommand command) what after = AsksAs (heard is_queue before (HasCommand command)) what after
-StepsLpd is_queue before Aborts what after = AsksAs (heard is_queue before Aborts) what after
-StepsLpd is_queue before (Announces head) what after = AsksAs (heard is_queue before (Announces head)) what after
+StepsLpd is_queue before (HasFile contents) what after = AsksForFile (result_of is_queue before (HasFile contents)) before what after
+StepsLpd is_queue before (HasCommand command) what after = AsksAs (result_of is_queue before (HasCommand command)) what after
+StepsLpd is_queue before Aborts what after = AsksAs (result_of is_queue before Aborts) what after
+StepsLpd is_queue before (Announces head) what after = AsksAs (result_of is_queue before (Announces head)) what after
 
 -- ---- a device
 
@@ -139,7 +139,7 @@ StepsHello name (Some device) what after = (what ≡ step.Asks (ask.Hello device
 
 -- the step for a report, and the device that has given its name after it; the first report is a name, and no later report is
 abbrev pub StepsDevice : (List ℕ → Option ℕ) → Option ℕ → ReportRecord → Step → Option ℕ → Type 0
-StepsDevice named None (SaysHello name) what after = StepsHello name (named name) what after
+StepsDevice named None (HelloReport name) what after = StepsHello name (named name) what after
 StepsDevice named None _ what after = ⊥
 StepsDevice named (Some device) said what after = ((it : Report) × (report_of it ≡ said) × (what ≡ step.Asks (ask.Report device it) false)) × (after ≡ Some device)
 

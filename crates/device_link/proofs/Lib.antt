@@ -1,2 +1,2 @@
-mod Says
+mod TooManyOperands
 mod Streams

@@ -20,29 +20,29 @@ use Rattle.text.specs.declared.line.FirstLine.TheVariants as Front
 use Rattle.text.proofs.FirstLines.{whole_line, line_grown, unfinished_line, endless_line, endless_grown}
 use Rattle.text.proofs.Splits.{parts, split_before, split_nowhere, first_is_long}
 
-heard_first_of : (greeted : Bool) (line : List ℕ) (texts next : List ℕ) (more : List (List ℕ)) (parts : List (List ℕ)) → length line < DEVICE_LINE_BYTES → parts ≡ next ∷ more → parsed_in greeted (line ∷ parts) ≡ parsed_after (report_in greeted line) (parsed_in true parts)
-heard_first_of greeted line texts next more parts short cut = rw cut (search (rules, short))
+parsed_first_of : (greeted : Bool) (line : List ℕ) (texts next : List ℕ) (more : List (List ℕ)) (parts : List (List ℕ)) → length line < DEVICE_LINE_BYTES → parts ≡ next ∷ more → parsed_in greeted (line ∷ parts) ≡ parsed_after (report_in greeted line) (parsed_in true parts)
+parsed_first_of greeted line texts next more parts short cut = rw cut (search (rules, short))
 
--- a whole line is heard before the bytes after it
-pub heard_line : (greeted : Bool) (bytes coming : List ℕ) (count : ℕ) → first_line_of DEVICE_LINE_BYTES bytes ≡ Front.Whole count → parsed_in greeted (texts_of (bytes ++ coming)) ≡ parsed_after (report_in greeted (take count bytes)) (parsed_in true (texts_of (drop (count + 1) bytes ++ coming)))
-heard_line greeted bytes coming count line =
+-- a whole line is parsed before the bytes after it
+pub parsed_line : (greeted : Bool) (bytes coming : List ℕ) (count : ℕ) → first_line_of DEVICE_LINE_BYTES bytes ≡ Front.Whole count → parsed_in greeted (texts_of (bytes ++ coming)) ≡ parsed_after (report_in greeted (take count bytes)) (parsed_in true (texts_of (drop (count + 1) bytes ++ coming)))
+parsed_line greeted bytes coming count line =
     let later = parts (λ byte. byte == 10) (drop (count + 1) bytes ++ coming) in
     let whole = whole_line DEVICE_LINE_BYTES bytes count line in
     let short : length (take count bytes) < DEVICE_LINE_BYTES = search (rules, whole.1) in
-    rw (split_before (λ byte. byte == 10) bytes coming count whole.0) (heard_first_of greeted (take count bytes) [] later.first later.later (texts_of (drop (count + 1) bytes ++ coming)) short later.cut)
+    rw (split_before (λ byte. byte == 10) bytes coming count whole.0) (parsed_first_of greeted (take count bytes) [] later.first later.later (texts_of (drop (count + 1) bytes ++ coming)) short later.cut)
 
-heard_long : (greeted : Bool) (text : List ℕ) (later : List (List ℕ)) → DEVICE_LINE_BYTES ≤ length text → parsed_in greeted (text ∷ later) ≡ silence (Faulty LineTooLong)
-heard_long greeted text [] long = search (rules, long)
-heard_long greeted text (next ∷ more) long = search (rules, long)
+parsed_long : (greeted : Bool) (text : List ℕ) (later : List (List ℕ)) → DEVICE_LINE_BYTES ≤ length text → parsed_in greeted (text ∷ later) ≡ silence (Faulty LineTooLong)
+parsed_long greeted text [] long = search (rules, long)
+parsed_long greeted text (next ∷ more) long = search (rules, long)
 
-pub heard_too_long : (greeted : Bool) (bytes coming : List ℕ) → first_line_of DEVICE_LINE_BYTES bytes ≡ Front.TooLong → parsed_in greeted (texts_of (bytes ++ coming)) ≡ silence (Faulty LineTooLong)
-heard_too_long greeted bytes coming long =
+pub parsed_too_long : (greeted : Bool) (bytes coming : List ℕ) → first_line_of DEVICE_LINE_BYTES bytes ≡ Front.TooLong → parsed_in greeted (texts_of (bytes ++ coming)) ≡ silence (Faulty LineTooLong)
+parsed_too_long greeted bytes coming long =
     let endless = endless_grown DEVICE_LINE_BYTES bytes coming (endless_line DEVICE_LINE_BYTES bytes long) in
     let it = first_is_long (λ byte. byte == 10) (bytes ++ coming) DEVICE_LINE_BYTES endless.many endless.none in
-    rw it.0.cut (heard_long greeted it.0.first it.0.later it.1)
+    rw it.0.cut (parsed_long greeted it.0.first it.0.later it.1)
 
-pub heard_nothing : (greeted : Bool) (bytes : List ℕ) → first_line_of DEVICE_LINE_BYTES bytes ≡ Front.Unfinished → parsed_in greeted (texts_of bytes) ≡ silence Unfinished
-heard_nothing greeted bytes begun =
+pub parsed_nothing : (greeted : Bool) (bytes : List ℕ) → first_line_of DEVICE_LINE_BYTES bytes ≡ Front.Unfinished → parsed_in greeted (texts_of bytes) ≡ silence Unfinished
+parsed_nothing greeted bytes begun =
     let parts = unfinished_line DEVICE_LINE_BYTES bytes begun in
     rw (split_nowhere (λ byte. byte == 10) bytes parts.0) (search (rules, parts.1))
 
@@ -61,7 +61,7 @@ line_more greeted bytes more report rest x =
     record {
       count = x.count;
       line = line_grown DEVICE_LINE_BYTES bytes more x.count x.line;
-      says = ap (λ (l : List ℕ). report_in greeted l) first ∙ x.says;
+      parses = ap (λ (l : List ℕ). report_in greeted l) first ∙ x.parses;
       rest_is = ap (λ (r : List ℕ). r ++ more) x.rest_is ∙ sym rest;
     }
 
@@ -69,17 +69,17 @@ leads_more : (greeted : Bool) (bytes more : List ℕ) (reports : List ReportReco
 leads_more greeted bytes more [] next left x = (x.0, ap (λ l. l ++ more) x.1)
 leads_more greeted bytes more (report ∷ reports) next left x = (x.0 ++ more, line_more greeted bytes more report x.0 x.1, leads_more true x.0 more reports next left x.2)
 
-with_none : (heard : ParsedLines) → with_front [] heard ≡ heard
-with_none heard = refl
+with_none : (reports_read : ParsedLines) → with_front [] reports_read ≡ reports_read
+with_none reports_read = refl
 
 -- the reports of bytes: the reports that they say first, and then the reports of the bytes that are left
-heard_leads : (greeted : Bool) (bytes coming : List ℕ) (reports : List ReportRecord) (next : Bool) (left : List ℕ) → Leads greeted bytes reports next left → parsed_in greeted (texts_of (bytes ++ coming)) ≡ with_front reports (parsed_in next (texts_of (left ++ coming)))
-heard_leads greeted bytes coming [] next left x = rw (x.0, x.1) (sym (with_none (parsed_in greeted (texts_of (bytes ++ coming)))))
-heard_leads greeted bytes coming (report ∷ reports) next left x =
-    let later = heard_leads true x.0 coming reports next left x.2 in
-    let front = heard_line greeted bytes coming x.1.count x.1.line in
-    let says : parsed_after (report_in greeted (take x.1.count bytes)) (parsed_in true (texts_of (drop (x.1.count + 1) bytes ++ coming))) ≡ with_front (report ∷ []) (parsed_in true (texts_of (x.0 ++ coming))) = rw (x.1.says, x.1.rest_is) refl in
-    front ∙ says ∙ ap (λ (h : ParsedLines). with_front (report ∷ []) h) later
+parsed_leads : (greeted : Bool) (bytes coming : List ℕ) (reports : List ReportRecord) (next : Bool) (left : List ℕ) → Leads greeted bytes reports next left → parsed_in greeted (texts_of (bytes ++ coming)) ≡ with_front reports (parsed_in next (texts_of (left ++ coming)))
+parsed_leads greeted bytes coming [] next left x = rw (x.0, x.1) (sym (with_none (parsed_in greeted (texts_of (bytes ++ coming)))))
+parsed_leads greeted bytes coming (report ∷ reports) next left x =
+    let later = parsed_leads true x.0 coming reports next left x.2 in
+    let front = parsed_line greeted bytes coming x.1.count x.1.line in
+    let parses : parsed_after (report_in greeted (take x.1.count bytes)) (parsed_in true (texts_of (drop (x.1.count + 1) bytes ++ coming))) ≡ with_front (report ∷ []) (parsed_in true (texts_of (x.0 ++ coming))) = rw (x.1.parses, x.1.rest_is) refl in
+    front ∙ parses ∙ ap (λ (h : ParsedLines). with_front (report ∷ []) h) later
 
 -- ---- a fault stays
 
@@ -95,15 +95,15 @@ after_stays (Some report) later grown fault is = absurd (no_report report later 
 
 faulty_by : (greeted : Bool) (bytes more : List ℕ) (fault : LinkFault) (front : FirstLine) → first_line_of DEVICE_LINE_BYTES bytes ≡ front → parsed_in greeted (texts_of bytes) ≡ silence (Faulty fault) → parsed_in greeted (texts_of (bytes ++ more)) ≡ silence (Faulty fault)
 faulty_by greeted bytes more fault (Front.Whole count) line is =
-    let here = heard_line greeted bytes [] count line in
+    let here = parsed_line greeted bytes [] count line in
     let same : parsed_in greeted (texts_of (bytes ++ [])) ≡ silence (Faulty fault) = subst (λ (b : List ℕ). parsed_in greeted (texts_of b) ≡ silence (Faulty fault)) (sym (append-nil bytes)) is in
-    heard_line greeted bytes more count line ∙ after_stays (report_in greeted (take count bytes)) _ _ fault (sym here ∙ same)
+    parsed_line greeted bytes more count line ∙ after_stays (report_in greeted (take count bytes)) _ _ fault (sym here ∙ same)
 faulty_by greeted bytes more fault Front.TooLong line is =
-    let here = heard_too_long greeted bytes [] line in
+    let here = parsed_too_long greeted bytes [] line in
     let same : parsed_in greeted (texts_of (bytes ++ [])) ≡ silence (Faulty fault) = subst (λ (b : List ℕ). parsed_in greeted (texts_of b) ≡ silence (Faulty fault)) (sym (append-nil bytes)) is in
-    heard_too_long greeted bytes more line ∙ (sym here ∙ same)
+    parsed_too_long greeted bytes more line ∙ (sym here ∙ same)
 faulty_by greeted bytes more fault Front.Unfinished line is =
-    let no : silence Unfinished ≡ silence (Faulty fault) = sym (heard_nothing greeted bytes line) ∙ is in
+    let no : silence Unfinished ≡ silence (Faulty fault) = sym (parsed_nothing greeted bytes line) ∙ is in
     let endings : Unfinished ≡ Faulty fault = ap (λ (h : ParsedLines). h.ending) no in
     absurd (cc endings)
 
@@ -143,19 +143,19 @@ stands_still stream given piece reader faulty stands = record {
 -- ---- answers
 
 -- the reports of a stream that a reader has read up to the bytes that are left
-heard_so : (stream : List ℕ) (given : List ReportRecord) (next : Bool) (left : List ℕ) (ending : Ending) → Leads false stream given next left → parsed_in next (texts_of left) ≡ silence ending → device_reports stream ≡ record { reports = given; ending = ending }
-heard_so stream given next left ending leads is =
-    let all : parsed_in false (texts_of (stream ++ [])) ≡ with_front given (parsed_in next (texts_of (left ++ []))) = heard_leads false stream [] given next left leads in
+parsed_so : (stream : List ℕ) (given : List ReportRecord) (next : Bool) (left : List ℕ) (ending : Ending) → Leads false stream given next left → parsed_in next (texts_of left) ≡ silence ending → device_reports stream ≡ record { reports = given; ending = ending }
+parsed_so stream given next left ending leads is =
+    let all : parsed_in false (texts_of (stream ++ [])) ≡ with_front given (parsed_in next (texts_of (left ++ []))) = parsed_leads false stream [] given next left leads in
     let here : parsed_in false (texts_of stream) ≡ with_front given (parsed_in next (texts_of left)) = subst (λ (b : List ℕ). parsed_in false (texts_of b) ≡ with_front given (parsed_in next (texts_of left))) (append-nil stream) (subst (λ (l : List ℕ). parsed_in false (texts_of (stream ++ [])) ≡ with_front given (parsed_in next (texts_of l))) (append-nil left) all) in
     let none : with_front given (silence ending) ≡ record { reports = given; ending = ending } = ap (λ (r : List ReportRecord). record { reports = r; ending = ending }) (append-nil given) in
     here ∙ ap (λ (h : ParsedLines). with_front given h) is ∙ none
 
 -- the answer for the line of a report
 pub answers_report : (old : LinkState) (count : ℕ) (report : Report) → old.fault ≡ None → first_line_of DEVICE_LINE_BYTES old.rest ≡ Front.Whole count → report_in old.greeted (take count old.rest) ≡ Some (report_of report) → Answers old (Ok (Some report)) (record { rest = drop (count + 1) old.rest; greeted = true; fault = None })
-answers_report old count report faultless line says stream given stands =
+answers_report old count report faultless line parses stream given stands =
     let same : stands.left ≡ old.rest = subst (λ (f : Option LinkFault). IsLeft f old.greeted old.rest stands.left) faultless stands.kept in
     let here : Leads false stream given old.greeted old.rest = subst (λ (l : List ℕ). Leads false stream given old.greeted l) same stands.leads in
-    let at : ParsesAtFront old.greeted old.rest (report_of report) (drop (count + 1) old.rest) = record { count = count; line = line; says = says; rest_is = refl } in
+    let at : ParsesAtFront old.greeted old.rest (report_of report) (drop (count + 1) old.rest) = record { count = count; line = line; parses = parses; rest_is = refl } in
     let on : Leads old.greeted old.rest (report_of report ∷ []) true (drop (count + 1) old.rest) = (drop (count + 1) old.rest, at, (refl, refl)) in
     record { left = drop (count + 1) old.rest; leads = leads_then false stream given old.greeted old.rest (report_of report ∷ []) true (drop (count + 1) old.rest) here on; kept = refl }
 
@@ -171,7 +171,7 @@ fault_stands old fault faulty = (
   refl,
   λ stream given stands.
       let here = faulty stands.left stands.kept in (
-        heard_so stream given old.greeted stands.left (Faulty fault) stands.leads here,
+        parsed_so stream given old.greeted stands.left (Faulty fault) stands.leads here,
         record { left = stands.left; leads = stands.leads; kept = here },
       ),
 )
@@ -184,14 +184,14 @@ answers_fault old fault faultless faulty =
     subst (λ (l : List ℕ). parsed_in old.greeted (texts_of l) ≡ silence (Faulty fault)) (sym same) faulty)
 
 pub answers_bad_line : (old : LinkState) (count : ℕ) → old.fault ≡ None → first_line_of DEVICE_LINE_BYTES old.rest ≡ Front.Whole count → report_in old.greeted (take count old.rest) ≡ None → Answers old (Err (Fault BadLine)) (record old { fault = Some BadLine })
-answers_bad_line old count faultless line says =
-    let front = heard_line old.greeted old.rest [] count line in
-    let silent : parsed_in old.greeted (texts_of (old.rest ++ [])) ≡ silence (Faulty BadLine) = front ∙ rw says refl in
+answers_bad_line old count faultless line parses =
+    let front = parsed_line old.greeted old.rest [] count line in
+    let silent : parsed_in old.greeted (texts_of (old.rest ++ [])) ≡ silence (Faulty BadLine) = front ∙ rw parses refl in
     answers_fault old BadLine faultless (subst (λ (b : List ℕ). parsed_in old.greeted (texts_of b) ≡ silence (Faulty BadLine)) (append-nil old.rest) silent)
 
 pub answers_too_long : (old : LinkState) → old.fault ≡ None → first_line_of DEVICE_LINE_BYTES old.rest ≡ Front.TooLong → Answers old (Err (Fault LineTooLong)) (record old { fault = Some LineTooLong })
 answers_too_long old faultless long =
-    answers_fault old LineTooLong faultless (subst (λ (b : List ℕ). parsed_in old.greeted (texts_of b) ≡ silence (Faulty LineTooLong)) (append-nil old.rest) (heard_too_long old.greeted old.rest [] long))
+    answers_fault old LineTooLong faultless (subst (λ (b : List ℕ). parsed_in old.greeted (texts_of b) ≡ silence (Faulty LineTooLong)) (append-nil old.rest) (parsed_too_long old.greeted old.rest [] long))
 
 pub answers_again : (old : LinkState) (fault : LinkFault) → old.fault ≡ Some fault → Answers old (Err (Fault fault)) old
 answers_again old fault faulty =
@@ -205,25 +205,25 @@ answers_nothing old faultless begun = (
   refl,
   λ stream given stands.
       let same : stands.left ≡ old.rest = subst (λ (f : Option LinkFault). IsLeft f old.greeted old.rest stands.left) faultless stands.kept in
-      let here : parsed_in old.greeted (texts_of stands.left) ≡ silence Unfinished = subst (λ (l : List ℕ). parsed_in old.greeted (texts_of l) ≡ silence Unfinished) (sym same) (heard_nothing old.greeted old.rest begun) in
-      heard_so stream given old.greeted stands.left Unfinished stands.leads here,
+      let here : parsed_in old.greeted (texts_of stands.left) ≡ silence Unfinished = subst (λ (l : List ℕ). parsed_in old.greeted (texts_of l) ≡ silence Unfinished) (sym same) (parsed_nothing old.greeted old.rest begun) in
+      parsed_so stream given old.greeted stands.left Unfinished stands.leads here,
 )
 
 -- ---- laws
 
-heard_left : (fault : Option LinkFault) (greeted : Bool) (rest left coming : List ℕ) → IsLeft fault greeted rest left → parsed_in greeted (texts_of (left ++ coming)) ≡ parsed_on fault greeted (rest ++ coming)
-heard_left (Some fault) greeted rest left coming is = faulty_more greeted left coming fault is
-heard_left None greeted rest left coming is = ap (λ (l : List ℕ). parsed_in greeted (texts_of (l ++ coming))) is
+parsed_left : (fault : Option LinkFault) (greeted : Bool) (rest left coming : List ℕ) → IsLeft fault greeted rest left → parsed_in greeted (texts_of (left ++ coming)) ≡ parsed_on fault greeted (rest ++ coming)
+parsed_left (Some fault) greeted rest left coming is = faulty_more greeted left coming fault is
+parsed_left None greeted rest left coming is = ap (λ (l : List ℕ). parsed_in greeted (texts_of (l ++ coming))) is
 
-pub hears_rest : (stream coming : List ℕ) (given : List ReportRecord) (reader : LinkState) → HasRead stream given reader → device_reports (stream ++ coming) ≡ with_front given (ahead reader coming)
-hears_rest stream coming given reader stands =
-    heard_leads false stream coming given reader.greeted stands.left stands.leads
-    ∙ ap (λ (h : ParsedLines). with_front given h) (heard_left reader.fault reader.greeted reader.rest stands.left coming stands.kept)
+pub reads_rest : (stream coming : List ℕ) (given : List ReportRecord) (reader : LinkState) → HasRead stream given reader → device_reports (stream ++ coming) ≡ with_front given (ahead reader coming)
+reads_rest stream coming given reader stands =
+    parsed_leads false stream coming given reader.greeted stands.left stands.leads
+    ∙ ap (λ (h : ParsedLines). with_front given h) (parsed_left reader.fault reader.greeted reader.rest stands.left coming stands.kept)
 
 pub first_stays : (stream more : List ℕ) (first : List ReportRecord) → ParsesFirst stream first → (later : ParsedLines) × (device_reports (stream ++ more) ≡ with_front first later)
-first_stays stream more first x = (parsed_in x.next (texts_of (x.left ++ more)), heard_leads false stream more first x.next x.left x.leads)
+first_stays stream more first x = (parsed_in x.next (texts_of (x.left ++ more)), parsed_leads false stream more first x.next x.left x.leads)
 
--- the reports of a stream begin with the reports that it says first
+-- the reports of a stream begin with its first reports
 begins_so : (stream : List ℕ) (first : List ReportRecord) → ParsesFirst stream first → (later : ParsedLines) × (device_reports stream ≡ with_front first later)
 begins_so stream first x =
     let all = first_stays stream [] first x in

@@ -9,7 +9,7 @@ use Rattle.device_link.specs.declared.number.TheConstants.{MOST_PRINTED}
 use Rattle.text.specs.Digits.{number_up_to}
 use Rattle.text.specs.Parts.{parts_at, words_of}
 use Rattle.base_types.specs.Forms.{is_name, is_media}
-use Rattle.base_types.specs.Report.{ReportRecord, SaysHello, SaysMedia, SaysReady, SaysStop, SaysBusy, SaysPages, SaysDone, SaysFail}
+use Rattle.base_types.specs.Report.{ReportRecord, HelloReport, MediaReport, ReadyReport, StopReport, BusyReport, PagesReport, DoneReport, FailReport}
 
 -- the id of a job, up to LAST_JOB_ID
 abbrev pub job_in : List ℕ → Option ℕ
@@ -33,25 +33,25 @@ name_in operand = if is_name operand then Some operand else None
 -- a word without operands
 unfoldable pub said_alone : List ℕ → Option ReportRecord
 said_alone word =
-    if bytes_eq word (codes "READY") then Some SaysReady
-    else if bytes_eq word (codes "STOP") then Some SaysStop
-    else if bytes_eq word (codes "MEDIA") then Some (SaysMedia [])
+    if bytes_eq word (codes "READY") then Some ReadyReport
+    else if bytes_eq word (codes "STOP") then Some StopReport
+    else if bytes_eq word (codes "MEDIA") then Some (MediaReport [])
     else None
 
 -- a word and its one operand
 unfoldable pub said_of_one : List ℕ → List ℕ → Option ReportRecord
 said_of_one word operand =
-    if bytes_eq word (codes "HELLO") then option_map SaysHello (name_in operand)
-    else if bytes_eq word (codes "MEDIA") then option_map SaysMedia (media_in operand)
-    else if bytes_eq word (codes "BUSY") then option_map SaysBusy (time_in operand)
-    else if bytes_eq word (codes "DONE") then option_map SaysDone (job_in operand)
-    else if bytes_eq word (codes "FAIL") then option_map SaysFail (job_in operand)
+    if bytes_eq word (codes "HELLO") then option_map HelloReport (name_in operand)
+    else if bytes_eq word (codes "MEDIA") then option_map MediaReport (media_in operand)
+    else if bytes_eq word (codes "BUSY") then option_map BusyReport (time_in operand)
+    else if bytes_eq word (codes "DONE") then option_map DoneReport (job_in operand)
+    else if bytes_eq word (codes "FAIL") then option_map FailReport (job_in operand)
     else None
 
 -- a word and its two operands
 unfoldable pub said_of_two : List ℕ → List ℕ → List ℕ → Option ReportRecord
 said_of_two word job printed =
-    if bytes_eq word (codes "PAGES") then option_and_then (λ id. option_map (SaysPages id) (printed_in printed)) (job_in job)
+    if bytes_eq word (codes "PAGES") then option_and_then (λ id. option_map (PagesReport id) (printed_in printed)) (job_in job)
     else None
 
 abbrev pub said : List (List ℕ) → Option ReportRecord
@@ -64,9 +64,9 @@ said (word ∷ first ∷ second ∷ third ∷ more) = None
 -- the first report is the device's name, and no later report is
 abbrev pub in_turn : Bool → Option ReportRecord → Option ReportRecord
 in_turn greeted None = None
-in_turn true (Some (SaysHello name)) = None
+in_turn true (Some (HelloReport name)) = None
 in_turn true (Some report) = Some report
-in_turn false (Some (SaysHello name)) = Some (SaysHello name)
+in_turn false (Some (HelloReport name)) = Some (HelloReport name)
 in_turn false (Some report) = None
 
 -- the report in a line, if a device may send it now

@@ -47,7 +47,7 @@ device_reports stream = parsed_in false (texts_of stream)
 pub record ParsesAtFront (greeted : Bool) (bytes : List ℕ) (report : ReportRecord) (rest : List ℕ) : Type 0 where
   pub count : ℕ
   pub line : first_line_of DEVICE_LINE_BYTES bytes ≡ Whole count
-  pub says : report_in greeted (take count bytes) ≡ Some report
+  pub parses : report_in greeted (take count bytes) ≡ Some report
   pub rest_is : rest ≡ drop (count + 1) bytes
 
 -- the bytes parse as these reports, with these bytes left; `next` is whether the device has given its name then

@@ -48,7 +48,7 @@ pub(crate) fn read_line(
 }
 
 /// Reads the report of a word and its operands.
-#[tactic(auto, using(crate::proofs::Says::nothing_said))]
+#[tactic(auto, using(crate::proofs::TooManyOperands::nothing_said))]
 fn read_words(alloc: Global, line: &[u8]) -> Result<Option<Report>, AllocError>
     ensures { IfOk result (λ report. option_map report_of report ≡ said (words_of line.now)) }
 {

@@ -24,12 +24,12 @@ notifies_then : {L : Type 0} (notified : L → Note → L → Type 0) (old mid n
 notifies_then notified old mid new [] later same last = subst (λ l. Notifies notified l later new) same last
 notifies_then notified old mid new (first ∷ notes) later (next, is, rest) last = (next, is, notifies_then notified next mid new notes later rest last)
 
-pub run_more : {L : Type 0} (notified : L → Note → L → Type 0) (old : State) (l : L) (events : List Timed) (outcomes : List Outcome) (mid : State) (heard : L) (timed : Timed) (outcome : Outcome) (new : State) (l' : L)
-    → Run notified old l events outcomes mid heard → Comes notified mid heard timed outcome new l' → Run notified old l (events ++ timed ∷ []) (outcomes ++ outcome ∷ []) new l'
-run_more {L} notified old l [] [] mid heard timed outcome new l' run comes = (new, l', subst (λ (m : L). Comes notified old m timed outcome new l') run.1 (subst (λ (s : State). Comes notified s heard timed outcome new l') run.0 comes), (refl, refl))
-run_more notified old l [] (o ∷ os) mid heard timed outcome new l' run comes = absurd run
-run_more notified old l (t ∷ ts) [] mid heard timed outcome new l' run comes = absurd run
-run_more notified old l (t ∷ ts) (o ∷ os) mid heard timed outcome new l' run comes = (run.0, run.1, run.2, run_more notified run.0 run.1 ts os mid heard timed outcome new l' run.3 comes)
+pub run_more : {L : Type 0} (notified : L → Note → L → Type 0) (old : State) (l : L) (events : List Timed) (outcomes : List Outcome) (mid : State) (noted : L) (timed : Timed) (outcome : Outcome) (new : State) (l' : L)
+    → Run notified old l events outcomes mid noted → Comes notified mid noted timed outcome new l' → Run notified old l (events ++ timed ∷ []) (outcomes ++ outcome ∷ []) new l'
+run_more {L} notified old l [] [] mid noted timed outcome new l' run comes = (new, l', subst (λ (m : L). Comes notified old m timed outcome new l') run.1 (subst (λ (s : State). Comes notified s noted timed outcome new l') run.0 comes), (refl, refl))
+run_more notified old l [] (o ∷ os) mid noted timed outcome new l' run comes = absurd run
+run_more notified old l (t ∷ ts) [] mid noted timed outcome new l' run comes = absurd run
+run_more notified old l (t ∷ ts) (o ∷ os) mid noted timed outcome new l' run comes = (run.0, run.1, run.2, run_more notified run.0 run.1 ts os mid noted timed outcome new l' run.3 comes)
 
 -- one cancel more
 pub notifies_next : {L : Type 0} (notified : L → Note → L → Type 0) (old mid new : L) (cancels : List Cancel) (i : ℕ) (cancel : Cancel)
@@ -44,8 +44,8 @@ follows_planned {L} notified query planned now old new l l' plan started other i
     by new.plan (subst (λ (b : Bool). Dispatches now old (plan_if b new) (begun_if b new) new) is made) (subst (λ (ss : List Started). notified l (Planned new.plan ss) l') begun (subst (λ (o : Option PlanRecord). notified l (Planned o started) l') same note))
   where
     by : (o : Option PlanRecord) → Dispatches now old o new.begun new → notified l (Planned o new.begun) l' → FollowsNotified notified query now old l dispatch.Planned new l'
-    by None none heard = let both : true ≡ false = sym is ∙ (ready ∙ ap is_some_job none.0) in absurd (cc)
-    by (Some chosen) it heard = (Planned (Some chosen) new.begun ∷ [], (other, chosen, it, refl), (l', heard, refl))
+    by None none noted = let both : true ≡ false = sym is ∙ (ready ∙ ap is_some_job none.0) in absurd (cc)
+    by (Some chosen) it noted = (Planned (Some chosen) new.begun ∷ [], (other, chosen, it, refl), (l', noted, refl))
 
 -- ---- an event that is handled
 

@@ -43,6 +43,6 @@ Comes notified old observer timed outcome new observer' = (notes : List Note) ×
 abbrev pub Run : {L : Type 0} → (L → Note → L → Type 0) → State → L → List Timed → List Outcome → State → L → Type 0
 Run notified old observer [] [] new observer' = (new ≡ old) × (observer' ≡ observer)
 Run {L} notified old observer (timed ∷ events) (outcome ∷ outcomes) new observer' =
-    (mid : State) × (heard : L) × Comes notified old observer timed outcome mid heard × Run notified mid heard events outcomes new observer'
+    (mid : State) × (noted : L) × Comes notified old observer timed outcome mid noted × Run notified mid noted events outcomes new observer'
 Run notified old observer [] (outcome ∷ outcomes) new observer' = ⊥
 Run notified old observer (timed ∷ events) [] new observer' = ⊥

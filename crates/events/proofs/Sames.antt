@@ -5,7 +5,7 @@ use Rattle.std.proofs.Common.{refl, sym, ap, subst}
 use Rattle.std.proofs.lemmas.Bool.{true≢false}
 use Rattle.base_types.specs.declared.report.Report.{Report}
 use Rattle.base_types.specs.declared.report.Report.TheVariants as reported
-use Rattle.base_types.specs.Report.{ReportRecord, SaysHello, SaysMedia, SaysReady, SaysStop, SaysBusy, SaysPages, SaysDone, SaysFail, IsGone, report_of}
+use Rattle.base_types.specs.Report.{ReportRecord, HelloReport, MediaReport, ReadyReport, StopReport, BusyReport, PagesReport, DoneReport, FailReport, GoneReport, report_of}
 use Rattle.events.specs.declared.event.Event.{Event}
 use Rattle.events.specs.declared.event.Event.TheVariants as Is
 use Rattle.events.specs.declared.event.SubmitFiles.{SubmitFiles}
@@ -15,31 +15,31 @@ use Rattle.events.specs.SameEvent.{SameFiles, SameList, SameRemoval, SameEvent}
 
 -- ---- reports
 
--- the report that says this, where it has no list
+-- the report of this record, where it has no list
 abbrev plain_report : ReportRecord → Report
-plain_report (SaysHello name) = reported.Hello name
-plain_report (SaysMedia names) = reported.Gone
-plain_report SaysReady = reported.Ready
-plain_report SaysStop = reported.Stop
-plain_report (SaysBusy time) = reported.Busy time
-plain_report (SaysPages job printed) = reported.Pages job printed
-plain_report (SaysDone job) = reported.Done job
-plain_report (SaysFail job) = reported.Fail job
-plain_report IsGone = reported.Gone
+plain_report (HelloReport name) = reported.Hello name
+plain_report (MediaReport names) = reported.Gone
+plain_report ReadyReport = reported.Ready
+plain_report StopReport = reported.Stop
+plain_report (BusyReport time) = reported.Busy time
+plain_report (PagesReport job printed) = reported.Pages job printed
+plain_report (DoneReport job) = reported.Done job
+plain_report (FailReport job) = reported.Fail job
+plain_report GoneReport = reported.Gone
 
-abbrev says_media : ReportRecord → Bool
-says_media (SaysMedia names) = true
-says_media _ = false
+abbrev is_media : ReportRecord → Bool
+is_media (MediaReport names) = true
+is_media _ = false
 
 abbrev names_said : ReportRecord → List (List ℕ)
-names_said (SaysMedia names) = names
+names_said (MediaReport names) = names
 names_said _ = []
 
--- two reports that say the same are equal, or both say these media
+-- two reports of the same record are equal, or both name these media
 pub by_report : (P : Report → Report → Type 0) → ((report : Report) → P report report) → ((one other : Vec (List ℕ)) → one.items ≡ other.items → P (reported.Media one) (reported.Media other)) → (one other : Report) → report_of one ≡ report_of other → P one other
 by_report P equal media (reported.Media one) (reported.Media other) is = media one other (ap names_said is)
-by_report P equal media (reported.Media one) other is = absurd (true≢false (ap says_media is))
-by_report P equal media one (reported.Media other) is = absurd (true≢false (sym (ap says_media is)))
+by_report P equal media (reported.Media one) other is = absurd (true≢false (ap is_media is))
+by_report P equal media one (reported.Media other) is = absurd (true≢false (sym (ap is_media is)))
 by_report P equal media one other is = let same : one ≡ other = ap plain_report is in subst (λ (r : Report). P one r) same (equal one)
 
 -- ---- events
@@ -60,7 +60,7 @@ by_same P each (Is.Report device one) (Is.Report place other) same =
     subst (λ (d : ℕ). P (Is.Report device one) (Is.Report d other)) same.0 (each.reports device one other same.1)
 by_same P each one other same = subst (λ (x : Event). P one x) same (each.equal one)
 
--- an event says the same as itself
+-- an event is the same as itself
 pub same_self : (event : Event) → SameEvent event event
 same_self (Is.SubmitFiles request) = record { queue = refl; owner = refl; name = refl; documents = refl }
 same_self (Is.ListQueue request) = record { queue = refl; form = refl; operands = refl }

@@ -120,7 +120,7 @@ takes_head old count request is begins lines asks = (
   lower_read old count (after_head request) (section_some HTTP_HEAD_BYTES old.rest count lines) (section_within HTTP_HEAD_BYTES old.rest count lines) (rank_small (after_head request)),
 )
 
--- the client is told to go on
+-- the client is invited to go on (100 Continue)
 pub invites : (old : HttpState) (framing : Framing) (closes : Bool) → old.awaited ≡ Invitation framing closes → Steps old (step.Gives item.Continue) (behind old 0 (body_by framing closes))
 invites old framing closes is = (
   goes old (Invitation framing closes) (Invites ∷ []) 0 (body_by framing closes) is refl,

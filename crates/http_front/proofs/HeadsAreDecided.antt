@@ -49,7 +49,7 @@ one_byte byte first bytes text true is (inl x) =
     let same : first ≡ byte = grind (arith, is) in
     inl (tt, x.1, cc (same, x.2))
 one_byte byte first bytes text true is (inr none) = inr (λ x. none (tt, x.1, cc (x.2)))
-one_byte byte first bytes text false is told = inr (
+one_byte byte first bytes text false is parsed = inr (
     λ x.
     let same : first ≡ byte = cc (x.2) in
     let test : (first == byte) ≡ true = grind (arith, same) in
@@ -89,11 +89,11 @@ upto_none test H first text none later (byte ∷ word) a rest middle all is read
 upto_step : {A : Type 0} (test : ℕ → Bool) (H : Piece A) (first : ℕ) (text : List ℕ) → (Begins H (first ∷ text) → ⊥) → (t : Bool) → test first ≡ t → Decided (Begins (Upto test H) text) → Decided (Begins (Upto test H) (first ∷ text))
 upto_step test H first text none true is (inl x) = inl ((first ∷ x.0.0, x.0.1), x.1, (x.2.0, All-cons (λ v. test v ≡ true) first x.0.0 is x.2.1, ap (λ (l : List ℕ). first ∷ l) x.2.2, x.2.3))
 upto_step test H first text none true is (inr nowhere) = inr (λ x. upto_none test H first text none (λ passes. nowhere) x.0.0 x.0.1 x.1 x.2.0 x.2.1 x.2.2 x.2.3)
-upto_step test H first text none false is told = inr (λ x. upto_none test H first text none (λ passes y. both_ways _ is passes) x.0.0 x.0.1 x.1 x.2.0 x.2.1 x.2.2 x.2.3)
+upto_step test H first text none false is parsed = inr (λ x. upto_none test H first text none (λ passes y. both_ways _ is passes) x.0.0 x.0.1 x.1 x.2.0 x.2.1 x.2.2 x.2.3)
 
 upto_by : {A : Type 0} (test : ℕ → Bool) (H : Piece A) (first : ℕ) (text : List ℕ) → Decided (Begins H (first ∷ text)) → Decided (Begins (Upto test H) text) → Decided (Begins (Upto test H) (first ∷ text))
-upto_by test H first text (inl x) told = inl (([], x.0), x.1, (first ∷ text, All-nil (λ v. test v ≡ true), refl, x.2))
-upto_by test H first text (inr none) told = upto_step test H first text none (test first) refl told
+upto_by test H first text (inl x) parsed = inl (([], x.0), x.1, (first ∷ text, All-nil (λ v. test v ≡ true), refl, x.2))
+upto_by test H first text (inr none) parsed = upto_step test H first text none (test first) refl parsed
 
 upto_end : {A : Type 0} (H : Piece A) → (Begins H [] → ⊥) → (word : List ℕ) (a : A) (rest middle : List ℕ) → [] ≡ word ++ middle → H a middle rest → ⊥
 upto_end H none [] a rest middle is reads = none (a, rest, subst (λ (m : List ℕ). H a m rest) (sym is) reads)
@@ -121,7 +121,7 @@ word_by test stop first text true is (inl x) =
     let whole : first ∷ text ≡ first ∷ (x.0.0 ++ stop ∷ x.1) = ap (λ (l : List ℕ). first ∷ l) (x.2.2 ∙ ap (λ (m : List ℕ). x.0.0 ++ m) x.2.3) in
     inl (first ∷ x.0.0, x.1, (omega arith, All-cons (λ v. test v ≡ true) first x.0.0 is x.2.1, whole))
 word_by test stop first text true is (inr none) = inr (λ x. no_word test stop first text (λ passes. none) x.0 x.1 x.2)
-word_by test stop first text false is told = inr (λ x. no_word test stop first text (λ passes y. both_ways _ is passes) x.0 x.1 x.2)
+word_by test stop first text false is parsed = inr (λ x. no_word test stop first text (λ passes y. both_ways _ is passes) x.0 x.1 x.2)
 
 no_word_of_nothing : (test : ℕ → Bool) (stop : ℕ) (word rest : List ℕ) → Word test stop word [] rest → ⊥
 no_word_of_nothing test stop [] rest x = omega (arith, x.0)

@@ -71,15 +71,15 @@ front_one Nothing bytes a b x y = x ∙ sym y
 
 -- the front stays where more comes
 
-pub goes_is : (said told : List HttpElement) (rest left : List ℕ) (next after : Awaited) → Goes said rest next ≡ Goes told left after → (said ≡ told) × (rest ≡ left) × (next ≡ after)
-goes_is said told rest left next after same = ((cc), (cc), (cc))
+pub goes_is : (said parsed : List HttpElement) (rest left : List ℕ) (next after : Awaited) → Goes said rest next ≡ Goes parsed left after → (said ≡ parsed) × (rest ≡ left) × (next ≡ after)
+goes_is said parsed rest left next after same = ((cc), (cc), (cc))
 
 abbrev MoreOf : List ℕ → Front → Front → Type 0
 MoreOf more front grown = (said : List HttpElement) (rest : List ℕ) (next : Awaited) → Goes said rest next ≡ front → Goes said (rest ++ more) next ≡ grown
 
-goes_more : (more : List ℕ) (told : List HttpElement) (left : List ℕ) (after : Awaited) → MoreOf more (Goes told left after) (Goes told (left ++ more) after)
-goes_more more told left after said rest next is =
-    let parts = goes_is said told rest left next after is in
+goes_more : (more : List ℕ) (parsed : List HttpElement) (left : List ℕ) (after : Awaited) → MoreOf more (Goes parsed left after) (Goes parsed (left ++ more) after)
+goes_more more parsed left after said rest next is =
+    let parts = goes_is said parsed rest left next after is in
     rw (parts.0, parts.1, parts.2) refl
 
 waits_more : (more : List ℕ) (grown : Front) → MoreOf more Waits grown
@@ -192,14 +192,14 @@ leads_more zero awaited bytes more said next left x = (x.0, x.1, ap (λ l. l ++ 
 leads_more (suc n) awaited bytes more said next left x =
     (x.0, x.1 ++ more, x.2, x.3, front_more awaited bytes more x.0 x.1 x.2 x.4, x.5, leads_more n x.2 x.1 more x.3 next left x.6)
 
-pub says_one : (n m : ℕ) (awaited : Awaited) (bytes : List ℕ) (given said : List HttpElement) → ParsesIn n awaited bytes given → ParsesIn m awaited bytes said → given ≡ said
-says_one zero zero awaited bytes given said x y = x.0 ∙ sym y.0
-says_one zero (suc m) awaited bytes given said x y = absurd (let no : Goes y.0 y.1 y.2 ≡ Waits = front_one awaited bytes _ _ y.4 x.1 in (cc))
-says_one (suc n) zero awaited bytes given said x y = absurd (let no : Goes x.0 x.1 x.2 ≡ Waits = front_one awaited bytes _ _ x.4 y.1 in (cc))
-says_one (suc n) (suc m) awaited bytes given said x y =
+pub parses_one : (n m : ℕ) (awaited : Awaited) (bytes : List ℕ) (given said : List HttpElement) → ParsesIn n awaited bytes given → ParsesIn m awaited bytes said → given ≡ said
+parses_one zero zero awaited bytes given said x y = x.0 ∙ sym y.0
+parses_one zero (suc m) awaited bytes given said x y = absurd (let no : Goes y.0 y.1 y.2 ≡ Waits = front_one awaited bytes _ _ y.4 x.1 in (cc))
+parses_one (suc n) zero awaited bytes given said x y = absurd (let no : Goes x.0 x.1 x.2 ≡ Waits = front_one awaited bytes _ _ x.4 y.1 in (cc))
+parses_one (suc n) (suc m) awaited bytes given said x y =
     let same = goes_is _ _ _ _ _ _ (front_one awaited bytes (Goes x.0 x.1 x.2) (Goes y.0 y.1 y.2) x.4 y.4) in
     let tail : ParsesIn m x.2 x.1 y.3 = subst (λ a. ParsesIn m a x.1 y.3) (sym same.2) (subst (λ b. ParsesIn m y.2 b y.3) (sym same.1) y.6) in
-    x.5 ∙ ap (λ s. s ++ x.3) same.0 ∙ ap (λ s. y.0 ++ s) (says_one n m x.2 x.1 x.3 y.3 x.6 tail) ∙ sym y.5
+    x.5 ∙ ap (λ s. s ++ x.3) same.0 ∙ ap (λ s. y.0 ++ s) (parses_one n m x.2 x.1 x.3 y.3 x.6 tail) ∙ sym y.5
 
 none_of : (said : List HttpElement) → length said ≡ 0 → said ≡ []
 none_of [] same = refl

@@ -7,4 +7,4 @@ pub mod ReaderPlace
 pub mod Orders
 pub mod WrittenRequest
 pub mod HeadsAreDecided
-pub mod StreamsSaySomething
+pub mod EveryStreamParses

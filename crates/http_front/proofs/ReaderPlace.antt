@@ -6,7 +6,7 @@ use Rattle.http_front.specs.declared.awaited.Awaited.{Awaited}
 use Rattle.http_front.specs.declared.awaited.Following.{Following}
 use Rattle.http_front.specs.declared.awaited.Awaited.TheVariants.{Head, Invitation, Body, Size, Trailer, Nothing}
 use Rattle.http_front.specs.Stream.{HttpElement, HasByte, Goes, Waits, ParsesIn, Parses, Exchanges, ParsesFirst, HttpState, IsOver, HasRead, HasLeft, AwaitsBody, past_body}
-use Rattle.http_front.proofs.Steps.{says_then, lends}
+use Rattle.http_front.proofs.Steps.{parses_then, lends}
 use Rattle.http_front.proofs.Laws.{stays_in, said_first, leads_more}
 
 kept_fed : (reader : HttpState) (left piece : List ℕ) → (IsOver reader ⊎ (left ≡ reader.rest)) → IsOver reader ⊎ (left ++ piece ≡ reader.rest ++ piece)
@@ -36,19 +36,19 @@ fed_by old new piece (Err error) is = tt
 -- laws of the elements that were given
 
 nothing_in : (steps : ℕ) (bytes other : List ℕ) (said : List HttpElement) → ParsesIn steps Nothing bytes said → ParsesIn steps Nothing other said
-nothing_in zero bytes other said says = says
-nothing_in (suc steps) bytes other said says = absurd (let no : Goes says.0 says.1 says.2 ≡ Waits = says.4 in (cc))
+nothing_in zero bytes other said parses = parses
+nothing_in (suc steps) bytes other said parses = absurd (let no : Goes parses.0 parses.1 parses.2 ≡ Waits = parses.4 in (cc))
 
-says_of : (reader : HttpState) (left coming : List ℕ) (said : List HttpElement) → (IsOver reader ⊎ (left ≡ reader.rest)) → (steps : ℕ) → ParsesIn steps reader.awaited (reader.rest ++ coming) said → ParsesIn steps reader.awaited (left ++ coming) said
-says_of reader left coming said (inl over) steps says =
-    let here : ParsesIn steps Nothing (reader.rest ++ coming) said = subst (λ (a : Awaited). ParsesIn steps a (reader.rest ++ coming) said) over says in
+parses_of : (reader : HttpState) (left coming : List ℕ) (said : List HttpElement) → (IsOver reader ⊎ (left ≡ reader.rest)) → (steps : ℕ) → ParsesIn steps reader.awaited (reader.rest ++ coming) said → ParsesIn steps reader.awaited (left ++ coming) said
+parses_of reader left coming said (inl over) steps parses =
+    let here : ParsesIn steps Nothing (reader.rest ++ coming) said = subst (λ (a : Awaited). ParsesIn steps a (reader.rest ++ coming) said) over parses in
     subst (λ (a : Awaited). ParsesIn steps a (left ++ coming) said) (sym over) (nothing_in steps (reader.rest ++ coming) (left ++ coming) said here)
-says_of reader left coming said (inr same) steps says = subst (λ (l : List ℕ). ParsesIn steps reader.awaited (l ++ coming) said) (sym same) says
+parses_of reader left coming said (inr same) steps parses = subst (λ (l : List ℕ). ParsesIn steps reader.awaited (l ++ coming) said) (sym same) parses
 
-pub hears_rest : (stream coming : List ℕ) (given said : List HttpElement) (reader : HttpState) → HasRead stream given reader → Parses reader.awaited (reader.rest ++ coming) said → Exchanges (stream ++ coming) (given ++ said)
-hears_rest stream coming given said reader stands says =
+pub has_read_rest : (stream coming : List ℕ) (given said : List HttpElement) (reader : HttpState) → HasRead stream given reader → Parses reader.awaited (reader.rest ++ coming) said → Exchanges (stream ++ coming) (given ++ said)
+has_read_rest stream coming given said reader stands parses =
     let first = leads_more stands.leads.0 Head stream coming given reader.awaited stands.left stands.leads.1 in
-    says_then stands.leads.0 says.0 Head (stream ++ coming) given reader.awaited (stands.left ++ coming) said first (says_of reader stands.left coming said stands.kept says.0 says.1)
+    parses_then stands.leads.0 parses.0 Head (stream ++ coming) given reader.awaited (stands.left ++ coming) said first (parses_of reader stands.left coming said stands.kept parses.0 parses.1)
 
 pub first_stays : (stream more : List ℕ) (first said : List HttpElement) → ParsesFirst stream first → Exchanges (stream ++ more) said → (later : List HttpElement) × (said ≡ first ++ later)
 first_stays stream more first said x y = stays_in x.leads.0 y.0 Head stream more first x.next x.left said x.leads.1 y.1
@@ -68,8 +68,8 @@ drop_whole : (xs : List ℕ) → drop (length xs) xs ≡ []
 drop_whole [] = refl
 drop_whole (x ∷ xs) = drop_whole xs
 
-part_heard : (old : HttpState) (left : ℕ) (next : Following) (stream : List ℕ) (given : List HttpElement) (piece : List ℕ) → old.awaited ≡ Body left next → old.rest ≡ [] → length piece ≤ left → HasRead stream given old → HasRead (stream ++ piece) (given ++ map HasByte piece) (record { part = []; rest = []; awaited = Body (left - length piece) next })
-part_heard old left next stream given piece is none fits stands =
+part_fed : (old : HttpState) (left : ℕ) (next : Following) (stream : List ℕ) (given : List HttpElement) (piece : List ℕ) → old.awaited ≡ Body left next → old.rest ≡ [] → length piece ≤ left → HasRead stream given old → HasRead (stream ++ piece) (given ++ map HasByte piece) (record { part = []; rest = []; awaited = Body (left - length piece) next })
+part_fed old left next stream given piece is none fits stands =
     let fed : HasRead (stream ++ piece) given (record { part = []; rest = old.rest ++ piece; awaited = old.awaited }) = stands_fed stream given piece old stands in
     let here : HasRead (stream ++ piece) given (record { part = []; rest = piece; awaited = Body left next }) =
     subst (λ (a : Awaited). HasRead (stream ++ piece) given (record { part = []; rest = piece; awaited = a })) is
@@ -82,18 +82,18 @@ part_heard old left next stream given piece is none fits stands =
     subst (λ (r : List ℕ). HasRead (stream ++ piece) (given ++ map HasByte piece) (record { part = take (length piece) piece; rest = r; awaited = Body (left - length piece) next })) (drop_whole piece) said in
     record { left = ended.left; leads = ended.leads; kept = ended.kept }
 
-heard_by : (old : HttpState) (awaited : Awaited) (stream : List ℕ) (given : List HttpElement) (piece : List ℕ) → old.awaited ≡ awaited → old.rest ≡ [] → HasLeft (length piece) awaited → HasRead stream given old → HasRead (stream ++ piece) (given ++ map HasByte piece) (record { part = []; rest = []; awaited = past_body (length piece) awaited })
-heard_by old (Body left next) stream given piece is none fits stands = part_heard old left next stream given piece is none fits stands
-heard_by old Head stream given piece is none fits stands = absurd fits
-heard_by old (Invitation framing closes) stream given piece is none fits stands = absurd fits
-heard_by old (Size room closes) stream given piece is none fits stands = absurd fits
-heard_by old (Trailer last) stream given piece is none fits stands = absurd fits
-heard_by old Nothing stream given piece is none fits stands = absurd fits
+has_read_fed : (old : HttpState) (awaited : Awaited) (stream : List ℕ) (given : List HttpElement) (piece : List ℕ) → old.awaited ≡ awaited → old.rest ≡ [] → HasLeft (length piece) awaited → HasRead stream given old → HasRead (stream ++ piece) (given ++ map HasByte piece) (record { part = []; rest = []; awaited = past_body (length piece) awaited })
+has_read_fed old (Body left next) stream given piece is none fits stands = part_fed old left next stream given piece is none fits stands
+has_read_fed old Head stream given piece is none fits stands = absurd fits
+has_read_fed old (Invitation framing closes) stream given piece is none fits stands = absurd fits
+has_read_fed old (Size room closes) stream given piece is none fits stands = absurd fits
+has_read_fed old (Trailer last) stream given piece is none fits stands = absurd fits
+has_read_fed old Nothing stream given piece is none fits stands = absurd fits
 
 -- so many bytes of a body were given as they came
-pub body_heard : (old new : HttpState) (count : ℕ) (stream : List ℕ) (given : List HttpElement) (piece : List ℕ) → AwaitsBody count old → new ≡ record { part = []; rest = []; awaited = past_body count old.awaited } → length piece ≡ count → HasRead stream given old → HasRead (stream ++ piece) (given ++ map HasByte piece) new
-body_heard old new count stream given piece awaits is long stands =
+pub body_fed : (old new : HttpState) (count : ℕ) (stream : List ℕ) (given : List HttpElement) (piece : List ℕ) → AwaitsBody count old → new ≡ record { part = []; rest = []; awaited = past_body count old.awaited } → length piece ≡ count → HasRead stream given old → HasRead (stream ++ piece) (given ++ map HasByte piece) new
+body_fed old new count stream given piece awaits is long stands =
     let fits : HasLeft (length piece) old.awaited = subst (λ (n : ℕ). HasLeft n old.awaited) (sym long) awaits.1 in
-    let heard : HasRead (stream ++ piece) (given ++ map HasByte piece) (record { part = []; rest = []; awaited = past_body (length piece) old.awaited }) = heard_by old old.awaited stream given piece refl awaits.0 fits stands in
+    let has_read : HasRead (stream ++ piece) (given ++ map HasByte piece) (record { part = []; rest = []; awaited = past_body (length piece) old.awaited }) = has_read_fed old old.awaited stream given piece refl awaits.0 fits stands in
     subst (λ (n : HttpState). HasRead (stream ++ piece) (given ++ map HasByte piece) n) (sym is)
-    (subst (λ (n : ℕ). HasRead (stream ++ piece) (given ++ map HasByte piece) (record { part = []; rest = []; awaited = past_body n old.awaited })) long heard)
+    (subst (λ (n : ℕ). HasRead (stream ++ piece) (given ++ map HasByte piece) (record { part = []; rest = []; awaited = past_body n old.awaited })) long has_read)

@@ -17,12 +17,12 @@ leads_then (suc n) m a bytes first b mid later c left x y =
     let r = leads_then n m x.2 x.1 x.3 b mid later c left x.6 y in
     (suc r.0, (x.0, x.1, x.2, x.3 ++ later, x.4, ap (λ s. s ++ later) x.5 ∙ append_assoc x.0 x.3 later, r.1))
 
-pub says_then : (n m : ℕ) (a : Awaited) (bytes : List ℕ) (first : List HttpElement) (b : Awaited) (mid : List ℕ) (later : List HttpElement) → LeadsIn n a bytes first b mid → ParsesIn m b mid later → Parses a bytes (first ++ later)
-says_then zero m a bytes first b mid later x y =
+pub parses_then : (n m : ℕ) (a : Awaited) (bytes : List ℕ) (first : List HttpElement) (b : Awaited) (mid : List ℕ) (later : List HttpElement) → LeadsIn n a bytes first b mid → ParsesIn m b mid later → Parses a bytes (first ++ later)
+parses_then zero m a bytes first b mid later x y =
     let on : ParsesIn m a bytes later = subst (λ q. ParsesIn m q bytes later) x.1 (subst (λ r. ParsesIn m b r later) x.2 y) in
     subst (λ s. Parses a bytes (s ++ later)) (sym x.0) (m, on)
-says_then (suc n) m a bytes first b mid later x y =
-    let r = says_then n m x.2 x.1 x.3 b mid later x.6 y in
+parses_then (suc n) m a bytes first b mid later x y =
+    let r = parses_then n m x.2 x.1 x.3 b mid later x.6 y in
     (suc r.0, (x.0, x.1, x.2, x.3 ++ later, x.4, ap (λ s. s ++ later) x.5 ∙ append_assoc x.0 x.3 later, r.1))
 
 leads_one : (a : Awaited) (bytes : List ℕ) (said : List HttpElement) (b : Awaited) (left : List ℕ) → FrontIs a bytes (Goes said left b) → Leads a bytes said b left
@@ -62,8 +62,8 @@ waits_in old left waits (inr same) = subst (λ (bytes : List ℕ). FrontIs old.a
 pub tells_all : (old : HttpState) → FrontIs old.awaited old.rest Waits → (stream : List ℕ) (given : List HttpElement) → HasRead stream given old → Exchanges stream given
 tells_all old waits stream given stands =
     let here : FrontIs old.awaited stands.left Waits = waits_in old stands.left waits stands.kept in
-    let says : Parses Head stream (given ++ []) = says_then stands.leads.0 zero Head stream given old.awaited stands.left [] stands.leads.1 (refl, here) in
-    subst (λ said. Parses Head stream said) (append-nil given) says
+    let parses : Parses Head stream (given ++ []) = parses_then stands.leads.0 zero Head stream given old.awaited stands.left [] stands.leads.1 (refl, here) in
+    subst (λ said. Parses Head stream said) (append-nil given) parses
 
 -- a part of a body, byte by byte
 

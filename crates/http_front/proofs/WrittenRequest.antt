@@ -21,8 +21,8 @@ use Rattle.http_front.specs.Stream.{HttpElement, HasHead, Invites, HasByte, Ends
 use Rattle.http_front.specs.Written.{IsHead, IsSizeLine, Piece, piece_bytes, ArePieces, octets_of, IsTrailer, LengthParses, ChunksParse}
 
 -- one step
-says_step : (awaited : Awaited) (bytes : List ℕ) (first : List HttpElement) (rest : List ℕ) (next : Awaited) (later : List HttpElement) → FrontIs awaited bytes (Goes first rest next) → Parses next rest later → Parses awaited bytes (first ++ later)
-says_step awaited bytes first rest next later front (steps, it) = (suc steps, (first, rest, next, later, front, refl, it))
+parses_step : (awaited : Awaited) (bytes : List ℕ) (first : List HttpElement) (rest : List ℕ) (next : Awaited) (later : List HttpElement) → FrontIs awaited bytes (Goes first rest next) → Parses next rest later → Parses awaited bytes (first ++ later)
+parses_step awaited bytes first rest next later front (steps, it) = (suc steps, (first, rest, next, later, front, refl, it))
 
 -- ---- sections and lines stay where more comes
 
@@ -119,11 +119,11 @@ at_head (byte ∷ head) more request is =
     negated false p = refl
 
 -- a head, the invitation that it waits for, and then its body
-says_head : (head more : List ℕ) (request : Request) (later : List HttpElement) → IsHead head request → Parses (body_by request.framing request.closes) more later → Parses Head (head ++ more) (HasHead request.closes ∷ ((if request.invites then Invites ∷ [] else []) ++ later))
-says_head head more request later is it = says_step Head (head ++ more) (HasHead request.closes ∷ []) more (after_head request) ((if request.invites then Invites ∷ [] else []) ++ later) (at_head head more request is) (by request.invites)
+parses_head : (head more : List ℕ) (request : Request) (later : List HttpElement) → IsHead head request → Parses (body_by request.framing request.closes) more later → Parses Head (head ++ more) (HasHead request.closes ∷ ((if request.invites then Invites ∷ [] else []) ++ later))
+parses_head head more request later is it = parses_step Head (head ++ more) (HasHead request.closes ∷ []) more (after_head request) ((if request.invites then Invites ∷ [] else []) ++ later) (at_head head more request is) (by request.invites)
   where
     by : (t : Bool) → Parses (if t then Invitation request.framing request.closes else body_by request.framing request.closes) more ((if t then Invites ∷ [] else []) ++ later)
-    by true = says_step (Invitation request.framing request.closes) more (Invites ∷ []) more (body_by request.framing request.closes) later refl it
+    by true = parses_step (Invitation request.framing request.closes) more (Invites ∷ []) more (body_by request.framing request.closes) later refl it
     by false = it
 
 -- ---- bytes of a body
@@ -134,15 +134,15 @@ one_less n = omega arith
 not_zero : (n : ℕ) → (suc n == 0) ≡ false
 not_zero n = grind (arith, nat_tests)
 
-says_bytes : (body rest : List ℕ) (next : Following) (later : List HttpElement) → Parses (Body 0 next) rest later → Parses (Body (length body) next) (body ++ rest) (map HasByte body ++ later)
-says_bytes [] rest next later it = it
-says_bytes (byte ∷ body) rest next later it =
-    says_step (Body (suc (length body)) next) (byte ∷ (body ++ rest)) (HasByte byte ∷ []) (body ++ rest) (Body (length body) next) (map HasByte body ++ later)
+parses_bytes : (body rest : List ℕ) (next : Following) (later : List HttpElement) → Parses (Body 0 next) rest later → Parses (Body (length body) next) (body ++ rest) (map HasByte body ++ later)
+parses_bytes [] rest next later it = it
+parses_bytes (byte ∷ body) rest next later it =
+    parses_step (Body (suc (length body)) next) (byte ∷ (body ++ rest)) (HasByte byte ∷ []) (body ++ rest) (Body (length body) next) (map HasByte body ++ later)
     (ap (λ (n : ℕ). Goes (HasByte byte ∷ []) (body ++ rest) (Body n next)) (sym (one_less (length body))) ∙ sym (ap (λ (t : Bool). if t then following next (byte ∷ (body ++ rest)) else byte_of (suc (length body)) next (byte ∷ (body ++ rest))) (not_zero (length body))))
-    (says_bytes body rest next later it)
+    (parses_bytes body rest next later it)
 
-says_end : (last : Bool) (more : List ℕ) (later : List HttpElement) → Parses (after_body last) more later → Parses (Body 0 (Close last)) more (EndsBody ∷ later)
-says_end last more later it = says_step (Body 0 (Close last)) more (EndsBody ∷ []) more (after_body last) later refl it
+parses_end : (last : Bool) (more : List ℕ) (later : List HttpElement) → Parses (after_body last) more later → Parses (Body 0 (Close last)) more (EndsBody ∷ later)
+parses_end last more later it = parses_step (Body 0 (Close last)) more (EndsBody ∷ []) more (after_body last) later refl it
 
 joined : (invites : Bool) (closes : Bool) (body : List ℕ) (later : List HttpElement)
     → HasHead closes ∷ ((if invites then Invites ∷ [] else []) ++ (map HasByte body ++ EndsBody ∷ later)) ≡ (HasHead closes ∷ ((if invites then Invites ∷ [] else []) ++ (map HasByte body ++ EndsBody ∷ []))) ++ later
@@ -150,12 +150,12 @@ joined invites closes body later =
     ap (λ (said : List HttpElement). HasHead closes ∷ said)
     (ap (λ (said : List HttpElement). (if invites then Invites ∷ [] else []) ++ said) (sym (append_assoc (map HasByte body) (EndsBody ∷ []) later)) ∙ sym (append_assoc (if invites then Invites ∷ [] else []) (map HasByte body ++ EndsBody ∷ []) later))
 
-pub length_says : LengthParses
-length_says head body more request later is framing it =
-    let body_says : Parses (body_by request.framing request.closes) (body ++ more) (map HasByte body ++ EndsBody ∷ later) =
+pub length_parses : LengthParses
+length_parses head body more request later is framing it =
+    let body_parses : Parses (body_by request.framing request.closes) (body ++ more) (map HasByte body ++ EndsBody ∷ later) =
     subst (λ (f : Framing). Parses (body_by f request.closes) (body ++ more) (map HasByte body ++ EndsBody ∷ later)) (sym framing)
-    (says_bytes body more (Close (is_last request.closes (length body))) (EndsBody ∷ later) (says_end (is_last request.closes (length body)) more later it)) in
-    subst (λ (said : List HttpElement). Parses Head (head ++ (body ++ more)) said) (joined request.invites request.closes body later) (says_head head (body ++ more) request (map HasByte body ++ EndsBody ∷ later) is body_says)
+    (parses_bytes body more (Close (is_last request.closes (length body))) (EndsBody ∷ later) (parses_end (is_last request.closes (length body)) more later it)) in
+    subst (λ (said : List HttpElement). Parses Head (head ++ (body ++ more)) said) (joined request.invites request.closes body later) (parses_head head (body ++ more) request (map HasByte body ++ EndsBody ∷ later) is body_parses)
 
 -- ---- chunks
 
@@ -225,28 +225,28 @@ at_piece size room closes more some fits =
     is_within n m less = grind (arith, nat_tests, less)
 
 -- a piece with its size line and the end of its chunk
-says_piece : (line octets more : List ℕ) (room : ℕ) (closes : Bool) (later : List HttpElement) → IsSizeLine line (length octets) → 0 < length octets → length octets ≤ room → Parses (Size (room - length octets) closes) more later
+parses_piece : (line octets more : List ℕ) (room : ℕ) (closes : Bool) (later : List HttpElement) → IsSizeLine line (length octets) → 0 < length octets → length octets ≤ room → Parses (Size (room - length octets) closes) more later
     → Parses (Size room closes) (line ++ (octets ++ 13 ∷ 10 ∷ more)) (map HasByte octets ++ later)
-says_piece line octets more room closes later is some fits it =
-    says_step (Size room closes) (line ++ (octets ++ 13 ∷ 10 ∷ more)) [] (octets ++ 13 ∷ 10 ∷ more) (Body (length octets) (Chunk (room - length octets) closes)) (map HasByte octets ++ later)
+parses_piece line octets more room closes later is some fits it =
+    parses_step (Size room closes) (line ++ (octets ++ 13 ∷ 10 ∷ more)) [] (octets ++ 13 ∷ 10 ∷ more) (Body (length octets) (Chunk (room - length octets) closes)) (map HasByte octets ++ later)
     (subst (λ (front : Front). FrontIs (Size room closes) (line ++ (octets ++ 13 ∷ 10 ∷ more)) front) (at_piece (length octets) room closes (octets ++ 13 ∷ 10 ∷ more) some fits) (at_size line (octets ++ 13 ∷ 10 ∷ more) (length octets) room closes is))
-    (says_bytes octets (13 ∷ 10 ∷ more) (Chunk (room - length octets) closes) later (says_step (Body 0 (Chunk (room - length octets) closes)) (13 ∷ 10 ∷ more) [] more (Size (room - length octets) closes) later refl it))
+    (parses_bytes octets (13 ∷ 10 ∷ more) (Chunk (room - length octets) closes) later (parses_step (Body 0 (Chunk (room - length octets) closes)) (13 ∷ 10 ∷ more) [] more (Size (room - length octets) closes) later refl it))
 
 piece_joined : (piece : Piece) (rest : List ℕ) → piece_bytes piece ++ rest ≡ piece.line ++ (piece.octets ++ 13 ∷ 10 ∷ rest)
 piece_joined piece rest = append_assoc piece.line (piece.octets ++ 13 ∷ 10 ∷ []) rest ∙ ap (λ (bytes : List ℕ). piece.line ++ bytes) (append_assoc piece.octets (13 ∷ 10 ∷ []) rest)
 
 -- all pieces, and then the part that is awaited with the room that is left
-says_pieces : (pieces : List Piece) (rest : List ℕ) (room : ℕ) (closes : Bool) (later : List HttpElement) → ArePieces room pieces → Parses (Size (room - length (octets_of pieces)) closes) rest later → Parses (Size room closes) (flat_map piece_bytes pieces ++ rest) (map HasByte (octets_of pieces) ++ later)
-says_pieces [] rest room closes later are it = subst (λ (n : ℕ). Parses (Size n closes) rest later) (none room) it
+parses_pieces : (pieces : List Piece) (rest : List ℕ) (room : ℕ) (closes : Bool) (later : List HttpElement) → ArePieces room pieces → Parses (Size (room - length (octets_of pieces)) closes) rest later → Parses (Size room closes) (flat_map piece_bytes pieces ++ rest) (map HasByte (octets_of pieces) ++ later)
+parses_pieces [] rest room closes later are it = subst (λ (n : ℕ). Parses (Size n closes) rest later) (none room) it
   where
     none : (n : ℕ) → n - 0 ≡ n
     none n = omega arith
-says_pieces (piece ∷ pieces) rest room closes later (line, some, fits, are) it =
+parses_pieces (piece ∷ pieces) rest room closes later (line, some, fits, are) it =
     let left : room - length (octets_of (piece ∷ pieces)) ≡ room - length piece.octets - length (octets_of pieces) = less room (length piece.octets) (length (octets_of pieces)) (length (octets_of (piece ∷ pieces))) (length-append piece.octets (octets_of pieces)) in
-    let more = says_pieces pieces rest (room - length piece.octets) closes later are (subst (λ (n : ℕ). Parses (Size n closes) rest later) left it) in
+    let more = parses_pieces pieces rest (room - length piece.octets) closes later are (subst (λ (n : ℕ). Parses (Size n closes) rest later) left it) in
     subst (λ (bytes : List ℕ). Parses (Size room closes) bytes (map HasByte (octets_of (piece ∷ pieces)) ++ later)) (sym (append_assoc (piece_bytes piece) (flat_map piece_bytes pieces) rest ∙ piece_joined piece (flat_map piece_bytes pieces ++ rest)))
     (subst (λ (said : List HttpElement). Parses (Size room closes) (piece.line ++ (piece.octets ++ 13 ∷ 10 ∷ (flat_map piece_bytes pieces ++ rest))) said) (both piece.octets (octets_of pieces))
-    (says_piece piece.line piece.octets (flat_map piece_bytes pieces ++ rest) room closes (map HasByte (octets_of pieces) ++ later) line some fits more))
+    (parses_piece piece.line piece.octets (flat_map piece_bytes pieces ++ rest) room closes (map HasByte (octets_of pieces) ++ later) line some fits more))
   where
     less : (n m k all : ℕ) → all ≡ m + k → n - all ≡ n - m - k
     less n m k all is = omega (arith, is)
@@ -256,10 +256,10 @@ says_pieces (piece ∷ pieces) rest room closes later (line, some, fits, are) it
     both (x ∷ xs) ys = ap (λ (said : List HttpElement). HasByte x ∷ said) (both xs ys)
 
 -- the last chunk, and the trailer
-says_last : (last trailer more : List ℕ) (room : ℕ) (closes : Bool) (later : List HttpElement) → IsSizeLine last 0 → IsTrailer trailer → Parses (after_body (is_last closes (HTTP_BODY_BYTES - room))) more later → Parses (Size room closes) (last ++ (trailer ++ more)) (EndsBody ∷ later)
-says_last last trailer more room closes later is whole it =
-    says_step (Size room closes) (last ++ (trailer ++ more)) [] (trailer ++ more) (Trailer (is_last closes (HTTP_BODY_BYTES - room))) (EndsBody ∷ later) (at_size last (trailer ++ more) 0 room closes is)
-    (says_step (Trailer (is_last closes (HTTP_BODY_BYTES - room))) (trailer ++ more) (EndsBody ∷ []) more (after_body (is_last closes (HTTP_BODY_BYTES - room))) later
+parses_last : (last trailer more : List ℕ) (room : ℕ) (closes : Bool) (later : List HttpElement) → IsSizeLine last 0 → IsTrailer trailer → Parses (after_body (is_last closes (HTTP_BODY_BYTES - room))) more later → Parses (Size room closes) (last ++ (trailer ++ more)) (EndsBody ∷ later)
+parses_last last trailer more room closes later is whole it =
+    parses_step (Size room closes) (last ++ (trailer ++ more)) [] (trailer ++ more) (Trailer (is_last closes (HTTP_BODY_BYTES - room))) (EndsBody ∷ later) (at_size last (trailer ++ more) 0 room closes is)
+    (parses_step (Trailer (is_last closes (HTTP_BODY_BYTES - room))) (trailer ++ more) (EndsBody ∷ []) more (after_body (is_last closes (HTTP_BODY_BYTES - room))) later
     (subst (λ (line : FirstLine). Goes (EndsBody ∷ []) more (after_body (is_last closes (HTTP_BODY_BYTES - room))) ≡ trailer_front (is_last closes (HTTP_BODY_BYTES - room)) (trailer ++ more) line) (sym (section_more HTTP_TRAILER_BYTES (length trailer) trailer more whole))
     (ap (λ (bytes : List ℕ). Goes (EndsBody ∷ []) bytes (after_body (is_last closes (HTTP_BODY_BYTES - room)))) (sym (drop_all trailer more)))) it)
 
@@ -274,9 +274,9 @@ left_over most n fits = omega (arith, fits)
 pub chunks_say : ChunksParse
 chunks_say head pieces last trailer more request later is framing are ends whole it =
     let count : HTTP_BODY_BYTES - (HTTP_BODY_BYTES - length (octets_of pieces)) ≡ length (octets_of pieces) = left_over HTTP_BODY_BYTES (length (octets_of pieces)) (all_fit HTTP_BODY_BYTES pieces are) in
-    let end = says_last last trailer more (HTTP_BODY_BYTES - length (octets_of pieces)) request.closes later ends whole (subst (λ (n : ℕ). Parses (after_body (is_last request.closes n)) more later) (sym count) it) in
-    let body_says : Parses (body_by request.framing request.closes) (flat_map piece_bytes pieces ++ (last ++ (trailer ++ more))) (map HasByte (octets_of pieces) ++ EndsBody ∷ later) =
+    let end = parses_last last trailer more (HTTP_BODY_BYTES - length (octets_of pieces)) request.closes later ends whole (subst (λ (n : ℕ). Parses (after_body (is_last request.closes n)) more later) (sym count) it) in
+    let body_parses : Parses (body_by request.framing request.closes) (flat_map piece_bytes pieces ++ (last ++ (trailer ++ more))) (map HasByte (octets_of pieces) ++ EndsBody ∷ later) =
     subst (λ (f : Framing). Parses (body_by f request.closes) (flat_map piece_bytes pieces ++ (last ++ (trailer ++ more))) (map HasByte (octets_of pieces) ++ EndsBody ∷ later)) (sym framing)
-    (says_pieces pieces (last ++ (trailer ++ more)) HTTP_BODY_BYTES request.closes (EndsBody ∷ later) are end) in
+    (parses_pieces pieces (last ++ (trailer ++ more)) HTTP_BODY_BYTES request.closes (EndsBody ∷ later) are end) in
     subst (λ (said : List HttpElement). Parses Head (head ++ (flat_map piece_bytes pieces ++ (last ++ (trailer ++ more)))) said) (joined request.invites request.closes (octets_of pieces) later)
-    (says_head head (flat_map piece_bytes pieces ++ (last ++ (trailer ++ more))) request (map HasByte (octets_of pieces) ++ EndsBody ∷ later) is body_says)
+    (parses_head head (flat_map piece_bytes pieces ++ (last ++ (trailer ++ more))) request (map HasByte (octets_of pieces) ++ EndsBody ∷ later) is body_parses)

@@ -18,8 +18,8 @@ pub record IsHead (head : List ℕ) (request : Request) : Type 0 where
   pub asks : Asks head (Ok request)
 
 -- the elements of the stream of a request: its head, the invitation that the client awaits, its body, and its end
-abbrev pub says_request : Request → List ℕ → List HttpElement
-says_request request body = HasHead request.closes ∷ ((if request.invites then Invites ∷ [] else []) ++ (map HasByte body ++ EndsBody ∷ []))
+abbrev pub elements_of_request : Request → List ℕ → List HttpElement
+elements_of_request request body = HasHead request.closes ∷ ((if request.invites then Invites ∷ [] else []) ++ (map HasByte body ++ EndsBody ∷ []))
 
 -- a line with a chunk's size, with its extensions
 pub record IsSizeLine (line : List ℕ) (size : ℕ) : Type 0 where
@@ -52,11 +52,11 @@ IsTrailer trailer = section_in HTTP_TRAILER_BYTES trailer ≡ Whole (length trai
 abbrev pub LengthParses : Type 0
 LengthParses =
     (head body more : List ℕ) (request : Request) (later : List HttpElement) → IsHead head request → request.framing ≡ Length (length body)
-    → Parses (after_body (is_last request.closes (length body))) more later → Exchanges (head ++ (body ++ more)) (says_request request body ++ later)
+    → Parses (after_body (is_last request.closes (length body))) more later → Exchanges (head ++ (body ++ more)) (elements_of_request request body ++ later)
 
 -- a stream that begins with a body in chunks has the elements of the same request for every division into chunks, with extensions and a trailer
 abbrev pub ChunksParse : Type 0
 ChunksParse =
     (head : List ℕ) (pieces : List Piece) (last trailer more : List ℕ) (request : Request) (later : List HttpElement) → IsHead head request → request.framing ≡ Chunked → ArePieces HTTP_BODY_BYTES pieces
     → IsSizeLine last 0 → IsTrailer trailer → Parses (after_body (is_last request.closes (length (octets_of pieces)))) more later
-    → Exchanges (head ++ (flat_map piece_bytes pieces ++ (last ++ (trailer ++ more)))) (says_request request (octets_of pieces) ++ later)
+    → Exchanges (head ++ (flat_map piece_bytes pieces ++ (last ++ (trailer ++ more)))) (elements_of_request request (octets_of pieces) ++ later)

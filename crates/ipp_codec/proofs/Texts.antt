@@ -7,7 +7,7 @@ use Rattle.ipp_codec.specs.declared.view.ValueView.{ValueView}
 use Rattle.ipp_codec.specs.Message.{IppValue, plain}
 use Rattle.ipp_codec.specs.Spelling.{counted}
 use Rattle.ipp_codec.specs.Reading.{counted_at}
-use Rattle.ipp_codec.specs.Typed.{HasText, SaysText}
+use Rattle.ipp_codec.specs.Typed.{HasText, HoldsText}
 use Rattle.ipp_codec.specs.Views.{value_shown}
 use Rattle.ipp_codec.proofs.Fields.{IsBytes, counted_takes}
 use Rattle.ipp_codec.proofs.Parts.{no_language, no_text, nothing_left}
@@ -31,11 +31,11 @@ goes_past bytes a r b s e f some text w = eqb-false _ _ some (ap length (nothing
 plain_shown : (v : ValueView) → v.tag ≢ 0x34 → value_shown v ≡ plain v.tag v.content.now
 plain_shown v other = let t : eqb v.tag 0x34 ≡ false = ne_eqb _ _ other in rw t refl
 
-says_none : (tag : ℕ) (bytes : List ℕ) → tag < 0x41 → ((text : List ℕ) → ¬ (HasText bytes text)) → (text : List ℕ) → ¬ (SaysText (plain tag bytes) text)
-says_none tag bytes t none text (inl (inl h, is)) = omega (arith, t, h)
-says_none tag bytes t none text (inl (inr h, is)) = omega (arith, t, h)
-says_none tag bytes t none text (inr has) = none text has.1
+holds_none : (tag : ℕ) (bytes : List ℕ) → tag < 0x41 → ((text : List ℕ) → ¬ (HasText bytes text)) → (text : List ℕ) → ¬ (HoldsText (plain tag bytes) text)
+holds_none tag bytes t none text (inl (inl h, is)) = omega (arith, t, h)
+holds_none tag bytes t none text (inl (inr h, is)) = omega (arith, t, h)
+holds_none tag bytes t none text (inr has) = none text has.1
 
-pub no_text_said : (v : ValueView) → 0x34 < v.tag → v.tag < 0x41 → ((text : List ℕ) → ¬ (HasText v.content.now text)) → (text : List ℕ) → ¬ (SaysText (value_shown v) text)
-no_text_said v low high none text says =
-    says_none v.tag v.content.now high none text (subst (λ (w : IppValue). SaysText w text) (plain_shown v (λ h. omega (arith, h, low))) says)
+pub no_text_said : (v : ValueView) → 0x34 < v.tag → v.tag < 0x41 → ((text : List ℕ) → ¬ (HasText v.content.now text)) → (text : List ℕ) → ¬ (HoldsText (value_shown v) text)
+no_text_said v low high none text holds =
+    holds_none v.tag v.content.now high none text (subst (λ (w : IppValue). HoldsText w text) (plain_shown v (λ h. omega (arith, h, low))) holds)

@@ -41,5 +41,5 @@ abbrev pub HasText : List ℕ → List ℕ → Type 0
 HasText bytes text = (language : List ℕ) × (length language < 0x8000) × (length text < 0x8000) × (bytes ≡ counted language ++ counted text)
 
 -- The value is this text or name, with or without a language.
-abbrev pub SaysText : IppValue → List ℕ → Type 0
-SaysText v text = (((tag_of v ≡ tags.text) ⊎ (tag_of v ≡ tags.name)) × (bytes_in v ≡ text)) ⊎ (((tag_of v ≡ tags.text_with_language) ⊎ (tag_of v ≡ tags.name_with_language)) × HasText (bytes_in v) text)
+abbrev pub HoldsText : IppValue → List ℕ → Type 0
+HoldsText v text = (((tag_of v ≡ tags.text) ⊎ (tag_of v ≡ tags.name)) × (bytes_in v ≡ text)) ⊎ (((tag_of v ≡ tags.text_with_language) ⊎ (tag_of v ≡ tags.name_with_language)) × HasText (bytes_in v) text)

@@ -1,6 +1,6 @@
 //! Values read by their tags (RFC 8010, section 3.9).
 ghost use Rattle.std.specs.Prelude.{◌≡◌, ℕ, List, IfSome, IsNone};
-ghost use Rattle.ipp_codec.specs.Typed.{integer_in, integer_of, boolean_in, boolean_of, HasText, SaysText};
+ghost use Rattle.ipp_codec.specs.Typed.{integer_in, integer_of, boolean_in, boolean_of, HasText, HoldsText};
 ghost use Rattle.ipp_codec.specs.Views.{value_shown};
 
 use crate::element::counted_of;
@@ -64,8 +64,8 @@ impl<'a> ValueView<'a> {
 
     /// The text of a text or a name, with or without a language.
     pub fn as_text(&self) -> Option<&'a [u8]>
-        ensures some { IfSome result (λ text. SaysText (value_shown self.now) text.now) }
-        ensures none { IsNone result → (text : List ℕ) → ¬ (SaysText (value_shown self.now) text) }
+        ensures some { IfSome result (λ text. HoldsText (value_shown self.now) text.now) }
+        ensures none { IsNone result → (text : List ℕ) → ¬ (HoldsText (value_shown self.now) text) }
     {
         match self.tag {
             0x41 | 0x42 => Some(self.content),

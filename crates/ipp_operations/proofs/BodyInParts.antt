@@ -81,8 +81,8 @@ id_kept bytes decoder stands = ap (λ (o : Option Header). option_map (λ (h : H
 
 -- the kept octets are the document, if the document is read
 pub holds : (bytes : List ℕ) (reader : ReaderState) → HasRead bytes reader → Holds (reads_document reader.decoder.head) bytes reader.decoder reader.document
-holds bytes reader heard reads whole =
-    let kept : KeptAt Whole bytes reader = subst (λ (s : Stage). KeptAt s bytes reader) whole heard.kept in
+holds bytes reader has_read reads whole =
+    let kept : KeptAt Whole bytes reader = subst (λ (s : Stage). KeptAt s bytes reader) whole has_read.kept in
     kept ∙ ap (λ (b : Bool). cond b (drop (length reader.decoder.head) bytes) []) reads
 
 -- ---- a piece
@@ -107,10 +107,10 @@ no_document_at bytes document new (Faulty fault) is head none = none
 no_document_at bytes document new Whole is head none = absurd (head is)
 
 -- a piece after which the head isn't whole
-pub heard_no_head : (bytes piece document : List ℕ) (old new : DecoderState) → TakesIn old piece new → StaysOver old new → ¬ (new.stage ≡ Whole) → HasRead bytes (reader_of old document) → HasRead (bytes ++ piece) (reader_of new document)
-heard_no_head bytes piece document old new takes over head heard = record {
-  stands = takes bytes heard.stands;
-  kept = no_document_at (bytes ++ piece) document new new.stage refl head (none_yet bytes document old new old.stage refl heard.kept over head);
+pub read_no_head : (bytes piece document : List ℕ) (old new : DecoderState) → TakesIn old piece new → StaysOver old new → ¬ (new.stage ≡ Whole) → HasRead bytes (reader_of old document) → HasRead (bytes ++ piece) (reader_of new document)
+read_no_head bytes piece document old new takes over head has_read = record {
+  stands = takes bytes has_read.stands;
+  kept = no_document_at (bytes ++ piece) document new new.stage refl head (none_yet bytes document old new old.stage refl has_read.kept over head);
 }
 
 went_on : (reads : Bool) (document before part piece all : List ℕ) → document ≡ cond reads before [] → part ≡ piece → all ≡ before ++ piece → cond reads (document ++ part) document ≡ cond reads all []
@@ -142,12 +142,12 @@ headed bytes piece document old new count Whole reads is stands known kept over 
     went_on reads document (drop (length old.head) bytes) (drop count piece) piece (drop (length new.head) (bytes ++ piece)) was more behind
 
 -- a piece in which the head is whole
-pub heard_head : (bytes piece document later : List ℕ) (old new : DecoderState) (count : ℕ) → TakesIn old piece new → StaysOver old new → new.stage ≡ Whole → length new.head ≡ length old.head + count
+pub read_head : (bytes piece document later : List ℕ) (old new : DecoderState) (count : ℕ) → TakesIn old piece new → StaysOver old new → new.stage ≡ Whole → length new.head ≡ length old.head + count
     → later ≡ cond (reads_document new.head) (document ++ drop count piece) document → HasRead bytes (reader_of old document) → HasRead (bytes ++ piece) (reader_of new later)
-heard_head bytes piece document later old new count takes over whole long is heard =
-    let kept : KeptAt Whole (bytes ++ piece) (reader_of new later) = is ∙ headed bytes piece document old new count old.stage (reads_document new.head) refl heard.stands heard.stands.known heard.kept over whole long refl in
+read_head bytes piece document later old new count takes over whole long is has_read =
+    let kept : KeptAt Whole (bytes ++ piece) (reader_of new later) = is ∙ headed bytes piece document old new count old.stage (reads_document new.head) refl has_read.stands has_read.stands.known has_read.kept over whole long refl in
     record {
-      stands = takes bytes heard.stands;
+      stands = takes bytes has_read.stands;
       kept = subst (λ (s : Stage). KeptAt s (bytes ++ piece) (reader_of new later)) (sym whole) kept;
     }
 
@@ -163,8 +163,8 @@ none_kept decoder document (Faulty fault) none = none
 none_kept decoder document Whole none = none ∙ sym (either (reads_document decoder.head) (drop (length decoder.head) []) (drop_all (length decoder.head) [] (omega arith)))
 
 -- a reader of a new body
-pub heard_nothing : (decoder : DecoderState) (document : List ℕ) → HasDecoded [] decoder → document ≡ [] → HasRead [] (reader_of decoder document)
-heard_nothing decoder document stands none = record { stands = stands; kept = none_kept decoder document decoder.stage none }
+pub read_nothing : (decoder : DecoderState) (document : List ℕ) → HasDecoded [] decoder → document ≡ [] → HasRead [] (reader_of decoder document)
+read_nothing decoder document stands none = record { stands = stands; kept = none_kept decoder document decoder.stage none }
 
 -- ---- from a decoder to the request
 

@@ -28,11 +28,11 @@ joined_by draft line (Ok lines) = rw (before_assoc draft (alone line) (together 
 joined_by draft line (Err fault) = refl
 
 pub joined_step : (draft : Draft) (text : List ℕ) (texts : List (List ℕ)) (line : LineRecord) → line_in text ≡ Ok line → joined (before draft (alone line)) texts ≡ joined draft (text ∷ texts)
-joined_step draft text texts line says = rw says (joined_by draft line (lines_in texts))
+joined_step draft text texts line parses = rw parses (joined_by draft line (lines_in texts))
 
 -- the same at a place of a list of texts
 pub lines_step : (old new : Draft) (texts : List (Bor (List ℕ))) (place : ℕ) (default : Bor (List ℕ)) (line : LineRecord) → place < length texts → line_in (slice_index_or texts place default).now ≡ Ok line → new ≡ before old (alone line)
     → joined new (map (λ text. text.now) (drop (place + 1) texts)) ≡ joined old (map (λ text. text.now) (drop place texts))
-lines_step old new texts place default line within says is =
-    rw is (joined_step old (slice_index_or texts place default).now (map (λ text. text.now) (drop (place + 1) texts)) line says
+lines_step old new texts place default line within parses is =
+    rw is (joined_step old (slice_index_or texts place default).now (map (λ text. text.now) (drop (place + 1) texts)) line parses
     ∙ sym (at_drop_more (λ rest. joined old (map (λ text. text.now) rest)) texts place default within))

@@ -16,7 +16,7 @@ use Rattle.lpd.specs.declared.reader.Awaited.TheVariants.{Command, Subcommand, F
 use Rattle.lpd.specs.Items.{ItemRecord, HasFile, item_record, awaited_after}
 use Rattle.lpd.specs.Command.{meaning_of, awaits_line}
 use Rattle.lpd.specs.Stream.{Front, Gives, Fails, Waits, by_line, front_of, Ending, Open, Faulty, Parses, ParsesOn, Leads, ParsesFirst, LpdItems, LpdState, is_over, is_nothing, IsLeft, HasRead, Answers}
-use Rattle.lpd.proofs.Streams.{fails_more, leads_then, hears_then, leads_more, hears_first, stays_in}
+use Rattle.lpd.proofs.Streams.{fails_more, leads_then, reads_then, leads_more, reads_first, stays_in}
 
 -- ---- pieces
 
@@ -82,12 +82,12 @@ fails_some fault is = (cc)
 -- the answer for an item at the front
 answers_item : (old : LpdState) (said : LpdItem) (file rest : List ℕ) → old.fault ≡ None → front_of old.awaited old.rest ≡ Gives (item_record said file) rest → Answers old (Ok (Some said)) (record { file = file; rest = rest; awaited = awaited_after (item_record said file); fault = None })
 answers_item old said file rest faultless gives stream given stands =
-    let told = item_record said file in
+    let parsed = item_record said file in
     let kept : IsLeft None old.awaited old.rest stands.left = subst (λ (f : Option LpdFault). IsLeft f old.awaited old.rest stands.left) faultless stands.kept in
-    let same : stands.left ≡ old.rest = at_front old.awaited old.rest stands.left (Gives told rest) kept gives (gives_some told rest) in
+    let same : stands.left ≡ old.rest = at_front old.awaited old.rest stands.left (Gives parsed rest) kept gives (gives_some parsed rest) in
     let here : Leads Command stream given old.awaited old.rest = subst (λ (l : List ℕ). Leads Command stream given old.awaited l) same stands.leads in
-    let on : Leads old.awaited old.rest (told ∷ []) (awaited_after told) rest = (rest, gives, (refl, refl)) in
-    record { left = rest; leads = leads_then Command stream given old.awaited old.rest (told ∷ []) (awaited_after told) rest here on; kept = inr refl }
+    let on : Leads old.awaited old.rest (parsed ∷ []) (awaited_after parsed) rest = (rest, gives, (refl, refl)) in
+    record { left = rest; leads = leads_then Command stream given old.awaited old.rest (parsed ∷ []) (awaited_after parsed) rest here on; kept = inr refl }
 
 -- the answer for a fault at the front
 fault_stands : (old : LpdState) (fault : LpdFault) → ((left : List ℕ) → IsLeft old.fault old.awaited old.rest left → front_of old.awaited left ≡ Fails fault) → Answers old (Err (Fault fault)) (record old { fault = Some fault })
@@ -95,8 +95,8 @@ fault_stands old fault fails = (
   refl,
   λ stream given stands.
       let here = fails stands.left stands.kept in
-      let hears : Parses Command stream (given ++ []) (Faulty fault) = hears_then Command stream given old.awaited stands.left [] (Faulty fault) stands.leads here in (
-        subst (λ (items : List ItemRecord). Parses Command stream items (Faulty fault)) (append-nil given) hears,
+      let reads : Parses Command stream (given ++ []) (Faulty fault) = reads_then Command stream given old.awaited stands.left [] (Faulty fault) stands.leads here in (
+        subst (λ (items : List ItemRecord). Parses Command stream items (Faulty fault)) (append-nil given) reads,
         record { left = stands.left; leads = stands.leads; kept = here },
       ),
 )
@@ -120,8 +120,8 @@ answers_nothing old faultless waits = (
   refl,
   λ stream given stands.
       let kept : IsLeft None old.awaited old.rest stands.left = subst (λ (f : Option LpdFault). IsLeft f old.awaited old.rest stands.left) faultless stands.kept in
-      let hears : Parses Command stream (given ++ []) Open = hears_then Command stream given old.awaited stands.left [] Open stands.leads (waits_left old.awaited old.rest stands.left kept waits) in
-      subst (λ (items : List ItemRecord). Parses Command stream items Open) (append-nil given) hears,
+      let reads : Parses Command stream (given ++ []) Open = reads_then Command stream given old.awaited stands.left [] Open stands.leads (waits_left old.awaited old.rest stands.left kept waits) in
+      subst (λ (items : List ItemRecord). Parses Command stream items Open) (append-nil given) reads,
 )
 
 pub answers_over : (old : LpdState) → old.fault ≡ None → old.awaited ≡ Nothing → Answers old (Ok None) old
@@ -130,11 +130,11 @@ answers_over old faultless over = answers_nothing old faultless (ap (λ (a : Awa
 -- ---- lines
 
 pub answers_line : (old : LpdState) (count : ℕ) (said : LpdItem) → old.fault ≡ None → awaits_line old.awaited ≡ true → first_line_of LPD_LINE_BYTES old.rest ≡ line.Whole count → meaning_of old.awaited (take count old.rest) ≡ Ok (item_record said []) → Answers old (Ok (Some said)) (record { file = []; rest = drop (count + 1) old.rest; awaited = awaited_after (item_record said []); fault = None })
-answers_line old count said faultless is whole says =
-    answers_item old said [] (drop (count + 1) old.rest) faultless (rw (front_by_line old.awaited old.rest is, whole, says) refl)
+answers_line old count said faultless is whole parses =
+    answers_item old said [] (drop (count + 1) old.rest) faultless (rw (front_by_line old.awaited old.rest is, whole, parses) refl)
 
 pub answers_bad_line : (old : LpdState) (count : ℕ) (fault : LpdFault) → old.fault ≡ None → awaits_line old.awaited ≡ true → first_line_of LPD_LINE_BYTES old.rest ≡ line.Whole count → meaning_of old.awaited (take count old.rest) ≡ Err fault → Answers old (Err (Fault fault)) (record old { fault = Some fault })
-answers_bad_line old count fault faultless is whole says = answers_fault old fault faultless (rw (front_by_line old.awaited old.rest is, whole, says) refl)
+answers_bad_line old count fault faultless is whole parses = answers_fault old fault faultless (rw (front_by_line old.awaited old.rest is, whole, parses) refl)
 
 pub answers_too_long : (old : LpdState) → old.fault ≡ None → awaits_line old.awaited ≡ true → first_line_of LPD_LINE_BYTES old.rest ≡ line.TooLong → Answers old (Err (Fault LineTooLong)) (record old { fault = Some LineTooLong })
 answers_too_long old faultless is long = answers_fault old LineTooLong faultless (rw (front_by_line old.awaited old.rest is, long) refl)
@@ -167,35 +167,35 @@ answers_no_zero old count faultless is within other = answers_fault old MissingZ
 
 pub fault_stays : (stream more : List ℕ) (given : List ItemRecord) (fault : LpdFault) → LpdItems stream given (Faulty fault) → LpdItems (stream ++ more) given (Faulty fault)
 fault_stays stream more given fault x =
-    let first = hears_first Command stream given (Faulty fault) x in
-    let hears : Parses Command (stream ++ more) (given ++ []) (Faulty fault) =
-    hears_then Command (stream ++ more) given first.0 (first.1 ++ more) [] (Faulty fault) (leads_more Command stream more given first.0 first.1 first.2) (fails_more first.0 first.1 more fault first.3) in
-    subst (λ (items : List ItemRecord). Parses Command (stream ++ more) items (Faulty fault)) (append-nil given) hears
+    let first = reads_first Command stream given (Faulty fault) x in
+    let reads : Parses Command (stream ++ more) (given ++ []) (Faulty fault) =
+    reads_then Command (stream ++ more) given first.0 (first.1 ++ more) [] (Faulty fault) (leads_more Command stream more given first.0 first.1 first.2) (fails_more first.0 first.1 more fault first.3) in
+    subst (λ (items : List ItemRecord). Parses Command (stream ++ more) items (Faulty fault)) (append-nil given) reads
 
 pub all_stays : (stream more : List ℕ) (given items : List ItemRecord) (end ending : Ending) → LpdItems stream given end → LpdItems (stream ++ more) items ending → (later : List ItemRecord) × (items ≡ given ++ later)
 all_stays stream more given items end ending x y =
-    let first = hears_first Command stream given end x in
+    let first = reads_first Command stream given end x in
     stays_in Command stream more given first.0 first.1 items ending first.2 y
 
 pub first_stays : (stream more : List ℕ) (first items : List ItemRecord) (ending : Ending) → ParsesFirst stream first → LpdItems (stream ++ more) items ending → (later : List ItemRecord) × (items ≡ first ++ later)
 first_stays stream more first items ending x y = stays_in Command stream more first x.next x.left items ending x.leads y
 
 -- if nothing is awaited, other bytes say no item either
-nothing_heard : (bytes other : List ℕ) (items : List ItemRecord) (ending : Ending) → Parses Nothing bytes items ending → Parses Nothing other items ending
-nothing_heard bytes other [] Open x = refl
-nothing_heard bytes other [] (Faulty fault) x = absurd (let no : Waits ≡ Fails fault = x in (cc))
-nothing_heard bytes other (said ∷ items) ending x = absurd (let no : Waits ≡ Gives said x.0 = x.1 in (cc))
+nothing_read : (bytes other : List ℕ) (items : List ItemRecord) (ending : Ending) → Parses Nothing bytes items ending → Parses Nothing other items ending
+nothing_read bytes other [] Open x = refl
+nothing_read bytes other [] (Faulty fault) x = absurd (let no : Waits ≡ Fails fault = x in (cc))
+nothing_read bytes other (said ∷ items) ending x = absurd (let no : Waits ≡ Gives said x.0 = x.1 in (cc))
 
-hears_left : (fault : Option LpdFault) (awaited : Awaited) (rest left coming : List ℕ) (items : List ItemRecord) (ending : Ending) → IsLeft fault awaited rest left → ParsesOn fault awaited (rest ++ coming) items ending → Parses awaited (left ++ coming) items ending
-hears_left (Some fault) awaited rest left coming items ending kept hears =
+reads_left : (fault : Option LpdFault) (awaited : Awaited) (rest left coming : List ℕ) (items : List ItemRecord) (ending : Ending) → IsLeft fault awaited rest left → ParsesOn fault awaited (rest ++ coming) items ending → Parses awaited (left ++ coming) items ending
+reads_left (Some fault) awaited rest left coming items ending kept reads =
     let here : Parses awaited (left ++ coming) [] (Faulty fault) = fails_more awaited left coming fault kept in
-    subst (λ (i : List ItemRecord). Parses awaited (left ++ coming) i ending) (sym hears.0) (subst (λ (e : Ending). Parses awaited (left ++ coming) [] e) (sym hears.1) here)
-hears_left None awaited rest left coming items ending (inl over) hears =
-    let here : Parses Nothing (rest ++ coming) items ending = subst (λ (a : Awaited). Parses a (rest ++ coming) items ending) over hears in
-    subst (λ (a : Awaited). Parses a (left ++ coming) items ending) (sym over) (nothing_heard (rest ++ coming) (left ++ coming) items ending here)
-hears_left None awaited rest left coming items ending (inr same) hears = subst (λ (l : List ℕ). Parses awaited (l ++ coming) items ending) (sym same) hears
+    subst (λ (i : List ItemRecord). Parses awaited (left ++ coming) i ending) (sym reads.0) (subst (λ (e : Ending). Parses awaited (left ++ coming) [] e) (sym reads.1) here)
+reads_left None awaited rest left coming items ending (inl over) reads =
+    let here : Parses Nothing (rest ++ coming) items ending = subst (λ (a : Awaited). Parses a (rest ++ coming) items ending) over reads in
+    subst (λ (a : Awaited). Parses a (left ++ coming) items ending) (sym over) (nothing_read (rest ++ coming) (left ++ coming) items ending here)
+reads_left None awaited rest left coming items ending (inr same) reads = subst (λ (l : List ℕ). Parses awaited (l ++ coming) items ending) (sym same) reads
 
-pub hears_rest : (stream coming : List ℕ) (given items : List ItemRecord) (ending : Ending) (reader : LpdState) → HasRead stream given reader → ParsesOn reader.fault reader.awaited (reader.rest ++ coming) items ending → LpdItems (stream ++ coming) (given ++ items) ending
-hears_rest stream coming given items ending reader stands hears =
-    hears_then Command (stream ++ coming) given reader.awaited (stands.left ++ coming) items ending (leads_more Command stream coming given reader.awaited stands.left stands.leads)
-    (hears_left reader.fault reader.awaited reader.rest stands.left coming items ending stands.kept hears)
+pub reads_rest : (stream coming : List ℕ) (given items : List ItemRecord) (ending : Ending) (reader : LpdState) → HasRead stream given reader → ParsesOn reader.fault reader.awaited (reader.rest ++ coming) items ending → LpdItems (stream ++ coming) (given ++ items) ending
+reads_rest stream coming given items ending reader stands reads =
+    reads_then Command (stream ++ coming) given reader.awaited (stands.left ++ coming) items ending (leads_more Command stream coming given reader.awaited stands.left stands.leads)
+    (reads_left reader.fault reader.awaited reader.rest stands.left coming items ending stands.kept reads)

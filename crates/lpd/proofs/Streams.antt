@@ -14,7 +14,7 @@ use Rattle.lpd.specs.declared.reader.Awaited.{Awaited}
 use Rattle.lpd.specs.declared.reader.Awaited.TheVariants.{Command, Subcommand, File, Nothing}
 use Rattle.lpd.specs.Items.{ItemRecord, HasFile, awaited_after}
 use Rattle.lpd.specs.Command.{command_line, subcommand_line}
-use Rattle.lpd.specs.Stream.{Front, Gives, Fails, Waits, line_says, by_line, by_file, front_of, Ending, Open, Faulty, EndsAs, Parses, Leads}
+use Rattle.lpd.specs.Stream.{Front, Gives, Fails, Waits, line_parses, by_line, by_file, front_of, Ending, Open, Faulty, EndsAs, Parses, Leads}
 
 -- ---- a front
 
@@ -30,9 +30,9 @@ grow more (Gives said rest) = Gives said (rest ++ more)
 grow more (Fails fault) = Fails fault
 grow more Waits = Waits
 
-says_grow : (said : Result ItemRecord LpdFault) (rest more : List ℕ) → line_says said (rest ++ more) ≡ grow more (line_says said rest)
-says_grow (Ok said) rest more = refl
-says_grow (Err fault) rest more = refl
+parses_grow : (said : Result ItemRecord LpdFault) (rest more : List ℕ) → line_parses said (rest ++ more) ≡ grow more (line_parses said rest)
+parses_grow (Ok said) rest more = refl
+parses_grow (Err fault) rest more = refl
 
 line_grows : (meaning : List ℕ → Result ItemRecord LpdFault) (bytes more : List ℕ) (front : FirstLine) → first_line_of LPD_LINE_BYTES bytes ≡ front
     → (by_line meaning bytes front ≡ Waits) ⊎ (by_line meaning (bytes ++ more) (first_line_of LPD_LINE_BYTES (bytes ++ more)) ≡ grow more (by_line meaning bytes front))
@@ -40,9 +40,9 @@ line_grows meaning bytes more (line.Whole count) is =
     let within = line_within bytes count is in
     let first : take count (bytes ++ more) ≡ take count bytes = take-append-le count bytes more (omega (arith, within)) in
     let rest : drop (count + 1) (bytes ++ more) ≡ drop (count + 1) bytes ++ more = drop-append-le (count + 1) bytes more (omega (arith, within)) in
-    let whole : by_line meaning (bytes ++ more) (first_line_of LPD_LINE_BYTES (bytes ++ more)) ≡ line_says (meaning (take count bytes)) (drop (count + 1) bytes ++ more) =
+    let whole : by_line meaning (bytes ++ more) (first_line_of LPD_LINE_BYTES (bytes ++ more)) ≡ line_parses (meaning (take count bytes)) (drop (count + 1) bytes ++ more) =
     rw (line_grown LPD_LINE_BYTES bytes more count is, first, rest) refl in
-    inr (whole ∙ says_grow (meaning (take count bytes)) (drop (count + 1) bytes) more)
+    inr (whole ∙ parses_grow (meaning (take count bytes)) (drop (count + 1) bytes) more)
 line_grows meaning bytes more line.TooLong is = inr (rw (too_long_grown LPD_LINE_BYTES bytes more is) refl)
 line_grows meaning bytes more line.Unfinished is = inl refl
 
@@ -95,25 +95,25 @@ fails_more awaited bytes more fault is = fails_by (front_of awaited bytes) (fron
 
 -- ---- an item takes a byte at least
 
-gives_rest : (said told : ItemRecord) (rest left : List ℕ) → Gives said rest ≡ Gives told left → (said ≡ told) × (rest ≡ left)
-gives_rest said told rest left same = ((cc), (cc))
+gives_rest : (said parsed : ItemRecord) (rest left : List ℕ) → Gives said rest ≡ Gives parsed left → (said ≡ parsed) × (rest ≡ left)
+gives_rest said parsed rest left same = ((cc), (cc))
 
-says_rest : (meant : Result ItemRecord LpdFault) (left : List ℕ) (said : ItemRecord) (rest : List ℕ) → line_says meant left ≡ Gives said rest → left ≡ rest
-says_rest (Ok told) left said rest is = (gives_rest told said left rest is).1
-says_rest (Err fault) left said rest is = absurd (let no : Fails fault ≡ Gives said rest = is in (cc))
+parses_rest : (meant : Result ItemRecord LpdFault) (left : List ℕ) (said : ItemRecord) (rest : List ℕ) → line_parses meant left ≡ Gives said rest → left ≡ rest
+parses_rest (Ok parsed) left said rest is = (gives_rest parsed said left rest is).1
+parses_rest (Err fault) left said rest is = absurd (let no : Fails fault ≡ Gives said rest = is in (cc))
 
 shorter : (bytes rest : List ℕ) (count : ℕ) → count < length bytes → drop (count + 1) bytes ≡ rest → length rest < length bytes
 shorter bytes rest count within is = rw (sym is) (omega (arith, within, length-drop (count + 1) bytes))
 
 line_shorter : (meaning : List ℕ → Result ItemRecord LpdFault) (bytes : List ℕ) (front : FirstLine) (said : ItemRecord) (rest : List ℕ) → first_line_of LPD_LINE_BYTES bytes ≡ front → by_line meaning bytes front ≡ Gives said rest → length rest < length bytes
 line_shorter meaning bytes (line.Whole count) said rest line is =
-    shorter bytes rest count (line_within bytes count line) (says_rest (meaning (take count bytes)) (drop (count + 1) bytes) said rest is)
+    shorter bytes rest count (line_within bytes count line) (parses_rest (meaning (take count bytes)) (drop (count + 1) bytes) said rest is)
 line_shorter meaning bytes line.TooLong said rest line is = absurd (cc is)
 line_shorter meaning bytes line.Unfinished said rest line is = absurd (cc is)
 
-if_rest : (t : Bool) (told said : ItemRecord) (left rest : List ℕ) (fault : LpdFault) → (if t then Gives told left else Fails fault) ≡ Gives said rest → left ≡ rest
-if_rest true told said left rest fault is = (gives_rest told said left rest is).1
-if_rest false told said left rest fault is = absurd (let no : Fails fault ≡ Gives said rest = is in (cc))
+if_rest : (t : Bool) (parsed said : ItemRecord) (left rest : List ℕ) (fault : LpdFault) → (if t then Gives parsed left else Fails fault) ≡ Gives said rest → left ≡ rest
+if_rest true parsed said left rest fault is = (gives_rest parsed said left rest is).1
+if_rest false parsed said left rest fault is = absurd (let no : Fails fault ≡ Gives said rest = is in (cc))
 
 file_shorter : (count : ℕ) (bytes : List ℕ) (said : ItemRecord) (rest : List ℕ) (short : Bool) → nat_le (length bytes) count ≡ short → by_file count bytes ≡ Gives said rest → length rest < length bytes
 file_shorter count bytes said rest true test is =
@@ -135,19 +135,19 @@ pub leads_then : (a : Awaited) (bytes : List ℕ) (first : List ItemRecord) (b :
 leads_then a bytes [] b mid later c left x y = subst (λ (q : Awaited). Leads q bytes later c left) x.0 (subst (λ (r : List ℕ). Leads b r later c left) x.1 y)
 leads_then a bytes (said ∷ first) b mid later c left x y = (x.0, x.1, leads_then (awaited_after said) x.0 first b mid later c left x.2 y)
 
-pub hears_then : (a : Awaited) (bytes : List ℕ) (first : List ItemRecord) (b : Awaited) (mid : List ℕ) (items : List ItemRecord) (ending : Ending) → Leads a bytes first b mid → Parses b mid items ending → Parses a bytes (first ++ items) ending
-hears_then a bytes [] b mid items ending x y = subst (λ (q : Awaited). Parses q bytes items ending) x.0 (subst (λ (r : List ℕ). Parses b r items ending) x.1 y)
-hears_then a bytes (said ∷ first) b mid items ending x y = (x.0, x.1, hears_then (awaited_after said) x.0 first b mid items ending x.2 y)
+pub reads_then : (a : Awaited) (bytes : List ℕ) (first : List ItemRecord) (b : Awaited) (mid : List ℕ) (items : List ItemRecord) (ending : Ending) → Leads a bytes first b mid → Parses b mid items ending → Parses a bytes (first ++ items) ending
+reads_then a bytes [] b mid items ending x y = subst (λ (q : Awaited). Parses q bytes items ending) x.0 (subst (λ (r : List ℕ). Parses b r items ending) x.1 y)
+reads_then a bytes (said ∷ first) b mid items ending x y = (x.0, x.1, reads_then (awaited_after said) x.0 first b mid items ending x.2 y)
 
 pub leads_more : (a : Awaited) (bytes more : List ℕ) (items : List ItemRecord) (b : Awaited) (left : List ℕ) → Leads a bytes items b left → Leads a (bytes ++ more) items b (left ++ more)
 leads_more a bytes more [] b left x = (x.0, ap (λ l. l ++ more) x.1)
 leads_more a bytes more (said ∷ items) b left x = (x.0 ++ more, gives_more a bytes more said x.0 x.1, leads_more (awaited_after said) x.0 more items b left x.2)
 
 -- the items that all of the bytes say are said first
-pub hears_first : (a : Awaited) (bytes : List ℕ) (items : List ItemRecord) (ending : Ending) → Parses a bytes items ending → (next : Awaited) × (left : List ℕ) × Leads a bytes items next left × EndsAs (front_of next left) ending
-hears_first a bytes [] ending x = (a, bytes, (refl, refl), x)
-hears_first a bytes (said ∷ items) ending x =
-    let tail = hears_first (awaited_after said) x.0 items ending x.2 in
+pub reads_first : (a : Awaited) (bytes : List ℕ) (items : List ItemRecord) (ending : Ending) → Parses a bytes items ending → (next : Awaited) × (left : List ℕ) × Leads a bytes items next left × EndsAs (front_of next left) ending
+reads_first a bytes [] ending x = (a, bytes, (refl, refl), x)
+reads_first a bytes (said ∷ items) ending x =
+    let tail = reads_first (awaited_after said) x.0 items ending x.2 in
     (tail.0, tail.1, (x.0, x.1, tail.2), tail.3)
 
 -- bytes that end have no item at the front
@@ -164,58 +164,58 @@ ends_one front (Faulty fault) (Faulty other) x y =
     let faults : fault ≡ other = (cc) in
     ap (λ (f : LpdFault). Faulty f) faults
 
-pub says_one : (a : Awaited) (bytes : List ℕ) (given items : List ItemRecord) (end ending : Ending) → Parses a bytes given end → Parses a bytes items ending → (given ≡ items) × (end ≡ ending)
-says_one a bytes [] [] end ending x y = (refl, ends_one (front_of a bytes) end ending x y)
-says_one a bytes [] (said ∷ items) end ending x y = absurd (ends_no (front_of a bytes) end said y.0 x y.1)
-says_one a bytes (said ∷ given) [] end ending x y = absurd (ends_no (front_of a bytes) ending said x.0 y x.1)
-says_one a bytes (said ∷ given) (told ∷ items) end ending x y =
-    let same = gives_rest told said y.0 x.0 (sym y.1 ∙ x.1) in
-    let tail : Parses (awaited_after said) x.0 items ending = subst (λ (s : ItemRecord). Parses (awaited_after s) x.0 items ending) same.0 (subst (λ (r : List ℕ). Parses (awaited_after told) r items ending) same.1 y.2) in
-    let later = says_one (awaited_after said) x.0 given items end ending x.2 tail in
-    (ap (λ s. s ∷ given) (sym same.0) ∙ ap (λ i. told ∷ i) later.0, later.1)
+pub parses_one : (a : Awaited) (bytes : List ℕ) (given items : List ItemRecord) (end ending : Ending) → Parses a bytes given end → Parses a bytes items ending → (given ≡ items) × (end ≡ ending)
+parses_one a bytes [] [] end ending x y = (refl, ends_one (front_of a bytes) end ending x y)
+parses_one a bytes [] (said ∷ items) end ending x y = absurd (ends_no (front_of a bytes) end said y.0 x y.1)
+parses_one a bytes (said ∷ given) [] end ending x y = absurd (ends_no (front_of a bytes) ending said x.0 y x.1)
+parses_one a bytes (said ∷ given) (parsed ∷ items) end ending x y =
+    let same = gives_rest parsed said y.0 x.0 (sym y.1 ∙ x.1) in
+    let tail : Parses (awaited_after said) x.0 items ending = subst (λ (s : ItemRecord). Parses (awaited_after s) x.0 items ending) same.0 (subst (λ (r : List ℕ). Parses (awaited_after parsed) r items ending) same.1 y.2) in
+    let later = parses_one (awaited_after said) x.0 given items end ending x.2 tail in
+    (ap (λ s. s ∷ given) (sym same.0) ∙ ap (λ i. parsed ∷ i) later.0, later.1)
 
 pub stays_in : (a : Awaited) (bytes more : List ℕ) (first : List ItemRecord) (b : Awaited) (left : List ℕ) (items : List ItemRecord) (ending : Ending) → Leads a bytes first b left → Parses a (bytes ++ more) items ending → (later : List ItemRecord) × (items ≡ first ++ later)
 stays_in a bytes more [] b left items ending x y = (items, refl)
 stays_in a bytes more (said ∷ first) b left [] ending x y = absurd (ends_no (front_of a (bytes ++ more)) ending said (x.0 ++ more) y (gives_more a bytes more said x.0 x.1))
-stays_in a bytes more (said ∷ first) b left (told ∷ items) ending x y =
-    let same = gives_rest told said y.0 (x.0 ++ more) (sym y.1 ∙ gives_more a bytes more said x.0 x.1) in
-    let tail : Parses (awaited_after said) (x.0 ++ more) items ending = subst (λ (s : ItemRecord). Parses (awaited_after s) (x.0 ++ more) items ending) same.0 (subst (λ (r : List ℕ). Parses (awaited_after told) r items ending) same.1 y.2) in
+stays_in a bytes more (said ∷ first) b left (parsed ∷ items) ending x y =
+    let same = gives_rest parsed said y.0 (x.0 ++ more) (sym y.1 ∙ gives_more a bytes more said x.0 x.1) in
+    let tail : Parses (awaited_after said) (x.0 ++ more) items ending = subst (λ (s : ItemRecord). Parses (awaited_after s) (x.0 ++ more) items ending) same.0 (subst (λ (r : List ℕ). Parses (awaited_after parsed) r items ending) same.1 y.2) in
     let later = stays_in (awaited_after said) x.0 more first b left items ending x.2 tail in
     (later.0, ap (λ s. s ∷ items) same.0 ∙ ap (λ i. said ∷ i) later.1)
 
 -- of one length bytes say one list of items first
 pub leads_one : (a : Awaited) (bytes : List ℕ) (one other : List ItemRecord) (b c : Awaited) (left behind : List ℕ) → Leads a bytes one b left → Leads a bytes other c behind → length one ≡ length other → one ≡ other
 leads_one a bytes [] [] b c left behind x y long = refl
-leads_one a bytes [] (told ∷ other) b c left behind x y long = absurd (omega (arith, long))
+leads_one a bytes [] (parsed ∷ other) b c left behind x y long = absurd (omega (arith, long))
 leads_one a bytes (said ∷ one) [] b c left behind x y long = absurd (omega (arith, long))
-leads_one a bytes (said ∷ one) (told ∷ other) b c left behind x y long =
-    let same = gives_rest told said y.0 x.0 (sym y.1 ∙ x.1) in
-    let tail : Leads (awaited_after said) x.0 other c behind = subst (λ (s : ItemRecord). Leads (awaited_after s) x.0 other c behind) same.0 (subst (λ (r : List ℕ). Leads (awaited_after told) r other c behind) same.1 y.2) in
+leads_one a bytes (said ∷ one) (parsed ∷ other) b c left behind x y long =
+    let same = gives_rest parsed said y.0 x.0 (sym y.1 ∙ x.1) in
+    let tail : Leads (awaited_after said) x.0 other c behind = subst (λ (s : ItemRecord). Leads (awaited_after s) x.0 other c behind) same.0 (subst (λ (r : List ℕ). Leads (awaited_after parsed) r other c behind) same.1 y.2) in
     let later = leads_one (awaited_after said) x.0 one other b c left behind x.2 tail (omega (arith, long)) in
-    ap (λ s. s ∷ one) (sym same.0) ∙ ap (λ i. told ∷ i) later
+    ap (λ s. s ∷ one) (sym same.0) ∙ ap (λ i. parsed ∷ i) later
 
 -- no item is after all items of a stream
 pub none_follows : (a : Awaited) (bytes : List ℕ) (items : List ItemRecord) (said : ItemRecord) (b : Awaited) (left : List ℕ) (ending : Ending) → Leads a bytes (items ++ said ∷ []) b left → Parses a bytes items ending → ⊥
 none_follows a bytes [] said b left ending x y = ends_no (front_of a bytes) ending said x.0 y x.1
-none_follows a bytes (told ∷ items) said b left ending x y =
-    let same = gives_rest told told y.0 x.0 (sym y.1 ∙ x.1) in
-    none_follows (awaited_after told) x.0 items said b left ending x.2 (subst (λ (r : List ℕ). Parses (awaited_after told) r items ending) same.1 y.2)
+none_follows a bytes (parsed ∷ items) said b left ending x y =
+    let same = gives_rest parsed parsed y.0 x.0 (sym y.1 ∙ x.1) in
+    none_follows (awaited_after parsed) x.0 items said b left ending x.2 (subst (λ (r : List ℕ). Parses (awaited_after parsed) r items ending) same.1 y.2)
 
--- ---- every stream says something
+-- ---- every stream has its items
 
-abbrev SaysSo : Awaited → List ℕ → Type 0
-SaysSo a bytes = (items : List ItemRecord) × (ending : Ending) × Parses a bytes items ending
+abbrev HasItems : Awaited → List ℕ → Type 0
+HasItems a bytes = (items : List ItemRecord) × (ending : Ending) × Parses a bytes items ending
 
-some_by : (a : Awaited) (bytes : List ℕ) (front : Front) → front_of a bytes ≡ front → ((b : Awaited) (rest : List ℕ) → length rest < length bytes → SaysSo b rest) → SaysSo a bytes
+some_by : (a : Awaited) (bytes : List ℕ) (front : Front) → front_of a bytes ≡ front → ((b : Awaited) (rest : List ℕ) → length rest < length bytes → HasItems b rest) → HasItems a bytes
 some_by a bytes (Gives said rest) is later =
     let tail = later (awaited_after said) rest (less a bytes said rest is) in
     (said ∷ tail.0, tail.1, (rest, is, tail.2))
 some_by a bytes (Fails fault) is later = ([], Faulty fault, is)
 some_by a bytes Waits is later = ([], Open, is)
 
-some_in : (most : ℕ) (a : Awaited) (bytes : List ℕ) → length bytes < most → SaysSo a bytes
+some_in : (most : ℕ) (a : Awaited) (bytes : List ℕ) → length bytes < most → HasItems a bytes
 some_in zero a bytes fits = absurd (omega (arith, fits))
 some_in (suc most) a bytes fits = some_by a bytes (front_of a bytes) refl (λ b rest short. some_in most b rest (omega (arith, fits, short)))
 
-pub says_some : (a : Awaited) (bytes : List ℕ) → SaysSo a bytes
-says_some a bytes = some_in (length bytes + 1) a bytes (omega arith)
+pub parses_some : (a : Awaited) (bytes : List ℕ) → HasItems a bytes
+parses_some a bytes = some_in (length bytes + 1) a bytes (omega arith)

@@ -65,14 +65,14 @@ subcommand_of code words =
     else if code == 3 then announced Data words
     else Err UnknownCode
 
-abbrev pub says : Result CommandRecord LpdFault → Result ItemRecord LpdFault
-says (Ok command) = Ok (HasCommand command)
-says (Err fault) = Err fault
+abbrev pub parses : Result CommandRecord LpdFault → Result ItemRecord LpdFault
+parses (Ok command) = Ok (HasCommand command)
+parses (Err fault) = Err fault
 
 -- a command's line, without its line feed
 abbrev pub command_line : List ℕ → Result ItemRecord LpdFault
 command_line [] = Err UnknownCode
-command_line (code ∷ text) = says (command_of code (words_of text))
+command_line (code ∷ text) = parses (command_of code (words_of text))
 
 -- a subcommand's line
 abbrev pub subcommand_line : List ℕ → Result ItemRecord LpdFault

@@ -15,9 +15,9 @@ line_record (line.SourceName name) = SourceName name
 line_record (line.Prints print) = Prints print
 line_record line.Ignored = Ignored
 
-abbrev pub told_line : Result ControlLine ControlFault → Result LineRecord ControlFault
-told_line (Ok said) = Ok (line_record said)
-told_line (Err fault) = Err fault
+abbrev pub parsed_line : Result ControlLine ControlFault → Result LineRecord ControlFault
+parsed_line (Ok said) = Ok (line_record said)
+parsed_line (Err fault) = Err fault
 
 -- a result is what the definition reads, unless memory ran out
 abbrev pub Refuses : {X : Type 0} → ControlError → Result X ControlFault → Type 0

@@ -20,13 +20,13 @@ pub data Front : Type 0 where
   Fails : LpdFault → Front
   Waits : Front
 
-abbrev pub line_says : Result ItemRecord LpdFault → List ℕ → Front
-line_says (Ok said) rest = Gives said rest
-line_says (Err fault) rest = Fails fault
+abbrev pub line_parses : Result ItemRecord LpdFault → List ℕ → Front
+line_parses (Ok said) rest = Gives said rest
+line_parses (Err fault) rest = Fails fault
 
 -- the front at a line whose content is known
 abbrev pub by_line : (List ℕ → Result ItemRecord LpdFault) → List ℕ → FirstLine → Front
-by_line meaning bytes (Whole count) = line_says (meaning (take count bytes)) (drop (count + 1) bytes)
+by_line meaning bytes (Whole count) = line_parses (meaning (take count bytes)) (drop (count + 1) bytes)
 by_line meaning bytes TooLong = Fails LineTooLong
 by_line meaning bytes Unfinished = Waits
 

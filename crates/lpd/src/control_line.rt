@@ -1,7 +1,7 @@
 //! A line of a control file.
 ghost use Rattle.std.specs.Prelude.{◌≡◌, IfOk};
 ghost use Rattle.lpd.specs.Control.{print_of, other_line, lettered, line_in};
-ghost use Rattle.lpd.specs.ControlLine.{told_line};
+ghost use Rattle.lpd.specs.ControlLine.{parsed_line};
 
 use crate::control::{ControlFault, Print, PrintFormat};
 use crate::file_name::is_file_name;
@@ -26,7 +26,7 @@ type Said = Result<ControlLine, ControlFault>;
 
 /// Reads a line, without its line feed.
 pub(crate) fn read_line(alloc: Global, line: &[u8]) -> Result<Said, AllocError>
-    ensures { IfOk result (λ said. told_line said ≡ line_in line.now) }
+    ensures { IfOk result (λ said. parsed_line said ≡ line_in line.now) }
 {
     let Some((letter, operand)) = line.split_first() else {
         return Ok(Err(ControlFault::BadLine));
@@ -39,7 +39,7 @@ pub(crate) fn read_line(alloc: Global, line: &[u8]) -> Result<Said, AllocError>
 
 /// Reads a line by its letter and operand (RFC 1179, section 7).
 fn read_lettered(alloc: Global, letter: u8, operand: &[u8]) -> Result<Said, AllocError>
-    ensures { IfOk result (λ said. told_line said ≡ lettered letter operand.now) }
+    ensures { IfOk result (λ said. parsed_line said ≡ lettered letter operand.now) }
 {
     match letter {
         b'H' => Ok(Ok(ControlLine::Host(Text::copy_of(alloc, operand)?))),
@@ -55,7 +55,7 @@ fn read_lettered(alloc: Global, letter: u8, operand: &[u8]) -> Result<Said, Allo
 
 /// The content of a line of any other letter: a fault or [`ControlLine::Ignored`].
 fn other(letter: u8) -> Said
-    ensures { told_line result ≡ other_line letter }
+    ensures { parsed_line result ≡ other_line letter }
 {
     match letter {
         b'c' | b'd' | b'g' | b'n' | b'r' | b't' | b'v' => Err(ControlFault::FormatLeftOut),
@@ -66,7 +66,7 @@ fn other(letter: u8) -> Said
 
 /// Reads a print line, of a format and the name of a data file.
 fn print(alloc: Global, format: PrintFormat, name: &[u8]) -> Result<Said, AllocError>
-    ensures { IfOk result (λ said. told_line said ≡ print_of format name.now) }
+    ensures { IfOk result (λ said. parsed_line said ≡ print_of format name.now) }
 {
     if !is_file_name(FileKind::Data, name) {
         return Ok(Err(ControlFault::BadLine));

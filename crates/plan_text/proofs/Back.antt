@@ -15,14 +15,14 @@ use Rattle.plan_text.specs.declared.stage.Stage.{Stage}
 use Rattle.plan_text.specs.declared.stage.Stage.TheVariants as stages
 use Rattle.plan_text.specs.NamedPlan.{NamedPlan}
 use Rattle.text.specs.Steps.{◌>>=◌}
-use Rattle.plan_text.specs.Line.{PlanLine, SaysPlan, SaysDevice, SaysClass, SaysJob, SaysWait, SaysWay, SaysTotal, SaysJobPrices, SaysPlacePrices, SaysStranded, SaysEnd}
+use Rattle.plan_text.specs.Line.{PlanLine, HeadLine, DeviceLine, ClassLine, JobLine, WaitLine, WayLine, TotalLine, JobPricesLine, PlacePricesLine, StrandedLine, EndLine}
 use Rattle.plan_text.specs.Steps.{DraftRecord, Opened, is_at, plan_next, device_next, opened_at, closed, class_opened, class_next, job_next, wait_next, way_next, total_next, job_prices_next, place_prices_next, classes_over, stranded_added, stranded_next, end_next, next}
-use Rattle.plan_text.specs.Whole.{nothing_heard, ended, plan_at}
+use Rattle.plan_text.specs.Whole.{empty_draft, ended, plan_at}
 use Rattle.plan_text.specs.Writing.{job_lines, way_lines, place_price_lines, class_job_lines, class_way_lines, class_price_lines, class_lines, device_lines, stranded_lines, classes_lines, plan_lines, plan_text}
 use Rattle.plan_text.specs.Ranges.{IsPrice, IsClassInRange, PrioritiesFall, StrandedRise, jobs_in, IsPlanInRange}
 use Rattle.plan_text.proofs.Problems.{problem_is}
 use Rattle.plan_text.proofs.Sound.{ok}
-use Rattle.plan_text.proofs.Said.{AllInRange, AllInRange-append, says_next, text_said}
+use Rattle.plan_text.proofs.Said.{AllInRange, AllInRange-append, plan_lines_next, text_said}
 
 true_is : (b : Bool) → IsTrue b → b ≡ true
 true_is b h = h
@@ -73,18 +73,18 @@ stranded_in_range (s ∷ stranded) h = (All-head (λ (x : Stranded). IsJobId x.j
 plan_in_range : (named : NamedPlan) → IsPlanInRange named → AllInRange (plan_lines named)
 plan_in_range named r = (
   tt,
-  AllInRange-append (device_lines named.devices) (classes_lines named.devices named.plan.classes ++ (stranded_lines named.plan.stranded ++ (SaysEnd ∷ [])))
+  AllInRange-append (device_lines named.devices) (classes_lines named.devices named.plan.classes ++ (stranded_lines named.plan.stranded ++ (EndLine ∷ [])))
       (devices_in_range named.devices r.names)
-      (AllInRange-append (classes_lines named.devices named.plan.classes) (stranded_lines named.plan.stranded ++ (SaysEnd ∷ []))
+      (AllInRange-append (classes_lines named.devices named.plan.classes) (stranded_lines named.plan.stranded ++ (EndLine ∷ []))
       (classes_in_range named.devices named.plan.classes r.names r.classes)
-      (AllInRange-append (stranded_lines named.plan.stranded) (SaysEnd ∷ []) (stranded_in_range named.plan.stranded r.stranded) (tt, tt))),
+      (AllInRange-append (stranded_lines named.plan.stranded) (EndLine ∷ []) (stranded_in_range named.plan.stranded r.stranded) (tt, tt))),
 )
 
 -- ---- the devices
 
 -- one step
-stepped : (heard new : DraftRecord) (said : PlanLine) (rest : List PlanLine) → is_at heard stages.Ended ≡ false → next heard said ≡ ok new → says_next heard (said ∷ rest) ≡ says_next new rest
-stepped heard new said rest live step = rw (live, step) refl
+stepped : (draft new : DraftRecord) (said : PlanLine) (rest : List PlanLine) → is_at draft stages.Ended ≡ false → next draft said ≡ ok new → plan_lines_next draft (said ∷ rest) ≡ plan_lines_next new rest
+stepped draft new said rest live step = rw (live, step) refl
 
 abbrev pub with_devices : List (List ℕ) → DraftRecord
 with_devices devices = record { stage = stages.Devices; devices = devices; classes = []; stranded = []; jobs = 0; below = HIGHEST_PRIORITY + 1; last = 0; opened = opened_at DEFAULT_PRIORITY }
@@ -93,12 +93,12 @@ device_step : (devices : List (List ℕ)) (name : List ℕ) → length devices <
 unfolding device_next
 device_step devices name l = rw (lt-ltb (length devices) DEVICES l) refl
 
-devices_run : (devices names : List (List ℕ)) (rest : List PlanLine) → length devices + length names ≤ DEVICES → says_next (with_devices devices) (device_lines names ++ rest) ≡ says_next (with_devices (devices ++ names)) rest
-devices_run devices [] rest l = ap (λ ds. says_next (with_devices ds) rest) (sym (append-nil devices))
+devices_run : (devices names : List (List ℕ)) (rest : List PlanLine) → length devices + length names ≤ DEVICES → plan_lines_next (with_devices devices) (device_lines names ++ rest) ≡ plan_lines_next (with_devices (devices ++ names)) rest
+devices_run devices [] rest l = ap (λ ds. plan_lines_next (with_devices ds) rest) (sym (append-nil devices))
 devices_run devices (name ∷ names) rest l =
-    stepped (with_devices devices) (with_devices (devices ++ name ∷ [])) (SaysDevice name) (device_lines names ++ rest) refl (device_step devices name (omega (arith, l)))
+    stepped (with_devices devices) (with_devices (devices ++ name ∷ [])) (DeviceLine name) (device_lines names ++ rest) refl (device_step devices name (omega (arith, l)))
     ∙ devices_run (devices ++ name ∷ []) names rest (omega (arith, l, length-append devices (name ∷ [])))
-    ∙ ap (λ ds. says_next (with_devices ds) rest) (append_assoc devices (name ∷ []) names)
+    ∙ ap (λ ds. plan_lines_next (with_devices ds) rest) (append_assoc devices (name ∷ []) names)
 
 -- ---- the lines of a class
 
@@ -140,21 +140,21 @@ with_jobs_more o id ids row rows =
 
 jobs_run : (devices : List (List ℕ)) (classes : List PlannedClass) (jobs below last : ℕ) (o : Opened) (ids : List ℕ) (rows : List (List (Option ℕ))) (rest : List PlanLine)
     → length rows ≡ length ids → All (λ row. length row ≡ length devices) rows → RiseAbove last ids → jobs + length ids ≤ UNFINISHED_JOBS
-    → says_next (within stages.Jobs devices classes jobs below last o) (job_lines ids rows ++ rest) ≡ says_next (within stages.Jobs devices classes (jobs + length ids) below (last_of last ids) (with_jobs o ids rows)) rest
+    → plan_lines_next (within stages.Jobs devices classes jobs below last o) (job_lines ids rows ++ rest) ≡ plan_lines_next (within stages.Jobs devices classes (jobs + length ids) below (last_of last ids) (with_jobs o ids rows)) rest
 jobs_run devices classes jobs below last o [] [] rest e all up few =
-    ap (λ n. says_next (within stages.Jobs devices classes n below last o) rest) (let z : jobs ≡ jobs + length {A = ℕ} [] = omega arith in z)
-    ∙ ap (λ xs. says_next (within stages.Jobs devices classes (jobs + length {A = ℕ} []) below last (record o { ids = xs })) rest) (sym (append-nil o.ids))
-    ∙ ap (λ ys. says_next (within stages.Jobs devices classes (jobs + length {A = ℕ} []) below last (record o { ids = o.ids ++ []; rows = ys })) rest) (sym (append-nil o.rows))
+    ap (λ n. plan_lines_next (within stages.Jobs devices classes n below last o) rest) (let z : jobs ≡ jobs + length {A = ℕ} [] = omega arith in z)
+    ∙ ap (λ xs. plan_lines_next (within stages.Jobs devices classes (jobs + length {A = ℕ} []) below last (record o { ids = xs })) rest) (sym (append-nil o.ids))
+    ∙ ap (λ ys. plan_lines_next (within stages.Jobs devices classes (jobs + length {A = ℕ} []) below last (record o { ids = o.ids ++ []; rows = ys })) rest) (sym (append-nil o.rows))
 jobs_run devices classes jobs below last o [] (row ∷ rows) rest e all up few = absurd (omega (arith, e))
 jobs_run devices classes jobs below last o (id ∷ ids) [] rest e all up few = absurd (omega (arith, e))
 jobs_run devices classes jobs below last o (id ∷ ids) (row ∷ rows) rest e all up few =
     let P : List (Option ℕ) → Type 0 = λ row. length row ≡ length devices in
     let more : (jobs + 1) + length ids ≡ jobs + length (id ∷ ids) = omega arith in
-    stepped (within stages.Jobs devices classes jobs below last o) (within stages.Jobs devices classes (jobs + 1) below id (with_jobs o (id ∷ []) (row ∷ []))) (SaysJob id row) (job_lines ids rows ++ rest) refl
+    stepped (within stages.Jobs devices classes jobs below last o) (within stages.Jobs devices classes (jobs + 1) below id (with_jobs o (id ∷ []) (row ∷ []))) (JobLine id row) (job_lines ids rows ++ rest) refl
     (job_step devices classes jobs below last o id row (All-head P row rows all) (omega (arith, few)) up.0)
     ∙ jobs_run devices classes (jobs + 1) below id (with_jobs o (id ∷ []) (row ∷ [])) ids rows rest (omega (arith, e)) (All-tail P row rows all) up.1 (omega (arith, few))
-    ∙ ap (λ n. says_next (within stages.Jobs devices classes n below (last_of id ids) (with_jobs (with_jobs o (id ∷ []) (row ∷ [])) ids rows)) rest) more
-    ∙ ap (λ x. says_next (within stages.Jobs devices classes (jobs + length (id ∷ ids)) below (last_of id ids) x) rest) (with_jobs_more o id ids row rows)
+    ∙ ap (λ n. plan_lines_next (within stages.Jobs devices classes n below (last_of id ids) (with_jobs (with_jobs o (id ∷ []) (row ∷ [])) ids rows)) rest) more
+    ∙ ap (λ x. plan_lines_next (within stages.Jobs devices classes (jobs + length (id ∷ ids)) below (last_of id ids) x) rest) (with_jobs_more o id ids row rows)
 
 -- the device after those that were named
 named_next : (done : List (List ℕ)) (name : List ℕ) (names : List (List ℕ)) → (nat_lt (length done) (length (done ++ name ∷ names)) && bytes_eq (slice_index_or (done ++ name ∷ names) (length done) []) name) ≡ true
@@ -180,18 +180,18 @@ unfolding way_next
 way_step done name names classes jobs below last o queues queue e = rw (e, named_next done name names) refl
 
 ways_run : (done names : List (List ℕ)) (classes : List PlannedClass) (jobs below last : ℕ) (o : Opened) (queues way : List (List ℕ)) (rest : List PlanLine) → length queues ≡ length done → length way ≡ length names
-    → says_next (within stages.Ways (done ++ names) classes jobs below last (with_queues o queues)) (way_lines names way ++ rest) ≡ says_next (within stages.Ways (done ++ names) classes jobs below last (with_queues o (queues ++ way))) rest
-ways_run done [] classes jobs below last o queues [] rest e f = ap (λ qs. says_next (within stages.Ways (done ++ []) classes jobs below last (with_queues o qs)) rest) (sym (append-nil queues))
+    → plan_lines_next (within stages.Ways (done ++ names) classes jobs below last (with_queues o queues)) (way_lines names way ++ rest) ≡ plan_lines_next (within stages.Ways (done ++ names) classes jobs below last (with_queues o (queues ++ way))) rest
+ways_run done [] classes jobs below last o queues [] rest e f = ap (λ qs. plan_lines_next (within stages.Ways (done ++ []) classes jobs below last (with_queues o qs)) rest) (sym (append-nil queues))
 ways_run done [] classes jobs below last o queues (queue ∷ way) rest e f = absurd (omega (arith, f))
 ways_run done (name ∷ names) classes jobs below last o queues [] rest e f = absurd (omega (arith, f))
 ways_run done (name ∷ names) classes jobs below last o queues (queue ∷ way) rest e f =
     let all : (done ++ name ∷ []) ++ names ≡ done ++ name ∷ names = append_assoc done (name ∷ []) names in
     let S : List (List ℕ) → List (List ℕ) → DraftRecord = λ ds qs. within stages.Ways ds classes jobs below last (with_queues o qs) in
-    stepped (S (done ++ name ∷ names) queues) (S (done ++ name ∷ names) (queues ++ queue ∷ [])) (SaysWay name queue) (way_lines names way ++ rest) refl (way_step done name names classes jobs below last o queues queue e)
-    ∙ ap (λ ds. says_next (S ds (queues ++ queue ∷ [])) (way_lines names way ++ rest)) (sym all)
+    stepped (S (done ++ name ∷ names) queues) (S (done ++ name ∷ names) (queues ++ queue ∷ [])) (WayLine name queue) (way_lines names way ++ rest) refl (way_step done name names classes jobs below last o queues queue e)
+    ∙ ap (λ ds. plan_lines_next (S ds (queues ++ queue ∷ [])) (way_lines names way ++ rest)) (sym all)
     ∙ ways_run (done ++ name ∷ []) names classes jobs below last o (queues ++ queue ∷ []) way rest (omega (arith, e, length-append queues (queue ∷ []), length-append done (name ∷ []))) (omega (arith, f))
-    ∙ ap (λ ds. says_next (S ds ((queues ++ queue ∷ []) ++ way)) rest) all
-    ∙ ap (λ qs. says_next (S (done ++ name ∷ names) qs) rest) (append_assoc queues (queue ∷ []) way)
+    ∙ ap (λ ds. plan_lines_next (S ds ((queues ++ queue ∷ []) ++ way)) rest) all
+    ∙ ap (λ qs. plan_lines_next (S (done ++ name ∷ names) qs) rest) (append_assoc queues (queue ∷ []) way)
 
 abbrev with_places : Opened → List (List ℤ) → Opened
 with_places o lists = record o { place_prices = lists }
@@ -202,18 +202,18 @@ unfolding place_prices_next
 place_step done name names classes jobs below last o lists prices e = rw (e, named_next done name names) refl
 
 places_run : (done names : List (List ℕ)) (classes : List PlannedClass) (jobs below last : ℕ) (o : Opened) (before lists : List (List ℤ)) (rest : List PlanLine) → length before ≡ length done → length lists ≡ length names
-    → says_next (within stages.PlacePrices (done ++ names) classes jobs below last (with_places o before)) (place_price_lines names lists ++ rest) ≡ says_next (within stages.PlacePrices (done ++ names) classes jobs below last (with_places o (before ++ lists))) rest
-places_run done [] classes jobs below last o before [] rest e f = ap (λ ps. says_next (within stages.PlacePrices (done ++ []) classes jobs below last (with_places o ps)) rest) (sym (append-nil before))
+    → plan_lines_next (within stages.PlacePrices (done ++ names) classes jobs below last (with_places o before)) (place_price_lines names lists ++ rest) ≡ plan_lines_next (within stages.PlacePrices (done ++ names) classes jobs below last (with_places o (before ++ lists))) rest
+places_run done [] classes jobs below last o before [] rest e f = ap (λ ps. plan_lines_next (within stages.PlacePrices (done ++ []) classes jobs below last (with_places o ps)) rest) (sym (append-nil before))
 places_run done [] classes jobs below last o before (prices ∷ lists) rest e f = absurd (omega (arith, f))
 places_run done (name ∷ names) classes jobs below last o before [] rest e f = absurd (omega (arith, f))
 places_run done (name ∷ names) classes jobs below last o before (prices ∷ lists) rest e f =
     let all : (done ++ name ∷ []) ++ names ≡ done ++ name ∷ names = append_assoc done (name ∷ []) names in
     let S : List (List ℕ) → List (List ℤ) → DraftRecord = λ ds ps. within stages.PlacePrices ds classes jobs below last (with_places o ps) in
-    stepped (S (done ++ name ∷ names) before) (S (done ++ name ∷ names) (before ++ prices ∷ [])) (SaysPlacePrices name prices) (place_price_lines names lists ++ rest) refl (place_step done name names classes jobs below last o before prices e)
-    ∙ ap (λ ds. says_next (S ds (before ++ prices ∷ [])) (place_price_lines names lists ++ rest)) (sym all)
+    stepped (S (done ++ name ∷ names) before) (S (done ++ name ∷ names) (before ++ prices ∷ [])) (PlacePricesLine name prices) (place_price_lines names lists ++ rest) refl (place_step done name names classes jobs below last o before prices e)
+    ∙ ap (λ ds. plan_lines_next (S ds (before ++ prices ∷ [])) (place_price_lines names lists ++ rest)) (sym all)
     ∙ places_run (done ++ name ∷ []) names classes jobs below last o (before ++ prices ∷ []) lists rest (omega (arith, e, length-append before (prices ∷ []), length-append done (name ∷ []))) (omega (arith, f))
-    ∙ ap (λ ds. says_next (S ds ((before ++ prices ∷ []) ++ lists)) rest) all
-    ∙ ap (λ ps. says_next (S (done ++ name ∷ names) ps) rest) (append_assoc before (prices ∷ []) lists)
+    ∙ ap (λ ds. plan_lines_next (S ds ((before ++ prices ∷ []) ++ lists)) rest) all
+    ∙ ap (λ ps. plan_lines_next (S (done ++ name ∷ names) ps) rest) (append_assoc before (prices ∷ []) lists)
 
 -- the class whose lines are all there
 abbrev full : PlannedClass → Opened
@@ -229,17 +229,17 @@ full c = record {
 }
 
 -- these classes were read, the last class perhaps not closed yet
-record IsBetween (devices : List (List ℕ)) (classes : List PlannedClass) (jobs below : ℕ) (heard : DraftRecord) : Type 0 where
-  pub live : is_at heard stages.Ended ≡ false
-  pub early : is_at heard stages.Stranded ≡ false
+record IsBetween (devices : List (List ℕ)) (classes : List PlannedClass) (jobs below : ℕ) (draft : DraftRecord) : Type 0 where
+  pub live : is_at draft stages.Ended ≡ false
+  pub early : is_at draft stages.Stranded ≡ false
   pub stage : Stage
   pub opened : Opened
-  pub closes : closed heard ≡ ok (within stage devices classes jobs below 0 opened)
+  pub closes : closed draft ≡ ok (within stage devices classes jobs below 0 opened)
 
-class_step : (devices : List (List ℕ)) (classes : List PlannedClass) (jobs below priority : ℕ) (heard : DraftRecord) → IsBetween devices classes jobs below heard → priority < below
-    → class_next heard priority ≡ ok (within stages.Jobs devices classes jobs priority 0 (opened_at priority))
+class_step : (devices : List (List ℕ)) (classes : List PlannedClass) (jobs below priority : ℕ) (draft : DraftRecord) → IsBetween devices classes jobs below draft → priority < below
+    → class_next draft priority ≡ ok (within stages.Jobs devices classes jobs priority 0 (opened_at priority))
 unfolding class_next class_opened
-class_step devices classes jobs below priority heard b l = rw (b.closes, lt-ltb priority below l) refl
+class_step devices classes jobs below priority draft b l = rw (b.closes, lt-ltb priority below l) refl
 
 wait_step : (devices : List (List ℕ)) (classes : List PlannedClass) (jobs below last : ℕ) (o : Opened) (waits : List ℕ) → length waits ≡ length devices
     → wait_next (within stages.Jobs devices classes jobs below last o) waits ≡ ok (within stages.Ways devices classes jobs below last (record o { waits = waits }))
@@ -256,10 +256,10 @@ job_prices_step : (devices : List (List ℕ)) (classes : List PlannedClass) (job
 unfolding job_prices_next
 job_prices_step devices classes jobs below last o prices = refl
 
-class_run : (devices : List (List ℕ)) (classes : List PlannedClass) (jobs below : ℕ) (heard : DraftRecord) (c : PlannedClass) (rest : List PlanLine) → IsBetween devices classes jobs below heard → c.priority < below → IsClassInRange (length devices) c → jobs + length c.problem.ids ≤ UNFINISHED_JOBS
-    → says_next heard (class_lines devices c ++ rest) ≡ says_next (within stages.PlacePrices devices classes (jobs + length c.problem.ids) c.priority (last_of 0 c.problem.ids) (full c)) rest
+class_run : (devices : List (List ℕ)) (classes : List PlannedClass) (jobs below : ℕ) (draft : DraftRecord) (c : PlannedClass) (rest : List PlanLine) → IsBetween devices classes jobs below draft → c.priority < below → IsClassInRange (length devices) c → jobs + length c.problem.ids ≤ UNFINISHED_JOBS
+    → plan_lines_next draft (class_lines devices c ++ rest) ≡ plan_lines_next (within stages.PlacePrices devices classes (jobs + length c.problem.ids) c.priority (last_of 0 c.problem.ids) (full c)) rest
 unfolding class_lines
-class_run devices classes jobs below heard c rest b l r few =
+class_run devices classes jobs below draft c rest b l r few =
     let p : ℕ = c.priority in
     let ids : List ℕ = c.problem.ids in
     let rows : List (List (Option ℕ)) = c.problem.rows in
@@ -274,14 +274,14 @@ class_run devices classes jobs below heard c rest b l r few =
     let o4 : Opened = record o3 { total = c.priced.total } in
     let o5 : Opened = record o4 { job_prices = c.priced.prices.jobs } in
     let prices : List PlanLine = place_price_lines devices c.priced.prices.places ++ rest in
-    let totals : List PlanLine = SaysTotal c.priced.total ∷ SaysJobPrices c.priced.prices.jobs ∷ prices in
-    stepped heard (within stages.Jobs devices classes jobs p 0 (opened_at p)) (SaysClass p) ((J ++ (W ++ P)) ++ rest) b.live (class_step devices classes jobs below p heard b l)
-    ∙ ap (λ ls. says_next (within stages.Jobs devices classes jobs p 0 (opened_at p)) ls) (append_assoc J (W ++ P) rest ∙ ap (λ ls. J ++ ls) (append_assoc W P rest))
+    let totals : List PlanLine = TotalLine c.priced.total ∷ JobPricesLine c.priced.prices.jobs ∷ prices in
+    stepped draft (within stages.Jobs devices classes jobs p 0 (opened_at p)) (ClassLine p) ((J ++ (W ++ P)) ++ rest) b.live (class_step devices classes jobs below p draft b l)
+    ∙ ap (λ ls. plan_lines_next (within stages.Jobs devices classes jobs p 0 (opened_at p)) ls) (append_assoc J (W ++ P) rest ∙ ap (λ ls. J ++ ls) (append_assoc W P rest))
     ∙ jobs_run devices classes jobs p 0 (opened_at p) ids rows (W ++ (P ++ rest)) r.problem.one_row_each (λ k d m. r.problem.one_time_each k d m ∙ r.waits) (rise_from ids r.problem.rising r.ids) few
-    ∙ stepped (within stages.Jobs devices classes n p last o1) (within stages.Ways devices classes n p last o2) (SaysWait c.problem.waits) (way_lines devices c.priced.way ++ totals) refl (wait_step devices classes n p last o1 c.problem.waits r.waits)
+    ∙ stepped (within stages.Jobs devices classes n p last o1) (within stages.Ways devices classes n p last o2) (WaitLine c.problem.waits) (way_lines devices c.priced.way ++ totals) refl (wait_step devices classes n p last o1 c.problem.waits r.waits)
     ∙ ways_run [] devices classes n p last o2 [] c.priced.way totals refl r.ways
-    ∙ stepped (within stages.Ways devices classes n p last o3) (within stages.JobPrices devices classes n p last o4) (SaysTotal c.priced.total) (SaysJobPrices c.priced.prices.jobs ∷ prices) refl (total_step devices classes n p last o3 c.priced.total r.ways)
-    ∙ stepped (within stages.JobPrices devices classes n p last o4) (within stages.PlacePrices devices classes n p last o5) (SaysJobPrices c.priced.prices.jobs) prices refl (job_prices_step devices classes n p last o4 c.priced.prices.jobs)
+    ∙ stepped (within stages.Ways devices classes n p last o3) (within stages.JobPrices devices classes n p last o4) (TotalLine c.priced.total) (JobPricesLine c.priced.prices.jobs ∷ prices) refl (total_step devices classes n p last o3 c.priced.total r.ways)
+    ∙ stepped (within stages.JobPrices devices classes n p last o4) (within stages.PlacePrices devices classes n p last o5) (JobPricesLine c.priced.prices.jobs) prices refl (job_prices_step devices classes n p last o4 c.priced.prices.jobs)
     ∙ places_run [] devices classes n p last o5 [] c.priced.prices.places rest refl r.places
 
 class_closes : (devices : List (List ℕ)) (classes : List PlannedClass) (jobs last : ℕ) (c : PlannedClass) → IsClassInRange (length devices) c
@@ -294,18 +294,18 @@ between_class : (devices : List (List ℕ)) (classes : List PlannedClass) (jobs 
 between_class devices classes jobs last c r = record { live = refl; early = refl; stage = stages.PlacePrices; opened = opened_at c.priority; closes = class_closes devices classes jobs last c r }
 
 -- the state of the reader after these lines
-record AfterClasses (devices : List (List ℕ)) (classes : List PlannedClass) (jobs : ℕ) (heard : DraftRecord) (lines rest : List PlanLine) : Type 0 where
-  pub heard' : DraftRecord
+record AfterClasses (devices : List (List ℕ)) (classes : List PlannedClass) (jobs : ℕ) (draft : DraftRecord) (lines rest : List PlanLine) : Type 0 where
+  pub draft' : DraftRecord
   pub below : ℕ
-  pub reads : says_next heard (lines ++ rest) ≡ says_next heard' rest
-  pub between : IsBetween devices classes jobs below heard'
+  pub reads : plan_lines_next draft (lines ++ rest) ≡ plan_lines_next draft' rest
+  pub between : IsBetween devices classes jobs below draft'
 
-classes_run : (devices : List (List ℕ)) (before : List PlannedClass) (jobs below : ℕ) (heard : DraftRecord) (classes : List PlannedClass) (rest : List PlanLine) → IsBetween devices before jobs below heard → PrioritiesFall below classes → All (IsClassInRange (length devices)) classes → jobs + jobs_in classes ≤ UNFINISHED_JOBS
-    → AfterClasses devices (before ++ classes) (jobs + jobs_in classes) heard (classes_lines devices classes) rest
-classes_run devices before jobs below heard [] rest b fall r few =
+classes_run : (devices : List (List ℕ)) (before : List PlannedClass) (jobs below : ℕ) (draft : DraftRecord) (classes : List PlannedClass) (rest : List PlanLine) → IsBetween devices before jobs below draft → PrioritiesFall below classes → All (IsClassInRange (length devices)) classes → jobs + jobs_in classes ≤ UNFINISHED_JOBS
+    → AfterClasses devices (before ++ classes) (jobs + jobs_in classes) draft (classes_lines devices classes) rest
+classes_run devices before jobs below draft [] rest b fall r few =
     let none : jobs ≡ jobs + 0 = omega arith in
-    record { heard' = heard; below = below; reads = refl; between = subst (λ cs. IsBetween devices cs (jobs + 0) below heard) (sym (append-nil before)) (subst (λ n. IsBetween devices before n below heard) none b) }
-classes_run devices before jobs below heard (c ∷ classes) rest b fall r few =
+    record { draft' = draft; below = below; reads = refl; between = subst (λ cs. IsBetween devices cs (jobs + 0) below draft) (sym (append-nil before)) (subst (λ n. IsBetween devices before n below draft) none b) }
+classes_run devices before jobs below draft (c ∷ classes) rest b fall r few =
     let first : IsClassInRange (length devices) c = All-head (IsClassInRange (length devices)) c classes r in
     let n : ℕ = jobs + length c.problem.ids in
     let then' : DraftRecord = within stages.PlacePrices devices before n c.priority (last_of 0 c.problem.ids) (full c) in
@@ -313,74 +313,74 @@ classes_run devices before jobs below heard (c ∷ classes) rest b fall r few =
     classes_run devices (before ++ c ∷ []) n c.priority then' classes rest (between_class devices before n (last_of 0 c.problem.ids) c first) fall.1 (All-tail (IsClassInRange (length devices)) c classes r) (omega (arith, few)) in
     let sum : n + jobs_in classes ≡ jobs + (length c.problem.ids + jobs_in classes) = omega arith in
     record {
-      heard' = after.heard';
+      draft' = after.draft';
       below = after.below;
-      reads = ap (λ ls. says_next heard ls) (append_assoc (class_lines devices c) (classes_lines devices classes) rest) ∙ class_run devices before jobs below heard c (classes_lines devices classes ++ rest) b fall.0 first (omega (arith, few)) ∙ after.reads;
-      between = subst (λ cs. IsBetween devices cs (jobs + (length c.problem.ids + jobs_in classes)) after.below after.heard') (append_assoc before (c ∷ []) classes) (subst (λ m. IsBetween devices ((before ++ c ∷ []) ++ classes) m after.below after.heard') sum after.between);
+      reads = ap (λ ls. plan_lines_next draft ls) (append_assoc (class_lines devices c) (classes_lines devices classes) rest) ∙ class_run devices before jobs below draft c (classes_lines devices classes ++ rest) b fall.0 first (omega (arith, few)) ∙ after.reads;
+      between = subst (λ cs. IsBetween devices cs (jobs + (length c.problem.ids + jobs_in classes)) after.below after.draft') (append_assoc before (c ∷ []) classes) (subst (λ m. IsBetween devices ((before ++ c ∷ []) ++ classes) m after.below after.draft') sum after.between);
     }
 
 -- ---- the stranded jobs and the end
 
--- all classes and these stranded jobs have been heard
-record IsReady (devices : List (List ℕ)) (classes : List PlannedClass) (stranded : List Stranded) (jobs last : ℕ) (heard : DraftRecord) : Type 0 where
-  pub live : is_at heard stages.Ended ≡ false
+-- the draft has all classes and these stranded jobs
+record IsReady (devices : List (List ℕ)) (classes : List PlannedClass) (stranded : List Stranded) (jobs last : ℕ) (draft : DraftRecord) : Type 0 where
+  pub live : is_at draft stages.Ended ≡ false
   pub stage : Stage
   pub below : ℕ
   pub opened : Opened
-  pub over : classes_over heard ≡ ok (record { stage = stage; devices = devices; classes = classes; stranded = stranded; jobs = jobs; below = below; last = last; opened = opened })
+  pub over : classes_over draft ≡ ok (record { stage = stage; devices = devices; classes = classes; stranded = stranded; jobs = jobs; below = below; last = last; opened = opened })
 
-ready_from : (devices : List (List ℕ)) (classes : List PlannedClass) (jobs below : ℕ) (heard : DraftRecord) → IsBetween devices classes jobs below heard → IsReady devices classes [] jobs 0 heard
+ready_from : (devices : List (List ℕ)) (classes : List PlannedClass) (jobs below : ℕ) (draft : DraftRecord) → IsBetween devices classes jobs below draft → IsReady devices classes [] jobs 0 draft
 unfolding classes_over
-ready_from devices classes jobs below heard b = record { live = b.live; stage = b.stage; below = below; opened = b.opened; over = rw (b.early) b.closes }
+ready_from devices classes jobs below draft b = record { live = b.live; stage = b.stage; below = below; opened = b.opened; over = rw (b.early) b.closes }
 
-stranded_step : (devices : List (List ℕ)) (classes : List PlannedClass) (stranded : List Stranded) (jobs last : ℕ) (heard : DraftRecord) (s : Stranded) (r : IsReady devices classes stranded jobs last heard) → jobs < UNFINISHED_JOBS → last < s.job
-    → stranded_next heard s ≡ ok (record { stage = stages.Stranded; devices = devices; classes = classes; stranded = stranded ++ s ∷ []; jobs = jobs + 1; below = r.below; last = s.job; opened = r.opened })
+stranded_step : (devices : List (List ℕ)) (classes : List PlannedClass) (stranded : List Stranded) (jobs last : ℕ) (draft : DraftRecord) (s : Stranded) (r : IsReady devices classes stranded jobs last draft) → jobs < UNFINISHED_JOBS → last < s.job
+    → stranded_next draft s ≡ ok (record { stage = stages.Stranded; devices = devices; classes = classes; stranded = stranded ++ s ∷ []; jobs = jobs + 1; below = r.below; last = s.job; opened = r.opened })
 unfolding stranded_next stranded_added
-stranded_step devices classes stranded jobs last heard s r l m = rw (r.over, lt-ltb jobs UNFINISHED_JOBS l, lt-ltb last s.job m) refl
+stranded_step devices classes stranded jobs last draft s r l m = rw (r.over, lt-ltb jobs UNFINISHED_JOBS l, lt-ltb last s.job m) refl
 
 ready_again : (devices : List (List ℕ)) (classes : List PlannedClass) (stranded : List Stranded) (jobs below last : ℕ) (opened : Opened)
     → IsReady devices classes stranded jobs last (record { stage = stages.Stranded; devices = devices; classes = classes; stranded = stranded; jobs = jobs; below = below; last = last; opened = opened })
 unfolding classes_over
 ready_again devices classes stranded jobs below last opened = record { live = refl; stage = stages.Stranded; below = below; opened = opened; over = refl }
 
-record AfterStranded (devices : List (List ℕ)) (classes : List PlannedClass) (stranded : List Stranded) (heard : DraftRecord) (lines rest : List PlanLine) : Type 0 where
-  pub heard' : DraftRecord
+record AfterStranded (devices : List (List ℕ)) (classes : List PlannedClass) (stranded : List Stranded) (draft : DraftRecord) (lines rest : List PlanLine) : Type 0 where
+  pub draft' : DraftRecord
   pub jobs : ℕ
   pub last : ℕ
-  pub reads : says_next heard (lines ++ rest) ≡ says_next heard' rest
-  pub ready : IsReady devices classes stranded jobs last heard'
+  pub reads : plan_lines_next draft (lines ++ rest) ≡ plan_lines_next draft' rest
+  pub ready : IsReady devices classes stranded jobs last draft'
 
-stranded_run : (devices : List (List ℕ)) (classes : List PlannedClass) (before : List Stranded) (jobs last : ℕ) (heard : DraftRecord) (stranded : List Stranded) (rest : List PlanLine) → IsReady devices classes before jobs last heard → StrandedRise last stranded → jobs + length stranded ≤ UNFINISHED_JOBS
-    → AfterStranded devices classes (before ++ stranded) heard (stranded_lines stranded) rest
-stranded_run devices classes before jobs last heard [] rest r rise few =
-    record { heard' = heard; jobs = jobs; last = last; reads = refl; ready = subst (λ ss. IsReady devices classes ss jobs last heard) (sym (append-nil before)) r }
-stranded_run devices classes before jobs last heard (s ∷ stranded) rest r rise few =
+stranded_run : (devices : List (List ℕ)) (classes : List PlannedClass) (before : List Stranded) (jobs last : ℕ) (draft : DraftRecord) (stranded : List Stranded) (rest : List PlanLine) → IsReady devices classes before jobs last draft → StrandedRise last stranded → jobs + length stranded ≤ UNFINISHED_JOBS
+    → AfterStranded devices classes (before ++ stranded) draft (stranded_lines stranded) rest
+stranded_run devices classes before jobs last draft [] rest r rise few =
+    record { draft' = draft; jobs = jobs; last = last; reads = refl; ready = subst (λ ss. IsReady devices classes ss jobs last draft) (sym (append-nil before)) r }
+stranded_run devices classes before jobs last draft (s ∷ stranded) rest r rise few =
     let then' : DraftRecord = record { stage = stages.Stranded; devices = devices; classes = classes; stranded = before ++ s ∷ []; jobs = jobs + 1; below = r.below; last = s.job; opened = r.opened } in
     let after : AfterStranded devices classes ((before ++ s ∷ []) ++ stranded) then' (stranded_lines stranded) rest =
     stranded_run devices classes (before ++ s ∷ []) (jobs + 1) s.job then' stranded rest (ready_again devices classes (before ++ s ∷ []) (jobs + 1) r.below s.job r.opened) rise.1 (omega (arith, few)) in
     record {
-      heard' = after.heard';
+      draft' = after.draft';
       jobs = after.jobs;
       last = after.last;
-      reads = stepped heard then' (SaysStranded s) (stranded_lines stranded ++ rest) r.live (stranded_step devices classes before jobs last heard s r (omega (arith, few)) rise.0) ∙ after.reads;
-      ready = subst (λ ss. IsReady devices classes ss after.jobs after.last after.heard') (append_assoc before (s ∷ []) stranded) after.ready;
+      reads = stepped draft then' (StrandedLine s) (stranded_lines stranded ++ rest) r.live (stranded_step devices classes before jobs last draft s r (omega (arith, few)) rise.0) ∙ after.reads;
+      ready = subst (λ ss. IsReady devices classes ss after.jobs after.last after.draft') (append_assoc before (s ∷ []) stranded) after.ready;
     }
 
-end_step : (devices : List (List ℕ)) (classes : List PlannedClass) (stranded : List Stranded) (jobs last : ℕ) (heard : DraftRecord) (r : IsReady devices classes stranded jobs last heard)
-    → end_next heard ≡ ok (record { stage = stages.Ended; devices = devices; classes = classes; stranded = stranded; jobs = jobs; below = r.below; last = last; opened = r.opened })
+end_step : (devices : List (List ℕ)) (classes : List PlannedClass) (stranded : List Stranded) (jobs last : ℕ) (draft : DraftRecord) (r : IsReady devices classes stranded jobs last draft)
+    → end_next draft ≡ ok (record { stage = stages.Ended; devices = devices; classes = classes; stranded = stranded; jobs = jobs; below = r.below; last = last; opened = r.opened })
 unfolding end_next
-end_step devices classes stranded jobs last heard r = rw (r.over) refl
+end_step devices classes stranded jobs last draft r = rw (r.over) refl
 
-ended_run : (devices : List (List ℕ)) (classes : List PlannedClass) (stranded : List Stranded) (jobs last : ℕ) (heard : DraftRecord) → IsReady devices classes stranded jobs last heard
-    → (says_next heard (SaysEnd ∷ []) >>= λ h. ended h []) ≡ ok (record { devices = devices; plan = record { classes = classes; stranded = stranded } })
+ended_run : (devices : List (List ℕ)) (classes : List PlannedClass) (stranded : List Stranded) (jobs last : ℕ) (draft : DraftRecord) → IsReady devices classes stranded jobs last draft
+    → (plan_lines_next draft (EndLine ∷ []) >>= λ h. ended h []) ≡ ok (record { devices = devices; plan = record { classes = classes; stranded = stranded } })
 unfolding ended
-ended_run devices classes stranded jobs last heard r = rw (r.live, end_step devices classes stranded jobs last heard r) refl
+ended_run devices classes stranded jobs last draft r = rw (r.live, end_step devices classes stranded jobs last draft r) refl
 
 between_none : (devices : List (List ℕ)) → IsBetween devices [] 0 (HIGHEST_PRIORITY + 1) (with_devices devices)
 unfolding closed
 between_none devices = record { live = refl; early = refl; stage = stages.Devices; opened = opened_at DEFAULT_PRIORITY; closes = refl }
 
-plan_step : plan_next (nothing_heard DEFAULT_PRIORITY) ≡ ok (with_devices [])
+plan_step : plan_next (empty_draft DEFAULT_PRIORITY) ≡ ok (with_devices [])
 unfolding plan_next
 plan_step = refl
 
@@ -391,18 +391,18 @@ plan_back named r =
     let devices : List (List ℕ) = named.devices in
     let classes : List PlannedClass = named.plan.classes in
     let stranded : List Stranded = named.plan.stranded in
-    let last : List PlanLine = SaysEnd ∷ [] in
+    let last : List PlanLine = EndLine ∷ [] in
     let lines2 : List PlanLine = stranded_lines stranded ++ last in
     let lines1 : List PlanLine = classes_lines devices classes ++ lines2 in
-    let finish : Result DraftRecord TextFault → Result NamedPlan TextFault = λ h. h >>= λ heard. ended heard [] in
+    let finish : Result DraftRecord TextFault → Result NamedPlan TextFault = λ h. h >>= λ draft. ended draft [] in
     let c : AfterClasses devices classes (jobs_in classes) (with_devices devices) (classes_lines devices classes) lines2 =
     subst (λ n. AfterClasses devices classes n (with_devices devices) (classes_lines devices classes) lines2) (let z : 0 + jobs_in classes ≡ jobs_in classes = omega arith in z)
     (classes_run devices [] 0 (HIGHEST_PRIORITY + 1) (with_devices devices) classes lines2 (between_none devices) r.fall r.classes (omega (arith, r.few_jobs))) in
-    let s : AfterStranded devices classes stranded c.heard' (stranded_lines stranded) last =
-    stranded_run devices classes [] (jobs_in classes) 0 c.heard' stranded last (ready_from devices classes (jobs_in classes) c.below c.heard' c.between) r.rise r.few_jobs in
+    let s : AfterStranded devices classes stranded c.draft' (stranded_lines stranded) last =
+    stranded_run devices classes [] (jobs_in classes) 0 c.draft' stranded last (ready_from devices classes (jobs_in classes) c.below c.draft' c.between) r.rise r.few_jobs in
     text_said (plan_lines named) (plan_in_range named r)
-    ∙ ap finish (stepped (nothing_heard DEFAULT_PRIORITY) (with_devices []) SaysPlan (device_lines devices ++ lines1) refl plan_step)
+    ∙ ap finish (stepped (empty_draft DEFAULT_PRIORITY) (with_devices []) HeadLine (device_lines devices ++ lines1) refl plan_step)
     ∙ ap finish (devices_run [] devices lines1 (omega (arith, r.few_devices)))
     ∙ ap finish c.reads
     ∙ ap finish s.reads
-    ∙ ended_run devices classes stranded s.jobs s.last s.heard' s.ready
+    ∙ ended_run devices classes stranded s.jobs s.last s.draft' s.ready

@@ -22,9 +22,9 @@ use Rattle.plan_text.specs.declared.fault.ReadError.{ReadError}
 use Rattle.plan_text.specs.Reading.{Gives}
 use Rattle.plan_text.specs.TextOf.{IsTextOf}
 use Rattle.plan_text.specs.NamedPlan.{NamedPlan}
-use Rattle.plan_text.specs.Line.{PlanLine, SaysPlan, SaysDevice, SaysClass, SaysJob, SaysWait, SaysWay, SaysTotal, SaysJobPrices, SaysPlacePrices, SaysStranded, SaysEnd, line_at}
+use Rattle.plan_text.specs.Line.{PlanLine, HeadLine, DeviceLine, ClassLine, JobLine, WaitLine, WayLine, TotalLine, JobPricesLine, PlacePricesLine, StrandedLine, EndLine, line_at}
 use Rattle.plan_text.specs.Steps.{DraftRecord, Opened, stage_number, is_at, one_each, is_named, may_have, plan_next, device_next, is_problem, problem_of, planned, opened_at, opened_kept, closed, class_opened, class_next, job_next, wait_next, way_next, total_next, job_prices_next, place_prices_next, classes_over, stranded_added, stranded_next, end_next, next}
-use Rattle.plan_text.specs.Whole.{line_next, lines_next, nothing_heard, plan_of, ended, plan_from, plan_in, plan_at}
+use Rattle.plan_text.specs.Whole.{line_next, lines_next, empty_draft, plan_of, ended, plan_from, plan_in, plan_at}
 use Rattle.plan_text.specs.Writing.{line_text, lines_text, job_lines, way_lines, place_price_lines, class_lines, device_lines, stranded_lines, classes_lines, plan_lines, plan_text}
 use Rattle.plan_text.specs.Ranges.{IsPrice, IsClassInRange, PrioritiesFall, StrandedRise, jobs_in, IsPlanInRange}
 use Rattle.plan_text.proofs.Problems.{problem_from}
@@ -58,8 +58,8 @@ stage_back stages.PlacePrices = refl
 stage_back stages.Stranded = refl
 stage_back stages.Ended = refl
 
-stage_is : (heard : DraftRecord) (stage : Stage) → is_at heard stage ≡ true → heard.stage ≡ stage
-stage_is heard stage h = sym (stage_back heard.stage) ∙ ap stage_of (eqb-true (stage_number heard.stage) (stage_number stage) h) ∙ stage_back stage
+stage_is : (draft : DraftRecord) (stage : Stage) → is_at draft stage ≡ true → draft.stage ≡ stage
+stage_is draft stage h = sym (stage_back draft.stage) ∙ ap stage_of (eqb-true (stage_number draft.stage) (stage_number stage) h) ∙ stage_back stage
 
 lower : (m n : ℕ) → nat_lt m n ≡ true → m < n
 lower m n h = grind (arith, nat_tests)
@@ -68,24 +68,24 @@ lower m n h = grind (arith, nat_tests)
 
 -- the devices and the classes
 abbrev front : DraftRecord → List PlanLine
-front heard = SaysPlan ∷ (device_lines heard.devices ++ classes_lines heard.devices heard.classes)
+front draft = HeadLine ∷ (device_lines draft.devices ++ classes_lines draft.devices draft.classes)
 
 -- the parts of the class that is being read
 abbrev job_part : Opened → List PlanLine
-job_part o = SaysClass o.priority ∷ job_lines o.ids o.rows
+job_part o = ClassLine o.priority ∷ job_lines o.ids o.rows
 
 abbrev way_part : List (List ℕ) → Opened → List PlanLine
-way_part devices o = SaysWait o.waits ∷ way_lines devices o.queues
+way_part devices o = WaitLine o.waits ∷ way_lines devices o.queues
 
-abbrev told_at : Stage → DraftRecord → List PlanLine
-told_at stages.Start h = []
-told_at stages.Devices h = front h
-told_at stages.Jobs h = front h ++ job_part h.opened
-told_at stages.Ways h = front h ++ (job_part h.opened ++ way_part h.devices h.opened)
-told_at stages.JobPrices h = front h ++ (job_part h.opened ++ (way_part h.devices h.opened ++ (SaysTotal h.opened.total ∷ [])))
-told_at stages.PlacePrices h = front h ++ (job_part h.opened ++ (way_part h.devices h.opened ++ (SaysTotal h.opened.total ∷ SaysJobPrices h.opened.job_prices ∷ place_price_lines h.devices h.opened.place_prices)))
-told_at stages.Stranded h = front h ++ stranded_lines h.stranded
-told_at stages.Ended h = front h ++ (stranded_lines h.stranded ++ (SaysEnd ∷ []))
+abbrev drafted_at : Stage → DraftRecord → List PlanLine
+drafted_at stages.Start h = []
+drafted_at stages.Devices h = front h
+drafted_at stages.Jobs h = front h ++ job_part h.opened
+drafted_at stages.Ways h = front h ++ (job_part h.opened ++ way_part h.devices h.opened)
+drafted_at stages.JobPrices h = front h ++ (job_part h.opened ++ (way_part h.devices h.opened ++ (TotalLine h.opened.total ∷ [])))
+drafted_at stages.PlacePrices h = front h ++ (job_part h.opened ++ (way_part h.devices h.opened ++ (TotalLine h.opened.total ∷ JobPricesLine h.opened.job_prices ∷ place_price_lines h.devices h.opened.place_prices)))
+drafted_at stages.Stranded h = front h ++ stranded_lines h.stranded
+drafted_at stages.Ended h = front h ++ (stranded_lines h.stranded ++ (EndLine ∷ []))
 
 -- ---- it is in range
 
@@ -129,7 +129,7 @@ record IsOver (h : DraftRecord) : Type 0 where
   pub few : h.jobs ≤ UNFINISHED_JOBS
 
 abbrev Facts : Stage → DraftRecord → Type 0
-Facts stages.Start h = h ≡ nothing_heard DEFAULT_PRIORITY
+Facts stages.Start h = h ≡ empty_draft DEFAULT_PRIORITY
 Facts stages.Devices h = (h ≡ with_devices h.devices) × (length h.devices ≤ DEVICES) × All (λ name. IsTrue (is_name name)) h.devices
 Facts stages.Jobs h = IsWithin h × (h.opened.queues ≡ []) × (h.opened.place_prices ≡ [])
 Facts stages.Ways h = IsWithin h × (length h.opened.waits ≡ length h.devices) × (h.opened.place_prices ≡ [])
@@ -139,17 +139,17 @@ Facts stages.Stranded h = IsOver h
 Facts stages.Ended h = IsOver h
 
 abbrev TellsAt : Stage → List PlanLine → DraftRecord → Type 0
-TellsAt stage lines h = (lines ≡ told_at stage h) × Facts stage h
+TellsAt stage lines h = (lines ≡ drafted_at stage h) × Facts stage h
 
 -- the state of the reader is that of exactly these lines
-abbrev Tells : List PlanLine → DraftRecord → Type 0
-Tells lines h = TellsAt h.stage lines h
+abbrev Drafts : List PlanLine → DraftRecord → Type 0
+Drafts lines h = TellsAt h.stage lines h
 
-tells_at : (stage : Stage) (lines : List PlanLine) (h : DraftRecord) → is_at h stage ≡ true → Tells lines h → TellsAt stage lines h
+tells_at : (stage : Stage) (lines : List PlanLine) (h : DraftRecord) → is_at h stage ≡ true → Drafts lines h → TellsAt stage lines h
 tells_at stage lines h is t = subst (λ s. TellsAt s lines h) (stage_is h stage is) t
 
-abbrev WouldTell : List PlanLine → PlanLine → DraftRecord → Type 0
-WouldTell lines said new = Tells (lines ++ said ∷ []) new
+abbrev WouldDraft : List PlanLine → PlanLine → DraftRecord → Type 0
+WouldDraft lines said new = Drafts (lines ++ said ∷ []) new
 
 -- a line after this number of parts
 
@@ -164,41 +164,41 @@ behind3 a b c d said = behind2 a b (c ++ d) said ∙ ap (λ l. a ++ (b ++ l)) (b
 
 -- ---- one more of each
 
-devices_more : (names : List (List ℕ)) (name : List ℕ) → device_lines (names ++ name ∷ []) ≡ device_lines names ++ SaysDevice name ∷ []
+devices_more : (names : List (List ℕ)) (name : List ℕ) → device_lines (names ++ name ∷ []) ≡ device_lines names ++ DeviceLine name ∷ []
 devices_more [] name = refl
-devices_more (first ∷ names) name = ap (λ l. SaysDevice first ∷ l) (devices_more names name)
+devices_more (first ∷ names) name = ap (λ l. DeviceLine first ∷ l) (devices_more names name)
 
 classes_more : (devices : List (List ℕ)) (classes : List PlannedClass) (c : PlannedClass) → classes_lines devices (classes ++ c ∷ []) ≡ classes_lines devices classes ++ class_lines devices c
 classes_more devices [] c = append-nil (class_lines devices c)
 classes_more devices (first ∷ classes) c = ap (λ l. class_lines devices first ++ l) (classes_more devices classes c) ∙ sym (append_assoc (class_lines devices first) (classes_lines devices classes) (class_lines devices c))
 
-jobs_more : (ids : List ℕ) (rows : List (List (Option ℕ))) (id : ℕ) (row : List (Option ℕ)) → length rows ≡ length ids → job_lines (ids ++ id ∷ []) (rows ++ row ∷ []) ≡ job_lines ids rows ++ SaysJob id row ∷ []
+jobs_more : (ids : List ℕ) (rows : List (List (Option ℕ))) (id : ℕ) (row : List (Option ℕ)) → length rows ≡ length ids → job_lines (ids ++ id ∷ []) (rows ++ row ∷ []) ≡ job_lines ids rows ++ JobLine id row ∷ []
 jobs_more [] [] id row e = refl
 jobs_more [] (first ∷ rows) id row e = absurd (omega (arith, e))
 jobs_more (first ∷ ids) [] id row e = absurd (omega (arith, e))
-jobs_more (first ∷ ids) (second ∷ rows) id row e = ap (λ l. SaysJob first second ∷ l) (jobs_more ids rows id row (omega (arith, e)))
+jobs_more (first ∷ ids) (second ∷ rows) id row e = ap (λ l. JobLine first second ∷ l) (jobs_more ids rows id row (omega (arith, e)))
 
 ways_none : (devices : List (List ℕ)) → way_lines devices [] ≡ []
 ways_none [] = refl
 ways_none (device ∷ devices) = refl
 
-ways_more : (devices queues : List (List ℕ)) (jobs : List ℕ) → length queues < length devices → way_lines devices (queues ++ jobs ∷ []) ≡ way_lines devices queues ++ SaysWay (slice_index_or devices (length queues) []) jobs ∷ []
+ways_more : (devices queues : List (List ℕ)) (jobs : List ℕ) → length queues < length devices → way_lines devices (queues ++ jobs ∷ []) ≡ way_lines devices queues ++ WayLine (slice_index_or devices (length queues) []) jobs ∷ []
 ways_more [] queues jobs l = absurd (omega (arith, l))
-ways_more (device ∷ devices) [] jobs l = ap (λ l. SaysWay device jobs ∷ l) (ways_none devices)
-ways_more (device ∷ devices) (queue ∷ queues) jobs l = ap (λ l. SaysWay device queue ∷ l) (ways_more devices queues jobs (omega (arith, l)))
+ways_more (device ∷ devices) [] jobs l = ap (λ l. WayLine device jobs ∷ l) (ways_none devices)
+ways_more (device ∷ devices) (queue ∷ queues) jobs l = ap (λ l. WayLine device queue ∷ l) (ways_more devices queues jobs (omega (arith, l)))
 
 places_none : (devices : List (List ℕ)) → place_price_lines devices [] ≡ []
 places_none [] = refl
 places_none (device ∷ devices) = refl
 
-places_more : (devices : List (List ℕ)) (lists : List (List ℤ)) (prices : List ℤ) → length lists < length devices → place_price_lines devices (lists ++ prices ∷ []) ≡ place_price_lines devices lists ++ SaysPlacePrices (slice_index_or devices (length lists) []) prices ∷ []
+places_more : (devices : List (List ℕ)) (lists : List (List ℤ)) (prices : List ℤ) → length lists < length devices → place_price_lines devices (lists ++ prices ∷ []) ≡ place_price_lines devices lists ++ PlacePricesLine (slice_index_or devices (length lists) []) prices ∷ []
 places_more [] lists prices l = absurd (omega (arith, l))
-places_more (device ∷ devices) [] prices l = ap (λ l. SaysPlacePrices device prices ∷ l) (places_none devices)
-places_more (device ∷ devices) (list ∷ lists) prices l = ap (λ l. SaysPlacePrices device list ∷ l) (places_more devices lists prices (omega (arith, l)))
+places_more (device ∷ devices) [] prices l = ap (λ l. PlacePricesLine device prices ∷ l) (places_none devices)
+places_more (device ∷ devices) (list ∷ lists) prices l = ap (λ l. PlacePricesLine device list ∷ l) (places_more devices lists prices (omega (arith, l)))
 
-stranded_more : (stranded : List Stranded) (s : Stranded) → stranded_lines (stranded ++ s ∷ []) ≡ stranded_lines stranded ++ SaysStranded s ∷ []
+stranded_more : (stranded : List Stranded) (s : Stranded) → stranded_lines (stranded ++ s ∷ []) ≡ stranded_lines stranded ++ StrandedLine s ∷ []
 stranded_more [] s = refl
-stranded_more (first ∷ stranded) s = ap (λ l. SaysStranded first ∷ l) (stranded_more stranded s)
+stranded_more (first ∷ stranded) s = ap (λ l. StrandedLine first ∷ l) (stranded_more stranded s)
 
 falls_more : (top : ℕ) (classes : List PlannedClass) (c : PlannedClass) (p : ℕ) → FallsBefore top classes c.priority → p < c.priority → FallsBefore top (classes ++ c ∷ []) p
 falls_more top [] c p f l = (f, l)
@@ -225,39 +225,39 @@ all_more P xs x all last = All-append P xs (x ∷ []) all (All-cons P x [] last 
 
 -- ---- each line
 
-plan_told : (heard new : DraftRecord) (lines : List PlanLine) → plan_next heard ≡ ok new → Tells lines heard → WouldTell lines SaysPlan new
+plan_drafted : (draft new : DraftRecord) (lines : List PlanLine) → plan_next draft ≡ ok new → Drafts lines draft → WouldDraft lines HeadLine new
 unfolding plan_next
-plan_told heard new lines h tells =
-    let t = taken (is_at heard stages.Start) (ok (record heard { stage = stages.Devices })) BadLine new h in
-    let here = tells_at stages.Start lines heard t.0 tells in
-    let P : DraftRecord → Type 0 = λ (x : DraftRecord). WouldTell lines SaysPlan (record x { stage = stages.Devices }) in
-    let first : P (nothing_heard DEFAULT_PRIORITY) = (ap (λ l. l ++ SaysPlan ∷ []) here.0, (refl, omega arith, All-nil (λ name. IsTrue (is_name name)))) in
-    subst (WouldTell lines SaysPlan) (ok_is (record heard { stage = stages.Devices }) new t.1) (subst P (sym here.1) first)
+plan_drafted draft new lines h tells =
+    let t = taken (is_at draft stages.Start) (ok (record draft { stage = stages.Devices })) BadLine new h in
+    let here = tells_at stages.Start lines draft t.0 tells in
+    let P : DraftRecord → Type 0 = λ (x : DraftRecord). WouldDraft lines HeadLine (record x { stage = stages.Devices }) in
+    let first : P (empty_draft DEFAULT_PRIORITY) = (ap (λ l. l ++ HeadLine ∷ []) here.0, (refl, omega arith, All-nil (λ name. IsTrue (is_name name)))) in
+    subst (WouldDraft lines HeadLine) (ok_is (record draft { stage = stages.Devices }) new t.1) (subst P (sym here.1) first)
 
-device_told : (heard new : DraftRecord) (lines : List PlanLine) (name : List ℕ) → device_next heard name ≡ ok new → is_name name ≡ true → Tells lines heard → WouldTell lines (SaysDevice name) new
+device_drafted : (draft new : DraftRecord) (lines : List PlanLine) (name : List ℕ) → device_next draft name ≡ ok new → is_name name ≡ true → Drafts lines draft → WouldDraft lines (DeviceLine name) new
 unfolding device_next
-device_told heard new lines name h named tells =
-    let after : DraftRecord = record heard { devices = heard.devices ++ name ∷ [] } in
-    let p = passed (not (is_at heard stages.Devices)) (if nat_lt (length heard.devices) DEVICES then ok after else Err OutOfRange) BadLine new h in
-    let t = taken (nat_lt (length heard.devices) DEVICES) (ok after) OutOfRange new p.1 in
-    let at : is_at heard stages.Devices ≡ true = not-false (is_at heard stages.Devices) p.0 in
-    let here = tells_at stages.Devices lines heard at tells in
-    let ds : List (List ℕ) = heard.devices in
+device_drafted draft new lines name h named tells =
+    let after : DraftRecord = record draft { devices = draft.devices ++ name ∷ [] } in
+    let p = passed (not (is_at draft stages.Devices)) (if nat_lt (length draft.devices) DEVICES then ok after else Err OutOfRange) BadLine new h in
+    let t = taken (nat_lt (length draft.devices) DEVICES) (ok after) OutOfRange new p.1 in
+    let at : is_at draft stages.Devices ≡ true = not-false (is_at draft stages.Devices) p.0 in
+    let here = tells_at stages.Devices lines draft at tells in
+    let ds : List (List ℕ) = draft.devices in
     let more : List (List ℕ) = ds ++ name ∷ [] in
-    let stage : heard.stage ≡ stages.Devices = stage_is heard stages.Devices at in
-    let none : heard.classes ≡ [] = ap (λ (x : DraftRecord). x.classes) here.1.0 in
+    let stage : draft.stage ≡ stages.Devices = stage_is draft stages.Devices at in
+    let none : draft.classes ≡ [] = ap (λ (x : DraftRecord). x.classes) here.1.0 in
     let is : after ≡ with_devices more = ap (λ (x : DraftRecord). let y : DraftRecord = record x { devices = more } in y) here.1.0 in
     let less : length ds < DEVICES = lower (length ds) DEVICES t.0 in
-    let text : lines ++ SaysDevice name ∷ [] ≡ front after =
-    ap (λ l. l ++ SaysDevice name ∷ []) here.0
-    ∙ ap (λ cs. SaysPlan ∷ ((device_lines ds ++ classes_lines ds cs) ++ SaysDevice name ∷ [])) none
-    ∙ ap (λ l. SaysPlan ∷ (l ++ SaysDevice name ∷ [])) (append-nil (device_lines ds))
-    ∙ ap (λ l. SaysPlan ∷ l) (sym (devices_more ds name) ∙ sym (append-nil (device_lines more)))
-    ∙ ap (λ cs. SaysPlan ∷ (device_lines more ++ classes_lines more cs)) (sym none) in
-    let facts : TellsAt stages.Devices (lines ++ SaysDevice name ∷ []) after = (text, (is, omega (arith, less, length-append ds (name ∷ [])), all_more (λ n. IsTrue (is_name n)) ds name here.1.2 named)) in
-    subst (WouldTell lines (SaysDevice name)) (ok_is after new t.1) (subst (λ s. TellsAt s (lines ++ SaysDevice name ∷ []) after) (sym stage) facts)
+    let text : lines ++ DeviceLine name ∷ [] ≡ front after =
+    ap (λ l. l ++ DeviceLine name ∷ []) here.0
+    ∙ ap (λ cs. HeadLine ∷ ((device_lines ds ++ classes_lines ds cs) ++ DeviceLine name ∷ [])) none
+    ∙ ap (λ l. HeadLine ∷ (l ++ DeviceLine name ∷ [])) (append-nil (device_lines ds))
+    ∙ ap (λ l. HeadLine ∷ l) (sym (devices_more ds name) ∙ sym (append-nil (device_lines more)))
+    ∙ ap (λ cs. HeadLine ∷ (device_lines more ++ classes_lines more cs)) (sym none) in
+    let facts : TellsAt stages.Devices (lines ++ DeviceLine name ∷ []) after = (text, (is, omega (arith, less, length-append ds (name ∷ [])), all_more (λ n. IsTrue (is_name n)) ds name here.1.2 named)) in
+    subst (WouldDraft lines (DeviceLine name)) (ok_is after new t.1) (subst (λ s. TellsAt s (lines ++ DeviceLine name ∷ []) after) (sym stage) facts)
 
--- all classes have been heard, and nothing after them
+-- the draft has all classes, and nothing after them
 record IsClosed (lines : List PlanLine) (h : DraftRecord) : Type 0 where
   pub text : lines ≡ front h
   pub front : IsFront h
@@ -267,13 +267,13 @@ record IsClosed (lines : List PlanLine) (h : DraftRecord) : Type 0 where
   pub count : h.jobs ≡ jobs_in h.classes
   pub few : h.jobs ≤ UNFINISHED_JOBS
 
-devices_closed : (lines : List PlanLine) (heard : DraftRecord) → TellsAt stages.Devices lines heard → IsClosed lines heard
-devices_closed lines heard here =
+devices_closed : (lines : List PlanLine) (draft : DraftRecord) → TellsAt stages.Devices lines draft → IsClosed lines draft
+devices_closed lines draft here =
     let is = here.1.0 in
-    let none : heard.classes ≡ [] = ap (λ (x : DraftRecord). x.classes) is in
-    let below : heard.below ≡ HIGHEST_PRIORITY + 1 = ap (λ (x : DraftRecord). x.below) is in
-    let jobs : heard.jobs ≡ 0 = ap (λ (x : DraftRecord). x.jobs) is in
-    let n : ℕ = length heard.devices in
+    let none : draft.classes ≡ [] = ap (λ (x : DraftRecord). x.classes) is in
+    let below : draft.below ≡ HIGHEST_PRIORITY + 1 = ap (λ (x : DraftRecord). x.below) is in
+    let jobs : draft.jobs ≡ 0 = ap (λ (x : DraftRecord). x.jobs) is in
+    let n : ℕ = length draft.devices in
     record {
       text = here.0;
       front = record {
@@ -289,16 +289,16 @@ devices_closed lines heard here =
       few = omega (arith, jobs);
     }
 
-class_closed : (lines : List PlanLine) (heard : DraftRecord) → TellsAt stages.PlacePrices lines heard → length heard.opened.place_prices ≡ length heard.devices → is_problem (problem_of heard.opened) ≡ true → IsClosed lines (opened_kept heard)
+class_closed : (lines : List PlanLine) (draft : DraftRecord) → TellsAt stages.PlacePrices lines draft → length draft.opened.place_prices ≡ length draft.devices → is_problem (problem_of draft.opened) ≡ true → IsClosed lines (opened_kept draft)
 unfolding class_lines
-class_closed lines heard here places problem =
-    let w : IsWithin heard = here.1.0 in
-    let c : PlannedClass = planned heard.opened in
-    let ds : List (List ℕ) = heard.devices in
+class_closed lines draft here places problem =
+    let w : IsWithin draft = here.1.0 in
+    let c : PlannedClass = planned draft.opened in
+    let ds : List (List ℕ) = draft.devices in
     let n : ℕ = length ds in
     let in_range : IsClassInRange n c = record {
       priority = w.priority;
-      problem = problem_from (problem_of heard.opened) problem;
+      problem = problem_from (problem_of draft.opened) problem;
       ids = w.ids;
       waits = here.1.1;
       ways = here.1.2;
@@ -309,43 +309,43 @@ class_closed lines heard here places problem =
       place_prices = w.place_prices;
     } in
     record {
-      text = here.0 ∙ append_assoc (SaysPlan ∷ device_lines ds) (classes_lines ds heard.classes) (class_lines ds c) ∙ ap (λ l. SaysPlan ∷ (device_lines ds ++ l)) (sym (classes_more ds heard.classes c));
+      text = here.0 ∙ append_assoc (HeadLine ∷ device_lines ds) (classes_lines ds draft.classes) (class_lines ds c) ∙ ap (λ l. HeadLine ∷ (device_lines ds ++ l)) (sym (classes_more ds draft.classes c));
       front = record {
         few_devices = w.front.few_devices;
         names = w.front.names;
-        classes = all_more (IsClassInRange n) heard.classes c w.front.classes in_range;
-        fall = fall_all (HIGHEST_PRIORITY + 1) heard.classes c w.before;
+        classes = all_more (IsClassInRange n) draft.classes c w.front.classes in_range;
+        fall = fall_all (HIGHEST_PRIORITY + 1) draft.classes c w.before;
       };
-      under = λ p l. falls_more (HIGHEST_PRIORITY + 1) heard.classes c p w.before (omega (arith, l, w.below));
+      under = λ p l. falls_more (HIGHEST_PRIORITY + 1) draft.classes c p w.before (omega (arith, l, w.below));
       last = refl;
       no_stranded = w.no_stranded;
-      count = w.count ∙ sym (jobs_in_more heard.classes c);
+      count = w.count ∙ sym (jobs_in_more draft.classes c);
       few = w.few;
     }
 
-closed_told : (heard whole : DraftRecord) (lines : List PlanLine) → closed heard ≡ ok whole → Tells lines heard → IsClosed lines whole
+closed_drafted : (draft whole : DraftRecord) (lines : List PlanLine) → closed draft ≡ ok whole → Drafts lines draft → IsClosed lines whole
 unfolding closed
-closed_told heard whole lines h tells =
-    let good : Result DraftRecord TextFault = if is_problem (problem_of heard.opened) then ok (opened_kept heard) else Err OutOfRange in
-    let last : Bool = is_at heard stages.PlacePrices && one_each heard heard.opened.place_prices in
-    elim (either (is_at heard stages.Devices) (ok heard) (if last then good else Err BadLine) whole h) [
-      | inl early ↦ subst (IsClosed lines) (ok_is heard whole early.1) (devices_closed lines heard (tells_at stages.Devices lines heard early.0 tells))
+closed_drafted draft whole lines h tells =
+    let good : Result DraftRecord TextFault = if is_problem (problem_of draft.opened) then ok (opened_kept draft) else Err OutOfRange in
+    let last : Bool = is_at draft stages.PlacePrices && one_each draft draft.opened.place_prices in
+    elim (either (is_at draft stages.Devices) (ok draft) (if last then good else Err BadLine) whole h) [
+      | inl early ↦ subst (IsClosed lines) (ok_is draft whole early.1) (devices_closed lines draft (tells_at stages.Devices lines draft early.0 tells))
       | inr late ↦
           let t = taken last good BadLine whole late.1 in
-          let b : (is_at heard stages.PlacePrices ≡ true) × (one_each heard heard.opened.place_prices ≡ true) = and_parts (is_at heard stages.PlacePrices) (one_each heard heard.opened.place_prices) t.0 in
-          let p = taken (is_problem (problem_of heard.opened)) (ok (opened_kept heard)) OutOfRange whole t.1 in
-          subst (IsClosed lines) (ok_is (opened_kept heard) whole p.1)
-          (class_closed lines heard (tells_at stages.PlacePrices lines heard b.0 tells) (eqb-true (length heard.opened.place_prices) (length heard.devices) b.1) p.0)
+          let b : (is_at draft stages.PlacePrices ≡ true) × (one_each draft draft.opened.place_prices ≡ true) = and_parts (is_at draft stages.PlacePrices) (one_each draft draft.opened.place_prices) t.0 in
+          let p = taken (is_problem (problem_of draft.opened)) (ok (opened_kept draft)) OutOfRange whole t.1 in
+          subst (IsClosed lines) (ok_is (opened_kept draft) whole p.1)
+          (class_closed lines draft (tells_at stages.PlacePrices lines draft b.0 tells) (eqb-true (length draft.opened.place_prices) (length draft.devices) b.1) p.0)
     ]
 
-class_told : (heard new : DraftRecord) (lines : List PlanLine) (priority : ℕ) → class_next heard priority ≡ ok new → IsPriority priority → Tells lines heard → WouldTell lines (SaysClass priority) new
+class_drafted : (draft new : DraftRecord) (lines : List PlanLine) (priority : ℕ) → class_next draft priority ≡ ok new → IsPriority priority → Drafts lines draft → WouldDraft lines (ClassLine priority) new
 unfolding class_next class_opened
-class_told heard new lines priority h ranged tells =
-    let w = went_on (closed heard) (λ whole. class_opened whole priority) new h in
+class_drafted draft new lines priority h ranged tells =
+    let w = went_on (closed draft) (λ whole. class_opened whole priority) new h in
     let whole : DraftRecord = w.0 in
     let after : DraftRecord = record whole { stage = stages.Jobs; below = priority; last = 0; opened = opened_at priority } in
     let t = taken (nat_lt priority whole.below) (ok after) OutOfRange new w.2 in
-    let c : IsClosed lines whole = closed_told heard whole lines w.1 tells in
+    let c : IsClosed lines whole = closed_drafted draft whole lines w.1 tells in
     let within : IsWithin after = record {
       front = record { few_devices = c.front.few_devices; names = c.front.names; classes = c.front.classes; fall = c.front.fall };
       priority = ranged;
@@ -361,21 +361,21 @@ class_told heard new lines priority h ranged tells =
       count = omega (arith, c.count);
       few = c.few;
     } in
-    let facts : WouldTell lines (SaysClass priority) after = (ap (λ l. l ++ SaysClass priority ∷ []) c.text, (within, refl, refl)) in
-    subst (WouldTell lines (SaysClass priority)) (ok_is after new t.1) facts
+    let facts : WouldDraft lines (ClassLine priority) after = (ap (λ l. l ++ ClassLine priority ∷ []) c.text, (within, refl, refl)) in
+    subst (WouldDraft lines (ClassLine priority)) (ok_is after new t.1) facts
 
-job_told : (heard new : DraftRecord) (lines : List PlanLine) (id : ℕ) (times : List (Option ℕ)) → job_next heard id times ≡ ok new → IsJobId id → Tells lines heard → WouldTell lines (SaysJob id times) new
+job_drafted : (draft new : DraftRecord) (lines : List PlanLine) (id : ℕ) (times : List (Option ℕ)) → job_next draft id times ≡ ok new → IsJobId id → Drafts lines draft → WouldDraft lines (JobLine id times) new
 unfolding job_next
-job_told heard new lines id times h ranged tells =
-    let o : Opened = heard.opened in
-    let after : DraftRecord = record heard { jobs = heard.jobs + 1; last = id; opened = record heard.opened { ids = heard.opened.ids ++ id ∷ []; rows = heard.opened.rows ++ times ∷ [] } } in
-    let p = passed (not (is_at heard stages.Jobs && one_each heard times)) (if may_have heard id then ok after else Err OutOfRange) BadLine new h in
-    let t = taken (may_have heard id) (ok after) OutOfRange new p.1 in
-    let b : (is_at heard stages.Jobs ≡ true) × (one_each heard times ≡ true) = and_parts (is_at heard stages.Jobs) (one_each heard times) (not-false (is_at heard stages.Jobs && one_each heard times) p.0) in
-    let m : (nat_lt heard.jobs UNFINISHED_JOBS ≡ true) × (nat_lt heard.last id ≡ true) = and_parts (nat_lt heard.jobs UNFINISHED_JOBS) (nat_lt heard.last id) t.0 in
-    let stage : heard.stage ≡ stages.Jobs = stage_is heard stages.Jobs b.0 in
-    let here = tells_at stages.Jobs lines heard b.0 tells in
-    let w : IsWithin heard = here.1.0 in
+job_drafted draft new lines id times h ranged tells =
+    let o : Opened = draft.opened in
+    let after : DraftRecord = record draft { jobs = draft.jobs + 1; last = id; opened = record draft.opened { ids = draft.opened.ids ++ id ∷ []; rows = draft.opened.rows ++ times ∷ [] } } in
+    let p = passed (not (is_at draft stages.Jobs && one_each draft times)) (if may_have draft id then ok after else Err OutOfRange) BadLine new h in
+    let t = taken (may_have draft id) (ok after) OutOfRange new p.1 in
+    let b : (is_at draft stages.Jobs ≡ true) × (one_each draft times ≡ true) = and_parts (is_at draft stages.Jobs) (one_each draft times) (not-false (is_at draft stages.Jobs && one_each draft times) p.0) in
+    let m : (nat_lt draft.jobs UNFINISHED_JOBS ≡ true) × (nat_lt draft.last id ≡ true) = and_parts (nat_lt draft.jobs UNFINISHED_JOBS) (nat_lt draft.last id) t.0 in
+    let stage : draft.stage ≡ stages.Jobs = stage_is draft stages.Jobs b.0 in
+    let here = tells_at stages.Jobs lines draft b.0 tells in
+    let w : IsWithin draft = here.1.0 in
     let within : IsWithin after = record {
       front = record { few_devices = w.front.few_devices; names = w.front.names; classes = w.front.classes; fall = w.front.fall };
       priority = w.priority;
@@ -389,31 +389,31 @@ job_told heard new lines id times h ranged tells =
       place_prices = w.place_prices;
       no_stranded = w.no_stranded;
       count = omega (arith, w.count, length-append o.ids (id ∷ []));
-      few = omega (arith, lower heard.jobs UNFINISHED_JOBS m.0);
+      few = omega (arith, lower draft.jobs UNFINISHED_JOBS m.0);
     } in
-    let text : lines ++ SaysJob id times ∷ [] ≡ told_at stages.Jobs after =
-    ap (λ l. l ++ SaysJob id times ∷ []) here.0
-    ∙ behind1 (front heard) (job_part o) (SaysJob id times)
-    ∙ ap (λ l. front heard ++ (SaysClass o.priority ∷ l)) (sym (jobs_more o.ids o.rows id times w.rows)) in
-    let facts : TellsAt stages.Jobs (lines ++ SaysJob id times ∷ []) after = (text, (within, here.1.1, here.1.2)) in
-    subst (WouldTell lines (SaysJob id times)) (ok_is after new t.1) (subst (λ s. TellsAt s (lines ++ SaysJob id times ∷ []) after) (sym stage) facts)
+    let text : lines ++ JobLine id times ∷ [] ≡ drafted_at stages.Jobs after =
+    ap (λ l. l ++ JobLine id times ∷ []) here.0
+    ∙ behind1 (front draft) (job_part o) (JobLine id times)
+    ∙ ap (λ l. front draft ++ (ClassLine o.priority ∷ l)) (sym (jobs_more o.ids o.rows id times w.rows)) in
+    let facts : TellsAt stages.Jobs (lines ++ JobLine id times ∷ []) after = (text, (within, here.1.1, here.1.2)) in
+    subst (WouldDraft lines (JobLine id times)) (ok_is after new t.1) (subst (λ s. TellsAt s (lines ++ JobLine id times ∷ []) after) (sym stage) facts)
 
-wait_told : (heard new : DraftRecord) (lines : List PlanLine) (waits : List ℕ) → wait_next heard waits ≡ ok new → Tells lines heard → WouldTell lines (SaysWait waits) new
+wait_drafted : (draft new : DraftRecord) (lines : List PlanLine) (waits : List ℕ) → wait_next draft waits ≡ ok new → Drafts lines draft → WouldDraft lines (WaitLine waits) new
 unfolding wait_next
-wait_told heard new lines waits h tells =
-    let after : DraftRecord = record heard { stage = stages.Ways; opened = record heard.opened { waits = waits } } in
-    let t = taken (is_at heard stages.Jobs && one_each heard waits) (ok after) BadLine new h in
-    let b : (is_at heard stages.Jobs ≡ true) × (one_each heard waits ≡ true) = and_parts (is_at heard stages.Jobs) (one_each heard waits) t.0 in
-    let here = tells_at stages.Jobs lines heard b.0 tells in
-    let w : IsWithin heard = here.1.0 in
+wait_drafted draft new lines waits h tells =
+    let after : DraftRecord = record draft { stage = stages.Ways; opened = record draft.opened { waits = waits } } in
+    let t = taken (is_at draft stages.Jobs && one_each draft waits) (ok after) BadLine new h in
+    let b : (is_at draft stages.Jobs ≡ true) × (one_each draft waits ≡ true) = and_parts (is_at draft stages.Jobs) (one_each draft waits) t.0 in
+    let here = tells_at stages.Jobs lines draft b.0 tells in
+    let w : IsWithin draft = here.1.0 in
     let within : IsWithin after = record { front = record { few_devices = w.front.few_devices; names = w.front.names; classes = w.front.classes; fall = w.front.fall }; priority = w.priority; before = w.before; below = w.below; ids = w.ids; rows = w.rows; queues = w.queues; total = w.total; job_prices = w.job_prices; place_prices = w.place_prices; no_stranded = w.no_stranded; count = w.count; few = w.few } in
-    let no_ways : way_lines heard.devices heard.opened.queues ≡ [] = ap (way_lines heard.devices) here.1.1 ∙ ways_none heard.devices in
-    let text : lines ++ SaysWait waits ∷ [] ≡ told_at stages.Ways after =
-    ap (λ l. l ++ SaysWait waits ∷ []) here.0
-    ∙ behind1 (front heard) (job_part heard.opened) (SaysWait waits)
-    ∙ ap (λ l. front heard ++ (job_part heard.opened ++ (SaysWait waits ∷ l))) (sym no_ways) in
-    let facts : WouldTell lines (SaysWait waits) after = (text, (within, eqb-true (length waits) (length heard.devices) b.1, here.1.2)) in
-    subst (WouldTell lines (SaysWait waits)) (ok_is after new t.1) facts
+    let no_ways : way_lines draft.devices draft.opened.queues ≡ [] = ap (way_lines draft.devices) here.1.1 ∙ ways_none draft.devices in
+    let text : lines ++ WaitLine waits ∷ [] ≡ drafted_at stages.Ways after =
+    ap (λ l. l ++ WaitLine waits ∷ []) here.0
+    ∙ behind1 (front draft) (job_part draft.opened) (WaitLine waits)
+    ∙ ap (λ l. front draft ++ (job_part draft.opened ++ (WaitLine waits ∷ l))) (sym no_ways) in
+    let facts : WouldDraft lines (WaitLine waits) after = (text, (within, eqb-true (length waits) (length draft.devices) b.1, here.1.2)) in
+    subst (WouldDraft lines (WaitLine waits)) (ok_is after new t.1) facts
 
 -- the device at the place has this name
 named_at : (devices : List (List ℕ)) (place : ℕ) (name : List ℕ) → (nat_lt place (length devices) && bytes_eq (slice_index_or devices place []) name) ≡ true → (place < length devices) × (slice_index_or devices place [] ≡ name)
@@ -421,84 +421,84 @@ named_at devices place name h =
     let p : (nat_lt place (length devices) ≡ true) × (bytes_eq (slice_index_or devices place []) name ≡ true) = and_parts (nat_lt place (length devices)) (bytes_eq (slice_index_or devices place []) name) h in
     (lower place (length devices) p.0, same_bytes (slice_index_or devices place []) name p.1)
 
-way_told : (heard new : DraftRecord) (lines : List PlanLine) (name jobs : List ℕ) → way_next heard name jobs ≡ ok new → All IsJobId jobs → Tells lines heard → WouldTell lines (SaysWay name jobs) new
+way_drafted : (draft new : DraftRecord) (lines : List PlanLine) (name jobs : List ℕ) → way_next draft name jobs ≡ ok new → All IsJobId jobs → Drafts lines draft → WouldDraft lines (WayLine name jobs) new
 unfolding way_next
-way_told heard new lines name jobs h ranged tells =
-    let o : Opened = heard.opened in
-    let after : DraftRecord = record heard { opened = record heard.opened { queues = heard.opened.queues ++ jobs ∷ [] } } in
-    let t = taken (is_at heard stages.Ways && is_named heard (length heard.opened.queues) name) (ok after) BadLine new h in
-    let b : (is_at heard stages.Ways ≡ true) × (is_named heard (length heard.opened.queues) name ≡ true) = and_parts (is_at heard stages.Ways) (is_named heard (length heard.opened.queues) name) t.0 in
-    let stage : heard.stage ≡ stages.Ways = stage_is heard stages.Ways b.0 in
-    let here = tells_at stages.Ways lines heard b.0 tells in
-    let w : IsWithin heard = here.1.0 in
-    let device = named_at heard.devices (length o.queues) name b.1 in
+way_drafted draft new lines name jobs h ranged tells =
+    let o : Opened = draft.opened in
+    let after : DraftRecord = record draft { opened = record draft.opened { queues = draft.opened.queues ++ jobs ∷ [] } } in
+    let t = taken (is_at draft stages.Ways && is_named draft (length draft.opened.queues) name) (ok after) BadLine new h in
+    let b : (is_at draft stages.Ways ≡ true) × (is_named draft (length draft.opened.queues) name ≡ true) = and_parts (is_at draft stages.Ways) (is_named draft (length draft.opened.queues) name) t.0 in
+    let stage : draft.stage ≡ stages.Ways = stage_is draft stages.Ways b.0 in
+    let here = tells_at stages.Ways lines draft b.0 tells in
+    let w : IsWithin draft = here.1.0 in
+    let device = named_at draft.devices (length o.queues) name b.1 in
     let within : IsWithin after = record { front = record { few_devices = w.front.few_devices; names = w.front.names; classes = w.front.classes; fall = w.front.fall }; priority = w.priority; before = w.before; below = w.below; ids = w.ids; rows = w.rows; queues = all_more (All IsJobId) o.queues jobs w.queues ranged; total = w.total; job_prices = w.job_prices; place_prices = w.place_prices; no_stranded = w.no_stranded; count = w.count; few = w.few } in
-    let text : lines ++ SaysWay name jobs ∷ [] ≡ told_at stages.Ways after =
-    ap (λ l. l ++ SaysWay name jobs ∷ []) here.0
-    ∙ behind2 (front heard) (job_part o) (way_part heard.devices o) (SaysWay name jobs)
-    ∙ ap (λ n. front heard ++ (job_part o ++ (SaysWait o.waits ∷ (way_lines heard.devices o.queues ++ SaysWay n jobs ∷ [])))) (sym device.1)
-    ∙ ap (λ l. front heard ++ (job_part o ++ (SaysWait o.waits ∷ l))) (sym (ways_more heard.devices o.queues jobs device.0)) in
-    let facts : TellsAt stages.Ways (lines ++ SaysWay name jobs ∷ []) after = (text, (within, here.1.1, here.1.2)) in
-    subst (WouldTell lines (SaysWay name jobs)) (ok_is after new t.1) (subst (λ s. TellsAt s (lines ++ SaysWay name jobs ∷ []) after) (sym stage) facts)
+    let text : lines ++ WayLine name jobs ∷ [] ≡ drafted_at stages.Ways after =
+    ap (λ l. l ++ WayLine name jobs ∷ []) here.0
+    ∙ behind2 (front draft) (job_part o) (way_part draft.devices o) (WayLine name jobs)
+    ∙ ap (λ n. front draft ++ (job_part o ++ (WaitLine o.waits ∷ (way_lines draft.devices o.queues ++ WayLine n jobs ∷ [])))) (sym device.1)
+    ∙ ap (λ l. front draft ++ (job_part o ++ (WaitLine o.waits ∷ l))) (sym (ways_more draft.devices o.queues jobs device.0)) in
+    let facts : TellsAt stages.Ways (lines ++ WayLine name jobs ∷ []) after = (text, (within, here.1.1, here.1.2)) in
+    subst (WouldDraft lines (WayLine name jobs)) (ok_is after new t.1) (subst (λ s. TellsAt s (lines ++ WayLine name jobs ∷ []) after) (sym stage) facts)
 
-total_told : (heard new : DraftRecord) (lines : List PlanLine) (total : ℕ) → total_next heard total ≡ ok new → total ≤ AMOUNT → Tells lines heard → WouldTell lines (SaysTotal total) new
+total_drafted : (draft new : DraftRecord) (lines : List PlanLine) (total : ℕ) → total_next draft total ≡ ok new → total ≤ AMOUNT → Drafts lines draft → WouldDraft lines (TotalLine total) new
 unfolding total_next
-total_told heard new lines total h ranged tells =
-    let o : Opened = heard.opened in
-    let after : DraftRecord = record heard { stage = stages.JobPrices; opened = record heard.opened { total = total } } in
-    let t = taken (is_at heard stages.Ways && one_each heard heard.opened.queues) (ok after) BadLine new h in
-    let b : (is_at heard stages.Ways ≡ true) × (one_each heard heard.opened.queues ≡ true) = and_parts (is_at heard stages.Ways) (one_each heard heard.opened.queues) t.0 in
-    let here = tells_at stages.Ways lines heard b.0 tells in
-    let w : IsWithin heard = here.1.0 in
+total_drafted draft new lines total h ranged tells =
+    let o : Opened = draft.opened in
+    let after : DraftRecord = record draft { stage = stages.JobPrices; opened = record draft.opened { total = total } } in
+    let t = taken (is_at draft stages.Ways && one_each draft draft.opened.queues) (ok after) BadLine new h in
+    let b : (is_at draft stages.Ways ≡ true) × (one_each draft draft.opened.queues ≡ true) = and_parts (is_at draft stages.Ways) (one_each draft draft.opened.queues) t.0 in
+    let here = tells_at stages.Ways lines draft b.0 tells in
+    let w : IsWithin draft = here.1.0 in
     let within : IsWithin after = record { front = record { few_devices = w.front.few_devices; names = w.front.names; classes = w.front.classes; fall = w.front.fall }; priority = w.priority; before = w.before; below = w.below; ids = w.ids; rows = w.rows; queues = w.queues; total = ranged; job_prices = w.job_prices; place_prices = w.place_prices; no_stranded = w.no_stranded; count = w.count; few = w.few } in
-    let text : lines ++ SaysTotal total ∷ [] ≡ told_at stages.JobPrices after = ap (λ l. l ++ SaysTotal total ∷ []) here.0 ∙ behind2 (front heard) (job_part o) (way_part heard.devices o) (SaysTotal total) in
-    let facts : WouldTell lines (SaysTotal total) after = (text, (within, here.1.1, eqb-true (length o.queues) (length heard.devices) b.1, here.1.2)) in
-    subst (WouldTell lines (SaysTotal total)) (ok_is after new t.1) facts
+    let text : lines ++ TotalLine total ∷ [] ≡ drafted_at stages.JobPrices after = ap (λ l. l ++ TotalLine total ∷ []) here.0 ∙ behind2 (front draft) (job_part o) (way_part draft.devices o) (TotalLine total) in
+    let facts : WouldDraft lines (TotalLine total) after = (text, (within, here.1.1, eqb-true (length o.queues) (length draft.devices) b.1, here.1.2)) in
+    subst (WouldDraft lines (TotalLine total)) (ok_is after new t.1) facts
 
-job_prices_told : (heard new : DraftRecord) (lines : List PlanLine) (prices : List ℤ) → job_prices_next heard prices ≡ ok new → All IsPrice prices → Tells lines heard → WouldTell lines (SaysJobPrices prices) new
+job_prices_drafted : (draft new : DraftRecord) (lines : List PlanLine) (prices : List ℤ) → job_prices_next draft prices ≡ ok new → All IsPrice prices → Drafts lines draft → WouldDraft lines (JobPricesLine prices) new
 unfolding job_prices_next
-job_prices_told heard new lines prices h ranged tells =
-    let o : Opened = heard.opened in
-    let after : DraftRecord = record heard { stage = stages.PlacePrices; opened = record heard.opened { job_prices = prices } } in
-    let t = taken (is_at heard stages.JobPrices) (ok after) BadLine new h in
-    let here = tells_at stages.JobPrices lines heard t.0 tells in
-    let w : IsWithin heard = here.1.0 in
+job_prices_drafted draft new lines prices h ranged tells =
+    let o : Opened = draft.opened in
+    let after : DraftRecord = record draft { stage = stages.PlacePrices; opened = record draft.opened { job_prices = prices } } in
+    let t = taken (is_at draft stages.JobPrices) (ok after) BadLine new h in
+    let here = tells_at stages.JobPrices lines draft t.0 tells in
+    let w : IsWithin draft = here.1.0 in
     let within : IsWithin after = record { front = record { few_devices = w.front.few_devices; names = w.front.names; classes = w.front.classes; fall = w.front.fall }; priority = w.priority; before = w.before; below = w.below; ids = w.ids; rows = w.rows; queues = w.queues; total = w.total; job_prices = ranged; place_prices = w.place_prices; no_stranded = w.no_stranded; count = w.count; few = w.few } in
-    let no_places : place_price_lines heard.devices o.place_prices ≡ [] = ap (place_price_lines heard.devices) here.1.3 ∙ places_none heard.devices in
-    let text : lines ++ SaysJobPrices prices ∷ [] ≡ told_at stages.PlacePrices after =
-    ap (λ l. l ++ SaysJobPrices prices ∷ []) here.0
-    ∙ behind3 (front heard) (job_part o) (way_part heard.devices o) (SaysTotal o.total ∷ []) (SaysJobPrices prices)
-    ∙ ap (λ l. front heard ++ (job_part o ++ (way_part heard.devices o ++ (SaysTotal o.total ∷ SaysJobPrices prices ∷ l)))) (sym no_places) in
-    let facts : WouldTell lines (SaysJobPrices prices) after = (text, (within, here.1.1, here.1.2)) in
-    subst (WouldTell lines (SaysJobPrices prices)) (ok_is after new t.1) facts
+    let no_places : place_price_lines draft.devices o.place_prices ≡ [] = ap (place_price_lines draft.devices) here.1.3 ∙ places_none draft.devices in
+    let text : lines ++ JobPricesLine prices ∷ [] ≡ drafted_at stages.PlacePrices after =
+    ap (λ l. l ++ JobPricesLine prices ∷ []) here.0
+    ∙ behind3 (front draft) (job_part o) (way_part draft.devices o) (TotalLine o.total ∷ []) (JobPricesLine prices)
+    ∙ ap (λ l. front draft ++ (job_part o ++ (way_part draft.devices o ++ (TotalLine o.total ∷ JobPricesLine prices ∷ l)))) (sym no_places) in
+    let facts : WouldDraft lines (JobPricesLine prices) after = (text, (within, here.1.1, here.1.2)) in
+    subst (WouldDraft lines (JobPricesLine prices)) (ok_is after new t.1) facts
 
-place_prices_told : (heard new : DraftRecord) (lines : List PlanLine) (name : List ℕ) (prices : List ℤ) → place_prices_next heard name prices ≡ ok new → All IsPrice prices → Tells lines heard → WouldTell lines (SaysPlacePrices name prices) new
+place_prices_drafted : (draft new : DraftRecord) (lines : List PlanLine) (name : List ℕ) (prices : List ℤ) → place_prices_next draft name prices ≡ ok new → All IsPrice prices → Drafts lines draft → WouldDraft lines (PlacePricesLine name prices) new
 unfolding place_prices_next
-place_prices_told heard new lines name prices h ranged tells =
-    let o : Opened = heard.opened in
-    let after : DraftRecord = record heard { opened = record heard.opened { place_prices = heard.opened.place_prices ++ prices ∷ [] } } in
-    let t = taken (is_at heard stages.PlacePrices && is_named heard (length heard.opened.place_prices) name) (ok after) BadLine new h in
-    let b : (is_at heard stages.PlacePrices ≡ true) × (is_named heard (length heard.opened.place_prices) name ≡ true) = and_parts (is_at heard stages.PlacePrices) (is_named heard (length heard.opened.place_prices) name) t.0 in
-    let stage : heard.stage ≡ stages.PlacePrices = stage_is heard stages.PlacePrices b.0 in
-    let here = tells_at stages.PlacePrices lines heard b.0 tells in
-    let w : IsWithin heard = here.1.0 in
-    let device = named_at heard.devices (length o.place_prices) name b.1 in
+place_prices_drafted draft new lines name prices h ranged tells =
+    let o : Opened = draft.opened in
+    let after : DraftRecord = record draft { opened = record draft.opened { place_prices = draft.opened.place_prices ++ prices ∷ [] } } in
+    let t = taken (is_at draft stages.PlacePrices && is_named draft (length draft.opened.place_prices) name) (ok after) BadLine new h in
+    let b : (is_at draft stages.PlacePrices ≡ true) × (is_named draft (length draft.opened.place_prices) name ≡ true) = and_parts (is_at draft stages.PlacePrices) (is_named draft (length draft.opened.place_prices) name) t.0 in
+    let stage : draft.stage ≡ stages.PlacePrices = stage_is draft stages.PlacePrices b.0 in
+    let here = tells_at stages.PlacePrices lines draft b.0 tells in
+    let w : IsWithin draft = here.1.0 in
+    let device = named_at draft.devices (length o.place_prices) name b.1 in
     let within : IsWithin after = record { front = record { few_devices = w.front.few_devices; names = w.front.names; classes = w.front.classes; fall = w.front.fall }; priority = w.priority; before = w.before; below = w.below; ids = w.ids; rows = w.rows; queues = w.queues; total = w.total; job_prices = w.job_prices; place_prices = all_more (All IsPrice) o.place_prices prices w.place_prices ranged; no_stranded = w.no_stranded; count = w.count; few = w.few } in
-    let totals : List (PlanLine) → List PlanLine = λ l. front heard ++ (job_part o ++ (way_part heard.devices o ++ (SaysTotal o.total ∷ SaysJobPrices o.job_prices ∷ l))) in
-    let text : lines ++ SaysPlacePrices name prices ∷ [] ≡ told_at stages.PlacePrices after =
-    ap (λ l. l ++ SaysPlacePrices name prices ∷ []) here.0
-    ∙ behind3 (front heard) (job_part o) (way_part heard.devices o) (SaysTotal o.total ∷ SaysJobPrices o.job_prices ∷ place_price_lines heard.devices o.place_prices) (SaysPlacePrices name prices)
-    ∙ ap (λ n. totals (place_price_lines heard.devices o.place_prices ++ SaysPlacePrices n prices ∷ [])) (sym device.1)
-    ∙ ap totals (sym (places_more heard.devices o.place_prices prices device.0)) in
-    let facts : TellsAt stages.PlacePrices (lines ++ SaysPlacePrices name prices ∷ []) after = (text, (within, here.1.1, here.1.2)) in
-    subst (WouldTell lines (SaysPlacePrices name prices)) (ok_is after new t.1) (subst (λ s. TellsAt s (lines ++ SaysPlacePrices name prices ∷ []) after) (sym stage) facts)
+    let totals : List (PlanLine) → List PlanLine = λ l. front draft ++ (job_part o ++ (way_part draft.devices o ++ (TotalLine o.total ∷ JobPricesLine o.job_prices ∷ l))) in
+    let text : lines ++ PlacePricesLine name prices ∷ [] ≡ drafted_at stages.PlacePrices after =
+    ap (λ l. l ++ PlacePricesLine name prices ∷ []) here.0
+    ∙ behind3 (front draft) (job_part o) (way_part draft.devices o) (TotalLine o.total ∷ JobPricesLine o.job_prices ∷ place_price_lines draft.devices o.place_prices) (PlacePricesLine name prices)
+    ∙ ap (λ n. totals (place_price_lines draft.devices o.place_prices ++ PlacePricesLine n prices ∷ [])) (sym device.1)
+    ∙ ap totals (sym (places_more draft.devices o.place_prices prices device.0)) in
+    let facts : TellsAt stages.PlacePrices (lines ++ PlacePricesLine name prices ∷ []) after = (text, (within, here.1.1, here.1.2)) in
+    subst (WouldDraft lines (PlacePricesLine name prices)) (ok_is after new t.1) (subst (λ s. TellsAt s (lines ++ PlacePricesLine name prices ∷ []) after) (sym stage) facts)
 
 -- ---- the stranded jobs and the end
 
-abbrev OverTold : List PlanLine → DraftRecord → Type 0
-OverTold lines h = (lines ≡ front h ++ stranded_lines h.stranded) × IsOver h
+abbrev OverDrafted : List PlanLine → DraftRecord → Type 0
+OverDrafted lines h = (lines ≡ front h ++ stranded_lines h.stranded) × IsOver h
 
-closed_over : (lines : List PlanLine) (h : DraftRecord) → IsClosed lines h → OverTold lines h
+closed_over : (lines : List PlanLine) (h : DraftRecord) → IsClosed lines h → OverDrafted lines h
 closed_over lines h c = (
   c.text ∙ sym (append-nil (front h)) ∙ ap (λ ss. front h ++ stranded_lines ss) (sym c.no_stranded),
   record {
@@ -511,22 +511,22 @@ closed_over lines h c = (
   },
 )
 
-over_told : (heard whole : DraftRecord) (lines : List PlanLine) → classes_over heard ≡ ok whole → Tells lines heard → OverTold lines whole
+over_drafted : (draft whole : DraftRecord) (lines : List PlanLine) → classes_over draft ≡ ok whole → Drafts lines draft → OverDrafted lines whole
 unfolding classes_over
-over_told heard whole lines h tells = elim (either (is_at heard stages.Stranded) (ok heard) (closed heard) whole h) [
-  | inl stays ↦ subst (OverTold lines) (ok_is heard whole stays.1) (tells_at stages.Stranded lines heard stays.0 tells)
-  | inr closes ↦ closed_over lines whole (closed_told heard whole lines closes.1 tells)
+over_drafted draft whole lines h tells = elim (either (is_at draft stages.Stranded) (ok draft) (closed draft) whole h) [
+  | inl stays ↦ subst (OverDrafted lines) (ok_is draft whole stays.1) (tells_at stages.Stranded lines draft stays.0 tells)
+  | inr closes ↦ closed_over lines whole (closed_drafted draft whole lines closes.1 tells)
 ]
 
-stranded_told : (heard new : DraftRecord) (lines : List PlanLine) (s : Stranded) → stranded_next heard s ≡ ok new → IsJobId s.job → Tells lines heard → WouldTell lines (SaysStranded s) new
+stranded_drafted : (draft new : DraftRecord) (lines : List PlanLine) (s : Stranded) → stranded_next draft s ≡ ok new → IsJobId s.job → Drafts lines draft → WouldDraft lines (StrandedLine s) new
 unfolding stranded_next stranded_added
-stranded_told heard new lines s h ranged tells =
-    let w = went_on (classes_over heard) (λ whole. stranded_added whole s) new h in
+stranded_drafted draft new lines s h ranged tells =
+    let w = went_on (classes_over draft) (λ whole. stranded_added whole s) new h in
     let whole : DraftRecord = w.0 in
     let after : DraftRecord = record whole { stage = stages.Stranded; stranded = whole.stranded ++ s ∷ []; jobs = whole.jobs + 1; last = s.job } in
     let t = taken (may_have whole s.job) (ok after) OutOfRange new w.2 in
     let m : (nat_lt whole.jobs UNFINISHED_JOBS ≡ true) × (nat_lt whole.last s.job ≡ true) = and_parts (nat_lt whole.jobs UNFINISHED_JOBS) (nat_lt whole.last s.job) t.0 in
-    let over : OverTold lines whole = over_told heard whole lines w.1 tells in
+    let over : OverDrafted lines whole = over_drafted draft whole lines w.1 tells in
     let o : IsOver whole = over.1 in
     let before : RisesBefore 0 whole.stranded s.job = o.above s.job (lower whole.last s.job m.1) in
     let later : IsOver after = record {
@@ -537,36 +537,36 @@ stranded_told heard new lines s h ranged tells =
       count = omega (arith, o.count, length-append whole.stranded (s ∷ []));
       few = omega (arith, lower whole.jobs UNFINISHED_JOBS m.0);
     } in
-    let text : lines ++ SaysStranded s ∷ [] ≡ told_at stages.Stranded after =
-    ap (λ l. l ++ SaysStranded s ∷ []) over.0 ∙ behind1 (front whole) (stranded_lines whole.stranded) (SaysStranded s) ∙ ap (λ l. front whole ++ l) (sym (stranded_more whole.stranded s)) in
-    let facts : WouldTell lines (SaysStranded s) after = (text, later) in
-    subst (WouldTell lines (SaysStranded s)) (ok_is after new t.1) facts
+    let text : lines ++ StrandedLine s ∷ [] ≡ drafted_at stages.Stranded after =
+    ap (λ l. l ++ StrandedLine s ∷ []) over.0 ∙ behind1 (front whole) (stranded_lines whole.stranded) (StrandedLine s) ∙ ap (λ l. front whole ++ l) (sym (stranded_more whole.stranded s)) in
+    let facts : WouldDraft lines (StrandedLine s) after = (text, later) in
+    subst (WouldDraft lines (StrandedLine s)) (ok_is after new t.1) facts
 
-end_told : (heard new : DraftRecord) (lines : List PlanLine) → end_next heard ≡ ok new → Tells lines heard → WouldTell lines SaysEnd new
+end_drafted : (draft new : DraftRecord) (lines : List PlanLine) → end_next draft ≡ ok new → Drafts lines draft → WouldDraft lines EndLine new
 unfolding end_next
-end_told heard new lines h tells =
-    let w = went_on (classes_over heard) (λ (whole : DraftRecord). ok (record whole { stage = stages.Ended })) new h in
+end_drafted draft new lines h tells =
+    let w = went_on (classes_over draft) (λ (whole : DraftRecord). ok (record whole { stage = stages.Ended })) new h in
     let whole : DraftRecord = w.0 in
     let after : DraftRecord = record whole { stage = stages.Ended } in
-    let over : OverTold lines whole = over_told heard whole lines w.1 tells in
+    let over : OverDrafted lines whole = over_drafted draft whole lines w.1 tells in
     let o : IsOver whole = over.1 in
     let later : IsOver after = record { front = record { few_devices = o.front.few_devices; names = o.front.names; classes = o.front.classes; fall = o.front.fall }; stranded = o.stranded; rise = o.rise; above = o.above; count = o.count; few = o.few } in
-    let text : lines ++ SaysEnd ∷ [] ≡ told_at stages.Ended after = ap (λ l. l ++ SaysEnd ∷ []) over.0 ∙ behind1 (front whole) (stranded_lines whole.stranded) SaysEnd in
-    let facts : WouldTell lines SaysEnd after = (text, later) in
-    subst (WouldTell lines SaysEnd) (ok_is after new w.2) facts
+    let text : lines ++ EndLine ∷ [] ≡ drafted_at stages.Ended after = ap (λ l. l ++ EndLine ∷ []) over.0 ∙ behind1 (front whole) (stranded_lines whole.stranded) EndLine in
+    let facts : WouldDraft lines EndLine after = (text, later) in
+    subst (WouldDraft lines EndLine) (ok_is after new w.2) facts
 
-next_told : (heard new : DraftRecord) (lines : List PlanLine) (said : PlanLine) → next heard said ≡ ok new → SaidInRange said → Tells lines heard → WouldTell lines said new
-next_told heard new lines SaysPlan h r t = plan_told heard new lines h t
-next_told heard new lines (SaysDevice name) h r t = device_told heard new lines name h r t
-next_told heard new lines (SaysClass priority) h r t = class_told heard new lines priority h r t
-next_told heard new lines (SaysJob id times) h r t = job_told heard new lines id times h r.0 t
-next_told heard new lines (SaysWait waits) h r t = wait_told heard new lines waits h t
-next_told heard new lines (SaysWay device jobs) h r t = way_told heard new lines device jobs h r.1 t
-next_told heard new lines (SaysTotal total) h r t = total_told heard new lines total h r t
-next_told heard new lines (SaysJobPrices prices) h r t = job_prices_told heard new lines prices h r t
-next_told heard new lines (SaysPlacePrices device prices) h r t = place_prices_told heard new lines device prices h r.1 t
-next_told heard new lines (SaysStranded stranded) h r t = stranded_told heard new lines stranded h r t
-next_told heard new lines SaysEnd h r t = end_told heard new lines h t
+next_drafted : (draft new : DraftRecord) (lines : List PlanLine) (said : PlanLine) → next draft said ≡ ok new → SaidInRange said → Drafts lines draft → WouldDraft lines said new
+next_drafted draft new lines HeadLine h r t = plan_drafted draft new lines h t
+next_drafted draft new lines (DeviceLine name) h r t = device_drafted draft new lines name h r t
+next_drafted draft new lines (ClassLine priority) h r t = class_drafted draft new lines priority h r t
+next_drafted draft new lines (JobLine id times) h r t = job_drafted draft new lines id times h r.0 t
+next_drafted draft new lines (WaitLine waits) h r t = wait_drafted draft new lines waits h t
+next_drafted draft new lines (WayLine device jobs) h r t = way_drafted draft new lines device jobs h r.1 t
+next_drafted draft new lines (TotalLine total) h r t = total_drafted draft new lines total h r t
+next_drafted draft new lines (JobPricesLine prices) h r t = job_prices_drafted draft new lines prices h r t
+next_drafted draft new lines (PlacePricesLine device prices) h r t = place_prices_drafted draft new lines device prices h r.1 t
+next_drafted draft new lines (StrandedLine stranded) h r t = stranded_drafted draft new lines stranded h r t
+next_drafted draft new lines EndLine h r t = end_drafted draft new lines h t
 
 -- ---- the whole text
 
@@ -578,19 +578,19 @@ fed (line ∷ lines) = line ++ (10 ∷ fed lines)
 -- the lines that were read are the lines of the reader's state
 record DraftRecord' (before : List PlanLine) (lines : List (List ℕ)) (new : DraftRecord) : Type 0 where
   pub said : List PlanLine
-  pub tells : Tells said new
+  pub tells : Drafts said new
   pub text : lines_text before ++ fed lines ≡ lines_text said
 
-line_told : (heard new : DraftRecord) (before : List PlanLine) (line : List ℕ) (lines : List (List ℕ)) → lines_next heard (line ∷ lines) ≡ ok new → Tells before heard
-    → ((then' : DraftRecord) (more : List PlanLine) → lines_next then' lines ≡ ok new → Tells more then' → DraftRecord' more lines new) → DraftRecord' before (line ∷ lines) new
+line_drafted : (draft new : DraftRecord) (before : List PlanLine) (line : List ℕ) (lines : List (List ℕ)) → lines_next draft (line ∷ lines) ≡ ok new → Drafts before draft
+    → ((then' : DraftRecord) (more : List PlanLine) → lines_next then' lines ≡ ok new → Drafts more then' → DraftRecord' more lines new) → DraftRecord' before (line ∷ lines) new
 unfolding line_next
-line_told heard new before line lines h t later =
-    let w = went_on (line_next heard line) (λ then'. lines_next then' lines) new h in
-    let p = passed (is_at heard stages.Ended) (line_at (words_of line) >>= λ said. next heard said) BadLine w.0 w.1 in
-    let s = went_on (line_at (words_of line)) (λ said. next heard said) w.0 p.1 in
+line_drafted draft new before line lines h t later =
+    let w = went_on (line_next draft line) (λ then'. lines_next then' lines) new h in
+    let p = passed (is_at draft stages.Ended) (line_at (words_of line) >>= λ said. next draft said) BadLine w.0 w.1 in
+    let s = went_on (line_at (words_of line)) (λ said. next draft said) w.0 p.1 in
     let spelt = line_spelt line s.0 s.1 in
     let more : List PlanLine = before ++ s.0 ∷ [] in
-    let rest = later w.0 more w.2 (next_told heard w.0 before s.0 s.2 spelt.1 t) in
+    let rest = later w.0 more w.2 (next_drafted draft w.0 before s.0 s.2 spelt.1 t) in
     let one : lines_text more ≡ lines_text before ++ (line ++ feed) = lines_append before (s.0 ∷ []) ∙ ap (λ l. lines_text before ++ l) (append-nil (line_text s.0) ∙ sym spelt.0) in
     record {
       said = rest.said;
@@ -602,9 +602,9 @@ line_told heard new before line lines h t later =
           ∙ rest.text;
     }
 
-lines_told : (heard new : DraftRecord) (before : List PlanLine) (lines : List (List ℕ)) → lines_next heard lines ≡ ok new → Tells before heard → DraftRecord' before lines new
-lines_told heard new before [] h t = record { said = before; tells = subst (Tells before) (ok_is heard new h) t; text = append-nil (lines_text before) }
-lines_told heard new before (line ∷ lines) h t = line_told heard new before line lines h t (λ then' more later told. lines_told then' new more lines later told)
+lines_drafted : (draft new : DraftRecord) (before : List PlanLine) (lines : List (List ℕ)) → lines_next draft lines ≡ ok new → Drafts before draft → DraftRecord' before lines new
+lines_drafted draft new before [] h t = record { said = before; tells = subst (Drafts before) (ok_is draft new h) t; text = append-nil (lines_text before) }
+lines_drafted draft new before (line ∷ lines) h t = line_drafted draft new before line lines h t (λ then' more later drafted. lines_drafted then' new more lines later drafted)
 
 -- the parts of a text that ends with a line feed
 parts_fed : (n : ℕ) (parts : List (List ℕ)) → n ≡ length parts - 1 → slice_index_or parts n [] ≡ [] → join_with_byte 10 parts ≡ fed (take n parts)
@@ -618,11 +618,11 @@ none_of : (xs : List ℕ) → (length xs == 0) ≡ true → xs ≡ []
 none_of [] h = refl
 none_of (x ∷ xs) h = absurd (omega (arith, eqb-true (length (x ∷ xs)) 0 h))
 
--- a plan that was heard is in range, and its text are the lines
-ended_told : (heard : DraftRecord) (said : List PlanLine) → is_at heard stages.Ended ≡ true → Tells said heard → IsPlanInRange (plan_of heard) × (said ≡ plan_lines (plan_of heard))
-ended_told heard said at tells =
-    let here = tells_at stages.Ended said heard at tells in
-    let o : IsOver heard = here.1 in (
+-- a drafted plan is in range, and its text is the lines
+ended_drafted : (draft : DraftRecord) (said : List PlanLine) → is_at draft stages.Ended ≡ true → Drafts said draft → IsPlanInRange (plan_of draft) × (said ≡ plan_lines (plan_of draft))
+ended_drafted draft said at tells =
+    let here = tells_at stages.Ended said draft at tells in
+    let o : IsOver draft = here.1 in (
       record {
         few_devices = o.front.few_devices;
         names = o.front.names;
@@ -632,34 +632,34 @@ ended_told heard said at tells =
         rise = o.rise;
         few_jobs = omega (arith, o.count, o.few);
       },
-      here.0 ∙ append_assoc (SaysPlan ∷ device_lines heard.devices) (classes_lines heard.devices heard.classes) (stranded_lines heard.stranded ++ (SaysEnd ∷ [])),
+      here.0 ∙ append_assoc (HeadLine ∷ device_lines draft.devices) (classes_lines draft.devices draft.classes) (stranded_lines draft.stranded ++ (EndLine ∷ [])),
     )
 
 -- a text that is read as a plan is the text of that plan
-pub text_told : (text : List ℕ) (named : NamedPlan) → plan_at text ≡ ok named → IsTextOf text named
+pub text_drafted : (text : List ℕ) (named : NamedPlan) → plan_at text ≡ ok named → IsTextOf text named
 unfolding plan_in plan_from ended plan_text
-text_told text named h =
+text_drafted text named h =
     let parts : List (List ℕ) = texts_of text in
     let n : ℕ = length parts - 1 in
     let lines : List (List ℕ) = take n parts in
     let rest : List ℕ = slice_index_or parts n [] in
-    let w = went_on (lines_next (nothing_heard DEFAULT_PRIORITY) lines) (λ heard. ended heard rest) named h in
-    let heard : DraftRecord = w.0 in
-    let p = passed (not (is_at heard stages.Ended)) (if length rest == 0 then ok (plan_of heard) else Err BadLine) NoEnd named w.2 in
-    let t = taken (length rest == 0) (ok (plan_of heard)) BadLine named p.1 in
-    let told : DraftRecord' [] lines heard = lines_told (nothing_heard DEFAULT_PRIORITY) heard [] lines w.1 (refl, refl) in
-    let whole = ended_told heard told.said (not-false (is_at heard stages.Ended) p.0) told.tells in
-    let is : text ≡ plan_text (plan_of heard) =
+    let w = went_on (lines_next (empty_draft DEFAULT_PRIORITY) lines) (λ draft. ended draft rest) named h in
+    let draft : DraftRecord = w.0 in
+    let p = passed (not (is_at draft stages.Ended)) (if length rest == 0 then ok (plan_of draft) else Err BadLine) NoEnd named w.2 in
+    let t = taken (length rest == 0) (ok (plan_of draft)) BadLine named p.1 in
+    let drafted : DraftRecord' [] lines draft = lines_drafted (empty_draft DEFAULT_PRIORITY) draft [] lines w.1 (refl, refl) in
+    let whole = ended_drafted draft drafted.said (not-false (is_at draft stages.Ended) p.0) drafted.tells in
+    let is : text ≡ plan_text (plan_of draft) =
     sym (join_with_byte-slice_split 10 text)
     ∙ parts_fed n parts refl (none_of rest t.0)
-    ∙ told.text
+    ∙ drafted.text
     ∙ ap lines_text whole.1 in
-    subst (IsTextOf text) (ok_is (plan_of heard) named t.1) (record { in_range = whole.0; is = is })
+    subst (IsTextOf text) (ok_is (plan_of draft) named t.1) (record { in_range = whole.0; is = is })
 
 pub is_one_text : (text : List ℕ) (named : NamedPlan) → (plan_at text ≡ ok named) ↔ IsTextOf text named
-is_one_text text named = (text_told text named, λ t. ap plan_at t.is ∙ plan_back named t.in_range)
+is_one_text text named = (text_drafted text named, λ t. ap plan_at t.is ∙ plan_back named t.in_range)
 
 -- the same for the result of a function that gives the plan of a text
-pub told_since : (result : Result NamedPlan ReadError) (text : List ℕ) → Gives (λ plan. plan) result (plan_at text) → IfOk result (λ named. IsTextOf text named)
-told_since (Ok named) text h = text_told text named h
-told_since (Err error) text h = tt
+pub drafted_since : (result : Result NamedPlan ReadError) (text : List ℕ) → Gives (λ plan. plan) result (plan_at text) → IfOk result (λ named. IsTextOf text named)
+drafted_since (Ok named) text h = text_drafted text named h
+drafted_since (Err error) text h = tt

@@ -2,7 +2,7 @@
 use Rattle.std.proofs.Common.{◌≡◌, ℕ, ℤ, List, [], ◌∷◌, ◌++◌, refl, sym, ap, ◌∙◌, append_assoc, codes, length, drop, get_or, ◌<◌, ◌+◌, add-one, drop-cons}
 use Rattle.plan_prices.specs.declared.plan.PlannedClass.{PlannedClass}
 use Rattle.plan_text.specs.NamedPlan.{NamedPlan}
-use Rattle.plan_text.specs.Line.{PlanLine, SaysPlan, SaysEnd, SaysPlacePrices}
+use Rattle.plan_text.specs.Line.{PlanLine, HeadLine, EndLine, PlacePricesLine}
 use Rattle.plan_text.specs.Writing.{line_text, lines_text, class_job_lines, class_way_lines, class_price_lines, class_lines, classes_lines, device_lines, stranded_lines, plan_text, prices_text}
 
 pub lines_append : (lines more : List PlanLine) → lines_text (lines ++ more) ≡ lines_text lines ++ lines_text more
@@ -20,11 +20,11 @@ pub classes_text_is : (devices : List (List ℕ)) (c : PlannedClass) (classes : 
     lines_text (classes_lines devices (c ∷ classes)) ≡ lines_text (class_lines devices c) ++ lines_text (classes_lines devices classes)
 classes_text_is devices c classes = lines_append (class_lines devices c) (classes_lines devices classes)
 
-plan_first : line_text SaysPlan ≡ codes "plan\n"
+plan_first : line_text HeadLine ≡ codes "plan\n"
 unfolding line_text
 plan_first = refl
 
-end_last : lines_text (SaysEnd ∷ []) ≡ codes "end\n"
+end_last : lines_text (EndLine ∷ []) ≡ codes "end\n"
 unfolding line_text
 end_last = refl
 
@@ -32,13 +32,13 @@ pub plan_text_is : (named : NamedPlan) →
     plan_text named ≡ codes "plan\n" ++ (lines_text (device_lines named.devices) ++ (lines_text (classes_lines named.devices named.plan.classes) ++ (lines_text (stranded_lines named.plan.stranded) ++ codes "end\n")))
 unfolding plan_text
 plan_text_is named =
-    ap (λ first. first ++ lines_text (device_lines named.devices ++ (classes_lines named.devices named.plan.classes ++ (stranded_lines named.plan.stranded ++ (SaysEnd ∷ []))))) plan_first
+    ap (λ first. first ++ lines_text (device_lines named.devices ++ (classes_lines named.devices named.plan.classes ++ (stranded_lines named.plan.stranded ++ (EndLine ∷ []))))) plan_first
     ∙ ap (λ rest. codes "plan\n" ++ rest)
-    (lines_append (device_lines named.devices) (classes_lines named.devices named.plan.classes ++ (stranded_lines named.plan.stranded ++ (SaysEnd ∷ [])))
+    (lines_append (device_lines named.devices) (classes_lines named.devices named.plan.classes ++ (stranded_lines named.plan.stranded ++ (EndLine ∷ [])))
     ∙ ap (λ rest. lines_text (device_lines named.devices) ++ rest)
-    (lines_append (classes_lines named.devices named.plan.classes) (stranded_lines named.plan.stranded ++ (SaysEnd ∷ []))
+    (lines_append (classes_lines named.devices named.plan.classes) (stranded_lines named.plan.stranded ++ (EndLine ∷ []))
     ∙ ap (λ rest. lines_text (classes_lines named.devices named.plan.classes) ++ rest)
-    (lines_append (stranded_lines named.plan.stranded) (SaysEnd ∷ [])
+    (lines_append (stranded_lines named.plan.stranded) (EndLine ∷ [])
     ∙ ap (λ rest. lines_text (stranded_lines named.plan.stranded) ++ rest) end_last)))
 
 -- the texts that were appended in turn
@@ -58,7 +58,7 @@ joined5 p x y z w o a b d new t eo ea eb ed en et =
     joined4 o x y z w a b d new (x ++ (y ++ (z ++ w))) ea eb ed en refl ∙ ap (λ s. s ++ (x ++ (y ++ (z ++ w)))) eo ∙ sym et
 
 pub place_prices_text_is : (device : List ℕ) (prices : List ℤ) (name : List ℕ) (each : List ℤ) → name ≡ device → each ≡ prices →
-    line_text (SaysPlacePrices device prices) ≡ codes "placeprices " ++ (name ++ (prices_text each ++ codes "\n"))
+    line_text (PlacePricesLine device prices) ≡ codes "placeprices " ++ (name ++ (prices_text each ++ codes "\n"))
 unfolding line_text
 place_prices_text_is device prices name each en ee = rw (en, ee) refl
 

@@ -15,9 +15,9 @@ use Rattle.plan_text.specs.declared.fault.TextFault.TheVariants.{BadLine}
 use Rattle.plan_text.specs.declared.stage.Stage.TheVariants as stages
 use Rattle.text.specs.Steps.{◌>>=◌}
 use Rattle.plan_text.specs.Word.{cause_at}
-use Rattle.plan_text.specs.Line.{PlanLine, SaysPlan, SaysDevice, SaysClass, SaysJob, SaysWait, SaysWay, SaysTotal, SaysJobPrices, SaysPlacePrices, SaysStranded, SaysEnd, device_at, class_at, job_at, wait_at, way_at, total_at, job_prices_at, place_prices_at, stranded_at, line_of, line_at}
+use Rattle.plan_text.specs.Line.{PlanLine, HeadLine, DeviceLine, ClassLine, JobLine, WaitLine, WayLine, TotalLine, JobPricesLine, PlacePricesLine, StrandedLine, EndLine, device_at, class_at, job_at, wait_at, way_at, total_at, job_prices_at, place_prices_at, stranded_at, line_of, line_at}
 use Rattle.plan_text.specs.Steps.{DraftRecord, is_at, next}
-use Rattle.plan_text.specs.Whole.{line_next, lines_next, nothing_heard, ended, plan_from, plan_in, plan_at}
+use Rattle.plan_text.specs.Whole.{line_next, lines_next, empty_draft, ended, plan_from, plan_in, plan_at}
 use Rattle.text.specs.Parts.{words_of, texts_of}
 use Rattle.plan_text.specs.Writing.{cause_word, entry_word, entries_text, numbers_text, prices_text, line_text, lines_text}
 use Rattle.plan_text.specs.Ranges.{IsPrice}
@@ -26,44 +26,44 @@ use Rattle.plan_text.proofs.Again.{lacks, spaced, split_words, lacks-spaced, lac
 
 -- the contents that a line may have
 abbrev pub SaidInRange : PlanLine → Type 0
-SaidInRange SaysPlan = Unit {0}
-SaidInRange (SaysDevice name) = is_name name ≡ true
-SaidInRange (SaysClass priority) = IsPriority priority
-SaidInRange (SaysJob id times) = IsJobId id × All (λ entry. IfSome entry IsTime) times
-SaidInRange (SaysWait waits) = All (λ wait. wait ≤ WAIT) waits
-SaidInRange (SaysWay device jobs) = (is_name device ≡ true) × All IsJobId jobs
-SaidInRange (SaysTotal total) = total ≤ AMOUNT
-SaidInRange (SaysJobPrices prices) = All IsPrice prices
-SaidInRange (SaysPlacePrices device prices) = (is_name device ≡ true) × All IsPrice prices
-SaidInRange (SaysStranded stranded) = IsJobId stranded.job
-SaidInRange SaysEnd = Unit {0}
+SaidInRange HeadLine = Unit {0}
+SaidInRange (DeviceLine name) = is_name name ≡ true
+SaidInRange (ClassLine priority) = IsPriority priority
+SaidInRange (JobLine id times) = IsJobId id × All (λ entry. IfSome entry IsTime) times
+SaidInRange (WaitLine waits) = All (λ wait. wait ≤ WAIT) waits
+SaidInRange (WayLine device jobs) = (is_name device ≡ true) × All IsJobId jobs
+SaidInRange (TotalLine total) = total ≤ AMOUNT
+SaidInRange (JobPricesLine prices) = All IsPrice prices
+SaidInRange (PlacePricesLine device prices) = (is_name device ≡ true) × All IsPrice prices
+SaidInRange (StrandedLine stranded) = IsJobId stranded.job
+SaidInRange EndLine = Unit {0}
 
 -- the first word of a line, and the words after it
 abbrev pub first_of : PlanLine → List ℕ
-first_of SaysPlan = codes "plan"
-first_of (SaysDevice name) = codes "device"
-first_of (SaysClass priority) = codes "class"
-first_of (SaysJob id times) = codes "job"
-first_of (SaysWait waits) = codes "wait"
-first_of (SaysWay device jobs) = codes "way"
-first_of (SaysTotal total) = codes "total"
-first_of (SaysJobPrices prices) = codes "jobprices"
-first_of (SaysPlacePrices device prices) = codes "placeprices"
-first_of (SaysStranded stranded) = codes "stranded"
-first_of SaysEnd = codes "end"
+first_of HeadLine = codes "plan"
+first_of (DeviceLine name) = codes "device"
+first_of (ClassLine priority) = codes "class"
+first_of (JobLine id times) = codes "job"
+first_of (WaitLine waits) = codes "wait"
+first_of (WayLine device jobs) = codes "way"
+first_of (TotalLine total) = codes "total"
+first_of (JobPricesLine prices) = codes "jobprices"
+first_of (PlacePricesLine device prices) = codes "placeprices"
+first_of (StrandedLine stranded) = codes "stranded"
+first_of EndLine = codes "end"
 
 abbrev pub rest_of : PlanLine → List (List ℕ)
-rest_of SaysPlan = []
-rest_of (SaysDevice name) = name ∷ []
-rest_of (SaysClass priority) = decimal priority ∷ []
-rest_of (SaysJob id times) = decimal id ∷ map entry_word times
-rest_of (SaysWait waits) = map decimal waits
-rest_of (SaysWay device jobs) = device ∷ map decimal jobs
-rest_of (SaysTotal total) = decimal total ∷ []
-rest_of (SaysJobPrices prices) = map signed_decimal prices
-rest_of (SaysPlacePrices device prices) = device ∷ map signed_decimal prices
-rest_of (SaysStranded stranded) = decimal stranded.job ∷ cause_word stranded.cause ∷ []
-rest_of SaysEnd = []
+rest_of HeadLine = []
+rest_of (DeviceLine name) = name ∷ []
+rest_of (ClassLine priority) = decimal priority ∷ []
+rest_of (JobLine id times) = decimal id ∷ map entry_word times
+rest_of (WaitLine waits) = map decimal waits
+rest_of (WayLine device jobs) = device ∷ map decimal jobs
+rest_of (TotalLine total) = decimal total ∷ []
+rest_of (JobPricesLine prices) = map signed_decimal prices
+rest_of (PlacePricesLine device prices) = device ∷ map signed_decimal prices
+rest_of (StrandedLine stranded) = decimal stranded.job ∷ cause_word stranded.cause ∷ []
+rest_of EndLine = []
 
 -- the line without its line feed
 abbrev pub body_of : PlanLine → List ℕ
@@ -93,19 +93,19 @@ only_and word = ap (λ w. w ++ feed) (sym (append-nil word))
 
 pub line_is : (said : PlanLine) → line_text said ≡ body_of said ++ feed
 unfolding line_text
-line_is SaysPlan = refl
-line_is (SaysDevice name) = ap (λ rest. codes "device " ++ rest) (only_and name)
-line_is (SaysClass priority) = ap (λ rest. codes "class " ++ rest) (only_and (decimal priority))
-line_is (SaysJob id times) = ap (λ rest. codes "job " ++ rest) (word_and (decimal id) (entries_text times) (map entry_word times) (entries_spaced times))
-line_is (SaysWait waits) = ap (λ rest. codes "wait" ++ (rest ++ feed)) (numbers_spaced waits)
-line_is (SaysWay device jobs) = ap (λ rest. codes "way " ++ rest) (word_and device (numbers_text jobs) (map decimal jobs) (numbers_spaced jobs))
-line_is (SaysTotal total) = ap (λ rest. codes "total " ++ rest) (only_and (decimal total))
-line_is (SaysJobPrices prices) = ap (λ rest. codes "jobprices" ++ (rest ++ feed)) (prices_spaced prices)
-line_is (SaysPlacePrices device prices) = ap (λ rest. codes "placeprices " ++ rest) (word_and device (prices_text prices) (map signed_decimal prices) (prices_spaced prices))
-line_is (SaysStranded stranded) =
+line_is HeadLine = refl
+line_is (DeviceLine name) = ap (λ rest. codes "device " ++ rest) (only_and name)
+line_is (ClassLine priority) = ap (λ rest. codes "class " ++ rest) (only_and (decimal priority))
+line_is (JobLine id times) = ap (λ rest. codes "job " ++ rest) (word_and (decimal id) (entries_text times) (map entry_word times) (entries_spaced times))
+line_is (WaitLine waits) = ap (λ rest. codes "wait" ++ (rest ++ feed)) (numbers_spaced waits)
+line_is (WayLine device jobs) = ap (λ rest. codes "way " ++ rest) (word_and device (numbers_text jobs) (map decimal jobs) (numbers_spaced jobs))
+line_is (TotalLine total) = ap (λ rest. codes "total " ++ rest) (only_and (decimal total))
+line_is (JobPricesLine prices) = ap (λ rest. codes "jobprices" ++ (rest ++ feed)) (prices_spaced prices)
+line_is (PlacePricesLine device prices) = ap (λ rest. codes "placeprices " ++ rest) (word_and device (prices_text prices) (map signed_decimal prices) (prices_spaced prices))
+line_is (StrandedLine stranded) =
     ap (λ rest. codes "stranded " ++ (decimal stranded.job ++ (32 ∷ rest))) (only_and (cause_word stranded.cause))
     ∙ ap (λ rest. codes "stranded " ++ rest) (sym (append_assoc (decimal stranded.job) (32 ∷ (cause_word stranded.cause ++ [])) feed))
-line_is SaysEnd = refl
+line_is EndLine = refl
 
 -- ---- the words of a line have no space and no line feed
 
@@ -118,17 +118,17 @@ cause_lacks causes.Media = (refl, refl)
 cause_lacks causes.Running = (refl, refl)
 
 first_lacks : (said : PlanLine) → (lacks 32 (first_of said) ≡ true) × (lacks 10 (first_of said) ≡ true)
-first_lacks SaysPlan = (refl, refl)
-first_lacks (SaysDevice name) = (refl, refl)
-first_lacks (SaysClass priority) = (refl, refl)
-first_lacks (SaysJob id times) = (refl, refl)
-first_lacks (SaysWait waits) = (refl, refl)
-first_lacks (SaysWay device jobs) = (refl, refl)
-first_lacks (SaysTotal total) = (refl, refl)
-first_lacks (SaysJobPrices prices) = (refl, refl)
-first_lacks (SaysPlacePrices device prices) = (refl, refl)
-first_lacks (SaysStranded stranded) = (refl, refl)
-first_lacks SaysEnd = (refl, refl)
+first_lacks HeadLine = (refl, refl)
+first_lacks (DeviceLine name) = (refl, refl)
+first_lacks (ClassLine priority) = (refl, refl)
+first_lacks (JobLine id times) = (refl, refl)
+first_lacks (WaitLine waits) = (refl, refl)
+first_lacks (WayLine device jobs) = (refl, refl)
+first_lacks (TotalLine total) = (refl, refl)
+first_lacks (JobPricesLine prices) = (refl, refl)
+first_lacks (PlacePricesLine device prices) = (refl, refl)
+first_lacks (StrandedLine stranded) = (refl, refl)
+first_lacks EndLine = (refl, refl)
 
 all_of_two : (a b : Bool) → a ≡ true → b ≡ true → (a && (b && true)) ≡ true
 all_of_two a b ha hb = rw (ha, hb) refl
@@ -137,30 +137,30 @@ one_lacks : (byte : ℕ) (word : List ℕ) → lacks byte word ≡ true → list
 one_lacks byte word h = and_from (lacks byte word) true h refl
 
 rest_lacks_space : (said : PlanLine) → SaidInRange said → list_all (lacks 32) (rest_of said) ≡ true
-rest_lacks_space SaysPlan h = refl
-rest_lacks_space (SaysDevice name) h = one_lacks 32 name (name_lacks 32 name refl h)
-rest_lacks_space (SaysClass priority) h = one_lacks 32 (decimal priority) (decimal_lacks 32 priority refl (omega (arith, h.1)))
-rest_lacks_space (SaysJob id times) h = and_from (lacks 32 (decimal id)) (list_all (lacks 32) (map entry_word times)) (decimal_lacks 32 id refl (omega (arith, h.0.1))) (lacks-map 32 (λ entry. IfSome entry IsTime) entry_word times (entry_lacks 32 refl refl) h.1)
-rest_lacks_space (SaysWait waits) h = lacks-map 32 (λ wait. wait ≤ WAIT) decimal waits (λ n l. decimal_lacks 32 n refl (omega (arith, l))) h
-rest_lacks_space (SaysWay device jobs) h = and_from (lacks 32 device) (list_all (lacks 32) (map decimal jobs)) (name_lacks 32 device refl h.0) (lacks-map 32 IsJobId decimal jobs (λ n l. decimal_lacks 32 n refl (omega (arith, l.1))) h.1)
-rest_lacks_space (SaysTotal total) h = one_lacks 32 (decimal total) (decimal_lacks 32 total refl (omega (arith, h)))
-rest_lacks_space (SaysJobPrices prices) h = lacks-map 32 IsPrice signed_decimal prices (price_lacks 32 refl refl) h
-rest_lacks_space (SaysPlacePrices device prices) h = and_from (lacks 32 device) (list_all (lacks 32) (map signed_decimal prices)) (name_lacks 32 device refl h.0) (lacks-map 32 IsPrice signed_decimal prices (price_lacks 32 refl refl) h.1)
-rest_lacks_space (SaysStranded stranded) h = all_of_two (lacks 32 (decimal stranded.job)) (lacks 32 (cause_word stranded.cause)) (decimal_lacks 32 stranded.job refl (omega (arith, h.1))) (cause_lacks stranded.cause).0
-rest_lacks_space SaysEnd h = refl
+rest_lacks_space HeadLine h = refl
+rest_lacks_space (DeviceLine name) h = one_lacks 32 name (name_lacks 32 name refl h)
+rest_lacks_space (ClassLine priority) h = one_lacks 32 (decimal priority) (decimal_lacks 32 priority refl (omega (arith, h.1)))
+rest_lacks_space (JobLine id times) h = and_from (lacks 32 (decimal id)) (list_all (lacks 32) (map entry_word times)) (decimal_lacks 32 id refl (omega (arith, h.0.1))) (lacks-map 32 (λ entry. IfSome entry IsTime) entry_word times (entry_lacks 32 refl refl) h.1)
+rest_lacks_space (WaitLine waits) h = lacks-map 32 (λ wait. wait ≤ WAIT) decimal waits (λ n l. decimal_lacks 32 n refl (omega (arith, l))) h
+rest_lacks_space (WayLine device jobs) h = and_from (lacks 32 device) (list_all (lacks 32) (map decimal jobs)) (name_lacks 32 device refl h.0) (lacks-map 32 IsJobId decimal jobs (λ n l. decimal_lacks 32 n refl (omega (arith, l.1))) h.1)
+rest_lacks_space (TotalLine total) h = one_lacks 32 (decimal total) (decimal_lacks 32 total refl (omega (arith, h)))
+rest_lacks_space (JobPricesLine prices) h = lacks-map 32 IsPrice signed_decimal prices (price_lacks 32 refl refl) h
+rest_lacks_space (PlacePricesLine device prices) h = and_from (lacks 32 device) (list_all (lacks 32) (map signed_decimal prices)) (name_lacks 32 device refl h.0) (lacks-map 32 IsPrice signed_decimal prices (price_lacks 32 refl refl) h.1)
+rest_lacks_space (StrandedLine stranded) h = all_of_two (lacks 32 (decimal stranded.job)) (lacks 32 (cause_word stranded.cause)) (decimal_lacks 32 stranded.job refl (omega (arith, h.1))) (cause_lacks stranded.cause).0
+rest_lacks_space EndLine h = refl
 
 rest_lacks_feed : (said : PlanLine) → SaidInRange said → list_all (lacks 10) (rest_of said) ≡ true
-rest_lacks_feed SaysPlan h = refl
-rest_lacks_feed (SaysDevice name) h = one_lacks 10 name (name_lacks 10 name refl h)
-rest_lacks_feed (SaysClass priority) h = one_lacks 10 (decimal priority) (decimal_lacks 10 priority refl (omega (arith, h.1)))
-rest_lacks_feed (SaysJob id times) h = and_from (lacks 10 (decimal id)) (list_all (lacks 10) (map entry_word times)) (decimal_lacks 10 id refl (omega (arith, h.0.1))) (lacks-map 10 (λ entry. IfSome entry IsTime) entry_word times (entry_lacks 10 refl refl) h.1)
-rest_lacks_feed (SaysWait waits) h = lacks-map 10 (λ wait. wait ≤ WAIT) decimal waits (λ n l. decimal_lacks 10 n refl (omega (arith, l))) h
-rest_lacks_feed (SaysWay device jobs) h = and_from (lacks 10 device) (list_all (lacks 10) (map decimal jobs)) (name_lacks 10 device refl h.0) (lacks-map 10 IsJobId decimal jobs (λ n l. decimal_lacks 10 n refl (omega (arith, l.1))) h.1)
-rest_lacks_feed (SaysTotal total) h = one_lacks 10 (decimal total) (decimal_lacks 10 total refl (omega (arith, h)))
-rest_lacks_feed (SaysJobPrices prices) h = lacks-map 10 IsPrice signed_decimal prices (price_lacks 10 refl refl) h
-rest_lacks_feed (SaysPlacePrices device prices) h = and_from (lacks 10 device) (list_all (lacks 10) (map signed_decimal prices)) (name_lacks 10 device refl h.0) (lacks-map 10 IsPrice signed_decimal prices (price_lacks 10 refl refl) h.1)
-rest_lacks_feed (SaysStranded stranded) h = all_of_two (lacks 10 (decimal stranded.job)) (lacks 10 (cause_word stranded.cause)) (decimal_lacks 10 stranded.job refl (omega (arith, h.1))) (cause_lacks stranded.cause).1
-rest_lacks_feed SaysEnd h = refl
+rest_lacks_feed HeadLine h = refl
+rest_lacks_feed (DeviceLine name) h = one_lacks 10 name (name_lacks 10 name refl h)
+rest_lacks_feed (ClassLine priority) h = one_lacks 10 (decimal priority) (decimal_lacks 10 priority refl (omega (arith, h.1)))
+rest_lacks_feed (JobLine id times) h = and_from (lacks 10 (decimal id)) (list_all (lacks 10) (map entry_word times)) (decimal_lacks 10 id refl (omega (arith, h.0.1))) (lacks-map 10 (λ entry. IfSome entry IsTime) entry_word times (entry_lacks 10 refl refl) h.1)
+rest_lacks_feed (WaitLine waits) h = lacks-map 10 (λ wait. wait ≤ WAIT) decimal waits (λ n l. decimal_lacks 10 n refl (omega (arith, l))) h
+rest_lacks_feed (WayLine device jobs) h = and_from (lacks 10 device) (list_all (lacks 10) (map decimal jobs)) (name_lacks 10 device refl h.0) (lacks-map 10 IsJobId decimal jobs (λ n l. decimal_lacks 10 n refl (omega (arith, l.1))) h.1)
+rest_lacks_feed (TotalLine total) h = one_lacks 10 (decimal total) (decimal_lacks 10 total refl (omega (arith, h)))
+rest_lacks_feed (JobPricesLine prices) h = lacks-map 10 IsPrice signed_decimal prices (price_lacks 10 refl refl) h
+rest_lacks_feed (PlacePricesLine device prices) h = and_from (lacks 10 device) (list_all (lacks 10) (map signed_decimal prices)) (name_lacks 10 device refl h.0) (lacks-map 10 IsPrice signed_decimal prices (price_lacks 10 refl refl) h.1)
+rest_lacks_feed (StrandedLine stranded) h = all_of_two (lacks 10 (decimal stranded.job)) (lacks 10 (cause_word stranded.cause)) (decimal_lacks 10 stranded.job refl (omega (arith, h.1))) (cause_lacks stranded.cause).1
+rest_lacks_feed EndLine h = refl
 
 body_lacks : (said : PlanLine) → SaidInRange said → lacks 10 (body_of said) ≡ true
 body_lacks said h = lacks-append 10 (first_of said) (spaced (rest_of said)) (first_lacks said).1 (lacks-spaced (rest_of said) (rest_lacks_feed said h))
@@ -178,17 +178,17 @@ cause_again causes.Running = refl
 
 said_again : (said : PlanLine) → SaidInRange said → line_at (first_of said ∷ rest_of said) ≡ ok said
 unfolding line_of device_at class_at job_at wait_at way_at total_at job_prices_at place_prices_at stranded_at
-said_again SaysPlan h = refl
-said_again (SaysDevice name) h = rw h refl
-said_again (SaysClass priority) h = rw (number_again 1 HIGHEST_PRIORITY priority h.0 h.1 (omega (arith, h.1))) refl
-said_again (SaysJob id times) h = rw (decimal_is_number id (omega (arith, h.0.1)), all_entries times h.1, number_again 1 LAST_JOB_ID id h.0.0 h.0.1 (omega (arith, h.0.1)), entries_again times h.1) refl
-said_again (SaysWait waits) h = rw (all_numbers WAIT waits (omega arith) h, numbers_again 0 WAIT waits (omega arith) (λ k d l. (omega arith, h k d l))) refl
-said_again (SaysWay device jobs) h = rw (h.0, all_numbers LAST_JOB_ID jobs (omega arith) (λ k d l. (h.1 k d l).1), numbers_again 1 LAST_JOB_ID jobs (omega arith) h.1) refl
-said_again (SaysTotal total) h = rw (number_again 0 AMOUNT total (omega arith) h (omega (arith, h))) refl
-said_again (SaysJobPrices prices) h = rw (all_prices prices h, prices_again prices h) refl
-said_again (SaysPlacePrices device prices) h = rw (h.0, all_prices prices h.1, prices_again prices h.1) refl
-said_again (SaysStranded stranded) h = rw (cause_again stranded.cause, number_again 1 LAST_JOB_ID stranded.job h.0 h.1 (omega (arith, h.1))) refl
-said_again SaysEnd h = refl
+said_again HeadLine h = refl
+said_again (DeviceLine name) h = rw h refl
+said_again (ClassLine priority) h = rw (number_again 1 HIGHEST_PRIORITY priority h.0 h.1 (omega (arith, h.1))) refl
+said_again (JobLine id times) h = rw (decimal_is_number id (omega (arith, h.0.1)), all_entries times h.1, number_again 1 LAST_JOB_ID id h.0.0 h.0.1 (omega (arith, h.0.1)), entries_again times h.1) refl
+said_again (WaitLine waits) h = rw (all_numbers WAIT waits (omega arith) h, numbers_again 0 WAIT waits (omega arith) (λ k d l. (omega arith, h k d l))) refl
+said_again (WayLine device jobs) h = rw (h.0, all_numbers LAST_JOB_ID jobs (omega arith) (λ k d l. (h.1 k d l).1), numbers_again 1 LAST_JOB_ID jobs (omega arith) h.1) refl
+said_again (TotalLine total) h = rw (number_again 0 AMOUNT total (omega arith) h (omega (arith, h))) refl
+said_again (JobPricesLine prices) h = rw (all_prices prices h, prices_again prices h) refl
+said_again (PlacePricesLine device prices) h = rw (h.0, all_prices prices h.1, prices_again prices h.1) refl
+said_again (StrandedLine stranded) h = rw (cause_again stranded.cause, number_again 1 LAST_JOB_ID stranded.job h.0 h.1 (omega (arith, h.1))) refl
+said_again EndLine h = refl
 
 pub line_again : (said : PlanLine) → SaidInRange said → line_at (words_of (body_of said)) ≡ ok said
 line_again said h = ap line_at (split_words (first_of said) (rest_of said) (first_lacks said).0 (rest_lacks_space said h)) ∙ said_again said h
@@ -215,26 +215,26 @@ parts_are (said ∷ lines) h =
     ∙ ap (λ parts. body_of said ∷ parts) (parts_are lines h.1)
 
 -- the state of the reader after lines with these contents, each in turn
-abbrev pub said_next : DraftRecord → PlanLine → Result DraftRecord TextFault
-said_next heard said = if is_at heard stages.Ended then Err BadLine else next heard said
+abbrev pub plan_line_next : DraftRecord → PlanLine → Result DraftRecord TextFault
+plan_line_next draft said = if is_at draft stages.Ended then Err BadLine else next draft said
 
-abbrev pub says_next : DraftRecord → List PlanLine → Result DraftRecord TextFault
-says_next heard [] = Ok heard
-says_next heard (said ∷ lines) = said_next heard said >>= λ then'. says_next then' lines
+abbrev pub plan_lines_next : DraftRecord → List PlanLine → Result DraftRecord TextFault
+plan_lines_next draft [] = Ok draft
+plan_lines_next draft (said ∷ lines) = plan_line_next draft said >>= λ then'. plan_lines_next then' lines
 
-line_said : (heard : DraftRecord) (said : PlanLine) → SaidInRange said → line_next heard (body_of said) ≡ said_next heard said
+line_said : (draft : DraftRecord) (said : PlanLine) → SaidInRange said → line_next draft (body_of said) ≡ plan_line_next draft said
 unfolding line_next
-line_said heard said h = ap (λ (r : Result PlanLine TextFault). if is_at heard stages.Ended then Err BadLine else (r >>= λ said. next heard said)) (line_again said h)
+line_said draft said h = ap (λ (r : Result PlanLine TextFault). if is_at draft stages.Ended then Err BadLine else (r >>= λ said. next draft said)) (line_again said h)
 
-each_then : (r : Result DraftRecord TextFault) (f g : DraftRecord → Result DraftRecord TextFault) → ((heard : DraftRecord) → f heard ≡ g heard) → (r >>= f) ≡ (r >>= g)
-each_then (Ok heard) f g same = same heard
+each_then : (r : Result DraftRecord TextFault) (f g : DraftRecord → Result DraftRecord TextFault) → ((draft : DraftRecord) → f draft ≡ g draft) → (r >>= f) ≡ (r >>= g)
+each_then (Ok draft) f g same = same draft
 each_then (Err fault) f g same = refl
 
-lines_said : (heard : DraftRecord) (lines : List PlanLine) → AllInRange lines → lines_next heard (map body_of lines) ≡ says_next heard lines
-lines_said heard [] h = refl
-lines_said heard (said ∷ lines) h =
-    ap (λ (r : Result DraftRecord TextFault). r >>= λ then'. lines_next then' (map body_of lines)) (line_said heard said h.0)
-    ∙ each_then (said_next heard said) (λ then'. lines_next then' (map body_of lines)) (λ then'. says_next then' lines) (λ then'. lines_said then' lines h.1)
+lines_said : (draft : DraftRecord) (lines : List PlanLine) → AllInRange lines → lines_next draft (map body_of lines) ≡ plan_lines_next draft lines
+lines_said draft [] h = refl
+lines_said draft (said ∷ lines) h =
+    ap (λ (r : Result DraftRecord TextFault). r >>= λ then'. lines_next then' (map body_of lines)) (line_said draft said h.0)
+    ∙ each_then (plan_line_next draft said) (λ then'. lines_next then' (map body_of lines)) (λ then'. plan_lines_next then' lines) (λ then'. lines_said then' lines h.1)
 
 front_is : (xs ys : List (List ℕ)) → take (length xs) (xs ++ ys) ≡ xs
 front_is [] ys = refl
@@ -245,7 +245,7 @@ last_is [] x = refl
 last_is (y ∷ xs) x = last_is xs x
 
 -- the result of reading a text of these lines
-pub text_said : (lines : List PlanLine) → AllInRange lines → plan_at (lines_text lines) ≡ (says_next (nothing_heard DEFAULT_PRIORITY) lines >>= λ heard. ended heard [])
+pub text_said : (lines : List PlanLine) → AllInRange lines → plan_at (lines_text lines) ≡ (plan_lines_next (empty_draft DEFAULT_PRIORITY) lines >>= λ draft. ended draft [])
 unfolding plan_in plan_from
 text_said lines h =
     let whole : List (List ℕ) = map body_of lines in
@@ -255,4 +255,4 @@ text_said lines h =
     ∙ ap (λ n. plan_from (take n all) (slice_index_or all n [])) count
     ∙ ap (λ ls. plan_from ls (slice_index_or all (length whole) [])) (front_is whole ([] ∷ []))
     ∙ ap (λ rest. plan_from whole rest) (last_is whole [])
-    ∙ ap (λ (r : Result DraftRecord TextFault). r >>= λ heard. ended heard []) (lines_said (nothing_heard DEFAULT_PRIORITY) lines h)
+    ∙ ap (λ (r : Result DraftRecord TextFault). r >>= λ draft. ended draft []) (lines_said (empty_draft DEFAULT_PRIORITY) lines h)

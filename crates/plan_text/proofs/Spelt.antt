@@ -22,7 +22,7 @@ use Rattle.text.proofs.Chains.{went_on}
 use Rattle.plan_text.specs.declared.fault.TextFault.{TextFault}
 use Rattle.plan_text.specs.declared.fault.TextFault.TheVariants.{BadLine, OutOfRange}
 use Rattle.plan_text.specs.Word.{number_at, numbers_at, is_dash, entry_at, entries_at, is_entry, has_minus, is_price, price_at, prices_at, cause_at}
-use Rattle.plan_text.specs.Line.{PlanLine, SaysPlan, SaysDevice, SaysClass, SaysJob, SaysWait, SaysWay, SaysTotal, SaysJobPrices, SaysPlacePrices, SaysStranded, SaysEnd, only_word, first_word, alone_at, device_at, class_at, job_at, wait_at, way_at, total_at, job_prices_at, place_prices_at, stranded_at, line_of, line_at}
+use Rattle.plan_text.specs.Line.{PlanLine, HeadLine, DeviceLine, ClassLine, JobLine, WaitLine, WayLine, TotalLine, JobPricesLine, PlacePricesLine, StrandedLine, EndLine, only_word, first_word, alone_at, device_at, class_at, job_at, wait_at, way_at, total_at, job_prices_at, place_prices_at, stranded_at, line_of, line_at}
 use Rattle.plan_text.specs.Writing.{entry_word, cause_word, line_text}
 use Rattle.plan_text.specs.Ranges.{IsPrice}
 use Rattle.plan_text.proofs.Sound.{ok, ok_is, taken, passed, either}
@@ -209,91 +209,91 @@ device_spelt : (words : List (List ℕ)) (said : PlanLine) → device_at words �
 unfolding device_at
 device_spelt words said h =
     let E : PlanLine → Type 0 = λ s. IsRest words s × (first_of s ≡ codes "device") in
-    let w = went_on (only_word words) (λ name. if is_name name then ok (SaysDevice name) else Err BadLine) said h in
-    let t = taken (is_name w.0) (ok (SaysDevice w.0)) BadLine said w.2 in
-    subst E (ok_is (SaysDevice w.0) said t.1) ((one words w.0 w.1, t.0), refl)
+    let w = went_on (only_word words) (λ name. if is_name name then ok (DeviceLine name) else Err BadLine) said h in
+    let t = taken (is_name w.0) (ok (DeviceLine w.0)) BadLine said w.2 in
+    subst E (ok_is (DeviceLine w.0) said t.1) ((one words w.0 w.1, t.0), refl)
 
 class_spelt : (words : List (List ℕ)) (said : PlanLine) → class_at words ≡ ok said → IsRest words said × (first_of said ≡ codes "class")
 unfolding class_at
 class_spelt words said h =
     let E : PlanLine → Type 0 = λ s. IsRest words s × (first_of s ≡ codes "class") in
-    let w = went_on (only_word words) (λ priority. number_at 1 HIGHEST_PRIORITY priority >>= λ p. ok (SaysClass p)) said h in
-    let p = went_on (number_at 1 HIGHEST_PRIORITY w.0) (λ p. ok (SaysClass p)) said w.2 in
+    let w = went_on (only_word words) (λ priority. number_at 1 HIGHEST_PRIORITY priority >>= λ p. ok (ClassLine p)) said h in
+    let p = went_on (number_at 1 HIGHEST_PRIORITY w.0) (λ p. ok (ClassLine p)) said w.2 in
     let s = number_spelt 1 HIGHEST_PRIORITY w.0 p.0 (omega arith) p.1 in
-    subst E (ok_is (SaysClass p.0) said p.2) ((one words w.0 w.1 ∙ ap (λ x. x ∷ []) s.0, (s.1, s.2)), refl)
+    subst E (ok_is (ClassLine p.0) said p.2) ((one words w.0 w.1 ∙ ap (λ x. x ∷ []) s.0, (s.1, s.2)), refl)
 
 job_spelt : (words : List (List ℕ)) (said : PlanLine) → job_at words ≡ ok said → IsRest words said × (first_of said ≡ codes "job")
 unfolding job_at
 job_spelt words said h =
     let E : PlanLine → Type 0 = λ s. IsRest words s × (first_of s ≡ codes "job") in
-    let w = went_on (first_word words) (λ w. if is_number w.0 && list_all is_entry w.1 then (number_at 1 LAST_JOB_ID w.0 >>= λ id. (entries_at w.1 >>= λ times. ok (SaysJob id times))) else Err BadLine) said h in
-    let t = taken (is_number w.0.0 && list_all is_entry w.0.1) (number_at 1 LAST_JOB_ID w.0.0 >>= λ id. (entries_at w.0.1 >>= λ times. ok (SaysJob id times))) BadLine said w.2 in
-    let i = went_on (number_at 1 LAST_JOB_ID w.0.0) (λ id. entries_at w.0.1 >>= λ times. ok (SaysJob id times)) said t.1 in
-    let e = went_on (entries_at w.0.1) (λ times. ok (SaysJob i.0 times)) said i.2 in
+    let w = went_on (first_word words) (λ w. if is_number w.0 && list_all is_entry w.1 then (number_at 1 LAST_JOB_ID w.0 >>= λ id. (entries_at w.1 >>= λ times. ok (JobLine id times))) else Err BadLine) said h in
+    let t = taken (is_number w.0.0 && list_all is_entry w.0.1) (number_at 1 LAST_JOB_ID w.0.0 >>= λ id. (entries_at w.0.1 >>= λ times. ok (JobLine id times))) BadLine said w.2 in
+    let i = went_on (number_at 1 LAST_JOB_ID w.0.0) (λ id. entries_at w.0.1 >>= λ times. ok (JobLine id times)) said t.1 in
+    let e = went_on (entries_at w.0.1) (λ times. ok (JobLine i.0 times)) said i.2 in
     let s = number_spelt 1 LAST_JOB_ID w.0.0 i.0 (omega arith) i.1 in
     let all = entries_spelt w.0.1 e.0 e.1 in
-    subst E (ok_is (SaysJob i.0 e.0) said e.2) ((split words w.0 w.1 ∙ ap (λ x. x ∷ w.0.1) s.0 ∙ ap (λ xs. decimal i.0 ∷ xs) all.0, ((s.1, s.2), all.1)), refl)
+    subst E (ok_is (JobLine i.0 e.0) said e.2) ((split words w.0 w.1 ∙ ap (λ x. x ∷ w.0.1) s.0 ∙ ap (λ xs. decimal i.0 ∷ xs) all.0, ((s.1, s.2), all.1)), refl)
 
 wait_spelt : (words : List (List ℕ)) (said : PlanLine) → wait_at words ≡ ok said → IsRest words said × (first_of said ≡ codes "wait")
 unfolding wait_at
 wait_spelt words said h =
     let E : PlanLine → Type 0 = λ s. IsRest words s × (first_of s ≡ codes "wait") in
-    let t = taken (list_all is_number words) (numbers_at 0 WAIT words >>= λ waits. ok (SaysWait waits)) BadLine said h in
-    let n = went_on (numbers_at 0 WAIT words) (λ waits. ok (SaysWait waits)) said t.1 in
+    let t = taken (list_all is_number words) (numbers_at 0 WAIT words >>= λ waits. ok (WaitLine waits)) BadLine said h in
+    let n = went_on (numbers_at 0 WAIT words) (λ waits. ok (WaitLine waits)) said t.1 in
     let all = numbers_spelt 0 WAIT words n.0 (omega arith) n.1 in
-    subst E (ok_is (SaysWait n.0) said n.2) ((all.0, λ k d l. (all.1 k d l).1), refl)
+    subst E (ok_is (WaitLine n.0) said n.2) ((all.0, λ k d l. (all.1 k d l).1), refl)
 
 way_spelt : (words : List (List ℕ)) (said : PlanLine) → way_at words ≡ ok said → IsRest words said × (first_of said ≡ codes "way")
 unfolding way_at
 way_spelt words said h =
     let E : PlanLine → Type 0 = λ s. IsRest words s × (first_of s ≡ codes "way") in
-    let w = went_on (first_word words) (λ w. if is_name w.0 && list_all is_number w.1 then (numbers_at 1 LAST_JOB_ID w.1 >>= λ jobs. ok (SaysWay w.0 jobs)) else Err BadLine) said h in
-    let t = taken (is_name w.0.0 && list_all is_number w.0.1) (numbers_at 1 LAST_JOB_ID w.0.1 >>= λ jobs. ok (SaysWay w.0.0 jobs)) BadLine said w.2 in
+    let w = went_on (first_word words) (λ w. if is_name w.0 && list_all is_number w.1 then (numbers_at 1 LAST_JOB_ID w.1 >>= λ jobs. ok (WayLine w.0 jobs)) else Err BadLine) said h in
+    let t = taken (is_name w.0.0 && list_all is_number w.0.1) (numbers_at 1 LAST_JOB_ID w.0.1 >>= λ jobs. ok (WayLine w.0.0 jobs)) BadLine said w.2 in
     let b : (is_name w.0.0 ≡ true) × (list_all is_number w.0.1 ≡ true) = and_parts (is_name w.0.0) (list_all is_number w.0.1) t.0 in
-    let n = went_on (numbers_at 1 LAST_JOB_ID w.0.1) (λ jobs. ok (SaysWay w.0.0 jobs)) said t.1 in
+    let n = went_on (numbers_at 1 LAST_JOB_ID w.0.1) (λ jobs. ok (WayLine w.0.0 jobs)) said t.1 in
     let all = numbers_spelt 1 LAST_JOB_ID w.0.1 n.0 (omega arith) n.1 in
-    subst E (ok_is (SaysWay w.0.0 n.0) said n.2) ((split words w.0 w.1 ∙ ap (λ xs. w.0.0 ∷ xs) all.0, (b.0, all.1)), refl)
+    subst E (ok_is (WayLine w.0.0 n.0) said n.2) ((split words w.0 w.1 ∙ ap (λ xs. w.0.0 ∷ xs) all.0, (b.0, all.1)), refl)
 
 total_spelt : (words : List (List ℕ)) (said : PlanLine) → total_at words ≡ ok said → IsRest words said × (first_of said ≡ codes "total")
 unfolding total_at
 total_spelt words said h =
     let E : PlanLine → Type 0 = λ s. IsRest words s × (first_of s ≡ codes "total") in
-    let w = went_on (only_word words) (λ total. number_at 0 AMOUNT total >>= λ n. ok (SaysTotal n)) said h in
-    let n = went_on (number_at 0 AMOUNT w.0) (λ n. ok (SaysTotal n)) said w.2 in
+    let w = went_on (only_word words) (λ total. number_at 0 AMOUNT total >>= λ n. ok (TotalLine n)) said h in
+    let n = went_on (number_at 0 AMOUNT w.0) (λ n. ok (TotalLine n)) said w.2 in
     let s = number_spelt 0 AMOUNT w.0 n.0 (omega arith) n.1 in
-    subst E (ok_is (SaysTotal n.0) said n.2) ((one words w.0 w.1 ∙ ap (λ x. x ∷ []) s.0, s.2), refl)
+    subst E (ok_is (TotalLine n.0) said n.2) ((one words w.0 w.1 ∙ ap (λ x. x ∷ []) s.0, s.2), refl)
 
 job_prices_spelt : (words : List (List ℕ)) (said : PlanLine) → job_prices_at words ≡ ok said → IsRest words said × (first_of said ≡ codes "jobprices")
 unfolding job_prices_at
 job_prices_spelt words said h =
     let E : PlanLine → Type 0 = λ s. IsRest words s × (first_of s ≡ codes "jobprices") in
-    let t = taken (list_all is_price words) (prices_at words >>= λ prices. ok (SaysJobPrices prices)) BadLine said h in
-    let n = went_on (prices_at words) (λ prices. ok (SaysJobPrices prices)) said t.1 in
+    let t = taken (list_all is_price words) (prices_at words >>= λ prices. ok (JobPricesLine prices)) BadLine said h in
+    let n = went_on (prices_at words) (λ prices. ok (JobPricesLine prices)) said t.1 in
     let all = prices_spelt words n.0 n.1 in
-    subst E (ok_is (SaysJobPrices n.0) said n.2) ((all.0, all.1), refl)
+    subst E (ok_is (JobPricesLine n.0) said n.2) ((all.0, all.1), refl)
 
 place_prices_spelt : (words : List (List ℕ)) (said : PlanLine) → place_prices_at words ≡ ok said → IsRest words said × (first_of said ≡ codes "placeprices")
 unfolding place_prices_at
 place_prices_spelt words said h =
     let E : PlanLine → Type 0 = λ s. IsRest words s × (first_of s ≡ codes "placeprices") in
-    let w = went_on (first_word words) (λ w. if is_name w.0 && list_all is_price w.1 then (prices_at w.1 >>= λ prices. ok (SaysPlacePrices w.0 prices)) else Err BadLine) said h in
-    let t = taken (is_name w.0.0 && list_all is_price w.0.1) (prices_at w.0.1 >>= λ prices. ok (SaysPlacePrices w.0.0 prices)) BadLine said w.2 in
+    let w = went_on (first_word words) (λ w. if is_name w.0 && list_all is_price w.1 then (prices_at w.1 >>= λ prices. ok (PlacePricesLine w.0 prices)) else Err BadLine) said h in
+    let t = taken (is_name w.0.0 && list_all is_price w.0.1) (prices_at w.0.1 >>= λ prices. ok (PlacePricesLine w.0.0 prices)) BadLine said w.2 in
     let b : (is_name w.0.0 ≡ true) × (list_all is_price w.0.1 ≡ true) = and_parts (is_name w.0.0) (list_all is_price w.0.1) t.0 in
-    let n = went_on (prices_at w.0.1) (λ prices. ok (SaysPlacePrices w.0.0 prices)) said t.1 in
+    let n = went_on (prices_at w.0.1) (λ prices. ok (PlacePricesLine w.0.0 prices)) said t.1 in
     let all = prices_spelt w.0.1 n.0 n.1 in
-    subst E (ok_is (SaysPlacePrices w.0.0 n.0) said n.2) ((split words w.0 w.1 ∙ ap (λ xs. w.0.0 ∷ xs) all.0, (b.0, all.1)), refl)
+    subst E (ok_is (PlacePricesLine w.0.0 n.0) said n.2) ((split words w.0 w.1 ∙ ap (λ xs. w.0.0 ∷ xs) all.0, (b.0, all.1)), refl)
 
 stranded_spelt : (words : List (List ℕ)) (said : PlanLine) → stranded_at words ≡ ok said → IsRest words said × (first_of said ≡ codes "stranded")
 unfolding stranded_at
 stranded_spelt words said h =
     let E : PlanLine → Type 0 = λ s. IsRest words s × (first_of s ≡ codes "stranded") in
-    let w = went_on (first_word words) (λ w. only_word w.1 >>= λ word. (cause_at word >>= λ cause. (number_at 1 LAST_JOB_ID w.0 >>= λ id. ok (SaysStranded (record { job = id; cause = cause }))))) said h in
-    let o = went_on (only_word w.0.1) (λ word. cause_at word >>= λ cause. (number_at 1 LAST_JOB_ID w.0.0 >>= λ id. ok (SaysStranded (record { job = id; cause = cause })))) said w.2 in
-    let c = went_on (cause_at o.0) (λ cause. number_at 1 LAST_JOB_ID w.0.0 >>= λ id. ok (SaysStranded (record { job = id; cause = cause }))) said o.2 in
-    let i = went_on (number_at 1 LAST_JOB_ID w.0.0) (λ id. ok (SaysStranded (record { job = id; cause = c.0 }))) said c.2 in
+    let w = went_on (first_word words) (λ w. only_word w.1 >>= λ word. (cause_at word >>= λ cause. (number_at 1 LAST_JOB_ID w.0 >>= λ id. ok (StrandedLine (record { job = id; cause = cause }))))) said h in
+    let o = went_on (only_word w.0.1) (λ word. cause_at word >>= λ cause. (number_at 1 LAST_JOB_ID w.0.0 >>= λ id. ok (StrandedLine (record { job = id; cause = cause })))) said w.2 in
+    let c = went_on (cause_at o.0) (λ cause. number_at 1 LAST_JOB_ID w.0.0 >>= λ id. ok (StrandedLine (record { job = id; cause = cause }))) said o.2 in
+    let i = went_on (number_at 1 LAST_JOB_ID w.0.0) (λ id. ok (StrandedLine (record { job = id; cause = c.0 }))) said c.2 in
     let s = number_spelt 1 LAST_JOB_ID w.0.0 i.0 (omega arith) i.1 in
     let rest : w.0.1 ≡ cause_word c.0 ∷ [] = one w.0.1 o.0 o.1 ∙ ap (λ x. x ∷ []) (cause_spelt o.0 c.0 c.1) in
-    subst E (ok_is (SaysStranded (record { job = i.0; cause = c.0 })) said i.2) ((split words w.0 w.1 ∙ ap (λ x. x ∷ w.0.1) s.0 ∙ ap (λ xs. decimal i.0 ∷ xs) rest, (s.1, s.2)), refl)
+    subst E (ok_is (StrandedLine (record { job = i.0; cause = c.0 })) said i.2) ((split words w.0 w.1 ∙ ap (λ x. x ∷ w.0.1) s.0 ∙ ap (λ xs. decimal i.0 ∷ xs) rest, (s.1, s.2)), refl)
 
 -- a line that begins with this word
 begun : (first name : List ℕ) (words : List (List ℕ)) (said : PlanLine) (r q : Result PlanLine TextFault) → (if bytes_eq first name then r else q) ≡ ok said
@@ -311,7 +311,7 @@ alone_spelt line said words empty range h =
 line_of_spelt : (first : List ℕ) (words : List (List ℕ)) (said : PlanLine) → line_of first words ≡ ok said → IsRest words said × (first_of said ≡ first)
 unfolding line_of
 line_of_spelt first words said h =
-    begun first (codes "plan") words said (alone_at SaysPlan words) _ h (alone_spelt SaysPlan said words refl tt)
+    begun first (codes "plan") words said (alone_at HeadLine words) _ h (alone_spelt HeadLine said words refl tt)
     (λ h1. begun first (codes "device") words said (device_at words) _ h1 (device_spelt words said)
     (λ h2. begun first (codes "class") words said (class_at words) _ h2 (class_spelt words said)
     (λ h3. begun first (codes "job") words said (job_at words) _ h3 (job_spelt words said)
@@ -321,7 +321,7 @@ line_of_spelt first words said h =
     (λ h7. begun first (codes "jobprices") words said (job_prices_at words) _ h7 (job_prices_spelt words said)
     (λ h8. begun first (codes "placeprices") words said (place_prices_at words) _ h8 (place_prices_spelt words said)
     (λ h9. begun first (codes "stranded") words said (stranded_at words) _ h9 (stranded_spelt words said)
-    (λ h10. begun first (codes "end") words said (alone_at SaysEnd words) (Err BadLine) h10 (alone_spelt SaysEnd said words refl tt)
+    (λ h10. begun first (codes "end") words said (alone_at EndLine words) (Err BadLine) h10 (alone_spelt EndLine said words refl tt)
     (λ h11. absurd (cc))))))))))))
 
 -- A line that is read is the line of its content, which is in range.

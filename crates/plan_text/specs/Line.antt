@@ -15,31 +15,31 @@ use Rattle.plan_text.specs.Word.{number_at, numbers_at, is_entry, entries_at, is
 
 -- the content of a line
 pub data PlanLine : Type 0 where
-  SaysPlan : PlanLine
-  SaysDevice : (name : List ℕ) → PlanLine
-  SaysClass : (priority : ℕ) → PlanLine
-  SaysJob : (id : ℕ) (times : List (Option ℕ)) → PlanLine
-  SaysWait : (waits : List ℕ) → PlanLine
-  SaysWay : (device : List ℕ) (jobs : List ℕ) → PlanLine
-  SaysTotal : (total : ℕ) → PlanLine
-  SaysJobPrices : (prices : List ℤ) → PlanLine
-  SaysPlacePrices : (device : List ℕ) (prices : List ℤ) → PlanLine
-  SaysStranded : Stranded → PlanLine
-  SaysEnd : PlanLine
+  HeadLine : PlanLine
+  DeviceLine : (name : List ℕ) → PlanLine
+  ClassLine : (priority : ℕ) → PlanLine
+  JobLine : (id : ℕ) (times : List (Option ℕ)) → PlanLine
+  WaitLine : (waits : List ℕ) → PlanLine
+  WayLine : (device : List ℕ) (jobs : List ℕ) → PlanLine
+  TotalLine : (total : ℕ) → PlanLine
+  JobPricesLine : (prices : List ℤ) → PlanLine
+  PlacePricesLine : (device : List ℕ) (prices : List ℤ) → PlanLine
+  StrandedLine : Stranded → PlanLine
+  EndLine : PlanLine
 
 -- the content of a line that was read
 abbrev pub said_by : Line → PlanLine
-said_by lines.Plan = SaysPlan
-said_by (lines.Device name) = SaysDevice name
-said_by (lines.Class priority) = SaysClass priority
-said_by (lines.Job id times) = SaysJob id times.items
-said_by (lines.Wait waits) = SaysWait waits.items
-said_by (lines.Way device jobs) = SaysWay device jobs.items
-said_by (lines.Total total) = SaysTotal total
-said_by (lines.JobPrices prices) = SaysJobPrices prices.items
-said_by (lines.PlacePrices device prices) = SaysPlacePrices device prices.items
-said_by (lines.Stranded stranded) = SaysStranded stranded
-said_by lines.End = SaysEnd
+said_by lines.Plan = HeadLine
+said_by (lines.Device name) = DeviceLine name
+said_by (lines.Class priority) = ClassLine priority
+said_by (lines.Job id times) = JobLine id times.items
+said_by (lines.Wait waits) = WaitLine waits.items
+said_by (lines.Way device jobs) = WayLine device jobs.items
+said_by (lines.Total total) = TotalLine total
+said_by (lines.JobPrices prices) = JobPricesLine prices.items
+said_by (lines.PlacePrices device prices) = PlacePricesLine device prices.items
+said_by (lines.Stranded stranded) = StrandedLine stranded
+said_by lines.End = EndLine
 
 -- the words after the first word of each line; an empty word is neither a number nor a name
 
@@ -59,47 +59,47 @@ first_word [] = Err BadLine
 first_word (word ∷ words) = Ok (word, words)
 
 unfoldable pub device_at : List (List ℕ) → Result PlanLine TextFault
-device_at words = only_word words >>= λ name. if is_name name then Ok (SaysDevice name) else Err BadLine
+device_at words = only_word words >>= λ name. if is_name name then Ok (DeviceLine name) else Err BadLine
 
 unfoldable pub class_at : List (List ℕ) → Result PlanLine TextFault
-class_at words = only_word words >>= λ priority. (number_at 1 HIGHEST_PRIORITY priority >>= λ p. Ok (SaysClass p))
+class_at words = only_word words >>= λ priority. (number_at 1 HIGHEST_PRIORITY priority >>= λ p. Ok (ClassLine p))
 
 unfoldable pub job_at : List (List ℕ) → Result PlanLine TextFault
 job_at words = first_word words >>= λ w.
     if is_number w.0 && list_all is_entry w.1
-    then (number_at 1 LAST_JOB_ID w.0 >>= λ id. (entries_at w.1 >>= λ times. Ok (SaysJob id times)))
+    then (number_at 1 LAST_JOB_ID w.0 >>= λ id. (entries_at w.1 >>= λ times. Ok (JobLine id times)))
     else Err BadLine
 
 unfoldable pub wait_at : List (List ℕ) → Result PlanLine TextFault
-wait_at words = if list_all is_number words then (numbers_at 0 WAIT words >>= λ waits. Ok (SaysWait waits)) else Err BadLine
+wait_at words = if list_all is_number words then (numbers_at 0 WAIT words >>= λ waits. Ok (WaitLine waits)) else Err BadLine
 
 unfoldable pub way_at : List (List ℕ) → Result PlanLine TextFault
 way_at words = first_word words >>= λ w.
     if is_name w.0 && list_all is_number w.1
-    then (numbers_at 1 LAST_JOB_ID w.1 >>= λ jobs. Ok (SaysWay w.0 jobs))
+    then (numbers_at 1 LAST_JOB_ID w.1 >>= λ jobs. Ok (WayLine w.0 jobs))
     else Err BadLine
 
 unfoldable pub total_at : List (List ℕ) → Result PlanLine TextFault
-total_at words = only_word words >>= λ total. (number_at 0 AMOUNT total >>= λ n. Ok (SaysTotal n))
+total_at words = only_word words >>= λ total. (number_at 0 AMOUNT total >>= λ n. Ok (TotalLine n))
 
 unfoldable pub job_prices_at : List (List ℕ) → Result PlanLine TextFault
-job_prices_at words = if list_all is_price words then (prices_at words >>= λ prices. Ok (SaysJobPrices prices)) else Err BadLine
+job_prices_at words = if list_all is_price words then (prices_at words >>= λ prices. Ok (JobPricesLine prices)) else Err BadLine
 
 unfoldable pub place_prices_at : List (List ℕ) → Result PlanLine TextFault
 place_prices_at words = first_word words >>= λ w.
     if is_name w.0 && list_all is_price w.1
-    then (prices_at w.1 >>= λ prices. Ok (SaysPlacePrices w.0 prices))
+    then (prices_at w.1 >>= λ prices. Ok (PlacePricesLine w.0 prices))
     else Err BadLine
 
 unfoldable pub stranded_at : List (List ℕ) → Result PlanLine TextFault
 stranded_at words = first_word words >>= λ w.
     (only_word w.1 >>= λ word. (cause_at word >>= λ cause. (number_at 1 LAST_JOB_ID w.0 >>= λ id.
-    Ok (SaysStranded (record { job = id; cause = cause })))))
+    Ok (StrandedLine (record { job = id; cause = cause })))))
 
 -- the content of a line, by its first word
 unfoldable pub line_of : List ℕ → List (List ℕ) → Result PlanLine TextFault
 line_of first words =
-    if bytes_eq first (codes "plan") then alone_at SaysPlan words
+    if bytes_eq first (codes "plan") then alone_at HeadLine words
     else if bytes_eq first (codes "device") then device_at words
     else if bytes_eq first (codes "class") then class_at words
     else if bytes_eq first (codes "job") then job_at words
@@ -109,7 +109,7 @@ line_of first words =
     else if bytes_eq first (codes "jobprices") then job_prices_at words
     else if bytes_eq first (codes "placeprices") then place_prices_at words
     else if bytes_eq first (codes "stranded") then stranded_at words
-    else if bytes_eq first (codes "end") then alone_at SaysEnd words
+    else if bytes_eq first (codes "end") then alone_at EndLine words
     else Err BadLine
 
 -- the content of a line of these words, or its fault

@@ -15,7 +15,7 @@ use Rattle.plan_text.specs.declared.draft.Draft.{Draft}
 use Rattle.plan_text.specs.declared.open_class.OpenClass.{OpenClass}
 use Rattle.text.specs.Steps.{◌>>=◌}
 use Rattle.plan_text.specs.Reading.{Fails}
-use Rattle.plan_text.specs.Line.{PlanLine, SaysPlan, SaysDevice, SaysClass, SaysJob, SaysWait, SaysWay, SaysTotal, SaysJobPrices, SaysPlacePrices, SaysStranded, SaysEnd}
+use Rattle.plan_text.specs.Line.{PlanLine, HeadLine, DeviceLine, ClassLine, JobLine, WaitLine, WayLine, TotalLine, JobPricesLine, PlacePricesLine, StrandedLine, EndLine}
 
 -- the class whose lines are being read
 pub record Opened : Type 0 where
@@ -55,24 +55,24 @@ stage_number stages.Stranded = 6
 stage_number stages.Ended = 7
 
 abbrev pub is_at : DraftRecord → Stage → Bool
-is_at heard stage = stage_number heard.stage == stage_number stage
+is_at draft stage = stage_number draft.stage == stage_number stage
 
 -- whether the list has one entry for each device
 abbrev pub one_each : {X : Type 0} → DraftRecord → List X → Bool
-one_each heard xs = length xs == length heard.devices
+one_each draft xs = length xs == length draft.devices
 
 -- whether the device at a place has a name
 abbrev pub is_named : DraftRecord → ℕ → List ℕ → Bool
-is_named heard place name = nat_lt place (length heard.devices) && bytes_eq (slice_index_or heard.devices place []) name
+is_named draft place name = nat_lt place (length draft.devices) && bytes_eq (slice_index_or draft.devices place []) name
 
 -- the line `plan`, the first
 unfoldable pub plan_next : DraftRecord → Result DraftRecord TextFault
-plan_next heard = if is_at heard stages.Start then Ok (record heard { stage = stages.Devices }) else Err BadLine
+plan_next draft = if is_at draft stages.Start then Ok (record draft { stage = stages.Devices }) else Err BadLine
 
 unfoldable pub device_next : DraftRecord → List ℕ → Result DraftRecord TextFault
-device_next heard name =
-    if not (is_at heard stages.Devices) then Err BadLine
-    else if nat_lt (length heard.devices) DEVICES then Ok (record heard { devices = heard.devices ++ name ∷ [] })
+device_next draft name =
+    if not (is_at draft stages.Devices) then Err BadLine
+    else if nat_lt (length draft.devices) DEVICES then Ok (record draft { devices = draft.devices ++ name ∷ [] })
     else Err OutOfRange
 
 -- whether the ids rise
@@ -110,95 +110,95 @@ planned opened = record {
 
 -- the state with the class that was being read among the whole classes
 abbrev pub opened_kept : DraftRecord → DraftRecord
-opened_kept heard = record heard { classes = heard.classes ++ planned heard.opened ∷ []; last = 0; opened = opened_at heard.opened.priority }
+opened_kept draft = record draft { classes = draft.classes ++ planned draft.opened ∷ []; last = 0; opened = opened_at draft.opened.priority }
 
 -- the same, if all lines of that class were read
 unfoldable pub closed : DraftRecord → Result DraftRecord TextFault
-closed heard =
-    if is_at heard stages.Devices then Ok heard
-    else if is_at heard stages.PlacePrices && one_each heard heard.opened.place_prices
-    then (if is_problem (problem_of heard.opened) then Ok (opened_kept heard) else Err OutOfRange)
+closed draft =
+    if is_at draft stages.Devices then Ok draft
+    else if is_at draft stages.PlacePrices && one_each draft draft.opened.place_prices
+    then (if is_problem (problem_of draft.opened) then Ok (opened_kept draft) else Err OutOfRange)
     else Err BadLine
 
 unfoldable pub class_opened : DraftRecord → ℕ → Result DraftRecord TextFault
-class_opened heard priority =
-    if nat_lt priority heard.below
-    then Ok (record heard { stage = stages.Jobs; below = priority; last = 0; opened = opened_at priority })
+class_opened draft priority =
+    if nat_lt priority draft.below
+    then Ok (record draft { stage = stages.Jobs; below = priority; last = 0; opened = opened_at priority })
     else Err OutOfRange
 
 unfoldable pub class_next : DraftRecord → ℕ → Result DraftRecord TextFault
-class_next heard priority = closed heard >>= λ whole. class_opened whole priority
+class_next draft priority = closed draft >>= λ whole. class_opened whole priority
 
 -- whether a further line of a job may come, and its id is above the id of the job before
 abbrev pub may_have : DraftRecord → ℕ → Bool
-may_have heard id = nat_lt heard.jobs UNFINISHED_JOBS && nat_lt heard.last id
+may_have draft id = nat_lt draft.jobs UNFINISHED_JOBS && nat_lt draft.last id
 
 unfoldable pub job_next : DraftRecord → ℕ → List (Option ℕ) → Result DraftRecord TextFault
-job_next heard id times =
-    if not (is_at heard stages.Jobs && one_each heard times) then Err BadLine
-    else if may_have heard id
-    then Ok (record heard { jobs = heard.jobs + 1; last = id; opened = record heard.opened { ids = heard.opened.ids ++ id ∷ []; rows = heard.opened.rows ++ times ∷ [] } })
+job_next draft id times =
+    if not (is_at draft stages.Jobs && one_each draft times) then Err BadLine
+    else if may_have draft id
+    then Ok (record draft { jobs = draft.jobs + 1; last = id; opened = record draft.opened { ids = draft.opened.ids ++ id ∷ []; rows = draft.opened.rows ++ times ∷ [] } })
     else Err OutOfRange
 
 unfoldable pub wait_next : DraftRecord → List ℕ → Result DraftRecord TextFault
-wait_next heard waits =
-    if is_at heard stages.Jobs && one_each heard waits
-    then Ok (record heard { stage = stages.Ways; opened = record heard.opened { waits = waits } })
+wait_next draft waits =
+    if is_at draft stages.Jobs && one_each draft waits
+    then Ok (record draft { stage = stages.Ways; opened = record draft.opened { waits = waits } })
     else Err BadLine
 
 unfoldable pub way_next : DraftRecord → List ℕ → List ℕ → Result DraftRecord TextFault
-way_next heard name jobs =
-    if is_at heard stages.Ways && is_named heard (length heard.opened.queues) name
-    then Ok (record heard { opened = record heard.opened { queues = heard.opened.queues ++ jobs ∷ [] } })
+way_next draft name jobs =
+    if is_at draft stages.Ways && is_named draft (length draft.opened.queues) name
+    then Ok (record draft { opened = record draft.opened { queues = draft.opened.queues ++ jobs ∷ [] } })
     else Err BadLine
 
 unfoldable pub total_next : DraftRecord → ℕ → Result DraftRecord TextFault
-total_next heard total =
-    if is_at heard stages.Ways && one_each heard heard.opened.queues
-    then Ok (record heard { stage = stages.JobPrices; opened = record heard.opened { total = total } })
+total_next draft total =
+    if is_at draft stages.Ways && one_each draft draft.opened.queues
+    then Ok (record draft { stage = stages.JobPrices; opened = record draft.opened { total = total } })
     else Err BadLine
 
 unfoldable pub job_prices_next : DraftRecord → List ℤ → Result DraftRecord TextFault
-job_prices_next heard prices =
-    if is_at heard stages.JobPrices
-    then Ok (record heard { stage = stages.PlacePrices; opened = record heard.opened { job_prices = prices } })
+job_prices_next draft prices =
+    if is_at draft stages.JobPrices
+    then Ok (record draft { stage = stages.PlacePrices; opened = record draft.opened { job_prices = prices } })
     else Err BadLine
 
 unfoldable pub place_prices_next : DraftRecord → List ℕ → List ℤ → Result DraftRecord TextFault
-place_prices_next heard name prices =
-    if is_at heard stages.PlacePrices && is_named heard (length heard.opened.place_prices) name
-    then Ok (record heard { opened = record heard.opened { place_prices = heard.opened.place_prices ++ prices ∷ [] } })
+place_prices_next draft name prices =
+    if is_at draft stages.PlacePrices && is_named draft (length draft.opened.place_prices) name
+    then Ok (record draft { opened = record draft.opened { place_prices = draft.opened.place_prices ++ prices ∷ [] } })
     else Err BadLine
 
 -- the state in which a stranded job may come: after another, or after the classes
 unfoldable pub classes_over : DraftRecord → Result DraftRecord TextFault
-classes_over heard = if is_at heard stages.Stranded then Ok heard else closed heard
+classes_over draft = if is_at draft stages.Stranded then Ok draft else closed draft
 
 unfoldable pub stranded_added : DraftRecord → Stranded → Result DraftRecord TextFault
-stranded_added heard stranded =
-    if may_have heard stranded.job
-    then Ok (record heard { stage = stages.Stranded; stranded = heard.stranded ++ stranded ∷ []; jobs = heard.jobs + 1; last = stranded.job })
+stranded_added draft stranded =
+    if may_have draft stranded.job
+    then Ok (record draft { stage = stages.Stranded; stranded = draft.stranded ++ stranded ∷ []; jobs = draft.jobs + 1; last = stranded.job })
     else Err OutOfRange
 
 unfoldable pub stranded_next : DraftRecord → Stranded → Result DraftRecord TextFault
-stranded_next heard stranded = classes_over heard >>= λ whole. stranded_added whole stranded
+stranded_next draft stranded = classes_over draft >>= λ whole. stranded_added whole stranded
 
 unfoldable pub end_next : DraftRecord → Result DraftRecord TextFault
-end_next heard = classes_over heard >>= λ whole. Ok (record whole { stage = stages.Ended })
+end_next draft = classes_over draft >>= λ whole. Ok (record whole { stage = stages.Ended })
 
 -- the state after a line with this content
 abbrev pub next : DraftRecord → PlanLine → Result DraftRecord TextFault
-next heard SaysPlan = plan_next heard
-next heard (SaysDevice name) = device_next heard name
-next heard (SaysClass priority) = class_next heard priority
-next heard (SaysJob id times) = job_next heard id times
-next heard (SaysWait waits) = wait_next heard waits
-next heard (SaysWay device jobs) = way_next heard device jobs
-next heard (SaysTotal total) = total_next heard total
-next heard (SaysJobPrices prices) = job_prices_next heard prices
-next heard (SaysPlacePrices device prices) = place_prices_next heard device prices
-next heard (SaysStranded stranded) = stranded_next heard stranded
-next heard SaysEnd = end_next heard
+next draft HeadLine = plan_next draft
+next draft (DeviceLine name) = device_next draft name
+next draft (ClassLine priority) = class_next draft priority
+next draft (JobLine id times) = job_next draft id times
+next draft (WaitLine waits) = wait_next draft waits
+next draft (WayLine device jobs) = way_next draft device jobs
+next draft (TotalLine total) = total_next draft total
+next draft (JobPricesLine prices) = job_prices_next draft prices
+next draft (PlacePricesLine device prices) = place_prices_next draft device prices
+next draft (StrandedLine stranded) = stranded_next draft stranded
+next draft EndLine = end_next draft
 
 -- the state of a reader
 abbrev pub opened_of : OpenClass → Opened
@@ -227,5 +227,5 @@ draft_record draft = record {
 
 -- the result of a reader's step, unless memory ran out
 abbrev pub Leaves : {X : Type 0} → Result X ReadError → DraftRecord → Result DraftRecord TextFault → Type 0
-Leaves (Ok x) new heard = heard ≡ Ok new
-Leaves (Err error) new heard = Fails error heard
+Leaves (Ok x) new draft = draft ≡ Ok new
+Leaves (Err error) new draft = Fails error draft

@@ -12,27 +12,27 @@ use Rattle.plan_text.specs.Steps.{DraftRecord, opened_at, is_at, next}
 
 -- a line is checked by itself, and then in its place; no line may follow `end`
 unfoldable pub line_next : DraftRecord → List ℕ → Result DraftRecord TextFault
-line_next heard line = if is_at heard stages.Ended then Err BadLine else (line_at (words_of line) >>= λ said. next heard said)
+line_next draft line = if is_at draft stages.Ended then Err BadLine else (line_at (words_of line) >>= λ said. next draft said)
 
 abbrev pub lines_next : DraftRecord → List (List ℕ) → Result DraftRecord TextFault
-lines_next heard [] = Ok heard
-lines_next heard (line ∷ lines) = line_next heard line >>= λ then'. lines_next then' lines
+lines_next draft [] = Ok draft
+lines_next draft (line ∷ lines) = line_next draft line >>= λ then'. lines_next then' lines
 
 -- the state before the first line
-abbrev pub nothing_heard : ℕ → DraftRecord
-nothing_heard priority = record { stage = stages.Start; devices = []; classes = []; stranded = []; jobs = 0; below = HIGHEST_PRIORITY + 1; last = 0; opened = opened_at priority }
+abbrev pub empty_draft : ℕ → DraftRecord
+empty_draft priority = record { stage = stages.Start; devices = []; classes = []; stranded = []; jobs = 0; below = HIGHEST_PRIORITY + 1; last = 0; opened = opened_at priority }
 
 abbrev pub plan_of : DraftRecord → NamedPlan
-plan_of heard = record { devices = heard.devices; plan = record { classes = heard.classes; stranded = heard.stranded } }
+plan_of draft = record { devices = draft.devices; plan = record { classes = draft.classes; stranded = draft.stranded } }
 
 -- the plan after all lines, where `rest` follows the last line feed
 unfoldable pub ended : DraftRecord → List ℕ → Result NamedPlan TextFault
-ended heard rest =
-    if not (is_at heard stages.Ended) then Err NoEnd
-    else if length rest == 0 then Ok (plan_of heard) else Err BadLine
+ended draft rest =
+    if not (is_at draft stages.Ended) then Err NoEnd
+    else if length rest == 0 then Ok (plan_of draft) else Err BadLine
 
 unfoldable pub plan_from : List (List ℕ) → List ℕ → Result NamedPlan TextFault
-plan_from lines rest = lines_next (nothing_heard DEFAULT_PRIORITY) lines >>= λ heard. ended heard rest
+plan_from lines rest = lines_next (empty_draft DEFAULT_PRIORITY) lines >>= λ draft. ended draft rest
 
 unfoldable pub plan_in : List (List ℕ) → Result NamedPlan TextFault
 plan_in parts = plan_from (take (length parts - 1) parts) (slice_index_or parts (length parts - 1) [])

@@ -5,7 +5,7 @@ ghost use Rattle.plan_text.specs.NamedPlan.{HasOneEach};
 ghost use Rattle.plan_text.specs.Reading.{Gives};
 ghost use Rattle.plan_text.specs.TextOf.{IsTextOf};
 ghost use Rattle.plan_text.specs.Steps.{Leaves, draft_record};
-ghost use Rattle.plan_text.specs.Whole.{nothing_heard, line_next, lines_next, ended, plan_from, plan_in, plan_at};
+ghost use Rattle.plan_text.specs.Whole.{empty_draft, line_next, lines_next, ended, plan_from, plan_in, plan_at};
 
 use crate::draft::Draft;
 use crate::fault::{ReadError, TextFault};
@@ -27,7 +27,7 @@ use text::{parts, words};
 /// The fault of the first faulty line, or out of memory. A line is checked by itself, first for its form and
 /// then for its ranges, and then against the lines before it. A text without the line `end` has the fault
 /// [`TextFault::NoEnd`].
-#[tactic(auto, using(crate::proofs::Sound::judged_since, crate::proofs::Sound::written_since, crate::proofs::DraftOfLines::told_since))]
+#[tactic(auto, using(crate::proofs::Sound::judged_since, crate::proofs::Sound::written_since, crate::proofs::DraftOfLines::drafted_since))]
 pub fn read_plan_text(alloc: Global, text: &[u8]) -> Result<PlanText, ReadError>
     ensures plan { Gives (λ plan. plan) result (plan_at text.now) }
     ensures text { IfOk result (λ named. IsTextOf text.now named) }
@@ -61,7 +61,7 @@ fn read_from(alloc: Global, lines: &[&[u8]], rest: &[u8]) -> Result<PlanText, Re
 
 /// The state after these first lines of a text.
 fn read_lines(alloc: Global, lines: &[&[u8]]) -> Result<Draft, ReadError>
-    ensures { Gives draft_record result (lines_next (nothing_heard Limits.DEFAULT_PRIORITY) (map (λ line. line.now) lines.now)) }
+    ensures { Gives draft_record result (lines_next (empty_draft Limits.DEFAULT_PRIORITY) (map (λ line. line.now) lines.now)) }
 {
     let mut draft = new_draft(alloc);
     for line in lines {
@@ -72,7 +72,7 @@ fn read_lines(alloc: Global, lines: &[&[u8]]) -> Result<Draft, ReadError>
 
 /// The state before the first line.
 fn new_draft(alloc: Global) -> Draft
-    ensures { draft_record result ≡ nothing_heard Limits.DEFAULT_PRIORITY }
+    ensures { draft_record result ≡ empty_draft Limits.DEFAULT_PRIORITY }
 {
     Draft {
         stage: Stage::Start,

@@ -1,6 +1,6 @@
 //! The writer of a plan's text.
 ghost use Rattle.std.specs.Prelude.{◌≡◌, ◌++◌, IfOk, OnOk, OnErr, length};
-ghost use Rattle.plan_text.specs.Line.{SaysDevice, SaysClass, SaysJob, SaysWait, SaysWay, SaysTotal, SaysJobPrices, SaysPlacePrices, SaysStranded};
+ghost use Rattle.plan_text.specs.Line.{DeviceLine, ClassLine, JobLine, WaitLine, WayLine, TotalLine, JobPricesLine, PlacePricesLine, StrandedLine};
 ghost use Rattle.plan_text.specs.Writing.{line_text, lines_text, job_lines, way_lines, place_price_lines, device_lines, stranded_lines, class_job_lines, class_way_lines, class_price_lines, class_lines, classes_lines, plan_text};
 
 use crate::named_plan::PlanText;
@@ -59,7 +59,7 @@ fn text_of(
 
 #[tactic(auto, unfolding(crate::specs::Writing::line_text))]
 fn put_device(output: &mut Vec<u8>, name: &Text) -> Result<(), AllocError>
-    ensures { OnOk result (output.new.items ≡ output.old.items ++ line_text (SaysDevice name.now)) }
+    ensures { OnOk result (output.new.items ≡ output.old.items ++ line_text (DeviceLine name.now)) }
 {
     output.extend_from_slice(b"device ")?;
     output.extend_from_slice(name.as_bytes())?;
@@ -77,7 +77,7 @@ fn put_devices(output: &mut Vec<u8>, names: &[Text]) -> Result<(), AllocError>
 
 #[tactic(auto, unfolding(crate::specs::Writing::line_text))]
 fn put_job(alloc: Global, output: &mut Vec<u8>, id: JobId, row: &Row) -> Result<(), AllocError>
-    ensures { OnOk result (output.new.items ≡ output.old.items ++ line_text (SaysJob id row.now)) }
+    ensures { OnOk result (output.new.items ≡ output.old.items ++ line_text (JobLine id row.now)) }
 {
     output.extend_from_slice(b"job ")?;
     put_number(alloc, output, u64::from(id.number()))?;
@@ -102,7 +102,7 @@ fn put_jobs(
 
 #[tactic(auto, unfolding(crate::specs::Writing::line_text))]
 fn put_wait(alloc: Global, output: &mut Vec<u8>, waits: &[u64]) -> Result<(), AllocError>
-    ensures { OnOk result (output.new.items ≡ output.old.items ++ line_text (SaysWait waits.now)) }
+    ensures { OnOk result (output.new.items ≡ output.old.items ++ line_text (WaitLine waits.now)) }
 {
     output.extend_from_slice(b"wait")?;
     put_numbers(alloc, output, waits)?;
@@ -116,7 +116,7 @@ fn put_way(
     device: &Text,
     queue: &Queue,
 ) -> Result<(), AllocError>
-    ensures { OnOk result (output.new.items ≡ output.old.items ++ line_text (SaysWay device.now queue.now)) }
+    ensures { OnOk result (output.new.items ≡ output.old.items ++ line_text (WayLine device.now queue.now)) }
 {
     output.extend_from_slice(b"way ")?;
     output.extend_from_slice(device.as_bytes())?;
@@ -145,7 +145,7 @@ fn put_ways(
 
 #[tactic(auto, unfolding(crate::specs::Writing::line_text))]
 fn put_total(alloc: Global, output: &mut Vec<u8>, total: u64) -> Result<(), AllocError>
-    ensures { OnOk result (output.new.items ≡ output.old.items ++ line_text (SaysTotal total)) }
+    ensures { OnOk result (output.new.items ≡ output.old.items ++ line_text (TotalLine total)) }
 {
     output.extend_from_slice(b"total ")?;
     put_number(alloc, output, total)?;
@@ -154,7 +154,7 @@ fn put_total(alloc: Global, output: &mut Vec<u8>, total: u64) -> Result<(), Allo
 
 #[tactic(auto, unfolding(crate::specs::Writing::line_text))]
 fn put_job_prices(alloc: Global, output: &mut Vec<u8>, prices: &[i64]) -> Result<(), AllocError>
-    ensures { OnOk result (output.new.items ≡ output.old.items ++ line_text (SaysJobPrices prices.now)) }
+    ensures { OnOk result (output.new.items ≡ output.old.items ++ line_text (JobPricesLine prices.now)) }
 {
     output.extend_from_slice(b"jobprices")?;
     put_prices(alloc, output, prices)?;
@@ -168,7 +168,7 @@ fn put_place_prices(
     device: &Text,
     places: &PlacePrices,
 ) -> Result<(), AllocError>
-    ensures { OnOk result (output.new.items ≡ output.old.items ++ line_text (SaysPlacePrices device.now places.now)) }
+    ensures { OnOk result (output.new.items ≡ output.old.items ++ line_text (PlacePricesLine device.now places.now)) }
 {
     output.extend_from_slice(b"placeprices ")?;
     output.extend_from_slice(device.as_bytes())?;
@@ -198,7 +198,7 @@ fn put_places(
 
 #[tactic(auto, unfolding(crate::specs::Writing::line_text))]
 fn put_priority(alloc: Global, output: &mut Vec<u8>, class: &PlannedClass) -> Result<(), AllocError>
-    ensures { OnOk result (output.new.items ≡ output.old.items ++ line_text (SaysClass class.now.priority)) }
+    ensures { OnOk result (output.new.items ≡ output.old.items ++ line_text (ClassLine class.now.priority)) }
 {
     output.extend_from_slice(b"class ")?;
     put_number(alloc, output, u64::from(class.priority.level()))?;
@@ -281,7 +281,7 @@ fn put_stranded_job(
     output: &mut Vec<u8>,
     stranded: Stranded,
 ) -> Result<(), AllocError>
-    ensures { OnOk result (output.new.items ≡ output.old.items ++ line_text (SaysStranded stranded)) }
+    ensures { OnOk result (output.new.items ≡ output.old.items ++ line_text (StrandedLine stranded)) }
 {
     output.extend_from_slice(b"stranded ")?;
     put_number(alloc, output, u64::from(stranded.job.number()))?;

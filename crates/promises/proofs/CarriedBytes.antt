@@ -49,7 +49,7 @@ use Rattle.server.specs.Enqueuing.{Sets, BreaksAt, Breaks, Drops, EnqueuesOpen, 
 use Rattle.server.specs.Happening.{now_at, found_by, Decides, Sends, Starts, StartsAll, StartsBy, SendsAll, Orders, Happens, Unanswered}
 use Rattle.server.specs.Closing.{Leaves, IsGone, ClosesAs, ClosesFirst, ClosesBroken}
 use Rattle.server.specs.Answering as Ans
-use Rattle.server.specs.Hello.{IsSupersededAt, IsSuperseded, SaysName, TakesOver, HandlesHello}
+use Rattle.server.specs.Hello.{IsSupersededAt, IsSuperseded, GivesName, TakesOver, HandlesHello}
 use Rattle.server.specs.Acting.{place_of, place_of_part, Asks, ActsOn, ActsNext}
 use Rattle.server.specs.Polling.{Opens, AcceptsAs, AcceptsOne, AcceptsAt, Acts, Serves, FedWhole, FeedsAt, FeedsOne, Fails, ReadsAs, ReadsOpen, ReadsAt, is_read, ReadsOne, WritesAs, WritesOpen, WritesAt, WritesOne, is_done, EndsAt, EndsOne}
 use Rattle.server.specs.Turn as Between
@@ -92,14 +92,14 @@ steady_progress e mid progress is = (ap (λ (x : Entry). x.id) is, ap (λ (x : E
 steady_mid : (e mid : Entry) → mid ≡ e → (mid.id ≡ e.id) × (mid.taken ≡ e.taken) × (mid.due ≡ e.due) × (mid.read ≡ e.read)
 steady_mid e mid is = (ap (λ (x : Entry). x.id) is, ap (λ (x : Entry). x.taken) is, ap (λ (x : Entry). x.due) is, ap (λ (x : Entry). x.read) is)
 
-heard_mid : (settings : ServerSettings) (progress : PeerRecord) (e : Entry) (comes : Step) (mid : Entry) → ItemComes settings progress e comes mid → (mid.id ≡ e.id) × (mid.taken ≡ e.taken) × (mid.due ≡ e.due) × (mid.read ≡ e.read)
-heard_mid settings (Http said closes body) e comes mid next = steady_progress e mid _ next.after
-heard_mid settings (Queue items session) e comes mid (inl next) = steady_progress e mid _ next.after
-heard_mid settings (Queue items session) e comes mid (inr (inl next)) = steady_mid e mid next.after
-heard_mid settings (Queue items session) e comes mid (inr (inr next)) = steady_mid e mid next.1
-heard_mid settings (Link reports device) e comes mid (inl next) = steady_progress e mid _ next.after
-heard_mid settings (Link reports device) e comes mid (inr (inl next)) = steady_mid e mid next.after
-heard_mid settings (Link reports device) e comes mid (inr (inr next)) = steady_mid e mid next.1
+comes_mid : (settings : ServerSettings) (progress : PeerRecord) (e : Entry) (comes : Step) (mid : Entry) → ItemComes settings progress e comes mid → (mid.id ≡ e.id) × (mid.taken ≡ e.taken) × (mid.due ≡ e.due) × (mid.read ≡ e.read)
+comes_mid settings (Http said closes body) e comes mid next = steady_progress e mid _ next.after
+comes_mid settings (Queue items session) e comes mid (inl next) = steady_progress e mid _ next.after
+comes_mid settings (Queue items session) e comes mid (inr (inl next)) = steady_mid e mid next.after
+comes_mid settings (Queue items session) e comes mid (inr (inr next)) = steady_mid e mid next.1
+comes_mid settings (Link reports device) e comes mid (inl next) = steady_progress e mid _ next.after
+comes_mid settings (Link reports device) e comes mid (inr (inl next)) = steady_mid e mid next.after
+comes_mid settings (Link reports device) e comes mid (inr (inr next)) = steady_mid e mid next.1
 
 counted : (draining is : Bool) → (draining || is) ≡ false → (draining ≡ false) × (is ≡ false)
 counted true is none = cc
@@ -152,7 +152,7 @@ steady_step e mid new (step.Asks it last) what counts same is = step_asks e mid 
 steady_step e mid new (step.Breaks it) what counts same is = step_fails e mid new counts same is.1
 
 steady_asks : (settings : ServerSettings) (what : Ask) (e new : Entry) → AsksNext settings what e new → Steady e new
-steady_asks settings what e new a = steady_step e a.mid new a.comes what a.counts (heard_mid settings e.progress e a.comes a.mid a.hears) a.steps
+steady_asks settings what e new a = steady_step e a.mid new a.comes what a.counts (comes_mid settings e.progress e a.comes a.mid a.takes_item) a.steps
 
 -- ---- all connections
 
@@ -450,13 +450,13 @@ gives_way_at key (Some e) c l hs l' there a new it = carries_sets key e (superse
 carries_way : (key : ℕ) → Carries (IsSuperseded key)
 carries_way key c l hs l' a new it = gives_way_at key (l.entries key) c l hs l' refl a new it
 
-carries_name : (moment device : ℕ) (name : List ℕ) → Carries (SaysName moment device name)
+carries_name : (moment device : ℕ) (name : List ℕ) → Carries (GivesName moment device name)
 carries_name moment device name = carries_unanswered moment (Is.Report device (report.Hello name))
 
 carries_over : (moment old device : ℕ) (name : List ℕ) → Carries (TakesOver moment old device name)
 carries_over moment old device name =
-    carries_then (IsSuperseded old) (Then (IsGone moment (Some device)) (SaysName moment device name)) (carries_way old)
-    (carries_then (IsGone moment (Some device)) (SaysName moment device name) (carries_gone moment (Some device)) (carries_name moment device name))
+    carries_then (IsSuperseded old) (Then (IsGone moment (Some device)) (GivesName moment device name)) (carries_way old)
+    (carries_then (IsGone moment (Some device)) (GivesName moment device name) (carries_gone moment (Some device)) (carries_name moment device name))
 
 carries_greets : (moment key id device : ℕ) (name : List ℕ) → Carries (HandlesHello moment key id device name)
 carries_greets moment key id device name c l hs l' a new (inl (alone, it)) = carries_name moment device name c l hs l' a new it

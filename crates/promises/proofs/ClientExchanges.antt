@@ -26,7 +26,7 @@ use Rattle.server.specs.Ledger.{Ledger, Fate}
 use Rattle.server.specs.Turn.{Trace}
 use Rattle.promises.specs.Orders.{RunPart}
 use Rattle.promises.specs.Answers.{Act, NextIpp, IsNext, IsOwed, AreActs, IsAnswered, IsLast, IsCutOff, ClientTalk, AreAnswered, WasAnswered, WasCutOff}
-use Rattle.promises.specs.Exchanges.{Exchange, says_begun, says_exchange, IsAnswerTo, IsExchange, invitation, due_in, Front, Nothing, Begun, says_front, due_front, says_refusal, due_refusal, AreExchanges, ActsAreExchanges, ByExchanges, IsOneMore, UntilBroken, IsByExchanges, WasByExchanges, AreByExchanges}
+use Rattle.promises.specs.Exchanges.{Exchange, elements_of_begun, elements_of_exchange, IsAnswerTo, IsExchange, invitation, due_in, Front, Nothing, Begun, elements_of_front, due_front, elements_of_refusal, due_refusal, AreExchanges, ActsAreExchanges, ByExchanges, IsOneMore, UntilBroken, IsByExchanges, WasByExchanges, AreByExchanges}
 
 no_false : false ≡ true → ⊥
 no_false is = cc
@@ -60,7 +60,7 @@ order_front (Within closes count) (HasByte byte ∷ said) later is = order_front
 order_front (Within closes count) (EndsBody ∷ said) later is = ends_front (is_last closes count) said later (order_front Between said later) is
 order_front (Within closes count) (IsRefused refusal ∷ said) later is = none_front said later is
 
--- the elements that a stream says first are in order
+-- the first elements of a stream are in order
 first_ordered : ElementsInOrder → SomeParse → FirstStays → (stream : List ℕ) (said : List HttpElement) → ParsesFirst stream said → in_order Between said ≡ true
 first_ordered ordered some stays stream said first =
     let all = some stream in
@@ -97,9 +97,9 @@ abbrev Fits : Mode → Bool → List ℕ → Type 0
 Fits (Goes front) closes body = Keeps front closes body
 Fits (Over front refusal) closes body = Unit {0}
 
-abbrev says_mode : Mode → List HttpElement
-says_mode (Goes front) = says_front front ++ says_refusal None
-says_mode (Over front refusal) = says_front front ++ says_refusal refusal
+abbrev elements_of_mode : Mode → List HttpElement
+elements_of_mode (Goes front) = elements_of_front front ++ elements_of_refusal None
+elements_of_mode (Over front refusal) = elements_of_front front ++ elements_of_refusal refusal
 
 abbrev due_mode : Mode → List ℕ
 due_mode (Goes front) = due_front front ++ due_refusal None
@@ -112,7 +112,7 @@ leads_on mode now said more leads step later = ap (λ (xs : List HttpElement). i
 
 -- the exchange isn't whole yet
 record Grows (mode now : Mode) (more : List HttpElement) (asked : List RunPart) (bytes : List ℕ) : Type 0 where
-  says : says_mode mode ++ more ≡ says_mode now
+  reads_as : elements_of_mode mode ++ more ≡ elements_of_mode now
   due : due_mode mode ++ bytes ≡ due_mode now
   none : asked ≡ []
 
@@ -120,10 +120,10 @@ record Grows (mode now : Mode) (more : List HttpElement) (asked : List RunPart) 
 record Completes (id : ℕ) (mode now : Mode) (more : List HttpElement) (asked : List RunPart) (bytes : List ℕ) : Type 0 where
   whole : Exchange
   is : IsExchange id whole
-  says : says_mode mode ++ more ≡ says_exchange whole
+  reads_as : elements_of_mode mode ++ more ≡ elements_of_exchange whole
   due : due_mode mode ++ bytes ≡ due_in whole
   its : asked ≡ whole.asked
-  says_none : says_mode now ≡ []
+  no_elements : elements_of_mode now ≡ []
   due_none : due_mode now ≡ []
 
 record Stepped (id : ℕ) (mode : Mode) (said more : List HttpElement) (closes : Bool) (body : List ℕ) (asked : List RunPart) (bytes : List ℕ) : Type 0 where
@@ -138,7 +138,7 @@ head_comes id (Goes Nothing) said next asked bytes leads ok none quiet = record 
   now = Goes (Begun next false []);
   leads = leads_on (Goes Nothing) (Goes (Begun next false [])) said (HasHead next ∷ []) leads (λ later. refl);
   fits = (refl, refl);
-  comes = inl (record { says = refl; due = quiet; none = none });
+  comes = inl (record { reads_as = refl; due = quiet; none = none });
 }
 head_comes id (Goes (Begun closes true body)) said next asked bytes leads ok none quiet = absurd (no_false ok)
 head_comes id (Goes (Begun closes false [])) said next asked bytes leads ok none quiet = absurd (no_false ok)
@@ -155,7 +155,7 @@ invitation_comes id (Goes (Begun also false [])) said closes body asked bytes le
   now = Goes (Begun also true []);
   leads = leads_on (Goes (Begun also false [])) (Goes (Begun also true [])) said (Invites ∷ []) leads (λ later. refl);
   fits = fits;
-  comes = inl (record { says = refl; due = is ∙ sym (append-nil continue_head); none = none });
+  comes = inl (record { reads_as = refl; due = is ∙ sym (append-nil continue_head); none = none });
 }
 
 byte_on : (closes invites : Bool) (body : List ℕ) (byte : ℕ) (later : List HttpElement) → in_order (place_of (Begun closes invites body)) (HasByte byte ∷ later) ≡ in_order (place_of (Begun closes invites (body ++ byte ∷ []))) later
@@ -169,8 +169,8 @@ bytes_on (byte ∷ part) closes invites body later =
     byte_on closes invites body byte (map HasByte part ++ later)
     ∙ (bytes_on part closes invites (body ++ byte ∷ []) later ∙ ap (λ (octets : List ℕ). in_order (place_of (Begun closes invites octets)) later) (append_assoc body (byte ∷ []) part))
 
-says_more : (closes : Bool) (front : List HttpElement) (body part : List ℕ) → ((HasHead closes ∷ (front ++ map HasByte body)) ++ []) ++ map HasByte part ≡ (HasHead closes ∷ (front ++ map HasByte (body ++ part))) ++ []
-says_more closes front body part =
+more_elements : (closes : Bool) (front : List HttpElement) (body part : List ℕ) → ((HasHead closes ∷ (front ++ map HasByte body)) ++ []) ++ map HasByte part ≡ (HasHead closes ∷ (front ++ map HasByte (body ++ part))) ++ []
+more_elements closes front body part =
     ap (λ (xs : List HttpElement). xs ++ map HasByte part) (append-nil (HasHead closes ∷ (front ++ map HasByte body)))
     ∙ (ap (λ (xs : List HttpElement). HasHead closes ∷ xs) (append_assoc front (map HasByte body) (map HasByte part) ∙ ap (λ (xs : List HttpElement). front ++ xs) (sym (map-append HasByte body part)))
     ∙ sym (append-nil (HasHead closes ∷ (front ++ map HasByte (body ++ part)))))
@@ -181,7 +181,7 @@ part_comes id (Goes Nothing) [] said closes body after asked bytes leads fits ok
   now = Goes Nothing;
   leads = leads_on (Goes Nothing) (Goes Nothing) said [] leads (λ later. refl);
   fits = tt;
-  comes = inl (record { says = refl; due = quiet; none = none });
+  comes = inl (record { reads_as = refl; due = quiet; none = none });
 }
 part_comes id (Goes Nothing) (byte ∷ part) said closes body after asked bytes leads fits ok grows none quiet = absurd (no_false ok)
 part_comes id (Goes (Begun also invites octets)) part said closes body after asked bytes leads fits ok grows none quiet = record {
@@ -189,7 +189,7 @@ part_comes id (Goes (Begun also invites octets)) part said closes body after ask
   leads = leads_on (Goes (Begun also invites octets)) (Goes (Begun also invites (octets ++ part))) said (map HasByte part) leads (bytes_on part also invites octets);
   fits = (fits.0, grows ∙ ap (λ (xs : List ℕ). xs ++ part) fits.1);
   comes = inl (record {
-    says = says_more also (if invites then Invites ∷ [] else []) octets part;
+    reads_as = more_elements also (if invites then Invites ∷ [] else []) octets part;
     due = ap (λ (xs : List ℕ). (invitation invites ++ []) ++ xs) quiet ∙ append-nil (invitation invites ++ []);
     none = none;
   });
@@ -199,7 +199,7 @@ part_comes id (Over front refusal) [] said closes body after asked bytes leads f
   leads = leads_on (Over front refusal) (Over front refusal) said [] leads (λ later. refl);
   fits = tt;
   comes = inl (record {
-    says = append-nil (says_front front ++ says_refusal refusal);
+    reads_as = append-nil (elements_of_front front ++ elements_of_refusal refusal);
     due = ap (λ (xs : List ℕ). (due_front front ++ due_refusal refusal) ++ xs) quiet ∙ append-nil (due_front front ++ due_refusal refusal);
     none = none;
   });
@@ -225,8 +225,8 @@ module _ (id : ℕ) (also invites : Bool) (octets : List ℕ) (said : List HttpE
   whole : Exchange
   whole = record { closes = also; invites = invites; body = octets; asked = asked; answer = bytes }
 
-  end_says : (says_front (Begun also invites octets) ++ says_refusal None) ++ EndsBody ∷ [] ≡ says_exchange (record { closes = also; invites = invites; body = octets; asked = asked; answer = bytes })
-  end_says = ap (λ (xs : List HttpElement). xs ++ EndsBody ∷ []) (append-nil (says_begun also invites octets))
+  end_elements : (elements_of_front (Begun also invites octets) ++ elements_of_refusal None) ++ EndsBody ∷ [] ≡ elements_of_exchange (record { closes = also; invites = invites; body = octets; asked = asked; answer = bytes })
+  end_elements = ap (λ (xs : List HttpElement). xs ++ EndsBody ∷ []) (append-nil (elements_of_begun also invites octets))
 
   end_due : (due_front (Begun also invites octets) ++ due_refusal None) ++ bytes ≡ invitation invites ++ bytes
   end_due = ap (λ (xs : List ℕ). xs ++ bytes) (append-nil (invitation invites))
@@ -237,14 +237,14 @@ module _ (id : ℕ) (also invites : Bool) (octets : List ℕ) (said : List HttpE
     leads = leads_on (Goes (Begun also invites octets)) (Over Nothing None) said (EndsBody ∷ []) leads
         (λ later. ends_on also invites octets later ∙ ap (λ (t : Bool). if t then is_none later else in_order Between later) last);
     fits = tt;
-    comes = inr (record { whole = record { closes = also; invites = invites; body = octets; asked = asked; answer = bytes }; is = is; says = end_says; due = end_due; its = refl; says_none = refl; due_none = refl });
+    comes = inr (record { whole = record { closes = also; invites = invites; body = octets; asked = asked; answer = bytes }; is = is; reads_as = end_elements; due = end_due; its = refl; no_elements = refl; due_none = refl });
   }
   end_comes is leads false last = record {
     now = Goes Nothing;
     leads = leads_on (Goes (Begun also invites octets)) (Goes Nothing) said (EndsBody ∷ []) leads
         (λ later. ends_on also invites octets later ∙ ap (λ (t : Bool). if t then is_none later else in_order Between later) last);
     fits = tt;
-    comes = inr (record { whole = record { closes = also; invites = invites; body = octets; asked = asked; answer = bytes }; is = is; says = end_says; due = end_due; its = refl; says_none = refl; due_none = refl });
+    comes = inr (record { whole = record { closes = also; invites = invites; body = octets; asked = asked; answer = bytes }; is = is; reads_as = end_elements; due = end_due; its = refl; no_elements = refl; due_none = refl });
   }
 
 body_ends : (id : ℕ) (mode : Mode) (said : List HttpElement) (closes : Bool) (body : List ℕ) (what : Step) (asked : List RunPart) (bytes : List ℕ) → Leads mode said → Fits mode closes body → goes mode (EndsBody ∷ []) ≡ true → Ends closes body what → IsOwed id closes what asked bytes → Stepped id mode said (EndsBody ∷ []) closes [] asked bytes
@@ -266,7 +266,7 @@ refusal_comes id (Goes front) said refusal closes body asked bytes leads ok none
   leads = leads_on (Goes front) (Over front (Some refusal)) said (IsRefused refusal ∷ []) leads (λ later. refused_on (place_of front) refusal later);
   fits = tt;
   comes = inl (record {
-    says = ap (λ (xs : List HttpElement). xs ++ IsRefused refusal ∷ []) (append-nil (says_front front));
+    reads_as = ap (λ (xs : List HttpElement). xs ++ IsRefused refusal ∷ []) (append-nil (elements_of_front front));
     due = ap (λ (xs : List ℕ). xs ++ bytes) (append-nil (due_front front)) ∙ ap (λ (xs : List ℕ). due_front front ++ xs) is;
     none = none;
   });
@@ -290,39 +290,39 @@ stepped id (item.Refuse refusal) part mode said closes body what asked bytes lea
 
 -- ---- all of them
 
-record Walked (id : ℕ) (mode : Mode) (said : List HttpElement) (acts : List Act) (heard : List HttpElement) : Type 0 where
+record Walked (id : ℕ) (mode : Mode) (said : List HttpElement) (acts : List Act) (acted_on : List HttpElement) : Type 0 where
   exchanges : List Exchange
   each : All (λ (x : Exchange). IsExchange id x) exchanges
   front : Front
   refusal : Option HttpRejection
   more : List HttpElement
-  to : heard ≡ said ++ more
-  says : says_mode mode ++ more ≡ flat_map says_exchange exchanges ++ (says_front front ++ says_refusal refusal)
+  to : acted_on ≡ said ++ more
+  reads_as : elements_of_mode mode ++ more ≡ flat_map elements_of_exchange exchanges ++ (elements_of_front front ++ elements_of_refusal refusal)
   asked : flat_map (λ (a : Act). a.asked) acts ≡ flat_map (λ (x : Exchange). x.asked) exchanges
   due : due_mode mode ++ flat_map (λ (a : Act). a.bytes) acts ≡ flat_map due_in exchanges ++ (due_front front ++ due_refusal refusal)
-  ordered : in_order Between heard ≡ true
+  ordered : in_order Between acted_on ≡ true
 
-walked_none : (id : ℕ) (mode : Mode) (said heard : List HttpElement) → heard ≡ said → in_order Between said ≡ true → Walked id mode said [] heard
-walked_none id (Goes front) said heard same order = record {
+walked_none : (id : ℕ) (mode : Mode) (said acted_on : List HttpElement) → acted_on ≡ said → in_order Between said ≡ true → Walked id mode said [] acted_on
+walked_none id (Goes front) said acted_on same order = record {
   exchanges = [];
   each = All-nil (λ (x : Exchange). IsExchange id x);
   front = front;
   refusal = None;
   more = [];
   to = same ∙ sym (append-nil said);
-  says = append-nil (says_front front ++ says_refusal None);
+  reads_as = append-nil (elements_of_front front ++ elements_of_refusal None);
   asked = refl;
   due = append-nil (due_front front ++ due_refusal None);
   ordered = ap (λ (xs : List HttpElement). in_order Between xs) same ∙ order;
 }
-walked_none id (Over front refusal) said heard same order = record {
+walked_none id (Over front refusal) said acted_on same order = record {
   exchanges = [];
   each = All-nil (λ (x : Exchange). IsExchange id x);
   front = front;
   refusal = refusal;
   more = [];
   to = same ∙ sym (append-nil said);
-  says = append-nil (says_front front ++ says_refusal refusal);
+  reads_as = append-nil (elements_of_front front ++ elements_of_refusal refusal);
   asked = refl;
   due = append-nil (due_front front ++ due_refusal refusal);
   ordered = ap (λ (xs : List HttpElement). in_order Between xs) same ∙ order;
@@ -337,10 +337,10 @@ parted : {A : Type 0} (old more later now one all rest : List A) → old ++ more
 parted old more later now one all rest is none two =
     joined old more later one ((one ++ all) ++ rest) is (ap (λ xs. one ++ xs) (ap (λ xs. xs ++ later) (sym none) ∙ two) ∙ sym (append_assoc one all rest))
 
-walked_more : (id : ℕ) (mode : Mode) (said more : List HttpElement) (closes : Bool) (body : List ℕ) (a : Act) (acts : List Act) (heard : List HttpElement) (s : Stepped id mode said more closes body a.asked a.bytes) → Walked id s.now (said ++ more) acts heard → Walked id mode said (a ∷ acts) heard
-walked_more id mode said more closes body a acts heard s w = by s.comes
+walked_more : (id : ℕ) (mode : Mode) (said more : List HttpElement) (closes : Bool) (body : List ℕ) (a : Act) (acts : List Act) (acted_on : List HttpElement) (s : Stepped id mode said more closes body a.asked a.bytes) → Walked id s.now (said ++ more) acts acted_on → Walked id mode said (a ∷ acts) acted_on
+walked_more id mode said more closes body a acts acted_on s w = by s.comes
   where
-    by : Grows mode s.now more a.asked a.bytes ⊎ Completes id mode s.now more a.asked a.bytes → Walked id mode said (a ∷ acts) heard
+    by : Grows mode s.now more a.asked a.bytes ⊎ Completes id mode s.now more a.asked a.bytes → Walked id mode said (a ∷ acts) acted_on
     by (inl g) = record {
       exchanges = w.exchanges;
       each = w.each;
@@ -348,7 +348,7 @@ walked_more id mode said more closes body a acts heard s w = by s.comes
       refusal = w.refusal;
       more = more ++ w.more;
       to = w.to ∙ append_assoc said more w.more;
-      says = joined (says_mode mode) more w.more (says_mode s.now) (flat_map says_exchange w.exchanges ++ (says_front w.front ++ says_refusal w.refusal)) g.says w.says;
+      reads_as = joined (elements_of_mode mode) more w.more (elements_of_mode s.now) (flat_map elements_of_exchange w.exchanges ++ (elements_of_front w.front ++ elements_of_refusal w.refusal)) g.reads_as w.reads_as;
       asked = ap (λ (its : List RunPart). its ++ flat_map (λ (b : Act). b.asked) acts) g.none ∙ w.asked;
       due = joined (due_mode mode) a.bytes (flat_map (λ (b : Act). b.bytes) acts) (due_mode s.now) (flat_map due_in w.exchanges ++ (due_front w.front ++ due_refusal w.refusal)) g.due w.due;
       ordered = w.ordered;
@@ -360,28 +360,28 @@ walked_more id mode said more closes body a acts heard s w = by s.comes
       refusal = w.refusal;
       more = more ++ w.more;
       to = w.to ∙ append_assoc said more w.more;
-      says = parted (says_mode mode) more w.more (says_mode s.now) (says_exchange c.whole) (flat_map says_exchange w.exchanges) (says_front w.front ++ says_refusal w.refusal) c.says c.says_none w.says;
+      reads_as = parted (elements_of_mode mode) more w.more (elements_of_mode s.now) (elements_of_exchange c.whole) (flat_map elements_of_exchange w.exchanges) (elements_of_front w.front ++ elements_of_refusal w.refusal) c.reads_as c.no_elements w.reads_as;
       asked = ap (λ (its : List RunPart). its ++ flat_map (λ (b : Act). b.asked) acts) c.its ∙ ap (λ (its : List RunPart). c.whole.asked ++ its) w.asked;
       due = parted (due_mode mode) a.bytes (flat_map (λ (b : Act). b.bytes) acts) (due_mode s.now) (due_in c.whole) (flat_map due_in w.exchanges) (due_front w.front ++ due_refusal w.refusal) c.due c.due_none w.due;
       ordered = w.ordered;
     }
 
-same_said : (heard said : List HttpElement) (ends closes : Bool) (left body : List ℕ) → Http heard ends left ≡ Http said closes body → heard ≡ said
-same_said heard said ends closes left body is = cc
+same_said : (acted_on said : List HttpElement) (ends closes : Bool) (left body : List ℕ) → Http acted_on ends left ≡ Http said closes body → acted_on ≡ said
+same_said acted_on said ends closes left body is = cc
 
 module _ (ordered : ElementsInOrder) (some : SomeParse) (stays : FirstStays) where
-  walk : (id : ℕ) (acts : List Act) (mode : Mode) (said : List HttpElement) (closes : Bool) (body : List ℕ) (heard : List HttpElement) (ends : Bool) (left : List ℕ) → Leads mode said → Fits mode closes body → in_order Between said ≡ true → AreActs id (Http said closes body) acts (Http heard ends left) → Walked id mode said acts heard
-  walk id [] mode said closes body heard ends left leads fits order are = walked_none id mode said heard (same_said heard said ends closes left body are) order
-  walk id (a ∷ acts) mode said closes body heard ends left leads fits now (before, is, none, later) =
+  walk : (id : ℕ) (acts : List Act) (mode : Mode) (said : List HttpElement) (closes : Bool) (body : List ℕ) (acted_on : List HttpElement) (ends : Bool) (left : List ℕ) → Leads mode said → Fits mode closes body → in_order Between said ≡ true → AreActs id (Http said closes body) acts (Http acted_on ends left) → Walked id mode said acts acted_on
+  walk id [] mode said closes body acted_on ends left leads fits order are = walked_none id mode said acted_on (same_said acted_on said ends closes left body are) order
+  walk id (a ∷ acts) mode said closes body acted_on ends left leads fits now (before, is, none, later) =
       let next : NextIpp a.read said closes body a.what a.after = subst (λ (t : PeerRecord). IsNext a.state.settings a.read t a.what a.after) before is.next in
       let more : List HttpElement = elements_of next.item next.part in
       let owed : IsOwed id (closes_after next.item closes) a.what a.asked a.bytes = subst (λ (t : PeerRecord). IsOwed id (closes_of t) a.what a.asked a.bytes) next.is is.owed in
       let order : in_order Between (said ++ elements_of next.item next.part) ≡ true = first_ordered ordered some stays a.read (said ++ elements_of next.item next.part) next.first in
       let s : Stepped id mode said (elements_of next.item next.part) (closes_after next.item closes) (body_after next.item a.what next.part body) a.asked a.bytes =
       stepped id next.item next.part mode said closes body a.what a.asked a.bytes leads fits (sym (leads (elements_of next.item next.part)) ∙ order) next.comes owed in
-      walked_more id mode said (elements_of next.item next.part) (closes_after next.item closes) (body_after next.item a.what next.part body) a acts heard s
-      (walk id acts s.now (said ++ elements_of next.item next.part) (closes_after next.item closes) (body_after next.item a.what next.part body) heard ends left s.leads s.fits
-      order (subst (λ (t : PeerRecord). AreActs id t acts (Http heard ends left)) next.is later))
+      walked_more id mode said (elements_of next.item next.part) (closes_after next.item closes) (body_after next.item a.what next.part body) a acts acted_on s
+      (walk id acts s.now (said ++ elements_of next.item next.part) (closes_after next.item closes) (body_after next.item a.what next.part body) acted_on ends left s.leads s.fits
+      order (subst (λ (t : PeerRecord). AreActs id t acts (Http acted_on ends left)) next.is later))
 
   pub acts_are_exchanges : ActsAreExchanges
   acts_are_exchanges id acts said closes body are =
@@ -392,7 +392,7 @@ module _ (ordered : ElementsInOrder) (some : SomeParse) (stays : FirstStays) whe
         each = w.each;
         front = w.front;
         refusal = w.refusal;
-        said = w.to ∙ w.says;
+        said = w.to ∙ w.reads_as;
         asked = w.asked;
         due = w.due;
       }
@@ -496,5 +496,5 @@ module _ (ordered : ElementsInOrder) (some : SomeParse) (stays : FirstStays) whe
     closed = all_so opening all.handled l.closed all.closed all.closed_cut_off;
     first = all.first;
     closed_first = all.closed_first;
-    heard = all.heard;
+    acted_on = all.acted_on;
   }

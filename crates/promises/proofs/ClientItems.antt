@@ -47,7 +47,7 @@ use Rattle.dispatcher.specs.Notes.{Note, DeviceRefused, Refused}
 use Rattle.ipp_operations.specs.QueueText.{ack_of, text_of}
 use Rattle.send_queues.specs.Reply.{http_reply}
 use Rattle.server.specs.Answering as Ans
-use Rattle.server.specs.Hello.{IsSupersededAt, IsSuperseded, SaysName, HandlesHello}
+use Rattle.server.specs.Hello.{IsSupersededAt, IsSuperseded, GivesName, HandlesHello}
 use Rattle.server.specs.Acting.{place_of, place_of_part, Asks, ActsOn, ActsNext}
 use Rattle.server.specs.Polls.{Happening, Choice, Found, Rested}
 use Rattle.server.specs.Ledger.{Ledger, Fate, Drained, Broken, at_key, job_bytes, opening_ledger}
@@ -153,7 +153,7 @@ first_step (step.Asks asked last) mid new what is it = subst First (sym it.1) is
 first_step (step.Breaks asked) mid new what is it = subst First (sym it.1) is
 
 first_asks : (settings : ServerSettings) (what : Ask) (e new : Entry) → First e → AsksNext settings what e new → First new
-first_asks settings what e new first a = first_step a.comes a.mid new what (first_mid settings e.progress e a.comes a.mid first a.hears) a.steps
+first_asks settings what e new first a = first_step a.comes a.mid new what (first_mid settings e.progress e a.comes a.mid first a.takes_item) a.steps
 
 keeps_or : (R S : Rel) → Keeps R → Keeps S → Keeps (Or R S)
 keeps_or R S r s l hs l' first (inl it) = r l hs l' first it
@@ -313,8 +313,8 @@ keeps_gives_way key l hs l' first it = gives_way_at key (l.entries key) l hs l' 
 keeps_greets : (moment key id device : ℕ) (name : List ℕ) → Keeps (HandlesHello moment key id device name)
 keeps_greets moment key id device name l hs l' first (inl (alone, it)) = keeps_unanswered moment (Is.Report device (report.Hello name)) l hs l' first it
 keeps_greets moment key id device name l hs l' first (inr (inl (other, has, it))) =
-    keeps_then (IsSuperseded other) (Then (IsGone moment (Some device)) (SaysName moment device name)) (keeps_gives_way other)
-    (keeps_then (IsGone moment (Some device)) (SaysName moment device name) (keeps_unanswered moment (Is.Report device report.Gone)) (keeps_unanswered moment (Is.Report device (report.Hello name)))) l hs l' first it
+    keeps_then (IsSuperseded other) (Then (IsGone moment (Some device)) (GivesName moment device name)) (keeps_gives_way other)
+    (keeps_then (IsGone moment (Some device)) (GivesName moment device name) (keeps_unanswered moment (Is.Report device report.Gone)) (keeps_unanswered moment (Is.Report device (report.Hello name)))) l hs l' first it
 keeps_greets moment key id device name l hs l' first (inr (inr (other, has, it))) =
     keeps_then (IsSuperseded key) (Notifies (DeviceRefused id (why.Connected device))) (keeps_gives_way key) (keeps_notifies (DeviceRefused id (why.Connected device))) l hs l' first it
 

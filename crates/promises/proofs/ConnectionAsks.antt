@@ -37,7 +37,7 @@ use Rattle.promises.proofs.SentToDevices.{Counts, due_at, FreshTalk, IsFresh, Is
 use Rattle.promises.proofs.HandledEvents.{happened, CameAs, Goes, goes_then, goes_calm, TalkedAs, Went, progressed_still, one_handled, none_closed, LostAs, lost_by, StopsAs, stops_still, acts_on}
 use Rattle.promises.proofs.DueToClients.{calms_chooses, Gave, gave_still, gives_nothing, at_aside, at_here, Just_these, Loose, notified_of, refusal_at, one_refusal, given, No_memory, gives_dropped, gives_declines, gives_answers}
 use Rattle.promises.proofs.EventsOfTurns.{Moves, moves_calm, moves_then, moves_many, moves_settles}
-use Rattle.promises.proofs.StreamSteps.{IsClientAsk, silent_run, notifies_part, device_does, IsClientStep, client_hears, DeviceAsks, device_hears}
+use Rattle.promises.proofs.StreamSteps.{IsClientAsk, silent_run, notifies_part, device_does, IsClientStep, client_keeps, DeviceAsks, device_keeps}
 use Rattle.promises.proofs.DeviceNames.{Just, greets}
 
 -- ---- the asks come about
@@ -252,7 +252,7 @@ pub next_of : (settings : ServerSettings) (progress : PeerRecord) (e : Entry) (c
 next_of settings (Http said closes body) e comes mid client is fine next = (ap (λ (x : Entry). x.due) next.after, inr (record { item = next.item; part = next.part; first = next.next; comes = next.comes; is = ap (λ (x : Entry). x.progress) next.after }), reads_still e mid (ap (λ (x : Entry). x.id) next.after) (ap (λ (x : Entry). x.read) next.after) (ap (λ (x : Entry). x.draining) next.after))
 next_of settings (Queue items session) e comes mid client is fine (inl next) =
     (ap (λ (x : Entry). x.due) next.after, inr (inl (record { said = next.said; session_after = next.session_after; first = next.next; comes = next.comes; is = ap (λ (x : Entry). x.progress) next.after })), reads_still e mid (ap (λ (x : Entry). x.id) next.after) (ap (λ (x : Entry). x.read) next.after) (ap (λ (x : Entry). x.draining) next.after))
-next_of settings (Queue items session) e comes mid client is fine (inr (inl next)) = (ap (λ (x : Entry). x.due) next.after, inr (inr (record { fault = next.fault; says = next.is; comes = next.comes; is = ap (λ (x : Entry). x.progress) next.after ∙ is })), reads_still e mid (ap (λ (x : Entry). x.id) next.after) (ap (λ (x : Entry). x.read) next.after) (ap (λ (x : Entry). x.draining) next.after))
+next_of settings (Queue items session) e comes mid client is fine (inr (inl next)) = (ap (λ (x : Entry). x.due) next.after, inr (inr (record { fault = next.fault; reads_as = next.is; comes = next.comes; is = ap (λ (x : Entry). x.progress) next.after ∙ is })), reads_still e mid (ap (λ (x : Entry). x.id) next.after) (ap (λ (x : Entry). x.read) next.after) (ap (λ (x : Entry). x.draining) next.after))
 next_of settings (Queue items session) e comes mid client is fine (inr (inr next)) = (ap (λ (x : Entry). x.due) next.1, inl (next.0, ap (λ (x : Entry). x.progress) next.1 ∙ is), reads_still e mid (ap (λ (x : Entry). x.id) next.1) (ap (λ (x : Entry). x.read) next.1) (ap (λ (x : Entry). x.draining) next.1))
 next_of settings (Link reports device) e comes mid client is fine next = absurd client
 
@@ -294,15 +294,15 @@ client_acts moment key id what l front mid back l' hs whole good a client does =
     core : mid.core ≡ l.core
     core = ap (λ (x : Ledger). x.core) a.after
 
-    heard_so : IsClientStep a.asks.comes × ClientTalk a.asks.mid.progress
-    heard_so = client_hears l.core.settings a.entry.progress a.entry a.asks.comes a.asks.mid client client a.asks.hears
+    acted_on_so : IsClientStep a.asks.comes × ClientTalk a.asks.mid.progress
+    acted_on_so = client_keeps l.core.settings a.entry.progress a.entry a.asks.comes a.asks.mid client client a.asks.takes_item
 
     new_progress : a.new.progress ≡ a.asks.mid.progress
     new_progress = steps_progress a.asks.comes a.asks.mid a.new what a.asks.steps
 
     read_on : ReadsOn a.entry a.new
     read_on =
-        let next = (next_of l.core.settings a.entry.progress a.entry a.asks.comes a.asks.mid client refl heard_so.0 a.asks.hears).2 in
+        let next = (next_of l.core.settings a.entry.progress a.entry a.asks.comes a.asks.mid client refl acted_on_so.0 a.asks.takes_item).2 in
         let step = steps_read a.asks.comes a.asks.mid a.new what a.asks.steps in
         record { same = step.0 ∙ next.same; more = next.more; grown = step.1 ∙ next.grown; drains = λ is. absurd (no_true a.entry.draining is (not_draining a.entry.draining a.entry.broken a.asks.counts)) }
 
@@ -313,7 +313,7 @@ client_acts moment key id what l front mid back l' hs whole good a client does =
     beside k apart = ap (λ (x : Ledger). x.entries k) a.after ∙ at_aside key a.new l.entries k apart
 
     of_client : IsClient (mid.entries key)
-    of_client = subst IsClient (sym set) (subst ClientTalk (sym new_progress) heard_so.1)
+    of_client = subst IsClient (sym set) (subst ClientTalk (sym new_progress) acted_on_so.1)
 
     good_mid : Good mid
     good_mid = record {
@@ -343,7 +343,7 @@ client_acts moment key id what l front mid back l' hs whole good a client does =
         fresh_mid k false is = subst IsFresh (sym (beside k (other_key k key is))) (good.fresh k)
 
     acted : Acted moment key a.asks.comes a.new a.asks.mid.due mid back l'
-    acted = acted_by moment key id a.asks.comes a.asks.mid a.new what mid back l' heard_so.0 a.asks.steps heard_so.1 (a.its ∙ sym read_on.same) good_mid set does
+    acted = acted_by moment key id a.asks.comes a.asks.mid a.new what mid back l' acted_on_so.0 a.asks.steps acted_on_so.1 (a.its ∙ sym read_on.same) good_mid set does
 
     ordered : (k : ℕ) → k ≢ key → Ordered acted.sent (l.entries k) (l'.entries k)
     ordered k apart = subst (λ (o : Option Entry). Ordered acted.sent o (l'.entries k)) (beside k apart) (acted.others k apart)
@@ -404,8 +404,8 @@ client_acts moment key id what l front mid back l' hs whole good a client does =
           due = it.1.2 ∙ (ap (λ (bytes : List ℕ). bytes ++ it.1.0) due ∙ ap (λ (bytes : List ℕ). a.entry.due ++ bytes) (sym (append-nil it.1.0)));
         }
 
-    heard_next : (a.asks.mid.due ≡ a.entry.due) × (((a.asks.comes ≡ no_memory) × (a.asks.mid.progress ≡ a.entry.progress)) ⊎ IsNext l.core.settings a.entry.read a.entry.progress a.asks.comes a.asks.mid.progress) × ReadsOn a.entry a.asks.mid
-    heard_next = next_of l.core.settings a.entry.progress a.entry a.asks.comes a.asks.mid client refl heard_so.0 a.asks.hears
+    acted_on_next : (a.asks.mid.due ≡ a.entry.due) × (((a.asks.comes ≡ no_memory) × (a.asks.mid.progress ≡ a.entry.progress)) ⊎ IsNext l.core.settings a.entry.read a.entry.progress a.asks.comes a.asks.mid.progress) × ReadsOn a.entry a.asks.mid
+    acted_on_next = next_of l.core.settings a.entry.progress a.entry a.asks.comes a.asks.mid client refl acted_on_so.0 a.asks.takes_item
 
     -- the connection broke: the bytes of its last step aren't due, or they are
     broke : (e : Entry) → e.progress ≡ a.new.progress → ReadsOn a.new e → ((a.asks.comes ≡ no_memory) × (a.asks.mid.progress ≡ a.entry.progress)) ⊎ IsNext l.core.settings a.entry.read a.entry.progress a.asks.comes a.asks.mid.progress → a.asks.mid.due ≡ a.entry.due → HaltsAs a.asks.comes a.new a.asks.mid.due (asked_by key acted.handled) e
@@ -448,13 +448,13 @@ client_acts moment key id what l front mid back l' hs whole good a client does =
     stops k e true same is of broken =
         let at : k ≡ key = same_key k key same in
         let it = acted.halts e (subst (λ (j : ℕ). l'.entries j ≡ Some e) at is) of broken in
-        subst (λ (j : ℕ). StopsAs l.core j acted.handled (l.entries j) e) (sym at) (inr (inl (a.entry, a.there, client, not_broken a.entry.draining a.entry.broken a.asks.counts, broke e it.0 it.2 heard_next.1 heard_next.0 it.1, reads_then a.entry a.new e read_on it.2, λ is. absurd (no_true a.entry.draining is (not_draining a.entry.draining a.entry.broken a.asks.counts)))))
+        subst (λ (j : ℕ). StopsAs l.core j acted.handled (l.entries j) e) (sym at) (inr (inl (a.entry, a.there, client, not_broken a.entry.draining a.entry.broken a.asks.counts, broke e it.0 it.2 acted_on_next.1 acted_on_next.0 it.1, reads_then a.entry a.new e read_on it.2, λ is. absurd (no_true a.entry.draining is (not_draining a.entry.draining a.entry.broken a.asks.counts)))))
     stops k e false same is of broken = stops_still l.core k acted.handled (l.entries k) (l'.entries k) (ordered k (other_key k key same)).stays (acted.aside k (other_key k key same)) e is of broken
 
     progresses : (k : ℕ) (e : Entry) (t : Bool) → (k == key) ≡ t → l'.entries k ≡ Some e → ClientTalk e.progress → e.broken ≡ false → TalkedAs l.core k acted.handled (l.entries k) e
     progresses k e true same is of sound =
         let at : k ≡ key = same_key k key same in
-        subst (λ (j : ℕ). TalkedAs l.core j acted.handled (l.entries j) e) (sym at) (inl (went e (subst (λ (j : ℕ). l'.entries j ≡ Some e) at is) of sound heard_next.1 heard_next.0))
+        subst (λ (j : ℕ). TalkedAs l.core j acted.handled (l.entries j) e) (sym at) (inl (went e (subst (λ (j : ℕ). l'.entries j ≡ Some e) at is) of sound acted_on_next.1 acted_on_next.0))
     progresses k e false same is of sound = progressed_still l.core k acted.handled (l.entries k) (l'.entries k) (ordered k (other_key k key same)).stays (acted.aside k (other_key k key same)) e is of sound
 
 pub device_acts : (moment key id : ℕ) (what : Ask) (l : Ledger) (front : List Happening) (mid : Ledger) (back : List Happening) (l' : Ledger) (hs : List Happening) → hs ≡ front ++ back → Good l
@@ -475,7 +475,7 @@ acts_by moment key id what l front mid back l' hs whole good a (Http said closes
 acts_by moment key id what l front mid back l' hs whole good a (Queue items session) is does = client_acts moment key id what l front mid back l' hs whole good a (subst ClientTalk (sym is) tt) does
 acts_by moment key id what l front mid back l' hs whole good a (Link reports device) is does =
     device_acts moment key id what l front mid back l' hs whole good a
-    (device_hears l.core.settings reports device a.entry a.asks.comes a.asks.mid what a.new is (subst (λ (t : PeerRecord). FreshTalk t a.entry) is (subst IsFresh a.there (good.fresh key))) (not_broken a.entry.draining a.entry.broken a.asks.counts) (subst (λ (t : PeerRecord). ItemComes l.core.settings t a.entry a.asks.comes a.asks.mid) is a.asks.hears) a.asks.steps) does
+    (device_keeps l.core.settings reports device a.entry a.asks.comes a.asks.mid what a.new is (subst (λ (t : PeerRecord). FreshTalk t a.entry) is (subst IsFresh a.there (good.fresh key))) (not_broken a.entry.draining a.entry.broken a.asks.counts) (subst (λ (t : PeerRecord). ItemComes l.core.settings t a.entry a.asks.comes a.asks.mid) is a.asks.takes_item) a.asks.steps) does
 
 pub moves_acts_next : (moment key : ℕ) → Moves true moment (ActsNext moment key)
 moves_acts_next moment key l hs l' good (id, what, it) = acts_by moment key id what l it.front it.mid it.back l' hs it.whole good it.first it.first.entry.progress refl it.second

@@ -1,4 +1,4 @@
--- A device says its name on a connection.
+-- A device gives its name on a connection.
 use Rattle.std.proofs.Common.{◌≡◌, ◌≢◌, ℕ, Bool, true, false, List, [], ◌++◌, refl, sym, ◌∙◌, ap, subst, append_assoc, append-nil, Option, Some, None, ◌⊎◌, inl, inr}
 use Rattle.std.specs.Prelude.{◌==◌, if◌then◌else◌}
 use Rattle.std.proofs.lemmas.List.Elements.{All-nil}
@@ -18,7 +18,7 @@ use Rattle.promises.proofs.SentToDevices.{Counts, due_at, FreshTalk, IsFresh, sa
 use Rattle.promises.proofs.HandledEvents.{happened, CameAs, Goes, goes_calm, Awaits, awaits_event, awaits_named, gone_sends_none, TalkedAs, progressed_still, LostAs, lost_by, StopsAs, stops_still}
 use Rattle.promises.proofs.DueToClients.{at_here}
 
--- ---- a device says its name
+-- ---- a device gives its name
 
 -- the connection under a key once another connection is set there, and under each other key
 pub at_cases : (key : ℕ) (new : Entry) (entries : ℕ → Option Entry) (k : ℕ) → ((k ≡ key) × (at_key key (Some new) entries k ≡ Some new)) ⊎ ((k ≢ key) × (at_key key (Some new) entries k ≡ entries k))

@@ -5,14 +5,14 @@ use Rattle.std.specs.List.{flat_map}
 use Rattle.std.proofs.lemmas.Grind.{flat_map-append}
 use Rattle.std.proofs.lemmas.List.{map-append}
 use Rattle.std.proofs.lemmas.List.Elements.{All-append, All-cons, All-nil, All-weaker, filter-append}
-use Rattle.base_types.specs.Report.{ReportRecord, SaysHello, IsGone as SaysGone}
+use Rattle.base_types.specs.Report.{ReportRecord, HelloReport, GoneReport}
 use Rattle.device_link.specs.Stream.{ParsesFirst}
 use Rattle.connections.specs.Entry.{PeerRecord, Http, Queue, Link, Entry, device_of, reading, unnamed}
 use Rattle.server.specs.Ledger.{Ledger, Fate, at_key, without}
 use Rattle.server.specs.Enqueuing.{IsDevice}
 use Rattle.server.specs.Hello.{IsAlone}
 use Rattle.promises.specs.Orders.{names}
-use Rattle.promises.specs.Heard.{said_on, life_of, is_of, progress_of, HasBroken, IsGivenUp, IsNow, IsReported, IsGreeted, IsRead}
+use Rattle.promises.specs.Delivered.{said_on, life_of, is_of, progress_of, HasBroken, IsGivenUp, IsNow, IsReported, IsGreeted, IsRead}
 use Rattle.promises.proofs.SentToDevices.{same_key, other_key, is_key, not_key, one_entry, no_true}
 
 -- ---- a connection
@@ -45,7 +45,7 @@ pub no_entry : (o : Option Entry) (e : Entry) → o ≡ None → o ≡ Some e �
 no_entry o e p q = cc
 
 pub read_as : (d e : Entry) → said_on e.progress ≡ said_on d.progress → e.read ≡ d.read → IsRead d → IsRead e
-read_as d e said read (front, rest, whole, says) = (front, rest, read ∙ whole, subst (λ (reports : List ReportRecord). ParsesFirst front reports) (sym said) says)
+read_as d e said read (front, rest, whole, reads_as) = (front, rest, read ∙ whole, subst (λ (reports : List ReportRecord). ParsesFirst front reports) (sym said) reads_as)
 
 pub grows_as : (d e : Entry) → e.progress ≡ d.progress → e.read ≡ d.read → (d.broken ≡ true → e.broken ≡ true) → Grows d e
 grows_as d e progress read broken = record { progress = inl progress; broken = broken; reads = read_as d e (ap said_on progress) read }
@@ -54,7 +54,7 @@ pub grows_reading : (d : Entry) (piece : List ℕ) → Grows d (reading piece d)
 grows_reading d piece = record {
   progress = inl refl;
   broken = λ is. is;
-  reads = λ (front, rest, whole, says). (front, rest ++ piece, ap (λ (bytes : List ℕ). bytes ++ piece) whole ∙ append_assoc front rest piece, says);
+  reads = λ (front, rest, whole, reads_as). (front, rest ++ piece, ap (λ (bytes : List ℕ). bytes ++ piece) whole ∙ append_assoc front rest piece, reads_as);
 }
 
 grows_then : (d e f : Entry) → Grows d e → Grows e f → Grows d f
@@ -234,11 +234,11 @@ reported_as device notified other l same r = subst (λ (reports : List ReportRec
 -- ---- a connection's end
 
 -- a connection ended on which this was said
-past_more : (past : List PeerRecord) (progress : PeerRecord) (now notified : List ReportRecord) → notified ≡ flat_map life_of past ++ now → said_on progress ≡ now → notified ++ SaysGone ∷ [] ≡ flat_map life_of (past ++ progress ∷ []) ++ []
+past_more : (past : List PeerRecord) (progress : PeerRecord) (now notified : List ReportRecord) → notified ≡ flat_map life_of past ++ now → said_on progress ≡ now → notified ++ GoneReport ∷ [] ≡ flat_map life_of (past ++ progress ∷ []) ++ []
 past_more past progress now notified whole said =
-    ap (λ (reports : List ReportRecord). reports ++ SaysGone ∷ []) whole
-    ∙ (append_assoc (flat_map life_of past) now (SaysGone ∷ [])
-    ∙ (ap (λ (reports : List ReportRecord). flat_map life_of past ++ (reports ++ SaysGone ∷ [])) (sym said)
+    ap (λ (reports : List ReportRecord). reports ++ GoneReport ∷ []) whole
+    ∙ (append_assoc (flat_map life_of past) now (GoneReport ∷ [])
+    ∙ (ap (λ (reports : List ReportRecord). flat_map life_of past ++ (reports ++ GoneReport ∷ [])) (sym said)
     ∙ sym (append-nil (flat_map life_of (past ++ progress ∷ [])) ∙ (flat_map-append life_of past (progress ∷ []) ∙ ap (λ (reports : List ReportRecord). flat_map life_of past ++ reports) (append-nil (life_of progress))))))
 
 closed_more : (device : ℕ) (closed : List (Entry × Fate)) (it : Entry × Fate) → filter (is_of device) (map progress_of (closed ++ it ∷ [])) ≡ filter (is_of device) (map progress_of closed) ++ filter (is_of device) (progress_of it ∷ [])
@@ -263,7 +263,7 @@ given_left device key e fate past l there all =
 -- the reports that the core is notified as a connection ends
 abbrev pub gone_notified : ℕ → Option ℕ → List ReportRecord
 gone_notified device None = []
-gone_notified device (Some other) = if other == device then SaysGone ∷ [] else []
+gone_notified device (Some other) = if other == device then GoneReport ∷ [] else []
 
 -- the one open connection that bears a device's name
 pub record OneOf (device : ℕ) (now : List ReportRecord) (key : ℕ) (e : Entry) (l : Ledger) : Type 0 where
@@ -283,7 +283,7 @@ only_one device now key e l there named (inr (k, d, at, progress, alone)) = by_k
     other : key ≢ k → OneOf device now key e l
     other apart = absurd (alone key apart (subst (IsDevice device) (sym there) named))
 
-left_named : (device key : ℕ) (e : Entry) (fate : Fate) (notified : List ReportRecord) (l : Ledger) → l.entries key ≡ Some e → device_of e.progress ≡ Some device → IsReported device notified l → IsReported device (notified ++ SaysGone ∷ []) (without key e fate l)
+left_named : (device key : ℕ) (e : Entry) (fate : Fate) (notified : List ReportRecord) (l : Ledger) → l.entries key ≡ Some e → device_of e.progress ≡ Some device → IsReported device notified l → IsReported device (notified ++ GoneReport ∷ []) (without key e fate l)
 left_named device key e fate notified l there named r = record {
   past = r.past ++ e.progress ∷ [];
   now = [];
@@ -329,7 +329,7 @@ reported_left device key None e fate notified l there is r =
     reported_as device notified (notified ++ []) (without key e fate l) (sym (append-nil notified)) (left_other device key e fate notified l there (ap (names device) is) r)
 reported_left device key (Some other) e fate notified l there is r = by (other == device) refl
   where
-    by : (t : Bool) → (other == device) ≡ t → IsReported device (notified ++ (if t then SaysGone ∷ [] else [])) (without key e fate l)
+    by : (t : Bool) → (other == device) ≡ t → IsReported device (notified ++ (if t then GoneReport ∷ [] else [])) (without key e fate l)
     by true same = left_named device key e fate notified l there (is ∙ ap (λ (d : ℕ). Some d) (same_key other device same)) r
     by false apart = reported_as device notified (notified ++ []) (without key e fate l) (sym (append-nil notified)) (left_other device key e fate notified l there (ap (names device) is ∙ apart) r)
 
@@ -339,7 +339,7 @@ reported_closed device key e fate notified l m l' there after kept r =
     reported_kept device (notified ++ gone_notified device (device_of e.progress)) m l' kept
     (subst (λ (x : Ledger). IsReported device (notified ++ gone_notified device (device_of e.progress)) x) (sym after) (reported_left device key (device_of e.progress) e fate notified l there refl r))
 
--- ---- a device says more
+-- ---- more reports of a device
 
 -- of a device, where it is this one
 abbrev pub notified_if : ℕ → ℕ → List ReportRecord → List ReportRecord
@@ -410,7 +410,7 @@ reported_more device dev key said notified l l' m r = by (dev == device) refl
         (other_device device dev apart (l'.entries k) m.f (ap l'.entries same ∙ m.now) (ap device_of m.after)) (passes k))
         (λ other. kept_keeps device (l.entries k) (l'.entries k) (m.others k other))) r)
 
--- ---- a device says its name
+-- ---- a device gives its name
 
 pub record Named (dev key : ℕ) (name : List ℕ) (l l' : Ledger) : Type 0 where
   pub d : Entry
@@ -419,12 +419,12 @@ pub record Named (dev key : ℕ) (name : List ℕ) (l l' : Ledger) : Type 0 wher
   pub nameless : device_of d.progress ≡ None
   pub sound : d.broken ≡ false
   pub now : l'.entries key ≡ Some f
-  pub after : f.progress ≡ Link (SaysHello name ∷ []) (Some dev)
+  pub after : f.progress ≡ Link (HelloReport name ∷ []) (Some dev)
   pub closed : l'.closed ≡ l.closed
 
 -- on the first connection that it has
 pub reported_named : (device dev key : ℕ) (name : List ℕ) (notified : List ReportRecord) (l l' : Ledger) → Named dev key name l l' → IsAlone dev key l → ((k : ℕ) → k ≢ key → Kept (l.entries k) (l'.entries k)) → IsReported device notified l
-    → IsReported device (notified ++ notified_if device dev (SaysHello name ∷ [])) l'
+    → IsReported device (notified ++ notified_if device dev (HelloReport name ∷ [])) l'
 reported_named device dev key name notified l l' m alone others r = by (dev == device) refl
   where
     passes : (k : ℕ) → Passes (l.entries k) (l'.entries k)
@@ -436,23 +436,23 @@ reported_named device dev key name notified l l' m alone others r = by (dev == d
         let is : IsDevice device (l.entries k) = subst (IsDevice device) (sym at) (ap device_of progress) in
         by_key k key (λ here. absurd (nameless_none device (l.entries k) m.d (ap l.entries here ∙ m.there) m.nameless is)) (λ apart. absurd (alone k apart (subst (λ (x : ℕ). IsDevice x (l.entries k)) (sym same) is)))
 
-    this : dev ≡ device → IsReported device (notified ++ SaysHello name ∷ []) l'
+    this : dev ≡ device → IsReported device (notified ++ HelloReport name ∷ []) l'
     this same = record {
       past = r.past;
-      now = SaysHello name ∷ [];
-      whole = more_notified r.past r.now notified (SaysHello name) r.whole ∙ ap (λ (reports : List ReportRecord). flat_map life_of r.past ++ (reports ++ SaysHello name ∷ [])) (none same r.is_now);
+      now = HelloReport name ∷ [];
+      whole = more_notified r.past r.now notified (HelloReport name) r.whole ∙ ap (λ (reports : List ReportRecord). flat_map life_of r.past ++ (reports ++ HelloReport name ∷ [])) (none same r.is_now);
       closed = closed_same device r.past l l' m.closed r.closed;
       superseded_entry = given_passes device r.past l l' m.closed passes r.superseded_entry;
       is_now = inr (
         key,
         m.f,
         m.now,
-        m.after ∙ ap (λ (x : ℕ). Link (SaysHello name ∷ []) (Some x)) same,
+        m.after ∙ ap (λ (x : ℕ). Link (HelloReport name ∷ []) (Some x)) same,
         λ k apart is. alone k apart (subst (λ (x : ℕ). IsDevice x (l.entries k)) (sym same) (named_was device (l.entries k) (l'.entries k) (others k apart) is)),
       );
     }
 
-    by : (t : Bool) → (dev == device) ≡ t → IsReported device (notified ++ (if t then SaysHello name ∷ [] else [])) l'
+    by : (t : Bool) → (dev == device) ≡ t → IsReported device (notified ++ (if t then HelloReport name ∷ [] else [])) l'
     by true same = this (same_key dev device same)
     by false apart =
         reported_as device notified (notified ++ []) l' (sym (append-nil notified))
@@ -481,7 +481,7 @@ unnamed_nameless (Http said closes body) = refl
 unnamed_nameless (Queue items session) = refl
 unnamed_nameless (Link reports device) = refl
 
-pub reported_over : (device dev key other : ℕ) (name : List ℕ) (notified : List ReportRecord) (l l' : Ledger) → Named dev key name l l' → Over dev key other l l' → IsReported device notified l → IsReported device (notified ++ notified_if device dev (SaysGone ∷ SaysHello name ∷ [])) l'
+pub reported_over : (device dev key other : ℕ) (name : List ℕ) (notified : List ReportRecord) (l l' : Ledger) → Named dev key name l l' → Over dev key other l l' → IsReported device notified l → IsReported device (notified ++ notified_if device dev (GoneReport ∷ HelloReport name ∷ [])) l'
 reported_over device dev key other name notified l l' m v r = by (dev == device) refl
   where
     nameless : device_of v.g.progress ≡ None
@@ -492,15 +492,15 @@ reported_over device dev key other name notified l l' m v r = by (dev == device)
         by_key k key (λ same. passes_sound m.d (l.entries k) (l'.entries k) (ap l.entries same ∙ m.there) m.sound)
         (λ apart. by_key k other (λ same. passes_named dev v.o (l.entries k) (l'.entries k) (ap l.entries same ∙ v.there) v.named) (λ away. kept_passes (l.entries k) (l'.entries k) (v.others k apart away)))
 
-    this : dev ≡ device → IsReported device (notified ++ SaysGone ∷ SaysHello name ∷ []) l'
+    this : dev ≡ device → IsReported device (notified ++ GoneReport ∷ HelloReport name ∷ []) l'
     this same =
         let one = only_one device r.now other v.o l v.there (v.named ∙ ap (λ (x : ℕ). Some x) same) r.is_now in
         let progress : v.g.progress ≡ Link r.now None = v.after ∙ ap unnamed one.progress in
         record {
           past = r.past ++ Link r.now None ∷ [];
-          now = SaysHello name ∷ [];
-          whole = sym (append_assoc notified (SaysGone ∷ []) (SaysHello name ∷ []))
-              ∙ ap (λ (reports : List ReportRecord). reports ++ SaysHello name ∷ []) (past_more r.past (Link r.now None) r.now notified r.whole refl ∙ append-nil (flat_map life_of (r.past ++ Link r.now None ∷ [])));
+          now = HelloReport name ∷ [];
+          whole = sym (append_assoc notified (GoneReport ∷ []) (HelloReport name ∷ []))
+              ∙ ap (λ (reports : List ReportRecord). reports ++ HelloReport name ∷ []) (past_more r.past (Link r.now None) r.now notified r.whole refl ∙ append-nil (flat_map life_of (r.past ++ Link r.now None ∷ [])));
           closed = filter-append (is_of device) r.past (Link r.now None ∷ []) ∙ (append-nil (filter (is_of device) r.past) ∙ closed_same device r.past l l' m.closed r.closed);
           superseded_entry = All-append (λ (it : PeerRecord). is_of device it ≡ false → IsGivenUp it l') r.past (Link r.now None ∷ []) (given_passes device r.past l l' m.closed passes r.superseded_entry)
               (All-cons (λ (it : PeerRecord). is_of device it ≡ false → IsGivenUp it l') (Link r.now None) [] (λ isnt. (refl, inl (other, v.g, v.now, progress, v.broke))) (All-nil (λ (it : PeerRecord). is_of device it ≡ false → IsGivenUp it l')));
@@ -508,13 +508,13 @@ reported_over device dev key other name notified l l' m v r = by (dev == device)
             key,
             m.f,
             m.now,
-            m.after ∙ ap (λ (x : ℕ). Link (SaysHello name ∷ []) (Some x)) same,
+            m.after ∙ ap (λ (x : ℕ). Link (HelloReport name ∷ []) (Some x)) same,
             λ k apart is.
                 by_key k other (λ at. nameless_none device (l'.entries k) v.g (ap l'.entries at ∙ v.now) nameless is) (λ away. one.alone k away (named_was device (l.entries k) (l'.entries k) (v.others k apart away) is)),
           );
         }
 
-    by : (t : Bool) → (dev == device) ≡ t → IsReported device (notified ++ (if t then SaysGone ∷ SaysHello name ∷ [] else [])) l'
+    by : (t : Bool) → (dev == device) ≡ t → IsReported device (notified ++ (if t then GoneReport ∷ HelloReport name ∷ [] else [])) l'
     by true same = this (same_key dev device same)
     by false apart =
         reported_as device notified (notified ++ []) l' (sym (append-nil notified))
@@ -564,7 +564,7 @@ sound_left key e fate l there sound = record {
 }
 
 pub first_read : (e : Entry) (read : List ℕ) (reports : List ReportRecord) → ParsesFirst read reports → e.read ≡ read → said_on e.progress ≡ reports → IsRead e
-first_read e read reports says same said = (read, [], same ∙ sym (append-nil read), subst (λ (its : List ReportRecord). ParsesFirst read its) (sym said) says)
+first_read e read reports reads_as same said = (read, [], same ∙ sym (append-nil read), subst (λ (its : List ReportRecord). ParsesFirst read its) (sym said) reads_as)
 
 -- the connection has no report
 pub none_read : (e : Entry) → said_on e.progress ≡ [] → IsRead e
@@ -579,7 +579,7 @@ pub record AllGreeted (Name : List ℕ → ℕ → Type 0) (l : Ledger) : Type 0
 greeted_grows : (Name : List ℕ → ℕ → Type 0) (d e : Entry) → Grows d e → IsGreeted Name d → IsGreeted Name e
 greeted_grows Name d e g was device reports progress = by g.progress
   where
-    by : (e.progress ≡ d.progress) ⊎ Unnamed d e → (name : List ℕ) × (rest : List ReportRecord) × (reports ≡ SaysHello name ∷ rest) × Name name device
+    by : (e.progress ≡ d.progress) ⊎ Unnamed d e → (name : List ℕ) × (rest : List ReportRecord) × (reports ≡ HelloReport name ∷ rest) × Name name device
     by (inl same) = was device reports (sym same ∙ progress)
     by (inr u) = absurd (no_both (device_of e.progress) device u.after (ap device_of progress))
 
@@ -618,9 +618,9 @@ same_link : (one other : List ReportRecord) (dev device : ℕ) → Link one (Som
 same_link one other dev device same = (cc, cc)
 
 -- with its name alone, and with one more report
-pub greeted_first : (Name : List ℕ → ℕ → Type 0) (dev : ℕ) (name : List ℕ) (e : Entry) → e.progress ≡ Link (SaysHello name ∷ []) (Some dev) → Name name dev → IsGreeted Name e
+pub greeted_first : (Name : List ℕ → ℕ → Type 0) (dev : ℕ) (name : List ℕ) (e : Entry) → e.progress ≡ Link (HelloReport name ∷ []) (Some dev) → Name name dev → IsGreeted Name e
 greeted_first Name dev name e progress is device reports same =
-    let both = same_link (SaysHello name ∷ []) reports dev device (sym progress ∙ same) in
+    let both = same_link (HelloReport name ∷ []) reports dev device (sym progress ∙ same) in
     (name, [], sym both.0, subst (Name name) both.1 is)
 
 pub greeted_more : (Name : List ℕ → ℕ → Type 0) (dev : ℕ) (said : ReportRecord) (before : List ReportRecord) (d e : Entry) → d.progress ≡ Link before (Some dev) → e.progress ≡ Link (before ++ said ∷ []) (Some dev) → IsGreeted Name d → IsGreeted Name e

@@ -1,7 +1,7 @@
 -- The next item of a stream, for the core: a device gives its name, or sends a report; or neither.
 use Rattle.std.proofs.Common.{◌≡◌, ℕ, false, List, [], ◌∷◌, ◌++◌, refl, sym, ◌∙◌, ap, subst, Option, Some, None, ◌⊎◌, inl, inr}
 use Rattle.base_types.specs.declared.report.Report.{Report}
-use Rattle.base_types.specs.Report.{ReportRecord, SaysHello, SaysMedia, SaysReady, SaysStop, SaysBusy, SaysPages, SaysDone, SaysFail, IsGone as SaysGone, report_of}
+use Rattle.base_types.specs.Report.{ReportRecord, HelloReport, MediaReport, ReadyReport, StopReport, BusyReport, PagesReport, DoneReport, FailReport, GoneReport, report_of}
 use Rattle.std.specs.Prelude.{slice_get, position, map, get_or, ◌<◌}
 use Rattle.std.specs.Str.{bytes_eq}
 use Rattle.std.proofs.lemmas.Option.{slice_get-get_or}
@@ -19,7 +19,7 @@ use Rattle.connections.specs.Entry.{PeerRecord, Http, Queue, Link, Entry, device
 use Rattle.connections.specs.Asking.{ItemComes, StepsTo}
 use Rattle.connections.specs.Steps.{StepsHello, StepsDevice}
 use Rattle.promises.specs.Answers.{ClientTalk}
-use Rattle.promises.specs.Heard.{said_on, IsRead}
+use Rattle.promises.specs.Delivered.{said_on, IsRead}
 use Rattle.promises.proofs.AnswerKinds.{EventOf}
 use Rattle.promises.proofs.SentToDevices.{no_true}
 use Rattle.promises.proofs.StreamSteps.{IsClientAsk, IsClientStep}
@@ -94,15 +94,15 @@ place_named settings name device is = by settings.devices is
         slice_get-get_or (map (λ (entry : DeviceEntry). entry.name) (first ∷ entries)) device [] (subst (λ (n : ℕ). device < n) (sym (length-map (first ∷ entries) (λ (entry : DeviceEntry). entry.name))) it.0)
         ∙ ap (λ (x : List ℕ). Some x) (get_or-map (λ (entry : DeviceEntry). entry.name) (first ∷ entries) device first [] it.0 ∙ sym ((bytes_eq-Decides name (get_or (first ∷ entries) device first).name).0 it.1))
 
--- a device says its name
-pub record SaysIt (settings : ServerSettings) (what : Ask) (e new : Entry) : Type 0 where
+-- a device gives its name
+pub record StepsAsDevice (settings : ServerSettings) (what : Ask) (e new : Entry) : Type 0 where
   pub device : ℕ
   pub name : List ℕ
   pub place : slice_get (device_names settings) device ≡ Some name
   pub asks : what ≡ ask.Hello device name
   pub reports : List ReportRecord
   pub before : e.progress ≡ Link reports None
-  pub after : new.progress ≡ Link (reports ++ SaysHello name ∷ []) (Some device)
+  pub after : new.progress ≡ Link (reports ++ HelloReport name ∷ []) (Some device)
   pub read : IsRead new
 
 -- a device that has given its name reports
@@ -116,7 +116,7 @@ pub record ReportsIt (what : Ask) (e new : Entry) : Type 0 where
   pub read : IsRead new
 
 abbrev pub DeviceStep : ServerSettings → Ask → Entry → Entry → Type 0
-DeviceStep settings what e new = (IsFine what × Grows e new) ⊎ (SaysIt settings what e new ⊎ ReportsIt what e new)
+DeviceStep settings what e new = (IsFine what × Grows e new) ⊎ (StepsAsDevice settings what e new ⊎ ReportsIt what e new)
 
 pub breaks_grows : (e mid new : Entry) → new ≡ broken mid → mid ≡ e → Grows e new
 breaks_grows e mid new after same = grows_as e new (ap (λ (x : Entry). x.progress) whole) (ap (λ (x : Entry). x.read) whole) (λ is. ap (λ (x : Entry). x.broken) whole)
@@ -126,21 +126,21 @@ breaks_grows e mid new after same = grows_as e new (ap (λ (x : Entry). x.progre
 
 -- a unknown_device's connection breaks
 pub stranger_grows : (e new : Entry) (reports more : List ReportRecord) → e.progress ≡ Link reports None → e.broken ≡ false → ParsesFirst e.read more → new ≡ broken (with_progress (Link more None) e) → Grows e new
-stranger_grows e new reports more progress sound says whole = record {
+stranger_grows e new reports more progress sound reads_as whole = record {
   progress = inr (record { sound = sound; before = ap device_of progress; after = ap (λ (x : Entry). device_of x.progress) whole; fresh = λ its is unbroken. absurd (no_true new.broken (ap (λ (x : Entry). x.broken) whole) unbroken) });
   broken = λ is. ap (λ (x : Entry). x.broken) whole;
-  reads = λ is. first_read new e.read more says (ap (λ (x : Entry). x.read) whole) (ap (λ (x : Entry). said_on x.progress) whole);
+  reads = λ is. first_read new e.read more reads_as (ap (λ (x : Entry). x.read) whole) (ap (λ (x : Entry). said_on x.progress) whole);
 }
 
-pub named_step : (settings : ServerSettings) (name : List ℕ) (place device_after : Option ℕ) (reports : List ReportRecord) (e : Entry) (comes : Step) (mid : Entry) (what : Ask) (new : Entry) → device_named settings name ≡ place → e.progress ≡ Link reports None → e.broken ≡ false → ParsesFirst e.read (reports ++ SaysHello name ∷ [])
-    → StepsHello name place comes device_after → mid ≡ with_progress (Link (reports ++ SaysHello name ∷ []) device_after) e → StepsTo comes mid what new → DeviceStep settings what e new
-named_step settings name None device_after reports e comes mid what new placed progress sound says is after steps =
+pub named_step : (settings : ServerSettings) (name : List ℕ) (place device_after : Option ℕ) (reports : List ReportRecord) (e : Entry) (comes : Step) (mid : Entry) (what : Ask) (new : Entry) → device_named settings name ≡ place → e.progress ≡ Link reports None → e.broken ≡ false → ParsesFirst e.read (reports ++ HelloReport name ∷ [])
+    → StepsHello name place comes device_after → mid ≡ with_progress (Link (reports ++ HelloReport name ∷ []) device_after) e → StepsTo comes mid what new → DeviceStep settings what e new
+named_step settings name None device_after reports e comes mid what new placed progress sound reads_as is after steps =
     let breaks : (what ≡ ask.UnknownDevice name) × (new ≡ broken mid) = subst (λ (s : Step). StepsTo s mid what new) is.0 steps in
-    let whole : new ≡ broken (with_progress (Link (reports ++ SaysHello name ∷ []) None) e) = breaks.1 ∙ ap broken (after ∙ ap (λ (d : Option ℕ). with_progress (Link (reports ++ SaysHello name ∷ []) d) e) is.1) in
-    inl (subst IsFine (sym breaks.0) tt, stranger_grows e new reports (reports ++ SaysHello name ∷ []) progress sound says whole)
-named_step settings name (Some device) device_after reports e comes mid what new placed progress sound says is after steps =
+    let whole : new ≡ broken (with_progress (Link (reports ++ HelloReport name ∷ []) None) e) = breaks.1 ∙ ap broken (after ∙ ap (λ (d : Option ℕ). with_progress (Link (reports ++ HelloReport name ∷ []) d) e) is.1) in
+    inl (subst IsFine (sym breaks.0) tt, stranger_grows e new reports (reports ++ HelloReport name ∷ []) progress sound reads_as whole)
+named_step settings name (Some device) device_after reports e comes mid what new placed progress sound reads_as is after steps =
     let asks : (what ≡ ask.Hello device name) × (new ≡ finishing false mid) = subst (λ (s : Step). StepsTo s mid what new) is.0 steps in
-    let whole : new ≡ finishing false (with_progress (Link (reports ++ SaysHello name ∷ []) (Some device)) e) = asks.1 ∙ ap (finishing false) (after ∙ ap (λ (d : Option ℕ). with_progress (Link (reports ++ SaysHello name ∷ []) d) e) is.1) in
+    let whole : new ≡ finishing false (with_progress (Link (reports ++ HelloReport name ∷ []) (Some device)) e) = asks.1 ∙ ap (finishing false) (after ∙ ap (λ (d : Option ℕ). with_progress (Link (reports ++ HelloReport name ∷ []) d) e) is.1) in
     inr (inl (record {
       device = device;
       name = name;
@@ -149,21 +149,21 @@ named_step settings name (Some device) device_after reports e comes mid what new
       reports = reports;
       before = progress;
       after = ap (λ (x : Entry). x.progress) whole;
-      read = first_read new e.read (reports ++ SaysHello name ∷ []) says (ap (λ (x : Entry). x.read) whole) (ap (λ (x : Entry). said_on x.progress) whole);
+      read = first_read new e.read (reports ++ HelloReport name ∷ []) reads_as (ap (λ (x : Entry). x.read) whole) (ap (λ (x : Entry). said_on x.progress) whole);
     }))
 
 pub said_step : (settings : ServerSettings) (reports : List ReportRecord) (device : Option ℕ) (said : ReportRecord) (device_after : Option ℕ) (e : Entry) (comes : Step) (mid : Entry) (what : Ask) (new : Entry) → e.progress ≡ Link reports device → e.broken ≡ false → ParsesFirst e.read (reports ++ said ∷ [])
     → StepsDevice (device_named settings) device said comes device_after → mid ≡ with_progress (Link (reports ++ said ∷ []) device_after) e → StepsTo comes mid what new → DeviceStep settings what e new
-said_step settings reports None (SaysHello name) device_after e comes mid what new progress sound says is after steps = named_step settings name (device_named settings name) device_after reports e comes mid what new refl progress sound says is after steps
-said_step settings reports None (SaysMedia names) device_after e comes mid what new progress sound says is after steps = absurd is
-said_step settings reports None SaysReady device_after e comes mid what new progress sound says is after steps = absurd is
-said_step settings reports None SaysStop device_after e comes mid what new progress sound says is after steps = absurd is
-said_step settings reports None (SaysBusy time) device_after e comes mid what new progress sound says is after steps = absurd is
-said_step settings reports None (SaysPages job printed) device_after e comes mid what new progress sound says is after steps = absurd is
-said_step settings reports None (SaysDone job) device_after e comes mid what new progress sound says is after steps = absurd is
-said_step settings reports None (SaysFail job) device_after e comes mid what new progress sound says is after steps = absurd is
-said_step settings reports None SaysGone device_after e comes mid what new progress sound says is after steps = absurd is
-said_step settings reports (Some device) said device_after e comes mid what new progress sound says ((it, same, is), named) after steps =
+said_step settings reports None (HelloReport name) device_after e comes mid what new progress sound reads_as is after steps = named_step settings name (device_named settings name) device_after reports e comes mid what new refl progress sound reads_as is after steps
+said_step settings reports None (MediaReport names) device_after e comes mid what new progress sound reads_as is after steps = absurd is
+said_step settings reports None ReadyReport device_after e comes mid what new progress sound reads_as is after steps = absurd is
+said_step settings reports None StopReport device_after e comes mid what new progress sound reads_as is after steps = absurd is
+said_step settings reports None (BusyReport time) device_after e comes mid what new progress sound reads_as is after steps = absurd is
+said_step settings reports None (PagesReport job printed) device_after e comes mid what new progress sound reads_as is after steps = absurd is
+said_step settings reports None (DoneReport job) device_after e comes mid what new progress sound reads_as is after steps = absurd is
+said_step settings reports None (FailReport job) device_after e comes mid what new progress sound reads_as is after steps = absurd is
+said_step settings reports None GoneReport device_after e comes mid what new progress sound reads_as is after steps = absurd is
+said_step settings reports (Some device) said device_after e comes mid what new progress sound reads_as ((it, same, is), named) after steps =
     let asks : (what ≡ ask.Report device it) × (new ≡ finishing false mid) = subst (λ (s : Step). StepsTo s mid what new) is steps in
     let whole : new ≡ finishing false (with_progress (Link (reports ++ said ∷ []) (Some device)) e) = asks.1 ∙ ap (finishing false) (after ∙ ap (λ (d : Option ℕ). with_progress (Link (reports ++ said ∷ []) d) e) named) in
     inr (inr (record {
@@ -173,7 +173,7 @@ said_step settings reports (Some device) said device_after e comes mid what new 
       reports = reports;
       before = progress;
       after = ap (λ (x : Entry). x.progress) whole ∙ ap (λ (r : ReportRecord). Link (reports ++ r ∷ []) (Some device)) (sym same);
-      read = first_read new e.read (reports ++ said ∷ []) says (ap (λ (x : Entry). x.read) whole) (ap (λ (x : Entry). said_on x.progress) whole);
+      read = first_read new e.read (reports ++ said ∷ []) reads_as (ap (λ (x : Entry). x.read) whole) (ap (λ (x : Entry). said_on x.progress) whole);
     }))
 
 pub device_step : (settings : ServerSettings) (reports : List ReportRecord) (device : Option ℕ) (e : Entry) (comes : Step) (mid : Entry) (what : Ask) (new : Entry) → e.progress ≡ Link reports device → e.broken ≡ false → ItemComes settings (Link reports device) e comes mid → StepsTo comes mid what new → DeviceStep settings what e new

@@ -21,9 +21,8 @@ use Rattle.wires.specs.declared.wire.Progress.{Progress as WireAnswer}
 use Rattle.wires.specs.declared.wire.Progress.TheVariants as wire
 use Rattle.wires.specs.declared.wire.Door.{Door}
 use Rattle.wires.specs.declared.wire.Door.TheVariants.{Ipp, Lpd, Devices}
-use Rattle.connections.specs.Session.{heard}
 use Rattle.connections.specs.Entry.{Entry, opening_entry, broken, reading, waiting}
-use Rattle.connections.specs.Asking.{IsHeard}
+use Rattle.connections.specs.Asking.{IsActedOn}
 use Rattle.server.specs.Polls.{Happening, Found, Looked}
 use Rattle.server.specs.Ledger.{Ledger, Fate, Drained, opening_ledger}
 use Rattle.server.specs.Rel.{Rel, Nothing, Polls, Chooses, Then, If, Each}
@@ -349,8 +348,8 @@ module _ (opening : State) (trace : Trace) (l : Ledger) (runs : Runs trace (open
         (λ it c device named is. front_more all.handled c.before c.behind device it.0.due c.whole (halted_since None (Some it.0) c.before device refl (c.lost device named is))) all.closed.more all.closed.each);
   }
 
-  pub are_answered : ((key : ℕ) (e : Entry) → l.entries key ≡ Some e → IsHeard e) → ((key : ℕ) (e : Entry) → l.entries key ≡ Some e → IsFirst e.read e.progress) → All (λ (it : Entry × Fate). IsFirst it.0.read it.0.progress) l.closed → AreAnswered opening trace l
-  are_answered heard first gone = record {
+  pub are_answered : ((key : ℕ) (e : Entry) → l.entries key ≡ Some e → IsActedOn e) → ((key : ℕ) (e : Entry) → l.entries key ≡ Some e → IsFirst e.read e.progress) → All (λ (it : Entry × Fate). IsFirst it.0.read it.0.progress) l.closed → AreAnswered opening trace l
+  are_answered acted_on first gone = record {
     handled = all.handled;
     timed = all.timed;
     run = all.run;
@@ -358,7 +357,7 @@ module _ (opening : State) (trace : Trace) (l : Ledger) (runs : Runs trace (open
     answered = λ key e there client sound. answered_since None key all.handled e refl (all.progresses key e there client sound);
     first = first;
     closed_first = gone;
-    heard = heard;
+    acted_on = acted_on;
     closed = subst (λ (closed : List (Entry × Fate)). All (λ (it : Entry × Fate). WasAnswered opening all.handled it.0) closed) (sym all.closed.closed)
         (All-weaker (λ (it : Entry × Fate). ClosedAs (opening_ledger opening) all.handled it.0) (λ (it : Entry × Fate). WasAnswered opening all.handled it.0)
         (λ it c client sound. (c.key, c.before, c.behind, c.whole, answered_since None c.key c.before it.0 refl (c.progresses client sound))) all.closed.more all.closed.each);

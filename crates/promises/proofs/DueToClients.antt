@@ -116,8 +116,8 @@ pub gave_behind : (notified : List Note) (key : ℕ) (Q : Bool → List ℕ → 
 gave_behind notified key Q R S still gives l hs l' it =
     let first = still l it.front it.mid it.first in
     let g = gives it.mid it.back l' it.second in
-    let says : run_notes hs ≡ notified = ap run_notes it.whole ∙ (notes_append it.front it.back ∙ (ap (λ (ns : List Note). run_notes it.front ++ ns) g.notes ∙ (append-nil (run_notes it.front) ∙ first.0))) in
-    let all : Gave notified key Q it.mid hs l' = record { core = g.core; closed = g.closed; notes = says; others = g.others; client = g.client; here = g.here; halts = g.halts } in
+    let reads_as : run_notes hs ≡ notified = ap run_notes it.whole ∙ (notes_append it.front it.back ∙ (ap (λ (ns : List Note). run_notes it.front ++ ns) g.notes ∙ (append-nil (run_notes it.front) ∙ first.0))) in
+    let all : Gave notified key Q it.mid hs l' = record { core = g.core; closed = g.closed; notes = reads_as; others = g.others; client = g.client; here = g.here; halts = g.halts } in
     subst (λ (x : Ledger). Gave notified key Q x hs l') first.1 all
 
 pub gave_after : (key : ℕ) (Q : Bool → List ℕ → Type 0) (R S : Rel) → ((l : Ledger) (hs : List Happening) (l' : Ledger) → R l hs l' → (run_notes hs ≡ []) × (l' ≡ l)) → Gives key Q S → Gives key Q (Then R S)

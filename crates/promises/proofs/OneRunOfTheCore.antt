@@ -7,7 +7,7 @@ use Rattle.std.proofs.lemmas.List.Elements.{All-append, All-cons, All-nil}
 use Rattle.base_types.specs.declared.limits.TheConstants.Limits.{CONNECTIONS}
 use Rattle.base_types.specs.declared.report.Report.{Report}
 use Rattle.base_types.specs.declared.report.Report.TheVariants as report
-use Rattle.base_types.specs.Report.{ReportRecord, SaysHello, IsGone as SaysGone, report_of}
+use Rattle.base_types.specs.Report.{ReportRecord, HelloReport, GoneReport, report_of}
 use Rattle.settings_file.specs.Settings.{device_names}
 use Rattle.print_room.specs.State.{State}
 use Rattle.events.specs.declared.event.Event.{Event}
@@ -29,7 +29,7 @@ use Rattle.connections.specs.declared.ask.Ask.TheVariants as ask
 use Rattle.connections.specs.declared.ask.Client.{Client}
 use Rattle.connections.specs.declared.ask.Client.TheVariants as client
 use Rattle.connections.specs.Entry.{PeerRecord, Http, Queue, Link, Entry, opening_entry, device_of, superseded_entry, broken, reading, unnamed, waiting}
-use Rattle.connections.specs.Asking.{ItemComes, IsHeard}
+use Rattle.connections.specs.Asking.{ItemComes, IsActedOn}
 use Rattle.server.specs.Polls.{Happening, Choice, Found, Rested, Looked}
 use Rattle.server.specs.Ledger.{Ledger, Fate, Drained, Broken, opening_ledger, at_key, with_entry, without}
 use Rattle.server.specs.Rel.{Rel, Nothing, Polls, Notifies, Chooses, Then, If, Or, Many, Each}
@@ -37,7 +37,7 @@ use Rattle.server.specs.Enqueuing.{Sets, IsDevice}
 use Rattle.server.specs.Happening.{Happens, Unanswered}
 use Rattle.server.specs.Closing.{IsGone, ClosesAs, ClosesFirst, ClosesBroken}
 use Rattle.server.specs.Answering as Ans
-use Rattle.server.specs.Hello.{IsDeviceAs, IsAlone, HasOther, IsSupersededAt, IsSuperseded, SaysName, TakesOver, HandlesHello}
+use Rattle.server.specs.Hello.{IsDeviceAs, IsAlone, HasOther, IsSupersededAt, IsSuperseded, GivesName, TakesOver, HandlesHello}
 use Rattle.server.specs.Acting.{place_of, place_of_part, Asks, ActsOn, ActsNext}
 use Rattle.server.specs.Polling.{Opens, AcceptsAs, AcceptsOne, AcceptsAt, Acts, Serves, FedWhole, FeedsAt, FeedsOne, Fails, ReadsAs, ReadsOpen, ReadsAt, is_read, ReadsOne, WritesAs, WritesOpen, WritesAt, WritesOne, is_done, EndsAt, EndsOne}
 use Rattle.server.specs.Turn as Between
@@ -45,10 +45,10 @@ use Rattle.server.specs.Turn.{Ticks, Notes, is_tick_due, TicksIfDue, Covers, Rou
 use Rattle.server.specs.Law.{core_notes, moment_of, happenings_of, happenings_in}
 use Rattle.promises.specs.Answers.{ClientTalk}
 use Rattle.promises.specs.Orders.{is_turn}
-use Rattle.promises.specs.Heard.{Came, AreRun, ComeAt, ComeOf, report_in, report_by, reports_by, said_on, IsReported, IsStateIn, IsNameIn, IsGreeted, IsRead, AreHeard}
+use Rattle.promises.specs.Delivered.{Came, AreRun, ComeAt, ComeOf, report_in, report_by, reports_by, said_on, IsReported, IsStateIn, IsNameIn, IsGreeted, IsRead, AreDelivered}
 use Rattle.promises.proofs.AnswerKinds.{EventOf}
 use Rattle.promises.proofs.SentToDevices.{no_true, one_entry}
-use Rattle.promises.proofs.StreamSteps.{silent_growth, silent_part, client_hears}
+use Rattle.promises.proofs.StreamSteps.{silent_growth, silent_part, client_keeps}
 use Rattle.promises.proofs.ConnectionAsks.{not_broken}
 use Rattle.promises.proofs.DeviceReports.{FreshOf, Grows, no_both, read_as, grows_as, grows_reading, broken_stays, named_stays, IsNew, Kept, kept_same, kept_open, here, aside, by_key, KeptAll, reported_kept, reported_as, gone_notified, reported_left, notified_if, More, reported_more, reported_named, reported_over, unnamed_nameless, SoundAt, kept_sound, Sound, sound_by, sound_kept, sound_left, none_read, AllGreeted, greeted_but, greeted_on, greeted_kept, greeted_left, greeted_first, greeted_more, greeted_nameless}
 use Rattle.promises.proofs.CalmParts.{notes_append, Calm, Calms, kept_still, kept_next, no_notes, calm_still, calm_sets, calms_nothing, calms_notifies, calms_polls, calms_choice, grows_broken, calms_breaks, calms_dropped, calms_declines, calms_answers, body_answers, OneEvent, happened, handles_behind}
@@ -329,7 +329,7 @@ reports_on moment key what d n l front m back l' hs whole silent there after s (
     more : More s.device key (report_of s.it) l l'
     more = record { d = d; f = now.0; reports = s.reports; there = there; progress = s.before; now = now.1; after = progress; others = others; closed = closed }
 
--- ---- a device says its name
+-- ---- a device gives its name
 
 -- the connection on which it does
 record Saying (device : ℕ) (name : List ℕ) (key : ℕ) (d n : Entry) (l m : Ledger) : Type 0 where
@@ -339,15 +339,15 @@ record Saying (device : ℕ) (name : List ℕ) (key : ℕ) (d n : Entry) (l m : 
   reports : List ReportRecord
   before : d.progress ≡ Link reports None
   place : slice_get (device_names l.core.settings) device ≡ Some name
-  progress : n.progress ≡ Link (reports ++ SaysHello name ∷ []) (Some device)
+  progress : n.progress ≡ Link (reports ++ HelloReport name ∷ []) (Some device)
   read : IsRead n
 
-first_said : (device : ℕ) (name : List ℕ) (key : ℕ) (d n : Entry) (l m : Ledger) (s : Saying device name key d n l m) → Sound l → n.progress ≡ Link (SaysHello name ∷ []) (Some device)
-first_said device name key d n l m s sound = s.progress ∙ ap (λ (reports : List ReportRecord). Link (reports ++ SaysHello name ∷ []) (Some device)) ((subst SoundAt s.there (sound.each key)).0 s.reports s.before s.sound)
+first_said : (device : ℕ) (name : List ℕ) (key : ℕ) (d n : Entry) (l m : Ledger) (s : Saying device name key d n l m) → Sound l → n.progress ≡ Link (HelloReport name ∷ []) (Some device)
+first_said device name key d n l m s sound = s.progress ∙ ap (λ (reports : List ReportRecord). Link (reports ++ HelloReport name ∷ []) (Some device)) ((subst SoundAt s.there (sound.each key)).0 s.reports s.before s.sound)
 
-says_alone : (moment device : ℕ) (name : List ℕ) (key : ℕ) (d n : Entry) (l : Ledger) (front : List Happening) (m : Ledger) (back : List Happening) (l' : Ledger) (hs : List Happening) → hs ≡ front ++ back → core_notes front ≡ [] → Saying device name key d n l m → IsAlone device key m
+gives_name_alone : (moment device : ℕ) (name : List ℕ) (key : ℕ) (d n : Entry) (l : Ledger) (front : List Happening) (m : Ledger) (back : List Happening) (l' : Ledger) (hs : List Happening) → hs ≡ front ++ back → core_notes front ≡ [] → Saying device name key d n l m → IsAlone device key m
     → Unanswered moment (Is.Report device (report.Hello name)) m back l' → Goes true moment l hs l'
-says_alone moment device name key d n l front m back l' hs whole silent s alone (outcome, it) =
+gives_name_alone moment device name key d n l front m back l' hs whole silent s alone (outcome, it) =
     goes_one true moment (Is.Report device (report.Hello name)) outcome l hs l'
     (handles_behind moment (Is.Report device (report.Hello name)) outcome l.core m.core l'.core (core_notes hs) (core_notes back) (ap (λ (x : Ledger). x.core) s.after) (no_notes hs front back whole silent) one.handles)
     (λ sound. sound_but key l l' closed others sound (subst SoundAt (sym now.1) (fresh_named device now.0 (ap device_of (progress ∙ s.progress)), now.2.reads s.read)))
@@ -387,9 +387,9 @@ unnamed_said (Queue items session) = refl
 unnamed_said (Link reports device) = refl
 
 -- the connection is turned away: the device has another connection
-says_again : (moment device : ℕ) (name : List ℕ) (key id : ℕ) (d n : Entry) (l : Ledger) (front : List Happening) (m : Ledger) (back : List Happening) (l' : Ledger) (hs : List Happening) → hs ≡ front ++ back → core_notes front ≡ [] → Saying device name key d n l m
+gives_name_again : (moment device : ℕ) (name : List ℕ) (key id : ℕ) (d n : Entry) (l : Ledger) (front : List Happening) (m : Ledger) (back : List Happening) (l' : Ledger) (hs : List Happening) → hs ≡ front ++ back → core_notes front ≡ [] → Saying device name key d n l m
     → Then (IsSuperseded key) (Notifies (DeviceRefused id (why.Connected device))) m back l' → Goes true moment l hs l'
-says_again moment device name key id d n l front m back l' hs whole silent s it =
+gives_name_again moment device name key id d n l front m back l' hs whole silent s it =
     goes_calm true moment l hs l' (record {
       core = ap (λ (x : Ledger). x.core) (after ∙ ap (λ (x : Ledger). with_entry key (superseded_entry n) x) s.after);
       notes = no_notes hs front back whole silent ∙ (no_notes back it.front it.back it.whole (ap core_notes way.0) ∙ ap core_notes it.second.0);
@@ -423,9 +423,9 @@ both_notified true one other = refl
 both_notified false one other = refl
 
 -- the device's old connection is superseded: the core is notified its end, and then the name on the new connection
-says_over : (moment device : ℕ) (name : List ℕ) (key other : ℕ) (d n : Entry) (l : Ledger) (front : List Happening) (m : Ledger) (back : List Happening) (l' : Ledger) (hs : List Happening) → hs ≡ front ++ back → core_notes front ≡ [] → Saying device name key d n l m → HasOther true device key other m
+gives_name_over : (moment device : ℕ) (name : List ℕ) (key other : ℕ) (d n : Entry) (l : Ledger) (front : List Happening) (m : Ledger) (back : List Happening) (l' : Ledger) (hs : List Happening) → hs ≡ front ++ back → core_notes front ≡ [] → Saying device name key d n l m → HasOther true device key other m
     → TakesOver moment other device name m back l' → Goes true moment l hs l'
-says_over moment device name key other d n l front m back l' hs whole silent s has it = record {
+gives_name_over moment device name key other d n l front m back l' hs whole silent s has it = record {
   came = one ∷ two ∷ [];
   timed = All-cons (λ (x : Came). (x.moment ≡ moment) × (x.in_turn ≡ true)) one (two ∷ []) (refl, refl) (All-cons (λ (x : Came). (x.moment ≡ moment) × (x.in_turn ≡ true)) two [] (refl, refl) (All-nil (λ (x : Came). (x.moment ≡ moment) × (x.in_turn ≡ true))));
   run = (subst (λ (c : State). Handles moment (Is.Report device report.Gone) c gone.0 (core_notes last.front) last.mid.core) core first.handles, (second.handles, refl));
@@ -434,7 +434,7 @@ says_over moment device name key other d n l front m back l' hs whole silent s h
       ∙ (ap core_notes last.whole ∙ (notes_append last.front last.back ∙ ap (λ (ns : List Note). core_notes last.front ++ ns) (sym (append-nil (core_notes last.back))))));
   sound = λ sound. sound_by l l' closed sound (sounds sound);
   reported = λ sound of before r.
-      reported_as of (before ++ notified_if of device (SaysGone ∷ SaysHello name ∷ [])) (before ++ reports_by of (one ∷ two ∷ [])) l' (ap (λ (reports : List ReportRecord). before ++ reports) (both_notified (device == of) SaysGone (SaysHello name)))
+      reported_as of (before ++ notified_if of device (GoneReport ∷ HelloReport name ∷ [])) (before ++ reports_by of (one ∷ two ∷ [])) l' (ap (λ (reports : List ReportRecord). before ++ reports) (both_notified (device == of) GoneReport (HelloReport name)))
       (reported_over of device key other name before l l'
       (record { d = d; f = now.0; there = s.there; nameless = ap device_of s.before; sound = s.sound; now = now.1; after = progress ∙ first_said device name key d n l m s sound; closed = closed })
       (record { o = old.0; g = up.0; apart = has.0; there = there; named = old.2; now = up.1; after = broken_stays (superseded_entry old.0) up.0 refl up.2; broke = up.2.broken refl; others = others }) r);
@@ -447,7 +447,7 @@ says_over moment device name key other d n l front m back l' hs whole silent s h
       now.1 (greeted_first Name device name now.0 (progress ∙ first_said device name key d n l m s sound) (names l.core name device (inl refl) s.place)) all;
 }
   where
-    last : Then (IsGone moment (Some device)) (SaysName moment device name) it.mid it.back l'
+    last : Then (IsGone moment (Some device)) (GivesName moment device name) it.mid it.back l'
     last = it.second
 
     gone : Unanswered moment (Is.Report device report.Gone) it.mid last.front last.mid
@@ -516,9 +516,9 @@ says_over moment device name key other d n l front m back l' hs whole silent s h
         (λ away. kept_sound (l.entries k) (l'.entries k) (others k apart away) (sound.each k)))
 
 greets_on : (moment device : ℕ) (name : List ℕ) (key id : ℕ) (d n : Entry) (l : Ledger) (front : List Happening) (m : Ledger) (back : List Happening) (l' : Ledger) (hs : List Happening) → hs ≡ front ++ back → core_notes front ≡ [] → Saying device name key d n l m → HandlesHello moment key id device name m back l' → Goes true moment l hs l'
-greets_on moment device name key id d n l front m back l' hs whole silent s (inl (alone, it)) = says_alone moment device name key d n l front m back l' hs whole silent s alone it
-greets_on moment device name key id d n l front m back l' hs whole silent s (inr (inl (other, has, it))) = says_over moment device name key other d n l front m back l' hs whole silent s has it
-greets_on moment device name key id d n l front m back l' hs whole silent s (inr (inr (other, has, it))) = says_again moment device name key id d n l front m back l' hs whole silent s it
+greets_on moment device name key id d n l front m back l' hs whole silent s (inl (alone, it)) = gives_name_alone moment device name key d n l front m back l' hs whole silent s alone it
+greets_on moment device name key id d n l front m back l' hs whole silent s (inr (inl (other, has, it))) = gives_name_over moment device name key other d n l front m back l' hs whole silent s has it
+greets_on moment device name key id d n l front m back l' hs whole silent s (inr (inr (other, has, it))) = gives_name_again moment device name key id d n l front m back l' hs whole silent s it
 
 -- ---- the asks come about
 
@@ -528,7 +528,7 @@ fine_acts moment key id what l front m back l' hs whole a fine grows does =
 
 client_acts : (moment key id : ℕ) (what : Ask) (l : Ledger) (front : List Happening) (m : Ledger) (back : List Happening) (l' : Ledger) (hs : List Happening) → hs ≡ front ++ back → (a : Asks key id what l front m) → ClientTalk a.entry.progress → ActsOn moment key id what m back l' → Goes true moment l hs l'
 client_acts moment key id what l front m back l' hs whole a own does =
-    let next = client_hears l.core.settings a.entry.progress a.entry a.asks.comes a.asks.mid own own a.asks.hears in
+    let next = client_keeps l.core.settings a.entry.progress a.entry a.asks.comes a.asks.mid own own a.asks.takes_item in
     fine_acts moment key id what l front m back l' hs whole a (step_fine a.asks.comes a.asks.mid what a.new next.0 a.asks.steps)
     (client_grows a.entry a.new (not_broken a.entry.draining a.entry.broken a.asks.counts) own (subst ClientTalk (sym (step_progress a.asks.comes a.asks.mid what a.new a.asks.steps)) next.1)) does
 
@@ -546,7 +546,7 @@ acts_by moment key id what l front m back l' hs whole a (Http said closes body) 
 acts_by moment key id what l front m back l' hs whole a (Queue items session) is does = client_acts moment key id what l front m back l' hs whole a (subst ClientTalk (sym is) tt) does
 acts_by moment key id what l front m back l' hs whole a (Link reports device) is does =
     device_acts moment key id what l front m back l' hs whole a
-    (device_step l.core.settings reports device a.entry a.asks.comes a.asks.mid what a.new is (not_broken a.entry.draining a.entry.broken a.asks.counts) (subst (λ (t : PeerRecord). ItemComes l.core.settings t a.entry a.asks.comes a.asks.mid) is a.asks.hears) a.asks.steps) does
+    (device_step l.core.settings reports device a.entry a.asks.comes a.asks.mid what a.new is (not_broken a.entry.draining a.entry.broken a.asks.counts) (subst (λ (t : PeerRecord). ItemComes l.core.settings t a.entry a.asks.comes a.asks.mid) is a.asks.takes_item) a.asks.steps) does
 
 acts_next_in : (moment key : ℕ) → Within true moment (ActsNext moment key)
 acts_next_in moment key l hs l' (id, what, it) = acts_by moment key id what l it.front it.mid it.back l' hs it.whole it.first it.first.entry.progress refl it.second
@@ -741,8 +741,8 @@ opening_sound opening = record { each = λ key. tt; closed = All-nil (λ (it : E
 nothing_notified : (device : ℕ) (opening : State) → IsReported device [] (opening_ledger opening)
 nothing_notified device opening = record { past = []; now = []; whole = refl; closed = refl; superseded_entry = All-nil _; is_now = inl (λ key is. is, refl) }
 
-pub are_heard : (opening : State) (trace : Trace) (l : Ledger) → Runs trace (opening_ledger opening) l → ((key : ℕ) (e : Entry) → l.entries key ≡ Some e → IsHeard e) → All (λ (it : Entry × Fate). IsHeard it.0) l.closed → AreHeard opening trace l
-are_heard opening trace l runs heard ended =
+pub are_delivered : (opening : State) (trace : Trace) (l : Ledger) → Runs trace (opening_ledger opening) l → ((key : ℕ) (e : Entry) → l.entries key ≡ Some e → IsActedOn e) → All (λ (it : Entry × Fate). IsActedOn it.0) l.closed → AreDelivered opening trace l
+are_delivered opening trace l runs acted_on ended =
     let all = goes_on trace (opening_ledger opening) l runs in
     let sound = all.sound (opening_sound opening) in
     let names = all.greeted (IsNameIn opening all.came) (λ state name device is place. (state, is, place)) (opening_sound opening) (record { each = λ key e there. cc; closed = All-nil (λ (it : Entry × Fate). IsGreeted (IsNameIn opening all.came) it.0) }) in
@@ -756,6 +756,6 @@ are_heard opening trace l runs heard ended =
       closed_greeted = names.closed;
       read = λ key e there. (subst SoundAt there (sound.each key)).1;
       closed_read = sound.closed;
-      heard = heard;
-      closed_heard = ended;
+      acted_on = acted_on;
+      closed_acted_on = ended;
     }

@@ -51,11 +51,11 @@ use Rattle.server.specs.Acting.{Asks, ActsOn, ActsNext}
 use Rattle.server.specs.Polling.{Acts, Serves, FedWhole, FeedsAt, FeedsOne, Fails, ReadsAs, ReadsOpen, ReadsAt, is_read, ReadsOne, WritesAs, WritesOpen, WritesAt, WritesOne, is_done, EndsAt, EndsOne}
 use Rattle.server.specs.Law.{core_notes}
 use Rattle.promises.specs.Orders.{began_by}
-use Rattle.promises.specs.Heard.{Came, AreRun, ComeAt}
+use Rattle.promises.specs.Delivered.{Came, AreRun, ComeAt}
 use Rattle.promises.specs.Others.{IsOrderBy, IsOrder, Bears, ComesAgain, IsCause, SparedAs, IsSpared, Spares, SparesAll}
 use Rattle.promises.proofs.SentToDevices.{same_key, one_entry}
 use Rattle.promises.proofs.DeviceReports.{here, Kept, KeptAll, kept_then, kept_open, named_stays, no_both}
-use Rattle.promises.proofs.StreamSteps.{silent_growth, silent_part, client_hears}
+use Rattle.promises.proofs.StreamSteps.{silent_growth, silent_part, client_keeps}
 use Rattle.promises.proofs.ConnectionAsks.{not_broken}
 use Rattle.promises.proofs.Devices.{IsFine, step_fine, DeviceStep, device_step}
 use Rattle.promises.specs.Answers.{ClientTalk}
@@ -506,9 +506,9 @@ asked_here key id what l hs l' a = ap (λ (x : Ledger). x.entries key) a.after �
 
 -- the classes of an ask by the peer
 device_asked : (settings : ServerSettings) (what : Ask) (e new : Entry) → AsksNext settings what e new → (progress : PeerRecord) → e.progress ≡ progress → IsFine what ⊎ DeviceStep settings what e new
-device_asked settings what e new a (Http said closes body) is = inl (step_fine a.comes a.mid what new (client_hears settings (Http said closes body) e a.comes a.mid tt (subst ClientTalk (sym is) tt) (subst (λ (t : PeerRecord). ItemComes settings t e a.comes a.mid) is a.hears)).0 a.steps)
-device_asked settings what e new a (Queue items session) is = inl (step_fine a.comes a.mid what new (client_hears settings (Queue items session) e a.comes a.mid tt (subst ClientTalk (sym is) tt) (subst (λ (t : PeerRecord). ItemComes settings t e a.comes a.mid) is a.hears)).0 a.steps)
-device_asked settings what e new a (Link reports device) is = inr (device_step settings reports device e a.comes a.mid what new is (not_broken e.draining e.broken a.counts) (subst (λ (t : PeerRecord). ItemComes settings t e a.comes a.mid) is a.hears) a.steps)
+device_asked settings what e new a (Http said closes body) is = inl (step_fine a.comes a.mid what new (client_keeps settings (Http said closes body) e a.comes a.mid tt (subst ClientTalk (sym is) tt) (subst (λ (t : PeerRecord). ItemComes settings t e a.comes a.mid) is a.takes_item)).0 a.steps)
+device_asked settings what e new a (Queue items session) is = inl (step_fine a.comes a.mid what new (client_keeps settings (Queue items session) e a.comes a.mid tt (subst ClientTalk (sym is) tt) (subst (λ (t : PeerRecord). ItemComes settings t e a.comes a.mid) is a.takes_item)).0 a.steps)
+device_asked settings what e new a (Link reports device) is = inr (device_step settings reports device e a.comes a.mid what new is (not_broken e.draining e.broken a.counts) (subst (λ (t : PeerRecord). ItemComes settings t e a.comes a.mid) is a.takes_item) a.steps)
 
 one_device : (a b : ℕ) → ◌≡◌ {A = Option ℕ} (Some a) (Some b) → a ≡ b
 one_device a b is = cc
@@ -565,7 +565,7 @@ module _ (moment key : ℕ) where
   acts_by : (device id : ℕ) (what : Ask) (l : Ledger) (front : List Happening) (m : Ledger) (back : List Happening) (l' : Ledger) (a : Asks key id what l front m) → device_of a.entry.progress ≡ Some device → ActsOn moment key id what m back l' → (progress : PeerRecord) → a.entry.progress ≡ progress → Bears key l' device
   acts_by device id what l front m back l' a named does (Http said closes body) is = let never : None ≡ Some device = sym (ap device_of is) ∙ named in cc
   acts_by device id what l front m back l' a named does (Queue items session) is = let never : None ≡ Some device = sym (ap device_of is) ∙ named in cc
-  acts_by device id what l front m back l' a named does (Link reports o) is = by (device_step l.core.settings reports o a.entry a.asks.comes a.asks.mid what a.new is (not_broken a.entry.draining a.entry.broken a.asks.counts) (subst (λ (t : PeerRecord). ItemComes l.core.settings t a.entry a.asks.comes a.asks.mid) is a.asks.hears) a.asks.steps)
+  acts_by device id what l front m back l' a named does (Link reports o) is = by (device_step l.core.settings reports o a.entry a.asks.comes a.asks.mid what a.new is (not_broken a.entry.draining a.entry.broken a.asks.counts) (subst (λ (t : PeerRecord). ItemComes l.core.settings t a.entry a.asks.comes a.asks.mid) is a.asks.takes_item) a.asks.steps)
     where
       at : m.entries key ≡ Some a.new
       at = asked_here key id what l front m a

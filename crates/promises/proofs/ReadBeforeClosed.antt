@@ -22,7 +22,7 @@ use Rattle.wires.specs.declared.wire.Door.TheVariants.{Ipp, Lpd, Devices}
 use Rattle.connections.specs.declared.ask.Ask.{Ask}
 use Rattle.connections.specs.declared.ask.Ask.TheVariants as ask
 use Rattle.connections.specs.Entry.{Entry, device_of, superseded_entry, reading, waiting}
-use Rattle.connections.specs.Asking.{IsHeard}
+use Rattle.connections.specs.Asking.{IsActedOn}
 use Rattle.server.specs.Polls.{Happening, Found, Rested}
 use Rattle.server.specs.Ledger.{Ledger, Fate, Drained, Broken, opening_ledger}
 use Rattle.server.specs.Rel.{Rel, Nothing, Then, If, Times, Many, Each}
@@ -36,23 +36,23 @@ use Rattle.server.specs.Turn as Between
 use Rattle.server.specs.Turn.{Ticks, is_tick_due, TicksIfDue, Round, Turn, BodyAsks, BodyComes, Action, Turned, Served_body, Reported, Ticked, Trace, DoesAction, Runs}
 use Rattle.promises.proofs.StreamSteps.{silent_growth, silent_part}
 use Rattle.promises.proofs.CalmParts.{Calms, calms_nothing, calms_notifies, calms_choice, calms_polls, calms_breaks, calms_dropped, calms_declines, calms_answers, body_answers, happened}
-use Rattle.promises.proofs.ReadIsActedOn.{AllHeard, broken_heard, there, hears_same, hears_settles, hears_each, hears_reads, hears_writes, hears_ends, hears_tick, hears_accepts, hears_action}
+use Rattle.promises.proofs.ReadIsActedOn.{AllActedOn, broken_acted_on, there, keeps_same, keeps_settles, keeps_each, keeps_reads, keeps_writes, keeps_ends, keeps_tick, keeps_accepts, keeps_action}
 
 -- of each closed connection
-abbrev pub EndHeard : Ledger → Type 0
-EndHeard l = All (λ (it : Entry × Fate). IsHeard it.0) l.closed
+abbrev pub EndActedOn : Ledger → Type 0
+EndActedOn l = All (λ (it : Entry × Fate). IsActedOn it.0) l.closed
 
 abbrev Ends : Rel → Type 0
-Ends R = (l : Ledger) (hs : List Happening) (l' : Ledger) → R l hs l' → EndHeard l → EndHeard l'
+Ends R = (l : Ledger) (hs : List Happening) (l' : Ledger) → R l hs l' → EndActedOn l → EndActedOn l'
 
-ends_same : (l l' : Ledger) → l'.closed ≡ l.closed → EndHeard l → EndHeard l'
-ends_same l l' same ended = subst (λ (closed : List (Entry × Fate)). All (λ (it : Entry × Fate). IsHeard it.0) closed) (sym same) ended
+ends_same : (l l' : Ledger) → l'.closed ≡ l.closed → EndActedOn l → EndActedOn l'
+ends_same l l' same ended = subst (λ (closed : List (Entry × Fate)). All (λ (it : Entry × Fate). IsActedOn it.0) closed) (sym same) ended
 
 calmly : {R : Rel} → Calms R → Ends R
 calmly calms l hs l' it = ends_same l l' (calms l hs l' it).kept.closed
 
 -- the same for a ledger that equals a ledger with the same closed connections
-ends_to : (m l l' : Ledger) → m.closed ≡ l.closed → l' ≡ m → EndHeard l → EndHeard l'
+ends_to : (m l l' : Ledger) → m.closed ≡ l.closed → l' ≡ m → EndActedOn l → EndActedOn l'
 ends_to m l l' same after = ends_same l l' (ap (λ (x : Ledger). x.closed) after ∙ same)
 
 ends_then : {R S : Rel} → Ends R → Ends S → Ends (Then R S)
@@ -89,15 +89,15 @@ module _ (moment : ℕ) where
   ends_gone None = calmly calms_nothing
   ends_gone (Some device) = ends_unanswered (Is.Report device report.Gone)
 
-  ends_leaves : (fate : Fate) (key : ℕ) (e : Entry) → IsHeard e → Ends (Leaves fate key e)
-  ends_leaves fate key e heard l hs l' it ended =
-      subst EndHeard (sym it.2) (All-append (λ (x : Entry × Fate). IsHeard x.0) l.closed ((e, fate) ∷ []) ended (All-cons (λ (x : Entry × Fate). IsHeard x.0) (e, fate) [] heard (All-nil (λ (x : Entry × Fate). IsHeard x.0))))
+  ends_leaves : (fate : Fate) (key : ℕ) (e : Entry) → IsActedOn e → Ends (Leaves fate key e)
+  ends_leaves fate key e acted_on l hs l' it ended =
+      subst EndActedOn (sym it.2) (All-append (λ (x : Entry × Fate). IsActedOn x.0) l.closed ((e, fate) ∷ []) ended (All-cons (λ (x : Entry × Fate). IsActedOn x.0) (e, fate) [] acted_on (All-nil (λ (x : Entry × Fate). IsActedOn x.0))))
 
-  ends_closes : (fate : Fate) (key : ℕ) (e : Entry) → IsHeard e → Ends (ClosesAs moment fate key e)
-  ends_closes fate key e heard = ends_then (ends_leaves fate key e heard) (ends_gone (device_of e.progress))
+  ends_closes : (fate : Fate) (key : ℕ) (e : Entry) → IsActedOn e → Ends (ClosesAs moment fate key e)
+  ends_closes fate key e acted_on = ends_then (ends_leaves fate key e acted_on) (ends_gone (device_of e.progress))
 
   ends_settles : Ends (ClosesBroken moment)
-  ends_settles l hs l' it = ends_many (ClosesFirst moment) (λ a ks b first. ends_closes Broken first.key first.entry (broken_heard first.entry first.is_broken) a ks b first.closes) l hs l' it.0
+  ends_settles l hs l' it = ends_many (ClosesFirst moment) (λ a ks b first. ends_closes Broken first.key first.entry (broken_acted_on first.entry first.is_broken) a ks b first.closes) l hs l' it.0
 
   -- ---- the asks of a connection
 
@@ -174,15 +174,15 @@ module _ (moment : ℕ) where
   ends_writes key l hs l' it = writes_at key (l.entries key) l hs l' it
 
   -- all bytes that were read were acted on before the connection closes, unless it closes at once
-  done_at : (key : ℕ) (o : Option Entry) (l : Ledger) (hs : List Happening) (l' : Ledger) → l.entries key ≡ o → AllHeard l → EndsAt moment key o l hs l' → EndHeard l → EndHeard l'
-  done_at key None l hs l' open_there heard it = calmly calms_nothing l hs l' it
-  done_at key (Some e) l hs l' open_there heard it =
-      ends_if (is_done e) (Then (ClosesAs moment Drained key e) (ClosesBroken moment)) Nothing (ends_then (ends_closes Drained key e (there l key e heard open_there)) ends_settles) (calmly calms_nothing) l hs l' it
+  done_at : (key : ℕ) (o : Option Entry) (l : Ledger) (hs : List Happening) (l' : Ledger) → l.entries key ≡ o → AllActedOn l → EndsAt moment key o l hs l' → EndActedOn l → EndActedOn l'
+  done_at key None l hs l' open_there acted_on it = calmly calms_nothing l hs l' it
+  done_at key (Some e) l hs l' open_there acted_on it =
+      ends_if (is_done e) (Then (ClosesAs moment Drained key e) (ClosesBroken moment)) Nothing (ends_then (ends_closes Drained key e (there l key e acted_on open_there)) ends_settles) (calmly calms_nothing) l hs l' it
 
-  ends_done : (n : ℕ) (l : Ledger) (hs : List Happening) (l' : Ledger) → AllHeard l → Each n (EndsOne moment) l hs l' → EndHeard l → EndHeard l'
-  ends_done zero l hs l' heard it ended = calmly calms_nothing l hs l' it ended
-  ends_done (suc n) l hs l' heard it ended =
-      done_at n (it.mid.entries n) it.mid it.back l' refl (hears_each n (EndsOne moment) (hears_ends moment) l it.front it.mid heard it.first) it.second (ends_done n l it.front it.mid heard it.first ended)
+  ends_done : (n : ℕ) (l : Ledger) (hs : List Happening) (l' : Ledger) → AllActedOn l → Each n (EndsOne moment) l hs l' → EndActedOn l → EndActedOn l'
+  ends_done zero l hs l' acted_on it ended = calmly calms_nothing l hs l' it ended
+  ends_done (suc n) l hs l' acted_on it ended =
+      done_at n (it.mid.entries n) it.mid it.back l' refl (keeps_each n (EndsOne moment) (keeps_ends moment) l it.front it.mid acted_on it.first) it.second (ends_done n l it.front it.mid acted_on it.first ended)
 
   -- ---- a turn
 
@@ -205,27 +205,27 @@ module _ (moment : ℕ) where
   ends_accepts : (door : Door) → Ends (AcceptsAt door)
   ends_accepts door l hs l' it = ends_if (nat_lt l.count CONNECTIONS) (AcceptsOne door) Nothing (λ a ks b (answer, is). accepts_as door answer a ks b is) (calmly calms_nothing) l hs l' it
 
-  ends_round : (l : Ledger) (hs : List Happening) (l' : Ledger) → AllHeard l → Round moment l hs l' → EndHeard l → EndHeard l'
-  ends_round l hs l' heard (n, it) ended =
-      let looked = hears_same l it.mid (ap (λ (x : Ledger). x.entries) it.first.1.1) heard in
+  ends_round : (l : Ledger) (hs : List Happening) (l' : Ledger) → AllActedOn l → Round moment l hs l' → EndActedOn l → EndActedOn l'
+  ends_round l hs l' acted_on (n, it) ended =
+      let looked = keeps_same l it.mid (ap (λ (x : Ledger). x.entries) it.first.1.1) acted_on in
       let reads = it.second in
-      let read = hears_each n (ReadsOne moment) (hears_reads moment) it.mid reads.front reads.mid looked reads.first in
+      let read = keeps_each n (ReadsOne moment) (keeps_reads moment) it.mid reads.front reads.mid looked reads.first in
       let writes = reads.second in
-      let written = hears_each n (WritesOne moment) (hears_writes moment) reads.mid writes.front writes.mid read writes.first in
+      let written = keeps_each n (WritesOne moment) (keeps_writes moment) reads.mid writes.front writes.mid read writes.first in
       ends_done n writes.mid writes.back l' written writes.second
       (ends_each n (WritesOne moment) ends_writes reads.mid writes.front writes.mid writes.first (ends_each n (ReadsOne moment) ends_reads it.mid reads.front reads.mid reads.first (ends_same l it.mid (ap (λ (x : Ledger). x.closed) it.first.1.1) ended)))
 
-  ends_turn : (l : Ledger) (hs : List Happening) (l' : Ledger) → AllHeard l → Turn moment l hs l' → EndHeard l → EndHeard l'
-  ends_turn l hs l' heard it ended =
-      let settled = hears_settles moment l it.front it.mid heard it.first in
+  ends_turn : (l : Ledger) (hs : List Happening) (l' : Ledger) → AllActedOn l → Turn moment l hs l' → EndActedOn l → EndActedOn l'
+  ends_turn l hs l' acted_on it ended =
+      let settled = keeps_settles moment l it.front it.mid acted_on it.first in
       let tick = it.second in
-      let ticked = hears_tick moment it.mid tick.front tick.mid settled tick.first in
+      let ticked = keeps_tick moment it.mid tick.front tick.mid settled tick.first in
       let ipp = tick.second in
-      let one = hears_accepts Ipp tick.mid ipp.front ipp.mid ticked ipp.first in
+      let one = keeps_accepts Ipp tick.mid ipp.front ipp.mid ticked ipp.first in
       let lpd = ipp.second in
-      let two = hears_accepts Lpd ipp.mid lpd.front lpd.mid one lpd.first in
+      let two = keeps_accepts Lpd ipp.mid lpd.front lpd.mid one lpd.first in
       let devices = lpd.second in
-      let three = hears_accepts Devices lpd.mid devices.front devices.mid two devices.first in
+      let three = keeps_accepts Devices lpd.mid devices.front devices.mid two devices.first in
       ends_round devices.mid devices.back l' three devices.second
       (ends_accepts Devices lpd.mid devices.front devices.mid devices.first
       (ends_accepts Lpd ipp.mid lpd.front lpd.mid lpd.first (ends_accepts Ipp tick.mid ipp.front ipp.mid ipp.first (ends_tick_due it.mid tick.front tick.mid tick.first (ends_settles l it.front it.mid it.first ended)))))
@@ -242,15 +242,15 @@ module _ (moment : ℕ) where
   ends_comes body served l hs l' (inl (it, asks, comes)) = ends_then (calmly (calms_choice Found)) (ends_body it served) l hs l' comes
   ends_comes body served l hs l' (inr it) = calmly (calms_notifies (Refused At.Event None) refl) l hs l' it
 
-ends_action : (action : Action) (l l' : Ledger) → AllHeard l → DoesAction action l l' → EndHeard l → EndHeard l'
-ends_action (Turned moment hs) l l' heard it = ends_turn moment l hs l' heard it
-ends_action (Served_body moment body answer hs) l l' heard (served, same, it) = ends_comes moment body served l hs l' it
-ends_action (Reported moment device said hs) l l' heard (what, same, it) = ends_unanswered moment (Is.Report device what) l hs l' it
-ends_action (Ticked moment hs) l l' heard it = ends_ticks moment l hs l' it
+ends_action : (action : Action) (l l' : Ledger) → AllActedOn l → DoesAction action l l' → EndActedOn l → EndActedOn l'
+ends_action (Turned moment hs) l l' acted_on it = ends_turn moment l hs l' acted_on it
+ends_action (Served_body moment body answer hs) l l' acted_on (served, same, it) = ends_comes moment body served l hs l' it
+ends_action (Reported moment device said hs) l l' acted_on (what, same, it) = ends_unanswered moment (Is.Report device what) l hs l' it
+ends_action (Ticked moment hs) l l' acted_on it = ends_ticks moment l hs l' it
 
-ends_trace : (trace : Trace) (l l' : Ledger) → AllHeard l → Runs trace l l' → EndHeard l → EndHeard l'
-ends_trace [] l l' heard same ended = ends_same l l' (ap (λ (x : Ledger). x.closed) same) ended
-ends_trace (action ∷ actions) l l' heard (mid, does, runs) ended = ends_trace actions mid l' (hears_action action l mid heard does) runs (ends_action action l mid heard does ended)
+ends_trace : (trace : Trace) (l l' : Ledger) → AllActedOn l → Runs trace l l' → EndActedOn l → EndActedOn l'
+ends_trace [] l l' acted_on same ended = ends_same l l' (ap (λ (x : Ledger). x.closed) same) ended
+ends_trace (action ∷ actions) l l' acted_on (mid, does, runs) ended = ends_trace actions mid l' (keeps_action action l mid acted_on does) runs (ends_action action l mid acted_on does ended)
 
-pub all_ended : (opening : State) (trace : Trace) (l : Ledger) → Runs trace (opening_ledger opening) l → EndHeard l
-all_ended opening trace l runs = ends_trace trace (opening_ledger opening) l (λ key. tt) runs (All-nil (λ (it : Entry × Fate). IsHeard it.0))
+pub all_ended : (opening : State) (trace : Trace) (l : Ledger) → Runs trace (opening_ledger opening) l → EndActedOn l
+all_ended opening trace l runs = ends_trace trace (opening_ledger opening) l (λ key. tt) runs (All-nil (λ (it : Entry × Fate). IsActedOn it.0))

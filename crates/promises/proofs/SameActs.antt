@@ -85,7 +85,7 @@ module _ (steps : StepsOnce) (queries : SameQueries) where
   greets moment key id device name l hs rest a ks more b e c d (inr (inr (old, is, p))) (inr (inr (other, its, q))) = (turned_away key id device).one l hs rest a ks more b e c d p q
 
   same_report : (moment device other : ℕ) (one said : Report) → device ≡ other → report_of one ≡ report_of said → Same (Unanswered moment (Is.Report device one)) (Unanswered moment (Is.Report other said))
-  same_report moment device other one said same says = unanswered_same steps moment (Is.Report device one) (Is.Report other said) (same, says) refl (λ s. tt) (λ s. tt)
+  same_report moment device other one said same reads_as = unanswered_same steps moment (Is.Report device one) (Is.Report other said) (same, reads_as) refl (λ s. tt) (λ s. tt)
 
   pub same_reports : (moment device : ℕ) (said : ReportRecord) → One (ReportComes moment device said)
   same_reports moment device said = record { one = λ l hs rest a ks more b e c d (one, is, p) (other, its, q). (same_report moment device device one other refl (is ∙ sym its)).one l hs rest a ks more b e c d p q }
@@ -93,8 +93,8 @@ module _ (steps : StepsOnce) (queries : SameQueries) where
   -- ---- what a connection asks
 
   same_events : (moment key id : ℕ) (who other : Client) (event said : Event) → who ≡ other → SameEvent event said → Same (ActsOn moment key id (ask.Event who event)) (ActsOn moment key id (ask.Event other said))
-  same_events moment key id who other event said same says =
-      subst (λ (k : Client). Same (ActsOn moment key id (ask.Event who event)) (ActsOn moment key id (ask.Event k said))) same (same_answered steps moment key id who event said says (queries event said says))
+  same_events moment key id who other event said same reads_as =
+      subst (λ (k : Client). Same (ActsOn moment key id (ask.Event who event)) (ActsOn moment key id (ask.Event k said))) same (same_answered steps moment key id who event said reads_as (queries event said reads_as))
 
   does_one : (moment key id : ℕ) (what : Ask) → One (ActsOn moment key id what)
   does_one moment key id ask.Nothing = same_nothing
@@ -111,6 +111,6 @@ module _ (steps : StepsOnce) (queries : SameQueries) where
   as_one moment key id what said same = subst (λ (x : Ask). Same (ActsOn moment key id what) (ActsOn moment key id x)) same (does_one moment key id what)
 
   pub same_does : (moment key id : ℕ) (what said : Ask) → SameAsk what said → Same (ActsOn moment key id what) (ActsOn moment key id said)
-  same_does moment key id (ask.Event who event) (ask.Event other heard) same = same_events moment key id who other event heard same.0 same.1
-  same_does moment key id (ask.Report device one) (ask.Report other heard) same = same_report moment device other one heard same.0 same.1
+  same_does moment key id (ask.Event who event) (ask.Event other acted_on) same = same_events moment key id who other event acted_on same.0 same.1
+  same_does moment key id (ask.Report device one) (ask.Report other acted_on) same = same_report moment device other one acted_on same.0 same.1
   same_does moment key id what said same = as_one moment key id what said same

@@ -243,7 +243,7 @@ refuses_none key id client.LpdCommand query = refuses_then (Notifies (Refused At
 pub same_answered : (steps : StepsOnce) (moment key id : ℕ) (who : Client) (event other : Event) → SameEvent event other → is_query event ≡ is_query other → Same (Ans.IsAnswered moment key id who event) (Ans.IsAnswered moment key id who other)
 same_answered steps moment key id who event other same query =
     answered_same steps moment event other (Ans.Answers key id who (is_query event)) (Ans.Answers key id who (is_query other)) same query (refuses_none key id who (is_query event)) (refuses_none key id who (is_query other))
-    (λ one two says. subst (λ (t : Bool). Same (Ans.Answers key id who (is_query event) (Some one)) (Ans.Answers key id who t (Some two))) query (same_answers key id who (is_query event) one two says))
+    (λ one two reads_as. subst (λ (t : Bool). Same (Ans.Answers key id who (is_query event) (Some one)) (Ans.Answers key id who t (Some two))) query (same_answers key id who (is_query event) one two reads_as))
 
 -- ---- a body that comes without HTTP
 
@@ -254,7 +254,7 @@ answers_one request one other bytes said l hs rest a ks more b e c d (inl p) (in
 
 pub same_body : (steps : StepsOnce) (moment request : ℕ) (event : Event) (bytes said : List ℕ) → SameEvent event event → Same (Between.IsAnswered moment request event bytes) (Between.IsAnswered moment request event said)
 same_body steps moment request event bytes said same =
-    answered_same steps moment event event (λ reply. Between.Answers request reply bytes) (λ reply. Between.Answers request reply said) same refl (refuses_between bytes) (refuses_between said) (λ one two says. record { one = answers_one request one two bytes said })
+    answered_same steps moment event event (λ reply. Between.Answers request reply bytes) (λ reply. Between.Answers request reply said) same refl (refuses_between bytes) (refuses_between said) (λ one two reads_as. record { one = answers_one request one two bytes said })
   where
     refuses_between : (text : List ℕ) → Refuses (Between.Answers request None text)
     refuses_between text = refuses_just (Between.Answers request None text) (Notified (Refused At.Event None)) refl (λ l hs a it. it.0)

@@ -15,14 +15,14 @@ use Rattle.connections.specs.declared.ask.AllocFailure.TheVariants as growth
 use Rattle.connections.specs.declared.step.Step.{Step}
 use Rattle.connections.specs.Steps.{StepsIpp, closes_after, body_after, grown, silent, no_memory}
 use Rattle.connections.specs.Entry.{PeerRecord, Http, Queue, Link as OfDevice, Entry, with_progress, finishing, owing, broken}
-use Rattle.connections.specs.Asking.{IppItemComes, ItemComes, Owes, StepsTo, IsHeardAs, IsHeard, AsksNext}
-use Rattle.connections.specs.Choice.{Loss, part_taken, part_heard, part_of, lost_of, SameAsk, AsksOne}
+use Rattle.connections.specs.Asking.{IppItemComes, ItemComes, Owes, StepsTo, IsActedOnAs, IsActedOn, AsksNext}
+use Rattle.connections.specs.Choice.{Loss, part_taken, part_acted_on, part_of, lost_of, SameAsk, AsksOne}
 use Rattle.server.specs.Polls.{Happening, Rested, Chosen}
 use Rattle.server.specs.Ledger.{Ledger, at_key, with_entry}
 use Rattle.server.specs.Rel.{Then, Times}
 use Rattle.server.specs.Closing.{IsBroken, ClosesFirst, NoneBroken, ClosesBroken}
 use Rattle.server.specs.Acting.{Asks, ActsOn, ActsNext}
-use Rattle.server.specs.Polling.{Acts, IsHeardAt, Serves}
+use Rattle.server.specs.Polling.{Acts, IsActedOnAt, Serves}
 use Rattle.promises.specs.Keyed.{keyed}
 use Rattle.promises.specs.OneLedger.{StepsOnce, SameQueries}
 use Rattle.promises.proofs.Determined.{times_cons}
@@ -179,9 +179,9 @@ module _ (some : SomeParse) (stays : FirstStays) (no_item : NoItemFollows) (one_
     after : new ≡ further said closes body bytes e
 
   -- no part of a body is taken: there is another item, so that not all was acted on
-  record Other (settings : ServerSettings) (progress : PeerRecord) (e : Entry) (comes : Step) (mid : Entry) (hears : ItemComes settings progress e comes mid) : Type 0 where
-    none : part_heard settings progress e comes mid hears ≡ None
-    unheard : IsHeardAs e.read progress → ⊥
+  record Other (settings : ServerSettings) (progress : PeerRecord) (e : Entry) (comes : Step) (mid : Entry) (takes_item : ItemComes settings progress e comes mid) : Type 0 where
+    none : part_acted_on settings progress e comes mid takes_item ≡ None
+    left_over : IsActedOnAs e.read progress → ⊥
     element : (said : List HttpElement) (closes : Bool) (body : List ℕ) → progress ≡ Http said closes body → (h : HttpElement) × IsOther h × ParsesFirst e.read (said ++ h ∷ [])
 
   lost_some : {A : Type 0} (what it : Ask) (loss : Loss) → what ≡ it → lost_of it ≡ Some loss → lost_of what ≡ None → A
@@ -193,7 +193,7 @@ module _ (some : SomeParse) (stays : FirstStays) (no_item : NoItemFollows) (one_
   http_other : (settings : ServerSettings) (said : List HttpElement) (closes : Bool) (body : List ℕ) (e : Entry) (comes : Step) (mid : Entry) (it : IppItemComes e said closes body comes mid) (which : HttpItem) (h : HttpElement) → it.item ≡ which → part_taken which it.part ≡ None → elements_of which it.part ≡ h ∷ [] → IsOther h → Other settings (Http said closes body) e comes mid it
   http_other settings said closes body e comes mid it which h is none elements other = record {
     none = ap (λ (x : HttpItem). part_taken x it.part) is ∙ none;
-    unheard = λ heard. no_more e.read said h [] heard first;
+    left_over = λ acted_on. no_more e.read said h [] acted_on first;
     element = λ of ends text same. (h, other, subst (λ (x : List HttpElement). ParsesFirst e.read (x ++ h ∷ [])) (one_http said of closes ends body text same).0 first);
   }
     where
@@ -239,16 +239,16 @@ module _ (some : SomeParse) (stays : FirstStays) (no_item : NoItemFollows) (one_
   breaks : {A : Type 0} (comes : Step) (mid : Entry) (what : Ask) (new : Entry) → comes ≡ no_memory → StepsTo comes mid what new → lost_of what ≡ None → A
   breaks comes mid what new is steps none = let broke : (what ≡ ask.Broke growth.Input) × (new ≡ broken mid) = subst (λ (s : Step). StepsTo s mid what new) is steps in lost_some what (ask.Broke growth.Input) _ broke.0 refl none
 
-  kind : (settings : ServerSettings) (progress : PeerRecord) (e : Entry) (comes : Step) (mid : Entry) (what : Ask) (new : Entry) → (hears : ItemComes settings progress e comes mid) → StepsTo comes mid what new → lost_of what ≡ None → Part e new what progress ⊎ Other settings progress e comes mid hears
-  kind settings (Http said closes body) e comes mid what new hears steps none = http_kind settings said closes body e comes mid what new hears hears.item refl steps none
-  kind settings (Queue items session) e comes mid what new (inl it) steps none = inr (record { none = refl; unheard = λ heard. no_item e.read items it.said Open it.next heard; element = λ said closes body same. cc })
-  kind settings (Queue items session) e comes mid what new (inr (inl it)) steps none = inr (record { none = refl; unheard = λ heard. open_fault (one_lpd e.read items items Open (Faulty it.fault) heard it.is).1; element = λ said closes body same. cc })
+  kind : (settings : ServerSettings) (progress : PeerRecord) (e : Entry) (comes : Step) (mid : Entry) (what : Ask) (new : Entry) → (takes_item : ItemComes settings progress e comes mid) → StepsTo comes mid what new → lost_of what ≡ None → Part e new what progress ⊎ Other settings progress e comes mid takes_item
+  kind settings (Http said closes body) e comes mid what new takes_item steps none = http_kind settings said closes body e comes mid what new takes_item takes_item.item refl steps none
+  kind settings (Queue items session) e comes mid what new (inl it) steps none = inr (record { none = refl; left_over = λ acted_on. no_item e.read items it.said Open it.next acted_on; element = λ said closes body same. cc })
+  kind settings (Queue items session) e comes mid what new (inr (inl it)) steps none = inr (record { none = refl; left_over = λ acted_on. open_fault (one_lpd e.read items items Open (Faulty it.fault) acted_on it.is).1; element = λ said closes body same. cc })
     where
       open_fault : Open ≡ Faulty it.fault → ⊥
       open_fault same = cc
   kind settings (Queue items session) e comes mid what new (inr (inr it)) steps none = breaks comes mid what new it.0 steps none
-  kind settings (OfDevice reports device) e comes mid what new (inl it) steps none = inr (record { none = refl; unheard = λ heard. no_report e.read reports it.said Link.Unfinished it.next heard; element = λ said closes body same. cc })
-  kind settings (OfDevice reports device) e comes mid what new (inr (inl it)) steps none = inr (record { none = refl; unheard = λ heard. open_fault (ap (λ (x : ParsedLines). x.ending) (sym heard ∙ it.is)); element = λ said closes body same. cc })
+  kind settings (OfDevice reports device) e comes mid what new (inl it) steps none = inr (record { none = refl; left_over = λ acted_on. no_report e.read reports it.said Link.Unfinished it.next acted_on; element = λ said closes body same. cc })
+  kind settings (OfDevice reports device) e comes mid what new (inr (inl it)) steps none = inr (record { none = refl; left_over = λ acted_on. open_fault (ap (λ (x : ParsedLines). x.ending) (sym acted_on ∙ it.is)); element = λ said closes body same. cc })
     where
       open_fault : Link.Unfinished ≡ Link.Faulty it.fault → ⊥
       open_fault same = cc
@@ -277,7 +277,7 @@ module _ (some : SomeParse) (stays : FirstStays) (no_item : NoItemFollows) (one_
   record AsksElse (moment key : ℕ) (l : Ledger) (hs : List Happening) (a : Ledger) (it : ActsNext moment key l hs a) : Type 0 where
     none : part_of it.2.first.asks ≡ None
     lost : lost_of it.1 ≡ None
-    unheard : IsHeardAt (l.entries key) → ⊥
+    left_over : IsActedOnAt (l.entries key) → ⊥
     element : (e : Entry) (said : List HttpElement) (closes : Bool) (body : List ℕ) → l.entries key ≡ Some e → e.progress ≡ Http said closes body → (h : HttpElement) × IsOther h × ParsesFirst e.read (said ++ h ∷ [])
 
   flowing : (x y : Bool) → (x || y) ≡ false → (x ≡ false) × (y ≡ false)
@@ -285,7 +285,7 @@ module _ (some : SomeParse) (stays : FirstStays) (no_item : NoItemFollows) (one_
   flowing false y is = (refl, is)
 
   next_kind : (moment key : ℕ) (l : Ledger) (hs : List Happening) (a : Ledger) → (it : ActsNext moment key l hs a) → Calm hs → TakesPart key l hs a ⊎ AsksElse moment key l hs a it
-  next_kind moment key l hs a (id, what, it) calm = by (kind l.core.settings p.entry.progress p.entry p.asks.comes p.asks.mid what p.new p.asks.hears p.asks.steps none)
+  next_kind moment key l hs a (id, what, it) calm = by (kind l.core.settings p.entry.progress p.entry p.asks.comes p.asks.mid what p.new p.asks.takes_item p.asks.steps none)
     where
       p : Asks key id what l it.front it.mid
       p = it.first
@@ -296,7 +296,7 @@ module _ (some : SomeParse) (stays : FirstStays) (no_item : NoItemFollows) (one_
       sound : (p.entry.draining ≡ false) × (p.entry.broken ≡ false)
       sound = flowing p.entry.draining p.entry.broken p.asks.counts
 
-      by : Part p.entry p.new what p.entry.progress ⊎ Other l.core.settings p.entry.progress p.entry p.asks.comes p.asks.mid p.asks.hears → TakesPart key l hs a ⊎ AsksElse moment key l hs a (id, what, it)
+      by : Part p.entry p.new what p.entry.progress ⊎ Other l.core.settings p.entry.progress p.entry p.asks.comes p.asks.mid p.asks.takes_item → TakesPart key l hs a ⊎ AsksElse moment key l hs a (id, what, it)
       by (inl took) =
           let still : (it.back ≡ []) × (a ≡ it.mid) = subst (λ (x : Ask). ActsOn moment key id x it.mid it.back a) took.still it.second in
           inl (record {
@@ -318,22 +318,22 @@ module _ (some : SomeParse) (stays : FirstStays) (no_item : NoItemFollows) (one_
       by (inr other) = inr (record {
         none = other.none;
         lost = none;
-        unheard = λ heard. unheard (subst IsHeardAt p.there heard);
+        left_over = λ acted_on. left_over (subst IsActedOnAt p.there acted_on);
         element = λ e said closes body there progress.
             let same : p.entry ≡ e = same_entry (l.entries key) p.entry e p.there there in
             let is : p.entry.progress ≡ Http said closes body = ap (λ (x : Entry). x.progress) same ∙ progress in
             subst (λ (x : Entry). (h : HttpElement) × IsOther h × ParsesFirst x.read (said ++ h ∷ [])) same (other.element said closes body is);
       })
         where
-          unheard : IsHeard p.entry → ⊥
-          unheard (inl over) = untrue (p.entry.draining || p.entry.broken) p.asks.counts over
-          unheard (inr heard) = other.unheard heard
+          left_over : IsActedOn p.entry → ⊥
+          left_over (inl over) = untrue (p.entry.draining || p.entry.broken) p.asks.counts over
+          left_over (inr acted_on) = other.left_over acted_on
 
   module _ (steps : StepsOnce) (queries : SameQueries) (asks : AsksOne) (moment key : ℕ) where
     -- two asks of one connection's number are one
     record OneAsk (id : ℕ) (what : Ask) (other : ℕ) (said : Ask) : Type 0 where
       ids : id ≡ other
-      says : SameAsk what said
+      same_ask : SameAsk what said
 
     asked_one : (settings : ServerSettings) (o : Option Entry) (e d : Entry) (what said : Ask) (new after : Entry) → o ≡ Some e → o ≡ Some d → (one : AsksNext settings what e new) (other : AsksNext settings said d after)
         → part_of one ≡ part_of other → lost_of what ≡ lost_of said → SameAsk what said × (new ≡ after)
@@ -345,7 +345,7 @@ module _ (some : SomeParse) (stays : FirstStays) (no_item : NoItemFollows) (one_
     asks_same id other what said l hs a ks b p q none nor lost found =
         let one = asked_one l.core.settings (l.entries key) p.entry q.entry what said p.new q.new p.there q.there p.asks q.asks (none ∙ sym nor) (lost ∙ sym found) in
         let entry : p.entry ≡ q.entry = same_entry (l.entries key) p.entry q.entry p.there q.there in (
-          record { ids = p.its ∙ (ap (λ (x : Entry). x.id) entry ∙ sym q.its); says = one.0 },
+          record { ids = p.its ∙ (ap (λ (x : Entry). x.id) entry ∙ sym q.its); same_ask = one.0 },
           ap keyed p.chosen ∙ sym (ap keyed q.chosen),
           p.after ∙ (ap (λ (x : Entry). with_entry key x l) one.1 ∙ sym q.after),
         )
@@ -354,7 +354,7 @@ module _ (some : SomeParse) (stays : FirstStays) (no_item : NoItemFollows) (one_
     next_same l hs rest a ks more b e c d (id, what, p) (other, said, q) x y =
         let it = same_then_by (Asks key id what) (Asks key other said) (ActsOn moment key id what) (ActsOn moment key other said) l hs rest a ks more b e c d p q
         (λ left right both calm still. asks_same id other what said l p.front p.mid q.front q.mid p.first q.first x.none y.none x.lost y.lost)
-        (λ one. subst (λ (k : ℕ). Same (ActsOn moment key id what) (ActsOn moment key k said)) one.ids (same_does steps queries moment key id what said one.says)) in
+        (λ one. subst (λ (k : ℕ). Same (ActsOn moment key id what) (ActsOn moment key k said)) one.ids (same_does steps queries moment key id what said one.same_ask)) in
         (it.1, it.2)
 
     acts_same : (l : Ledger) (hs rest : List Happening) (a : Ledger) (ks more : List Happening) (b : Ledger) → keyed hs ++ rest ≡ keyed ks ++ more → Calm hs → Calm ks → (p : Acts moment key l hs a) (q : Acts moment key l ks b) → AsksElse moment key l p.front p.mid p.first → AsksElse moment key l q.front q.mid q.first → (keyed hs ≡ keyed ks) × (a ≡ b)
@@ -388,7 +388,7 @@ module _ (some : SomeParse) (stays : FirstStays) (no_item : NoItemFollows) (one_
 
     record Run (n : ℕ) (l : Ledger) (hs : List Happening) (a : Ledger) : Type 0 where
       times : Times n (Acts moment key) l hs a
-      heard : IsHeardAt (a.entries key)
+      acted_on : IsActedOnAt (a.entries key)
 
     -- the second ledger is the first, or is ahead of it by some bytes of a body
     abbrev Lag : Ledger → Ledger → Type 0
@@ -398,44 +398,44 @@ module _ (some : SomeParse) (stays : FirstStays) (no_item : NoItemFollows) (one_
     lag_of [] l m p = inl (part_none key l m p)
     lag_of (x ∷ xs) l m p = inr (x, xs, p)
 
-    unheard_part : (x : ℕ) (xs : List ℕ) (l m : Ledger) → IsPart key (x ∷ xs) l m → IsHeardAt (l.entries key) → ⊥
-    unheard_part x xs l m p heard = by (subst IsHeardAt p.there heard)
+    left_over_part : (x : ℕ) (xs : List ℕ) (l m : Ledger) → IsPart key (x ∷ xs) l m → IsActedOnAt (l.entries key) → ⊥
+    left_over_part x xs l m p acted_on = by (subst IsActedOnAt p.there acted_on)
       where
         never : (s t : Bool) → s ≡ false → t ≡ false → (s || t) ≡ true → ⊥
         never true t a b c = untrue true a refl
         never false t a b c = untrue t b c
 
-        by : IsHeard p.e → ⊥
+        by : IsActedOn p.e → ⊥
         by (inl over) = never p.e.draining p.e.broken p.flows p.sound over
-        by (inr all) = no_more p.e.read p.said (HasByte x) (map HasByte xs) (subst (IsHeardAs p.e.read) p.progress all) p.first
+        by (inr all) = no_more p.e.read p.said (HasByte x) (map HasByte xs) (subst (IsActedOnAs p.e.read) p.progress all) p.first
 
     unseen_front : (hs front back : List Happening) → hs ≡ front ++ back → keyed front ≡ [] → keyed hs ≡ keyed back
     unseen_front hs front back whole unseen = ap keyed whole ∙ (keyed_append front back ∙ ap (λ (x : List Happening). x ++ keyed back) unseen)
 
     -- where all is acted on, only parts of no bytes are taken
     abbrev Finishes : ℕ → Type 0
-    Finishes m = (l : Ledger) (ks : List Happening) (b : Ledger) → NoneBroken l → IsHeardAt (l.entries key) → Calm ks → Run m l ks b → (keyed ks ≡ []) × (b ≡ l)
+    Finishes m = (l : Ledger) (ks : List Happening) (b : Ledger) → NoneBroken l → IsActedOnAt (l.entries key) → Calm ks → Run m l ks b → (keyed ks ≡ []) × (b ≡ l)
 
     finishes : (m : ℕ) → Finishes m → Finishes (suc m)
-    finishes m rest l ks b none heard calm q = by (act_kind l y.front y.mid none (calm_first ks y.front y.back y.whole calm) y.first)
+    finishes m rest l ks b none acted_on calm q = by (act_kind l y.front y.mid none (calm_first ks y.front y.back y.whole calm) y.first)
       where
         y : Then (Acts moment key) (Times m (Acts moment key)) l ks b
         y = times_cons m (Acts moment key) l ks b q.times
 
         still : (bytes : List ℕ) → IsPart key bytes l y.mid → y.mid ≡ l
         still [] p = part_none key l y.mid p
-        still (x ∷ xs) p = absurd (unheard_part x xs l y.mid p heard)
+        still (x ∷ xs) p = absurd (left_over_part x xs l y.mid p acted_on)
 
         by : TakesPart key l y.front y.mid ⊎ AsksElse moment key l y.first.front y.first.mid y.first.first → (keyed ks ≡ []) × (b ≡ l)
-        by (inr other) = absurd (other.unheard heard)
+        by (inr other) = absurd (other.left_over acted_on)
         by (inl took) =
-            let later : Run m l y.back b = subst (λ (z : Ledger). Run m z y.back b) (still took.bytes took.part) (record { times = y.second; heard = q.heard }) in
-            let it = rest l y.back b none heard (calm_last ks y.front y.back y.whole calm) later in
+            let later : Run m l y.back b = subst (λ (z : Ledger). Run m z y.back b) (still took.bytes took.part) (record { times = y.second; acted_on = q.acted_on }) in
+            let it = rest l y.back b none acted_on (calm_last ks y.front y.back y.whole calm) later in
             (unseen_front ks y.front y.back y.whole took.unseen ∙ it.0, it.1)
 
     finish : (m : ℕ) → Finishes m
-    finish zero l ks b none heard calm q = (ap keyed q.times.0, q.times.1)
-    finish (suc m) l ks b none heard calm q = finishes m (finish m) l ks b none heard calm q
+    finish zero l ks b none acted_on calm q = (ap keyed q.times.0, q.times.1)
+    finish (suc m) l ks b none acted_on calm q = finishes m (finish m) l ks b none acted_on calm q
 
     -- of two lists of bytes that go on as one, one is a prefix of the other
     prefix : (p r : List ℕ) (u v : List HttpElement) → map HasByte p ++ u ≡ map HasByte r ++ v → ((more : List ℕ) × (r ≡ p ++ more)) ⊎ ((y : ℕ) × (ys : List ℕ) × (p ≡ r ++ y ∷ ys))
@@ -481,18 +481,18 @@ module _ (some : SomeParse) (stays : FirstStays) (no_item : NoItemFollows) (one_
         by (inl took) other =
             let seen : keyed hs ≡ keyed x.back = unseen_front hs x.front x.back x.whole took.unseen in
             let both : keyed ks ++ more ≡ keyed x.back ++ rest = sym e ∙ ap (λ (z : List Happening). z ++ rest) seen in
-            let it = meet (suc m) n (omega (arith, le)) l x.mid none (lag_of took.bytes l x.mid took.part) ks more b x.back rest a both d (calm_last hs x.front x.back x.whole c) q (record { times = x.second; heard = p.heard }) in
+            let it = meet (suc m) n (omega (arith, le)) l x.mid none (lag_of took.bytes l x.mid took.part) ks more b x.back rest a both d (calm_last hs x.front x.back x.whole c) q (record { times = x.second; acted_on = p.acted_on }) in
             (seen ∙ sym it.0, sym it.1)
         by (inr one) (inl took) =
             let seen : keyed ks ≡ keyed y.back = unseen_front ks y.front y.back y.whole took.unseen in
             let both : keyed hs ++ rest ≡ keyed y.back ++ more = e ∙ ap (λ (z : List Happening). z ++ more) seen in
-            let it = meet (suc n) m (omega (arith, le)) l y.mid none (lag_of took.bytes l y.mid took.part) hs rest a y.back more b both c (calm_last ks y.front y.back y.whole d) p (record { times = y.second; heard = q.heard }) in
+            let it = meet (suc n) m (omega (arith, le)) l y.mid none (lag_of took.bytes l y.mid took.part) hs rest a y.back more b both c (calm_last ks y.front y.back y.whole d) p (record { times = y.second; acted_on = q.acted_on }) in
             (it.0 ∙ sym seen, it.1)
         by (inr one) (inr other) =
             let both : keyed x.front ++ (keyed x.back ++ rest) ≡ keyed y.front ++ (keyed y.back ++ more) = sym (keyed_parts hs x.front x.back rest x.whole) ∙ (e ∙ keyed_parts ks y.front y.back more y.whole) in
             let first = acts_same l x.front (keyed x.back ++ rest) x.mid y.front (keyed y.back ++ more) y.mid both (calm_first hs x.front x.back x.whole c) (calm_first ks y.front y.back y.whole d) x.first y.first one other in
             let left : keyed x.back ++ rest ≡ keyed y.back ++ more = append_cancel_left (keyed x.front) (keyed x.back ++ rest) (keyed y.back ++ more) (both ∙ ap (λ (z : List Happening). z ++ (keyed y.back ++ more)) (sym first.0)) in
-            let it = meet n m (omega (arith, le)) x.mid y.mid x.first.second.1 (inl (sym first.1)) x.back rest a y.back more b left (calm_last hs x.front x.back x.whole c) (calm_last ks y.front y.back y.whole d) (record { times = x.second; heard = p.heard }) (record { times = y.second; heard = q.heard }) in (
+            let it = meet n m (omega (arith, le)) x.mid y.mid x.first.second.1 (inl (sym first.1)) x.back rest a y.back more b left (calm_last hs x.front x.back x.whole c) (calm_last ks y.front y.back y.whole d) (record { times = x.second; acted_on = p.acted_on }) (record { times = y.second; acted_on = q.acted_on }) in (
               ap keyed x.whole ∙ (keyed_append x.front x.back ∙ (ap (λ (z : List Happening). z ++ keyed x.back) first.0 ∙ (ap (λ (z : List Happening). keyed y.front ++ z) it.0 ∙ sym (ap keyed y.whole ∙ keyed_append y.front y.back)))),
               it.1,
             )
@@ -506,7 +506,7 @@ module _ (some : SomeParse) (stays : FirstStays) (no_item : NoItemFollows) (one_
         x = times_cons n (Acts moment key) l hs a p.times
 
         later : Run n x.mid x.back a
-        later = record { times = x.second; heard = p.heard }
+        later = record { times = x.second; acted_on = p.acted_on }
 
         calm : Calm x.back
         calm = calm_last hs x.front x.back x.whole c
@@ -533,11 +533,11 @@ module _ (some : SomeParse) (stays : FirstStays) (no_item : NoItemFollows) (one_
 
     meet : (k : ℕ) → Meets k
     meet k zero m le l l2 none (inl same) hs rest a ks more b e c d p q =
-        let last = finish m l ks b none (subst (λ (x : Ledger). IsHeardAt (x.entries key)) p.times.1 p.heard) d (subst (λ (x : Ledger). Run m x ks b) same q) in (ap keyed p.times.0 ∙ sym last.0, p.times.1 ∙ sym last.1)
-    meet k zero m le l l2 none (inr (x, xs, part)) hs rest a ks more b e c d p q = absurd (unheard_part x xs l l2 part (subst (λ (z : Ledger). IsHeardAt (z.entries key)) p.times.1 p.heard))
+        let last = finish m l ks b none (subst (λ (x : Ledger). IsActedOnAt (x.entries key)) p.times.1 p.acted_on) d (subst (λ (x : Ledger). Run m x ks b) same q) in (ap keyed p.times.0 ∙ sym last.0, p.times.1 ∙ sym last.1)
+    meet k zero m le l l2 none (inr (x, xs, part)) hs rest a ks more b e c d p q = absurd (left_over_part x xs l l2 part (subst (λ (z : Ledger). IsActedOnAt (z.entries key)) p.times.1 p.acted_on))
     meet zero (suc n) m le l l2 none lag hs rest a ks more b e c d p q = absurd (omega arith)
     meet (suc k) (suc n) zero le l l2 none (inl same) hs rest a ks more b e c d p q =
-        let heard : IsHeardAt (l.entries key) = subst (λ (x : Ledger). IsHeardAt (x.entries key)) (q.times.1 ∙ same) q.heard in let last = finish (suc n) l hs a none heard c p in (last.0 ∙ sym (ap keyed q.times.0), last.1 ∙ (sym same ∙ sym q.times.1))
+        let acted_on : IsActedOnAt (l.entries key) = subst (λ (x : Ledger). IsActedOnAt (x.entries key)) (q.times.1 ∙ same) q.acted_on in let last = finish (suc n) l hs a none acted_on c p in (last.0 ∙ sym (ap keyed q.times.0), last.1 ∙ (sym same ∙ sym q.times.1))
     meet (suc k) (suc n) (suc m) le l l2 none (inl same) hs rest a ks more b e c d p q = meets_even k (meet k) n m le l none hs rest a ks more b e c d p (subst (λ (x : Ledger). Run (suc m) x ks b) same q)
     meet (suc k) (suc n) m le l l2 none (inr (z, zs, part)) hs rest a ks more b e c d p q = meets_behind k (meet k) n m le l l2 none z zs part hs rest a ks more b e c d p q
 
@@ -549,8 +549,8 @@ module _ (some : SomeParse) (stays : FirstStays) (no_item : NoItemFollows) (one_
         let seen : keyed hs ≡ keyed x.front = rested hs x.front x.back x.whole x.second.0 in
         let saw : keyed ks ≡ keyed y.front = rested ks y.front y.back y.whole y.second.0 in
         let both : keyed x.front ++ rest ≡ keyed y.front ++ more = sym (ap (λ (z : List Happening). z ++ rest) seen) ∙ (e ∙ ap (λ (z : List Happening). z ++ more) saw) in
-        let left : Run x.first.0 l x.front x.mid = record { times = x.first.1; heard = subst (λ (z : Ledger). IsHeardAt (z.entries key)) x.second.1 p.1 } in
-        let right : Run y.first.0 l y.front y.mid = record { times = y.first.1; heard = subst (λ (z : Ledger). IsHeardAt (z.entries key)) y.second.1 q.1 } in
+        let left : Run x.first.0 l x.front x.mid = record { times = x.first.1; acted_on = subst (λ (z : Ledger). IsActedOnAt (z.entries key)) x.second.1 p.1 } in
+        let right : Run y.first.0 l y.front y.mid = record { times = y.first.1; acted_on = subst (λ (z : Ledger). IsActedOnAt (z.entries key)) y.second.1 q.1 } in
         let it = meet (x.first.0 + y.first.0) x.first.0 y.first.0 (omega arith) l l none (inl refl) x.front rest x.mid y.front more y.mid both (calm_first hs x.front x.back x.whole c) (calm_first ks y.front y.back y.whole d) left right in
         (seen ∙ (it.0 ∙ sym saw), x.second.1 ∙ (it.1 ∙ sym y.second.1))
       where

@@ -43,7 +43,7 @@ abbrev pub HasReport : List ReportRecord → Type 0
 HasReport [] = ⊥
 HasReport (said ∷ reports) = Unit {0}
 
--- before a device says its name nothing is due, and the name is a report
+-- before a device gives its name nothing is due, and the name is a report
 abbrev pub FreshTalk : PeerRecord → Entry → Type 0
 FreshTalk (Http said closes body) e = Unit {0}
 FreshTalk (Queue items session) e = Unit {0}

@@ -2,16 +2,16 @@
 use Rattle.std.proofs.Common.{◌≡◌, ℕ, Bool, true, false, List, [], ◌∷◌, ◌++◌, refl, sym, ◌∙◌, ap, subst, append-nil, Option, Some, None, ◌⊎◌, inl, inr}
 use Rattle.base_types.specs.declared.report.Report.{Report}
 use Rattle.base_types.specs.declared.report.Report.TheVariants as reported
-use Rattle.base_types.specs.Report.{report_of, ReportRecord, SaysHello, SaysMedia, SaysReady, SaysStop, SaysBusy, SaysPages, SaysDone, SaysFail, IsGone as SaysGone}
+use Rattle.base_types.specs.Report.{report_of, ReportRecord, HelloReport, MediaReport, ReadyReport, StopReport, BusyReport, PagesReport, DoneReport, FailReport, GoneReport}
 use Rattle.std.specs.Prelude.{take}
 use Rattle.std.specs.Str.Lines.{strip_carriage_return}
 use Rattle.text.specs.Parts.{words_of}
-use Rattle.device_link.specs.Line.{said as line_says, in_turn}
+use Rattle.device_link.specs.Line.{said as line_report, in_turn}
 use Rattle.device_link.specs.Stream.{Leads, ParsesFirst}
 use Rattle.settings_file.specs.Settings.{ServerSettings, device_named}
 use Rattle.http_front.specs.declared.item.HttpItem.{HttpItem}
 use Rattle.http_front.specs.declared.item.HttpItem.TheVariants as item
-use Rattle.lpd.specs.Items.{ItemRecord, HasCommand as SaysCommand, Aborts, Announces, HasFile}
+use Rattle.lpd.specs.Items.{ItemRecord, HasCommand as CommandItem, Aborts, Announces, HasFile}
 use Rattle.lpd.specs.Session.{SessionState}
 use Rattle.events.specs.declared.event.Event.TheVariants as Is
 use Rattle.dispatcher.specs.declared.observer.DeviceRefusal.TheVariants as why
@@ -28,7 +28,7 @@ use Rattle.connections.specs.declared.ask.Part.{Part}
 use Rattle.connections.specs.declared.ask.Part.TheVariants as part
 use Rattle.connections.specs.declared.step.Step.{Step}
 use Rattle.connections.specs.declared.step.Step.TheVariants as step
-use Rattle.connections.specs.Session.{Hearing, Goes as GoesOn, Stops, Submits, Commands, heard}
+use Rattle.connections.specs.Session.{ItemResult, Goes as GoesOn, Stops, Submits, Commands, result_of}
 use Rattle.connections.specs.Steps.{asked_step, EndsBody, StepsIpp, AsksAs, StepsLpd, StepsHello, StepsDevice, silent, no_memory}
 use Rattle.connections.specs.Entry.{PeerRecord, Http, Queue, Link, Entry, device_of, broken, with_progress, finishing}
 use Rattle.connections.specs.Asking.{ItemComes, StepsTo}
@@ -129,8 +129,8 @@ ipp_client item.BodyPart closes body comes (inr is) = client_step comes no_memor
 ipp_client item.BodyEnd closes body comes is = ends_client closes body comes is
 ipp_client (item.Refuse refusal) closes body comes is = subst IsClientStep (sym is) tt
 
-pub asks_client : (hearing : Hearing) (comes : Step) (after : Option SessionState) → AsksAs hearing comes after → IsClientStep comes
-asks_client hearing (step.Due due last) after is = tt
+pub asks_client : (result : ItemResult) (comes : Step) (after : Option SessionState) → AsksAs result comes after → IsClientStep comes
+asks_client result (step.Due due last) after is = tt
 asks_client (GoesOn answer next) (step.Asks (ask.Event (client.Ipp request) event) last) after is = absurd is
 asks_client (GoesOn answer next) (step.Asks (ask.Event client.LpdJob event) last) after is = absurd is
 asks_client (GoesOn answer next) (step.Asks (ask.Event client.LpdCommand event) last) after is = absurd is
@@ -143,7 +143,7 @@ asks_client (Submits job next) (step.Asks (ask.Event client.LpdCommand event) la
 asks_client (Commands command) (step.Asks (ask.Event (client.Ipp request) event) last) after is = absurd is
 asks_client (Commands command) (step.Asks (ask.Event client.LpdJob event) last) after is = absurd is
 asks_client (Commands command) (step.Asks (ask.Event client.LpdCommand event) last) after is = commands command event is.0
-asks_client hearing (step.Asks (ask.Lost part) last) after is = tt
+asks_client result (step.Asks (ask.Lost part) last) after is = tt
 asks_client (GoesOn answer next) (step.Asks ask.Nothing last) after is = absurd is
 asks_client (Stops answer) (step.Asks ask.Nothing last) after is = absurd is
 asks_client (Submits job next) (step.Asks ask.Nothing last) after is = absurd is
@@ -179,21 +179,21 @@ asks_client (Commands command) (step.Breaks what) after is = absurd is
 
 pub lpd_client : (queues : List ℕ → Bool) (before : Option SessionState) (said : ItemRecord) (comes : Step) (after : Option SessionState) → StepsLpd queues before said comes after → IsClientStep comes
 lpd_client queues before (HasFile contents) comes after (inl is) = subst IsClientStep (sym is.0) tt
-lpd_client queues before (HasFile contents) comes after (inr is) = asks_client (heard queues before (HasFile contents)) comes after is
-lpd_client queues before (SaysCommand command) comes after is = asks_client (heard queues before (SaysCommand command)) comes after is
-lpd_client queues before Aborts comes after is = asks_client (heard queues before Aborts) comes after is
-lpd_client queues before (Announces head) comes after is = asks_client (heard queues before (Announces head)) comes after is
+lpd_client queues before (HasFile contents) comes after (inr is) = asks_client (result_of queues before (HasFile contents)) comes after is
+lpd_client queues before (CommandItem command) comes after is = asks_client (result_of queues before (CommandItem command)) comes after is
+lpd_client queues before Aborts comes after is = asks_client (result_of queues before Aborts) comes after is
+lpd_client queues before (Announces head) comes after is = asks_client (result_of queues before (Announces head)) comes after is
 
-pub client_hears : (settings : ServerSettings) (progress : PeerRecord) (e : Entry) (comes : Step) (mid : Entry) → ClientTalk progress → ClientTalk e.progress → ItemComes settings progress e comes mid → IsClientStep comes × ClientTalk mid.progress
-client_hears settings (Http said closes body) e comes mid client here next = (ipp_client next.item closes body comes next.comes, subst (λ (x : Entry). ClientTalk x.progress) (sym next.after) tt)
-client_hears settings (Queue items session) e comes mid client here (inl next) = (lpd_client _ session next.said comes next.session_after next.comes, subst (λ (x : Entry). ClientTalk x.progress) (sym next.after) tt)
-client_hears settings (Queue items session) e comes mid client here (inr (inl next)) = (subst IsClientStep (sym next.comes) tt, subst (λ (x : Entry). ClientTalk x.progress) (sym next.after) here)
-client_hears settings (Queue items session) e comes mid client here (inr (inr next)) = (subst IsClientStep (sym next.0) refl, subst (λ (x : Entry). ClientTalk x.progress) (sym next.1) here)
-client_hears settings (Link reports device) e comes mid client here next = absurd client
+pub client_keeps : (settings : ServerSettings) (progress : PeerRecord) (e : Entry) (comes : Step) (mid : Entry) → ClientTalk progress → ClientTalk e.progress → ItemComes settings progress e comes mid → IsClientStep comes × ClientTalk mid.progress
+client_keeps settings (Http said closes body) e comes mid client here next = (ipp_client next.item closes body comes next.comes, subst (λ (x : Entry). ClientTalk x.progress) (sym next.after) tt)
+client_keeps settings (Queue items session) e comes mid client here (inl next) = (lpd_client _ session next.said comes next.session_after next.comes, subst (λ (x : Entry). ClientTalk x.progress) (sym next.after) tt)
+client_keeps settings (Queue items session) e comes mid client here (inr (inl next)) = (subst IsClientStep (sym next.comes) tt, subst (λ (x : Entry). ClientTalk x.progress) (sym next.after) here)
+client_keeps settings (Queue items session) e comes mid client here (inr (inr next)) = (subst IsClientStep (sym next.0) refl, subst (λ (x : Entry). ClientTalk x.progress) (sym next.1) here)
+client_keeps settings (Link reports device) e comes mid client here next = absurd client
 
 -- ---- steps of a device
 
--- a device says its name on a connection that had none
+-- a device gives its name on a connection that had none
 pub record Names (what : Ask) (e new : Entry) : Type 0 where
   pub device : ℕ
   pub name : List ℕ
@@ -228,15 +228,15 @@ pub has_more : (reports : List ReportRecord) (said : ReportRecord) → HasReport
 has_more [] said = tt
 has_more (one ∷ reports) said = tt
 
-pub named_hears : (settings : ServerSettings) (reports : List ReportRecord) (name : List ℕ) (place : Option ℕ) (device_after : Option ℕ) (e : Entry) (comes : Step) (mid : Entry) (what : Ask) (new : Entry) → e.progress ≡ Link reports None
-    → StepsHello name place comes device_after → mid ≡ with_progress (Link (reports ++ SaysHello name ∷ []) device_after) e → StepsTo comes mid what new → DeviceAsks what e new
-named_hears settings reports name None device_after e comes mid what new progress is after steps =
+pub named_keeps : (settings : ServerSettings) (reports : List ReportRecord) (name : List ℕ) (place : Option ℕ) (device_after : Option ℕ) (e : Entry) (comes : Step) (mid : Entry) (what : Ask) (new : Entry) → e.progress ≡ Link reports None
+    → StepsHello name place comes device_after → mid ≡ with_progress (Link (reports ++ HelloReport name ∷ []) device_after) e → StepsTo comes mid what new → DeviceAsks what e new
+named_keeps settings reports name None device_after e comes mid what new progress is after steps =
     let breaks : (what ≡ ask.UnknownDevice name) × (new ≡ broken mid) = subst (λ (s : Step). StepsTo s mid what new) is.0 steps in
     let unknown : device_of mid.progress ≡ None = ap (λ (x : Entry). device_of x.progress) after ∙ is.1 in
-    link_breaks what (ask.UnknownDevice name) e mid new breaks.0 tt breaks.1 (ap (λ (x : Entry). x.due) after) (λ device named. cc) (λ client. absurd (not_client e.progress reports None progress client)) (λ client. not_client mid.progress (reports ++ SaysHello name ∷ []) device_after (ap (λ (x : Entry). x.progress) after) client)
-named_hears settings reports name (Some device) device_after e comes mid what new progress is after steps =
+    link_breaks what (ask.UnknownDevice name) e mid new breaks.0 tt breaks.1 (ap (λ (x : Entry). x.due) after) (λ device named. cc) (λ client. absurd (not_client e.progress reports None progress client)) (λ client. not_client mid.progress (reports ++ HelloReport name ∷ []) device_after (ap (λ (x : Entry). x.progress) after) client)
+named_keeps settings reports name (Some device) device_after e comes mid what new progress is after steps =
     let asks : (what ≡ ask.Hello device name) × (new ≡ finishing false mid) = subst (λ (s : Step). StepsTo s mid what new) is.0 steps in
-    let whole : new ≡ finishing false (with_progress (Link (reports ++ SaysHello name ∷ []) (Some device)) e) = asks.1 ∙ ap (finishing false) (after ∙ ap (λ (d : Option ℕ). with_progress (Link (reports ++ SaysHello name ∷ []) d) e) is.1) in
+    let whole : new ≡ finishing false (with_progress (Link (reports ++ HelloReport name ∷ []) (Some device)) e) = asks.1 ∙ ap (finishing false) (after ∙ ap (λ (d : Option ℕ). with_progress (Link (reports ++ HelloReport name ∷ []) d) e) is.1) in
     inr (record {
       device = device;
       name = name;
@@ -246,28 +246,28 @@ named_hears settings reports name (Some device) device_after e comes mid what ne
       after = ap (λ (x : Entry). device_of x.progress) whole;
       still = ap (λ (x : Entry). x.broken) whole;
       due = ap (λ (x : Entry). x.due) whole;
-      open_progress = subst (λ (x : Entry). FreshTalk x.progress x) (sym whole) (λ sound. has_more reports (SaysHello name));
+      open_progress = subst (λ (x : Entry). FreshTalk x.progress x) (sym whole) (λ sound. has_more reports (HelloReport name));
       link = not_client e.progress reports None progress;
     })
 
 -- once a device has given its name, its bytes say no name
-no_name : (said : Option ReportRecord) (name : List ℕ) → in_turn true said ≡ Some (SaysHello name) → ⊥
+no_name : (said : Option ReportRecord) (name : List ℕ) → in_turn true said ≡ Some (HelloReport name) → ⊥
 no_name None name is = cc
-no_name (Some (SaysHello other)) name is = cc
-no_name (Some (SaysMedia names)) name is = cc
-no_name (Some SaysReady) name is = cc
-no_name (Some SaysStop) name is = cc
-no_name (Some (SaysBusy time)) name is = cc
-no_name (Some (SaysPages job printed)) name is = cc
-no_name (Some (SaysDone job)) name is = cc
-no_name (Some (SaysFail job)) name is = cc
-no_name (Some SaysGone) name is = cc
+no_name (Some (HelloReport other)) name is = cc
+no_name (Some (MediaReport names)) name is = cc
+no_name (Some ReadyReport) name is = cc
+no_name (Some StopReport) name is = cc
+no_name (Some (BusyReport time)) name is = cc
+no_name (Some (PagesReport job printed)) name is = cc
+no_name (Some (DoneReport job)) name is = cc
+no_name (Some (FailReport job)) name is = cc
+no_name (Some GoneReport) name is = cc
 
-named_already : (bytes : List ℕ) (reports : List ReportRecord) (name : List ℕ) (next : Bool) (left : List ℕ) → Leads true bytes (reports ++ SaysHello name ∷ []) next left → ⊥
-named_already bytes [] name next left (rest, front, more) = no_name (line_says (words_of (strip_carriage_return (take front.count bytes)))) name front.says
+named_already : (bytes : List ℕ) (reports : List ReportRecord) (name : List ℕ) (next : Bool) (left : List ℕ) → Leads true bytes (reports ++ HelloReport name ∷ []) next left → ⊥
+named_already bytes [] name next left (rest, front, more) = no_name (line_report (words_of (strip_carriage_return (take front.count bytes)))) name front.parses
 named_already bytes (one ∷ reports) name next left (rest, front, more) = named_already rest reports name next left more
 
-named_once : (bytes : List ℕ) (reports : List ReportRecord) (name : List ℕ) → HasReport reports → ParsesFirst bytes (reports ++ SaysHello name ∷ []) → ⊥
+named_once : (bytes : List ℕ) (reports : List ReportRecord) (name : List ℕ) → HasReport reports → ParsesFirst bytes (reports ++ HelloReport name ∷ []) → ⊥
 named_once bytes [] name has first = absurd has
 named_once bytes (one ∷ reports) name has first = named_already first.leads.0 reports name first.next first.left first.leads.2
 
@@ -275,18 +275,18 @@ later_nameless : (bytes : List ℕ) (reports : List ReportRecord) (device : ℕ)
 later_nameless bytes reports device said (reported.Hello name) same has first = absurd (named_once bytes reports name has (subst (λ (r : ReportRecord). ParsesFirst bytes (reports ++ r ∷ [])) (sym same) first))
 later_nameless bytes reports device said it same has first = refl
 
-pub report_hears : (settings : ServerSettings) (reports : List ReportRecord) (device : Option ℕ) (said : ReportRecord) (device_after : Option ℕ) (e : Entry) (comes : Step) (mid : Entry) (what : Ask) (new : Entry) → e.progress ≡ Link reports device → FreshTalk (Link reports device) e → e.broken ≡ false → ParsesFirst e.read (reports ++ said ∷ [])
+pub report_keeps : (settings : ServerSettings) (reports : List ReportRecord) (device : Option ℕ) (said : ReportRecord) (device_after : Option ℕ) (e : Entry) (comes : Step) (mid : Entry) (what : Ask) (new : Entry) → e.progress ≡ Link reports device → FreshTalk (Link reports device) e → e.broken ≡ false → ParsesFirst e.read (reports ++ said ∷ [])
     → StepsDevice (device_named settings) device said comes device_after → mid ≡ with_progress (Link (reports ++ said ∷ []) device_after) e → StepsTo comes mid what new → DeviceAsks what e new
-report_hears settings reports None (SaysHello name) device_after e comes mid what new progress fresh sound first is after steps = named_hears settings reports name (device_named settings name) device_after e comes mid what new progress is after steps
-report_hears settings reports None (SaysMedia names) device_after e comes mid what new progress fresh sound first is after steps = absurd is
-report_hears settings reports None SaysReady device_after e comes mid what new progress fresh sound first is after steps = absurd is
-report_hears settings reports None SaysStop device_after e comes mid what new progress fresh sound first is after steps = absurd is
-report_hears settings reports None (SaysBusy time) device_after e comes mid what new progress fresh sound first is after steps = absurd is
-report_hears settings reports None (SaysPages job printed) device_after e comes mid what new progress fresh sound first is after steps = absurd is
-report_hears settings reports None (SaysDone job) device_after e comes mid what new progress fresh sound first is after steps = absurd is
-report_hears settings reports None (SaysFail job) device_after e comes mid what new progress fresh sound first is after steps = absurd is
-report_hears settings reports None SaysGone device_after e comes mid what new progress fresh sound first is after steps = absurd is
-report_hears settings reports (Some device) said device_after e comes mid what new progress fresh sound first ((it, same, is), named) after steps =
+report_keeps settings reports None (HelloReport name) device_after e comes mid what new progress fresh sound first is after steps = named_keeps settings reports name (device_named settings name) device_after e comes mid what new progress is after steps
+report_keeps settings reports None (MediaReport names) device_after e comes mid what new progress fresh sound first is after steps = absurd is
+report_keeps settings reports None ReadyReport device_after e comes mid what new progress fresh sound first is after steps = absurd is
+report_keeps settings reports None StopReport device_after e comes mid what new progress fresh sound first is after steps = absurd is
+report_keeps settings reports None (BusyReport time) device_after e comes mid what new progress fresh sound first is after steps = absurd is
+report_keeps settings reports None (PagesReport job printed) device_after e comes mid what new progress fresh sound first is after steps = absurd is
+report_keeps settings reports None (DoneReport job) device_after e comes mid what new progress fresh sound first is after steps = absurd is
+report_keeps settings reports None (FailReport job) device_after e comes mid what new progress fresh sound first is after steps = absurd is
+report_keeps settings reports None GoneReport device_after e comes mid what new progress fresh sound first is after steps = absurd is
+report_keeps settings reports (Some device) said device_after e comes mid what new progress fresh sound first ((it, same, is), named) after steps =
     let asks : (what ≡ ask.Report device it) × (new ≡ finishing false mid) = subst (λ (s : Step). StepsTo s mid what new) is steps in
     let whole : new ≡ finishing false (with_progress (Link (reports ++ said ∷ []) (Some device)) e) = asks.1 ∙ ap (finishing false) (after ∙ ap (λ (d : Option ℕ). with_progress (Link (reports ++ said ∷ []) d) e) named) in
     let before : device_of e.progress ≡ Some device = ap device_of progress in
@@ -302,12 +302,12 @@ report_hears settings reports (Some device) said device_after e comes mid what n
       }),
     )
 
-pub device_hears : (settings : ServerSettings) (reports : List ReportRecord) (device : Option ℕ) (e : Entry) (comes : Step) (mid : Entry) (what : Ask) (new : Entry) → e.progress ≡ Link reports device → FreshTalk (Link reports device) e → e.broken ≡ false → ItemComes settings (Link reports device) e comes mid → StepsTo comes mid what new → DeviceAsks what e new
-device_hears settings reports device e comes mid what new progress fresh sound (inl next) steps = report_hears settings reports device next.said next.device_after e comes mid what new progress fresh sound next.next next.comes next.after steps
-device_hears settings reports device e comes mid what new progress fresh sound (inr (inl next)) steps =
+pub device_keeps : (settings : ServerSettings) (reports : List ReportRecord) (device : Option ℕ) (e : Entry) (comes : Step) (mid : Entry) (what : Ask) (new : Entry) → e.progress ≡ Link reports device → FreshTalk (Link reports device) e → e.broken ≡ false → ItemComes settings (Link reports device) e comes mid → StepsTo comes mid what new → DeviceAsks what e new
+device_keeps settings reports device e comes mid what new progress fresh sound (inl next) steps = report_keeps settings reports device next.said next.device_after e comes mid what new progress fresh sound next.next next.comes next.after steps
+device_keeps settings reports device e comes mid what new progress fresh sound (inr (inl next)) steps =
     let breaks : (what ≡ ask.Fault device) × (new ≡ broken mid) = subst (λ (s : Step). StepsTo s mid what new) next.comes steps in
     link_breaks what (ask.Fault device) e mid new breaks.0 tt breaks.1 (ap (λ (x : Entry). x.due) next.after) (λ d is. ap (λ (x : Entry). device_of x.progress) (sym next.after) ∙ is) (λ client. absurd (not_client e.progress reports device progress client))
     (λ client. not_client e.progress reports device progress (subst (λ (x : Entry). ClientTalk x.progress) next.after client))
-device_hears settings reports device e comes mid what new progress fresh sound (inr (inr next)) steps =
+device_keeps settings reports device e comes mid what new progress fresh sound (inr (inr next)) steps =
     let breaks : (what ≡ ask.Broke growth.Input) × (new ≡ broken mid) = subst (λ (s : Step). StepsTo s mid what new) next.0 steps in
     link_breaks what (ask.Broke growth.Input) e mid new breaks.0 tt breaks.1 (ap (λ (x : Entry). x.due) next.1) (λ d is. ap (λ (x : Entry). device_of x.progress) (sym next.1) ∙ is) (λ client. absurd (not_client e.progress reports device progress client)) (λ client. not_client e.progress reports device progress (subst (λ (x : Entry). ClientTalk x.progress) next.1 client))

@@ -108,7 +108,7 @@ module _ (steps : StepsOnce) (queries : SameQueries) (asks : AsksOne) where
   greets moment key id device name l hs rest a ks more b e (inr (inr (old, is, p))) (inr (inr (other, its, q))) = (turned_away key id device).one l hs rest a ks more b e p q
 
   pub same_report : (moment device other : ℕ) (one said : Report) → device ≡ other → report_of one ≡ report_of said → Alike (Unanswered moment (Is.Report device one)) (Unanswered moment (Is.Report other said))
-  same_report moment device other one said same says = unanswered_alike steps moment (Is.Report device one) (Is.Report other said) (same, says) refl (λ s. tt) (λ s. tt)
+  same_report moment device other one said same same_ask = unanswered_alike steps moment (Is.Report device one) (Is.Report other said) (same, same_ask) refl (λ s. tt) (λ s. tt)
 
   pub fixed_reports : (moment device : ℕ) (said : ReportRecord) → Fixed (ReportComes moment device said)
   fixed_reports moment device said = record { one = λ l hs rest a ks more b e (one, is, p) (other, its, q). (same_report moment device device one other refl (is ∙ sym its)).one l hs rest a ks more b e p q }
@@ -116,8 +116,8 @@ module _ (steps : StepsOnce) (queries : SameQueries) (asks : AsksOne) where
   -- ---- the asks of a connection
 
   same_events : (moment key id : ℕ) (who other : Client) (event said : Event) → who ≡ other → SameEvent event said → Alike (ActsOn moment key id (ask.Event who event)) (ActsOn moment key id (ask.Event other said))
-  same_events moment key id who other event said same says =
-      subst (λ (c : Client). Alike (ActsOn moment key id (ask.Event who event)) (ActsOn moment key id (ask.Event c said))) same (same_answered steps moment key id who event said says (queries event said says))
+  same_events moment key id who other event said same same_ask =
+      subst (λ (c : Client). Alike (ActsOn moment key id (ask.Event who event)) (ActsOn moment key id (ask.Event c said))) same (same_answered steps moment key id who event said same_ask (queries event said same_ask))
 
   fixed_does : (moment key id : ℕ) (what : Ask) → Fixed (ActsOn moment key id what)
   fixed_does moment key id ask.Nothing = fixed_nothing
@@ -134,8 +134,8 @@ module _ (steps : StepsOnce) (queries : SameQueries) (asks : AsksOne) where
   as_one moment key id what said same = subst (λ (x : Ask). Alike (ActsOn moment key id what) (ActsOn moment key id x)) same (fixed_does moment key id what)
 
   same_does : (moment key id : ℕ) (what said : Ask) → SameAsk what said → Alike (ActsOn moment key id what) (ActsOn moment key id said)
-  same_does moment key id (ask.Event who event) (ask.Event other heard) same = same_events moment key id who other event heard same.0 same.1
-  same_does moment key id (ask.Report device one) (ask.Report other heard) same = same_report moment device other one heard same.0 same.1
+  same_does moment key id (ask.Event who event) (ask.Event other acted_on) same = same_events moment key id who other event acted_on same.0 same.1
+  same_does moment key id (ask.Report device one) (ask.Report other acted_on) same = same_report moment device other one acted_on same.0 same.1
   same_does moment key id ask.Nothing said same = as_one moment key id ask.Nothing said same
   same_does moment key id (ask.Broke growth) said same = as_one moment key id (ask.Broke growth) said same
   same_does moment key id (ask.Unread request) said same = as_one moment key id (ask.Unread request) said same
@@ -148,7 +148,7 @@ module _ (steps : StepsOnce) (queries : SameQueries) (asks : AsksOne) where
   same_does moment key id (ask.Event who event) (ask.Unread request) same = cc
   same_does moment key id (ask.Event who event) (ask.Lost part) same = cc
   same_does moment key id (ask.Event who event) (ask.Hello device name) same = cc
-  same_does moment key id (ask.Event who event) (ask.Report device heard) same = cc
+  same_does moment key id (ask.Event who event) (ask.Report device acted_on) same = cc
   same_does moment key id (ask.Event who event) (ask.UnknownDevice name) same = cc
   same_does moment key id (ask.Event who event) (ask.Fault device) same = cc
   same_does moment key id (ask.Report device one) ask.Nothing same = cc
@@ -173,7 +173,7 @@ module _ (steps : StepsOnce) (queries : SameQueries) (asks : AsksOne) where
   -- two asks are one ask of one connection's number
   record OneAsk (id : ℕ) (what : Ask) (other : ℕ) (said : Ask) : Type 0 where
     ids : id ≡ other
-    says : SameAsk what said
+    same_ask : SameAsk what said
 
   asks_one : (key id other : ℕ) (what said : Ask) (l : Ledger) (hs rest : List Happening) (a : Ledger) (ks more : List Happening) (b : Ledger) → hs ++ rest ≡ ks ++ more → Asks key id what l hs a → Asks key other said l ks b → OneAsk id what other said × (hs ≡ ks) × (a ≡ b)
   asks_one key id other what said l hs rest a ks more b e p q =
@@ -183,7 +183,7 @@ module _ (steps : StepsOnce) (queries : SameQueries) (asks : AsksOne) where
       let chosen = same_asked left right (lost_of what) (lost_of said) choice in
       let one = asked_one l.core.settings (l.entries key) p.entry q.entry what said p.new q.new p.there q.there p.asks q.asks chosen.0 chosen.1 in
       let entry : p.entry ≡ q.entry = same_entry (l.entries key) p.entry q.entry p.there q.there in (
-        record { ids = p.its ∙ (ap (λ (x : Entry). x.id) entry ∙ sym q.its); says = one.0 },
+        record { ids = p.its ∙ (ap (λ (x : Entry). x.id) entry ∙ sym q.its); same_ask = one.0 },
         p.chosen ∙ (ap (λ (c : Choice). Chosen c ∷ []) choice ∙ sym q.chosen),
         p.after ∙ (ap (λ (x : Entry). with_entry key x l) one.1 ∙ sym q.after),
       )
@@ -192,7 +192,7 @@ module _ (steps : StepsOnce) (queries : SameQueries) (asks : AsksOne) where
   acts_one moment key l hs rest a ks more b e (id, what, p) (other, said, q) =
       let it = then_one (Asks key id what) (Asks key other said) (ActsOn moment key id what) (ActsOn moment key other said) l hs rest a ks more b e p q
       (λ left right both. asks_one key id other what said l p.front left p.mid q.front right q.mid both p.first q.first)
-      (λ one. subst (λ (x : ℕ). Alike (ActsOn moment key id what) (ActsOn moment key x said)) one.ids (same_does moment key id what said one.says)) in
+      (λ one. subst (λ (x : ℕ). Alike (ActsOn moment key id what) (ActsOn moment key x said)) one.ids (same_does moment key id what said one.same_ask)) in
       (it.1, it.2)
 
   pub fixed_acts_next : (moment key : ℕ) → Fixed (ActsNext moment key)

@@ -141,7 +141,7 @@ pub same_answered : (steps : StepsOnce) (moment key id : ℕ) (who : Client) (ev
 same_answered steps moment key id who event other same query =
     answered_alike steps moment event other (Answers key id who (is_query event)) (Answers key id who (is_query other)) same query (none_first key id who (is_query event)) (none_first key id who (is_query other))
     (subst (λ (t : Bool). Alike (Answers key id who (is_query event) None) (Answers key id who t None)) query (none_answered key id who (is_query event)))
-    (λ one two says. subst (λ (t : Bool). Alike (Answers key id who (is_query event) (Some one)) (Answers key id who t (Some two))) query (same_answers key id who (is_query event) one two says))
+    (λ one two reads_as. subst (λ (t : Bool). Alike (Answers key id who (is_query event) (Some one)) (Answers key id who t (Some two))) query (same_answers key id who (is_query event) one two reads_as))
 
 -- ---- a body that comes without HTTP
 
@@ -160,4 +160,4 @@ first_between request bytes = record { begins = λ l hs a it. (begins_notifies i
 pub body_answered : (steps : StepsOnce) (moment request : ℕ) (event other : Event) (bytes said : List ℕ) → SameEvent event other → is_query event ≡ is_query other → Alike (Between.IsAnswered moment request event bytes) (Between.IsAnswered moment request other said)
 body_answered steps moment request event other bytes said same query =
     answered_alike steps moment event other (λ reply. Between.Answers request reply bytes) (λ reply. Between.Answers request reply said) same query (first_between request bytes) (first_between request said) (none_between request bytes said)
-    (λ one two says. record { one = answers_one request one two bytes said })
+    (λ one two reads_as. record { one = answers_one request one two bytes said })

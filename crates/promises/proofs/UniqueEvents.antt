@@ -64,8 +64,8 @@ later_alike [] later said rest more e = e
 later_alike (cancel ∷ cancels) later said rest more e = later_alike cancels later said rest more (cc)
 
 -- two notes, each the first of one list of happenings
-first_one : (notes heard : List Note) (x y : Note) (rest more : List Happening) → notes ≡ x ∷ [] → heard ≡ y ∷ [] → map Notified notes ++ rest ≡ map Notified heard ++ more → x ≡ y
-first_one notes heard x y rest more is its e =
+first_one : (notes acted_on : List Note) (x y : Note) (rest more : List Happening) → notes ≡ x ∷ [] → acted_on ≡ y ∷ [] → map Notified notes ++ rest ≡ map Notified acted_on ++ more → x ≡ y
+first_one notes acted_on x y rest more is its e =
     let both : Notified x ∷ rest ≡ Notified y ∷ more = sym (ap (λ (ns : List Note). map Notified ns ++ rest) is) ∙ (e ∙ ap (λ (ns : List Note). map Notified ns ++ more) its) in cc
 
 -- a query isn't dispatched
@@ -80,36 +80,36 @@ abbrev planned_state : ℕ → State → PlanRecord → List Started → State
 planned_state now old plan started = record (beginning_all now started (marked_state now plan old)) { begun = started }
 
 -- one dispatch, one list of notes and one state
-record SameDispatch (made : Dispatch) (notes : List Note) (new : State) (said : Dispatch) (heard : List Note) (after : State) : Type 0 where
+record SameDispatch (made : Dispatch) (notes : List Note) (new : State) (said : Dispatch) (acted_on : List Note) (after : State) : Type 0 where
   dispatch_is : made ≡ said
-  notes_are : notes ≡ heard
+  notes_are : notes ≡ acted_on
   state : new ≡ after
 
 -- two dispatches of one state are the same, if one list of happenings follows both
-dispatched_one : (query other : Bool) (now : ℕ) (old : State) (made said : Dispatch) (notes heard : List Note) (new after : State) (rest more : List Happening) → query ≡ other → map Notified notes ++ rest ≡ map Notified heard ++ more → Follows query now old made notes new → Follows other now old said heard after → SameDispatch made notes new said heard after
-dispatched_one query other now old dispatch.Query dispatch.Query notes heard new after rest more same e (is, still, none) (its, stays, nothing) = record { dispatch_is = refl; notes_are = none ∙ sym nothing; state = still ∙ sym stays }
-dispatched_one query other now old dispatch.Query dispatch.OutOfMemory notes heard new after rest more same e p q = not_both query other same p.0 q.0
-dispatched_one query other now old dispatch.Query dispatch.Idle notes heard new after rest more same e p q = not_both query other same p.0 q.0
-dispatched_one query other now old dispatch.Query dispatch.Planned notes heard new after rest more same e p q = not_both query other same p.0 q.0
-dispatched_one query other now old dispatch.OutOfMemory dispatch.Query notes heard new after rest more same e p q = not_both other query (sym same) q.0 p.0
-dispatched_one query other now old dispatch.Idle dispatch.Query notes heard new after rest more same e p q = not_both other query (sym same) q.0 p.0
-dispatched_one query other now old dispatch.Planned dispatch.Query notes heard new after rest more same e p q = not_both other query (sym same) q.0 p.0
-dispatched_one query other now old dispatch.OutOfMemory dispatch.OutOfMemory notes heard new after rest more same e (is, ready, still, one) (its, able, stays, two) = record { dispatch_is = refl; notes_are = one ∙ sym two; state = still ∙ sym stays }
-dispatched_one query other now old dispatch.OutOfMemory dispatch.Idle notes heard new after rest more same e (is, ready, still, one) (its, found, two) =
-    let never : Refused At.Dispatch None ≡ Planned None [] = first_one notes heard (Refused At.Dispatch None) (Planned None []) rest more one two e in absurd (cc)
-dispatched_one query other now old dispatch.OutOfMemory dispatch.Planned notes heard new after rest more same e (is, ready, still, one) (its, plan, found, two) =
-    let never : Refused At.Dispatch None ≡ Planned (Some plan) after.begun = first_one notes heard (Refused At.Dispatch None) (Planned (Some plan) after.begun) rest more one two e in absurd (cc)
-dispatched_one query other now old dispatch.Idle dispatch.OutOfMemory notes heard new after rest more same e (is, made, one) (its, able, stays, two) =
-    let never : Planned None [] ≡ Refused At.Dispatch None = first_one notes heard (Planned None []) (Refused At.Dispatch None) rest more one two e in absurd (cc)
-dispatched_one query other now old dispatch.Idle dispatch.Idle notes heard new after rest more same e (is, made, one) (its, found, two) = record { dispatch_is = refl; notes_are = one ∙ sym two; state = made.2 ∙ sym found.2 }
-dispatched_one query other now old dispatch.Idle dispatch.Planned notes heard new after rest more same e (is, made, one) (its, plan, found, two) =
-    let never : Planned None [] ≡ Planned (Some plan) after.begun = first_one notes heard (Planned None []) (Planned (Some plan) after.begun) rest more one two e in absurd (cc)
-dispatched_one query other now old dispatch.Planned dispatch.OutOfMemory notes heard new after rest more same e (is, plan, made, one) (its, able, stays, two) =
-    let never : Planned (Some plan) new.begun ≡ Refused At.Dispatch None = first_one notes heard (Planned (Some plan) new.begun) (Refused At.Dispatch None) rest more one two e in absurd (cc)
-dispatched_one query other now old dispatch.Planned dispatch.Idle notes heard new after rest more same e (is, plan, made, one) (its, found, two) =
-    let never : Planned (Some plan) new.begun ≡ Planned None [] = first_one notes heard (Planned (Some plan) new.begun) (Planned None []) rest more one two e in absurd (cc)
-dispatched_one query other now old dispatch.Planned dispatch.Planned notes heard new after rest more same e (is, plan, made, one) (its, chosen, found, two) =
-    let first : Planned (Some plan) new.begun ≡ Planned (Some chosen) after.begun = first_one notes heard (Planned (Some plan) new.begun) (Planned (Some chosen) after.begun) rest more one two e in
+dispatched_one : (query other : Bool) (now : ℕ) (old : State) (made said : Dispatch) (notes acted_on : List Note) (new after : State) (rest more : List Happening) → query ≡ other → map Notified notes ++ rest ≡ map Notified acted_on ++ more → Follows query now old made notes new → Follows other now old said acted_on after → SameDispatch made notes new said acted_on after
+dispatched_one query other now old dispatch.Query dispatch.Query notes acted_on new after rest more same e (is, still, none) (its, stays, nothing) = record { dispatch_is = refl; notes_are = none ∙ sym nothing; state = still ∙ sym stays }
+dispatched_one query other now old dispatch.Query dispatch.OutOfMemory notes acted_on new after rest more same e p q = not_both query other same p.0 q.0
+dispatched_one query other now old dispatch.Query dispatch.Idle notes acted_on new after rest more same e p q = not_both query other same p.0 q.0
+dispatched_one query other now old dispatch.Query dispatch.Planned notes acted_on new after rest more same e p q = not_both query other same p.0 q.0
+dispatched_one query other now old dispatch.OutOfMemory dispatch.Query notes acted_on new after rest more same e p q = not_both other query (sym same) q.0 p.0
+dispatched_one query other now old dispatch.Idle dispatch.Query notes acted_on new after rest more same e p q = not_both other query (sym same) q.0 p.0
+dispatched_one query other now old dispatch.Planned dispatch.Query notes acted_on new after rest more same e p q = not_both other query (sym same) q.0 p.0
+dispatched_one query other now old dispatch.OutOfMemory dispatch.OutOfMemory notes acted_on new after rest more same e (is, ready, still, one) (its, able, stays, two) = record { dispatch_is = refl; notes_are = one ∙ sym two; state = still ∙ sym stays }
+dispatched_one query other now old dispatch.OutOfMemory dispatch.Idle notes acted_on new after rest more same e (is, ready, still, one) (its, found, two) =
+    let never : Refused At.Dispatch None ≡ Planned None [] = first_one notes acted_on (Refused At.Dispatch None) (Planned None []) rest more one two e in absurd (cc)
+dispatched_one query other now old dispatch.OutOfMemory dispatch.Planned notes acted_on new after rest more same e (is, ready, still, one) (its, plan, found, two) =
+    let never : Refused At.Dispatch None ≡ Planned (Some plan) after.begun = first_one notes acted_on (Refused At.Dispatch None) (Planned (Some plan) after.begun) rest more one two e in absurd (cc)
+dispatched_one query other now old dispatch.Idle dispatch.OutOfMemory notes acted_on new after rest more same e (is, made, one) (its, able, stays, two) =
+    let never : Planned None [] ≡ Refused At.Dispatch None = first_one notes acted_on (Planned None []) (Refused At.Dispatch None) rest more one two e in absurd (cc)
+dispatched_one query other now old dispatch.Idle dispatch.Idle notes acted_on new after rest more same e (is, made, one) (its, found, two) = record { dispatch_is = refl; notes_are = one ∙ sym two; state = made.2 ∙ sym found.2 }
+dispatched_one query other now old dispatch.Idle dispatch.Planned notes acted_on new after rest more same e (is, made, one) (its, plan, found, two) =
+    let never : Planned None [] ≡ Planned (Some plan) after.begun = first_one notes acted_on (Planned None []) (Planned (Some plan) after.begun) rest more one two e in absurd (cc)
+dispatched_one query other now old dispatch.Planned dispatch.OutOfMemory notes acted_on new after rest more same e (is, plan, made, one) (its, able, stays, two) =
+    let never : Planned (Some plan) new.begun ≡ Refused At.Dispatch None = first_one notes acted_on (Planned (Some plan) new.begun) (Refused At.Dispatch None) rest more one two e in absurd (cc)
+dispatched_one query other now old dispatch.Planned dispatch.Idle notes acted_on new after rest more same e (is, plan, made, one) (its, found, two) =
+    let never : Planned (Some plan) new.begun ≡ Planned None [] = first_one notes acted_on (Planned (Some plan) new.begun) (Planned None []) rest more one two e in absurd (cc)
+dispatched_one query other now old dispatch.Planned dispatch.Planned notes acted_on new after rest more same e (is, plan, made, one) (its, chosen, found, two) =
+    let first : Planned (Some plan) new.begun ≡ Planned (Some chosen) after.begun = first_one notes acted_on (Planned (Some plan) new.begun) (Planned (Some chosen) after.begun) rest more one two e in
     let both = same_plan plan chosen new.begun after.begun first in
     record {
       dispatch_is = refl;
@@ -119,11 +119,11 @@ dispatched_one query other now old dispatch.Planned dispatch.Planned notes heard
 
 module _ (steps : StepsOnce) where
   -- the results of events with the same content are the same, if neither is dropped and one list of happenings follows both
-  pub handled_one : (moment : ℕ) (event other : Event) (old : State) (outcome said : Outcome) (notes heard : List Note) (new after : State) (rest more : List Happening) → SameEvent event other → is_query event ≡ is_query other → IsKept outcome → IsKept said
-      → map Notified notes ++ rest ≡ map Notified heard ++ more → Handles moment event old outcome notes new → Handles moment other old said heard after → SameWay outcome notes new said heard after
-  handled_one moment event other old None said notes heard new after rest more same query kept enqueues e p q = absurd kept
-  handled_one moment event other old (Some one) None notes heard new after rest more same query kept enqueues e p q = absurd enqueues
-  handled_one moment event other old (Some one) (Some two) notes heard new after rest more same query kept enqueues e p q =
+  pub handled_one : (moment : ℕ) (event other : Event) (old : State) (outcome said : Outcome) (notes acted_on : List Note) (new after : State) (rest more : List Happening) → SameEvent event other → is_query event ≡ is_query other → IsKept outcome → IsKept said
+      → map Notified notes ++ rest ≡ map Notified acted_on ++ more → Handles moment event old outcome notes new → Handles moment other old said acted_on after → SameWay outcome notes new said acted_on after
+  handled_one moment event other old None said notes acted_on new after rest more same query kept enqueues e p q = absurd kept
+  handled_one moment event other old (Some one) None notes acted_on new after rest more same query kept enqueues e p q = absurd enqueues
+  handled_one moment event other old (Some one) (Some two) notes acted_on new after rest more same query kept enqueues e p q =
       let end = steps old event other moment one.effects p.mid two.effects q.mid same p.step q.step in
       let left : notes ≡ cancel_notes two.effects ++ p.later = p.notes_are ∙ ap (λ (ns : List Note). ns ++ p.later) (notified_same one.effects two.effects end.effects_are) in
       let both = later_alike two.effects.cancels.items p.later q.later rest more (sym (ap (λ (ns : List Note). map Notified ns ++ rest) left) ∙ (e ∙ ap (λ (ns : List Note). map Notified ns ++ more) q.notes_are)) in

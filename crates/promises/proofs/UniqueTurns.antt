@@ -97,7 +97,7 @@ module _ (steps : StepsOnce) (queries : SameQueries) (asks : AsksOne) (bodies : 
       subst (BeginsAs is_choice true) (sym it.whole) (begins_append is_choice true it.front it.back (subst (BeginsAs is_choice true) (sym first.whole) (begins_append is_choice true first.front first.back begins)))
 
   serves_first : (moment key : ℕ) (l : Ledger) (hs : List Happening) (a : Ledger) → Serves moment key l hs a → BeginsAs is_choice true hs
-  serves_first moment key l hs a (it, heard) = rests_first it.first.0 moment key l hs a (record { mid = it.mid; front = it.front; back = it.back; whole = it.whole; first = it.first.1; second = it.second })
+  serves_first moment key l hs a (it, acted_on) = rests_first it.first.0 moment key l hs a (record { mid = it.mid; front = it.front; back = it.back; whole = it.whole; first = it.first.1; second = it.second })
 
   fed_first : (moment key : ℕ) (e : Entry) → Begins is_choice true (Then (Sets key e) (Serves moment key))
   fed_first moment key e = record { begins = λ l hs a it. subst (BeginsAs is_choice true) (sym (it.whole ∙ ap (λ (xs : List Happening). xs ++ it.back) it.first.0)) (serves_first moment key it.mid it.back a it.second) }

@@ -33,7 +33,7 @@ use Rattle.connections.specs.declared.step.Step.TheVariants as step
 use Rattle.connections.specs.Session.{is_queue}
 use Rattle.connections.specs.Steps.{StepsIpp, closes_after, body_after, StepsLpd, refused, due_bytes, http_status}
 use Rattle.connections.specs.Entry.{PeerRecord, Http, Queue, Link, Entry, opening_peer, closes_of}
-use Rattle.connections.specs.Asking.{IsHeard}
+use Rattle.connections.specs.Asking.{IsActedOn}
 use Rattle.server.specs.Ledger.{Ledger, Fate}
 use Rattle.server.specs.Acting.{place_of_part}
 use Rattle.server.specs.Law.{happenings_in}
@@ -71,7 +71,7 @@ pub record NextLpd (queues : List ℕ → Bool) (read : List ℕ) (items : List 
 -- the bytes that were read of an LPD client have a fault after its items: the fault is refused, and the connection drains
 pub record FaultLpd (read : List ℕ) (items : List ItemRecord) (session : Option SessionState) (what : Step) (after : PeerRecord) : Type 0 where
   pub fault : LpdFault
-  pub says : LpdItems read items (Faulty fault)
+  pub reads_as : LpdItems read items (Faulty fault)
   pub comes : what ≡ refused
   pub is : after ≡ Queue items session
 
@@ -258,7 +258,7 @@ pub record AreAnswered (opening : State) (trace : Trace) (l : Ledger) : Type 0 w
   pub answered : (key : ℕ) (e : Entry) → l.entries key ≡ Some e → ClientTalk e.progress → e.broken ≡ false → IsAnswered opening key handled e
   pub first : (key : ℕ) (e : Entry) → l.entries key ≡ Some e → IsFirst e.read e.progress
   pub closed_first : All (λ (it : Entry × Fate). IsFirst it.0.read it.0.progress) l.closed
-  pub heard : (key : ℕ) (e : Entry) → l.entries key ≡ Some e → IsHeard e
+  pub acted_on : (key : ℕ) (e : Entry) → l.entries key ≡ Some e → IsActedOn e
   pub closed : All (λ (it : Entry × Fate). WasAnswered opening handled it.0) l.closed
   pub cut_off : (key : ℕ) (e : Entry) → l.entries key ≡ Some e → ClientTalk e.progress → e.broken ≡ true → IsCutOff opening key handled e
   pub closed_cut_off : All (λ (it : Entry × Fate). WasCutOff opening handled it.0) l.closed

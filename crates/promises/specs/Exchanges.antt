@@ -17,7 +17,7 @@ use Rattle.send_queues.specs.Reply.{refusal_head}
 use Rattle.connections.specs.declared.ask.Client.TheVariants as client
 use Rattle.connections.specs.Steps.{http_status}
 use Rattle.connections.specs.Entry.{PeerRecord, Http, Entry, opening_peer}
-use Rattle.connections.specs.Asking.{IsHeard}
+use Rattle.connections.specs.Asking.{IsActedOn}
 use Rattle.server.specs.Ledger.{Ledger, Fate}
 use Rattle.server.specs.Turn.{Trace}
 use Rattle.server.specs.Law.{happenings_in}
@@ -38,11 +38,11 @@ pub record Exchange : Type 0 where
   pub answer : List ℕ
 
 -- a head, the invitation that it waits for, and a prefix of a body
-abbrev pub says_begun : Bool → Bool → List ℕ → List HttpElement
-says_begun closes invites body = HasHead closes ∷ ((if invites then Invites ∷ [] else []) ++ map HasByte body)
+abbrev pub elements_of_begun : Bool → Bool → List ℕ → List HttpElement
+elements_of_begun closes invites body = HasHead closes ∷ ((if invites then Invites ∷ [] else []) ++ map HasByte body)
 
-abbrev pub says_exchange : Exchange → List HttpElement
-says_exchange x = says_begun x.closes x.invites x.body ++ EndsBody ∷ []
+abbrev pub elements_of_exchange : Exchange → List HttpElement
+elements_of_exchange x = elements_of_begun x.closes x.invites x.body ++ EndsBody ∷ []
 
 -- A body without a whole header (RFC 8010, section 3.1.1) is answered by the head of a refusal, and a refused body by its status; no event is asked. For a body with an event, the core handles exactly that event, and the answer is the reply that it gave. It is the status that memory was refused only if the observer was notified of that: memory for the event, or for the reply to a query (RFC 8011, section 4.1).
 abbrev pub IsAnswerTo : ℕ → Bool → ParsedRequest → List RunPart → List ℕ → Type 0
@@ -72,18 +72,18 @@ pub data Front : Type 0 where
   Nothing : Front
   Begun : (closes invites : Bool) (body : List ℕ) → Front
 
-abbrev pub says_front : Front → List HttpElement
-says_front Nothing = []
-says_front (Begun closes invites body) = says_begun closes invites body
+abbrev pub elements_of_front : Front → List HttpElement
+elements_of_front Nothing = []
+elements_of_front (Begun closes invites body) = elements_of_begun closes invites body
 
 abbrev pub due_front : Front → List ℕ
 due_front Nothing = []
 due_front (Begun closes invites body) = invitation invites
 
 -- the rest may be refused
-abbrev pub says_refusal : Option HttpRejection → List HttpElement
-says_refusal None = []
-says_refusal (Some refusal) = IsRefused refusal ∷ []
+abbrev pub elements_of_refusal : Option HttpRejection → List HttpElement
+elements_of_refusal None = []
+elements_of_refusal (Some refusal) = IsRefused refusal ∷ []
 
 abbrev pub due_refusal : Option HttpRejection → List ℕ
 due_refusal None = []
@@ -92,13 +92,13 @@ due_refusal (Some refusal) = refusal_head refusal
 -- ---- the law
 
 -- A client's stream is whole exchanges, one after the other, and then at most the beginning of one more, or a refusal. Nothing follows an exchange that closes, one with too short a body, or a refusal. The bytes due are those of the exchanges, and the events asked, and the refusals of memory for them, are exactly theirs, in order.
-pub record AreExchanges (id : ℕ) (heard : List HttpElement) (handled : List RunPart) (bytes : List ℕ) : Type 0 where
-  pub order : in_order Between heard ≡ true
+pub record AreExchanges (id : ℕ) (acted_on : List HttpElement) (handled : List RunPart) (bytes : List ℕ) : Type 0 where
+  pub order : in_order Between acted_on ≡ true
   pub exchanges : List Exchange
   pub each : All (λ (x : Exchange). IsExchange id x) exchanges
   pub front : Front
   pub refusal : Option HttpRejection
-  pub said : heard ≡ flat_map says_exchange exchanges ++ (says_front front ++ says_refusal refusal)
+  pub said : acted_on ≡ flat_map elements_of_exchange exchanges ++ (elements_of_front front ++ elements_of_refusal refusal)
   pub asked : handled ≡ flat_map (λ (x : Exchange). x.asked) exchanges
   pub due : bytes ≡ flat_map due_in exchanges ++ (due_front front ++ due_refusal refusal)
 
@@ -150,4 +150,4 @@ pub record AreByExchanges (opening : State) (trace : Trace) (l : Ledger) : Type 
   pub closed : All (λ (it : Entry × Fate). WasByExchanges handled it.0) l.closed
   pub first : (key : ℕ) (e : Entry) → l.entries key ≡ Some e → IsFirst e.read e.progress
   pub closed_first : All (λ (it : Entry × Fate). IsFirst it.0.read it.0.progress) l.closed
-  pub heard : (key : ℕ) (e : Entry) → l.entries key ≡ Some e → IsHeard e
+  pub acted_on : (key : ℕ) (e : Entry) → l.entries key ≡ Some e → IsActedOn e

@@ -7,5 +7,5 @@ pub mod Exchanges
 pub mod Others
 pub mod Carried
 pub mod Dropped
-pub mod Heard
+pub mod Delivered
 pub mod Keyed

@@ -18,7 +18,7 @@ use Rattle.server.specs.Law.{core_notes}
 use Rattle.server.specs.Closing.{NoneBroken}
 use Rattle.server.specs.Polling.{ReadsOne, WritesOne, EndsOne}
 use Rattle.promises.specs.Orders.{began, canceled}
-use Rattle.promises.specs.Heard.{Came, AreRun, ComeAt}
+use Rattle.promises.specs.Delivered.{Came, AreRun, ComeAt}
 
 -- the bytes of one order for a device: the line of a cancel that an event brought, or the line and the documents of a job that began by it
 abbrev pub IsOrderBy : ℕ → Outcome → State → List ℕ → Type 0

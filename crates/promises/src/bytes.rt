@@ -6,7 +6,7 @@ ghost use Rattle.server.specs.Refinement.{StandsAt};
 ghost use Rattle.promises.specs.Answers.{AreAnswered};
 ghost use Rattle.promises.specs.Calls.{Call, AreMade, IsAccounted};
 ghost use Rattle.promises.specs.Carried.{NumbersDiffer, IsCarried};
-ghost use Rattle.promises.specs.Heard.{AreHeard};
+ghost use Rattle.promises.specs.Delivered.{AreDelivered};
 ghost use Rattle.promises.specs.Keyed.{SeenLeadsToOne};
 ghost use Rattle.promises.specs.OneLedger.{LeadsToOne};
 ghost use Rattle.promises.specs.Orders.{AreSent};
@@ -46,8 +46,8 @@ pub fn devices_are_sent_their_orders()
 /// that it gave up by another connection. The name is that of the device in the settings. The reports of a
 /// connection are a prefix of those that its bytes contain: all of them, unless the connection is draining or
 /// broken.
-pub fn devices_are_heard()
-    ensures { (opening : State) (trace : Trace) (ledger : Ledger) → Runs trace (opening_ledger opening) ledger → AreHeard opening trace ledger }
+pub fn reports_are_delivered()
+    ensures { (opening : State) (trace : Trace) (ledger : Ledger) → Runs trace (opening_ledger opening) ledger → AreDelivered opening trace ledger }
 {}
 
 /// The core's events of a trace, and the notes that memory was refused, are one run. The observer's notes of

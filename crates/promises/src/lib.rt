@@ -14,8 +14,8 @@ mod plans;
 mod run;
 
 pub use bytes::{
-    clients_are_answered, devices_are_heard, devices_are_sent_their_orders, due_after_calls,
-    due_was_carried, one_ledger, one_seen_ledger, others_are_spared,
+    clients_are_answered, devices_are_sent_their_orders, due_after_calls, due_was_carried,
+    one_ledger, one_seen_ledger, others_are_spared, reports_are_delivered,
 };
 pub use exchanges::exchanges_are_answered;
 pub use plans::plan_is_its_text;

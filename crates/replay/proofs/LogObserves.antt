@@ -20,66 +20,66 @@ leads_append moves a b c (h ∷ hs) ks p q = (p.0, p.1, leads_append moves p.0 b
 
 -- ---- the log
 
--- the log hears notes, and no polls
+-- the log observes notes, and no polls
 abbrev Observes : LogRecord → Happening → LogRecord → Type 0
 Observes old (Polled poll) new = new ≡ old
 Observes old (Notified note) new = LogsNote old note new
 Observes old (Chosen choice) new = ⊥
 
 -- the notes of a log for happenings, if it has lost no note
-pub record HasHeard (old : LogRecord) (hs : List Happening) (new : LogRecord) : Type 0 where
-  pub log : new ≡ record old { heard = new.heard }
-  pub hears : ForSome new.heard (λ text. (before : List ℕ) × (old.heard ≡ Some before) × (text ≡ before ++ happenings_text old.texts old.names hs))
+pub record HasObserved (old : LogRecord) (hs : List Happening) (new : LogRecord) : Type 0 where
+  pub log : new ≡ record old { observed = new.observed }
+  pub observes : ForSome new.observed (λ text. (before : List ℕ) × (old.observed ≡ Some before) × (text ≡ before ++ happenings_text old.texts old.names hs))
 
 added : (text : List ℕ) (o : Option (List ℕ)) (after : List ℕ) → option_map (λ t. t ++ text) o ≡ Some after → (before : List ℕ) × (o ≡ Some before) × (after ≡ before ++ text)
 added text None after is = absurd (none-some after is)
 added text (Some before) after is = (before, refl, cc (sym is))
 
--- one happening is heard
-heard_one : (old : LogRecord) (h : Happening) (new : LogRecord) → Observes old h new → (new ≡ record old { heard = new.heard }) × ForSome new.heard (λ text. (before : List ℕ) × (old.heard ≡ Some before) × (text ≡ before ++ happening_text old.texts old.names h))
-heard_one old (Polled poll) new same = subst (λ n. (n ≡ record old { heard = n.heard }) × ForSome n.heard (λ text. (before : List ℕ) × (old.heard ≡ Some before) × (text ≡ before ++ []))) (sym same) (refl, λ text is. (text, is, sym (append-nil text)))
-heard_one old (Chosen choice) new none = absurd none
-heard_one old (Notified note) new (inl kept) = subst (λ n. (n ≡ record old { heard = n.heard }) × ForSome n.heard (λ text. (before : List ℕ) × (old.heard ≡ Some before) × (text ≡ before ++ note_text old.texts old.names note))) (sym kept) (refl, λ text is. added (note_text old.texts old.names note) old.heard text is)
-heard_one old (Notified note) new (inr lost) = subst (λ n. (n ≡ record old { heard = n.heard }) × ForSome n.heard (λ text. (before : List ℕ) × (old.heard ≡ Some before) × (text ≡ before ++ note_text old.texts old.names note))) (sym lost) (refl, λ text is. absurd (none-some text is))
+-- one happening is observed
+observed_one : (old : LogRecord) (h : Happening) (new : LogRecord) → Observes old h new → (new ≡ record old { observed = new.observed }) × ForSome new.observed (λ text. (before : List ℕ) × (old.observed ≡ Some before) × (text ≡ before ++ happening_text old.texts old.names h))
+observed_one old (Polled poll) new same = subst (λ n. (n ≡ record old { observed = n.observed }) × ForSome n.observed (λ text. (before : List ℕ) × (old.observed ≡ Some before) × (text ≡ before ++ []))) (sym same) (refl, λ text is. (text, is, sym (append-nil text)))
+observed_one old (Chosen choice) new none = absurd none
+observed_one old (Notified note) new (inl kept) = subst (λ n. (n ≡ record old { observed = n.observed }) × ForSome n.observed (λ text. (before : List ℕ) × (old.observed ≡ Some before) × (text ≡ before ++ note_text old.texts old.names note))) (sym kept) (refl, λ text is. added (note_text old.texts old.names note) old.observed text is)
+observed_one old (Notified note) new (inr lost) = subst (λ n. (n ≡ record old { observed = n.observed }) × ForSome n.observed (λ text. (before : List ℕ) × (old.observed ≡ Some before) × (text ≡ before ++ note_text old.texts old.names note))) (sym lost) (refl, λ text is. absurd (none-some text is))
 
-heard_all : (old new : LogRecord) (hs : List Happening) → Leads Observes old hs new → HasHeard old hs new
-heard_all old new [] same = subst (λ n. HasHeard old [] n) (sym same) (record { log = refl; hears = λ text is. (text, is, sym (append-nil text)) })
-heard_all old new (h ∷ hs) (mid, first, later) =
-    let one = heard_one old h mid first in
-    let all = heard_all mid new hs later in
+observed_all : (old new : LogRecord) (hs : List Happening) → Leads Observes old hs new → HasObserved old hs new
+observed_all old new [] same = subst (λ n. HasObserved old [] n) (sym same) (record { log = refl; observes = λ text is. (text, is, sym (append-nil text)) })
+observed_all old new (h ∷ hs) (mid, first, later) =
+    let one = observed_one old h mid first in
+    let all = observed_all mid new hs later in
     let named : happenings_text mid.texts mid.names hs ≡ happenings_text old.texts old.names hs = ap (λ (l : LogRecord). happenings_text l.texts l.names hs) one.0 in
     record {
-      log = all.log ∙ ap (λ (l : LogRecord). record l { heard = new.heard }) one.0;
-      hears = λ text is.
-          let rest = all.hears text is in
+      log = all.log ∙ ap (λ (l : LogRecord). record l { observed = new.observed }) one.0;
+      observes = λ text is.
+          let rest = all.observes text is in
           let begun = one.1 rest.0 rest.1 in
           (begun.0, begun.1, rest.2 ∙ ap (λ t. t ++ happenings_text mid.texts mid.names hs) begun.2 ∙ append_assoc begun.0 (happening_text old.texts old.names h) _ ∙ ap (λ t. begun.0 ++ (happening_text old.texts old.names h ++ t)) named);
     }
 
 observes_alone : (old : LogRecord) (h : Happening) (new : LogRecord) → alone LogsNote old h new → Observes old h new
 observes_alone old (Polled poll) new none = absurd none
-observes_alone old (Notified note) new hears = hears
+observes_alone old (Notified note) new observes = observes
 observes_alone old (Chosen choice) new none = absurd none
 
 -- without a wire
-pub heard_alone : (old new : LogRecord) (hs : List Happening) → Leads (alone LogsNote) old hs new → HasHeard old hs new
-heard_alone old new hs leads = heard_all old new hs (leads_as (alone LogsNote) Observes (λ l. l) observes_alone old new hs leads)
+pub observed_alone : (old new : LogRecord) (hs : List Happening) → Leads (alone LogsNote) old hs new → HasObserved old hs new
+observed_alone old new hs leads = observed_all old new hs (leads_as (alone LogsNote) Observes (λ l. l) observes_alone old new hs leads)
 
 observes_beside : (old : TraceWire × LogRecord) (h : Happening) (new : TraceWire × LogRecord) → both WirePolls LogsNote old h new → Observes old.1 h new.1
 observes_beside old (Polled poll) new (moved, same) = same
-observes_beside old (Notified note) new (hears, same) = hears
+observes_beside old (Notified note) new (observes, same) = observes
 observes_beside old (Chosen choice) new none = absurd none
 
 -- beside a wire
-pub heard_beside : (old new : TraceWire × LogRecord) (hs : List Happening) → Leads (both WirePolls LogsNote) old hs new → HasHeard old.1 hs new.1
-heard_beside old new hs leads = heard_all old.1 new.1 hs (leads_as (both WirePolls LogsNote) Observes (λ s. s.1) observes_beside old new hs leads)
+pub observed_beside : (old new : TraceWire × LogRecord) (hs : List Happening) → Leads (both WirePolls LogsNote) old hs new → HasObserved old.1 hs new.1
+observed_beside old new hs leads = observed_all old.1 new.1 hs (leads_as (both WirePolls LogsNote) Observes (λ s. s.1) observes_beside old new hs leads)
 
 -- all notes are printed, and then the log is as it was
-pub all_heard : (old new after : LogRecord) (hs : List Happening) (text : List ℕ) → HasHeard old hs new → old.heard ≡ Some [] → new.heard ≡ Some text → after ≡ record new { heard = Some [] } → (text ≡ happenings_text old.texts old.names hs) × (after ≡ old)
-all_heard old new after hs text notified none some is =
-    let heard = notified.hears text some in
-    let empty : heard.0 ≡ [] = cc (sym heard.1 ∙ none) in
-    (heard.2 ∙ ap (λ t. t ++ happenings_text old.texts old.names hs) empty, is ∙ ap (λ (l : LogRecord). record l { heard = Some [] }) notified.log ∙ ap (λ (o : Option (List ℕ)). record old { heard = o }) (sym none))
+pub all_observed : (old new after : LogRecord) (hs : List Happening) (text : List ℕ) → HasObserved old hs new → old.observed ≡ Some [] → new.observed ≡ Some text → after ≡ record new { observed = Some [] } → (text ≡ happenings_text old.texts old.names hs) × (after ≡ old)
+all_observed old new after hs text notified none some is =
+    let observed = notified.observes text some in
+    let empty : observed.0 ≡ [] = cc (sym observed.1 ∙ none) in
+    (observed.2 ∙ ap (λ t. t ++ happenings_text old.texts old.names hs) empty, is ∙ ap (λ (l : LogRecord). record l { observed = Some [] }) notified.log ∙ ap (λ (o : Option (List ℕ)). record old { observed = o }) (sym none))
 
 -- ---- the wire
 
@@ -125,7 +125,7 @@ moved_all old new (h ∷ hs) (mid, first, later) =
 
 sees_beside : (old : TraceWire × LogRecord) (h : Happening) (new : TraceWire × LogRecord) → both WirePolls LogsNote old h new → WireSees old.0 h new.0
 sees_beside old (Polled poll) new (moved, same) = moved
-sees_beside old (Notified note) new (hears, same) = same
+sees_beside old (Notified note) new (observes, same) = same
 sees_beside old (Chosen choice) new none = absurd none
 
 pub moved_beside : (old new : TraceWire × LogRecord) (hs : List Happening) → Leads (both WirePolls LogsNote) old hs new → HasMoved old.0 hs new.0

@@ -23,18 +23,18 @@ use Rattle.replay.specs.Playing.{Standing, Calls, Serves, Turns, Plays, IsReplyL
 use Rattle.traces.specs.Wire.{WirePolls}
 use Rattle.replay.specs.Peers.{PeersSee, any_stirs, all_turns}
 use Rattle.replay.proofs.Reach.{moves_nothing, moves_then}
-use Rattle.replay.proofs.LogObserves.{heard_alone, heard_beside, moved_beside, all_heard, leads_append}
+use Rattle.replay.proofs.LogObserves.{observed_alone, observed_beside, moved_beside, all_observed, leads_append}
 
 -- ---- calls between turns
 
 -- all notes since were printed
 abbrev Printed : LogRecord → List ℕ → LogRecord → Type 0
-Printed log heard after = (log.heard ≡ Some heard) × (after ≡ record log { heard = Some [] })
+Printed log observed after = (log.observed ≡ Some observed) × (after ≡ record log { observed = Some [] })
 
-pub serves : (old new : Play) (body line heard text : List ℕ) (answer : Outcome) (log : LogRecord) → IsReady old → RefinesBody (alone LogsNote) old.moment body old.log old.engine log new.engine answer → IsReplyLine answer line → Printed log heard new.log → text ≡ line ++ heard → new.peers.wire.failed ≡ old.peers.wire.failed → standing new ≡ standing old
+pub serves : (old new : Play) (body line observed text : List ℕ) (answer : Outcome) (log : LogRecord) → IsReady old → RefinesBody (alone LogsNote) old.moment body old.log old.engine log new.engine answer → IsReplyLine answer line → Printed log observed new.log → text ≡ line ++ observed → new.peers.wire.failed ≡ old.peers.wire.failed → standing new ≡ standing old
     → TakesActions old new (λ actions. Serves old.log.texts old.log.names old.moment body actions text × (standing new ≡ standing old))
-serves old new body line heard text answer log ready served replies printed is fine still =
-    let all = all_heard old.log log new.log served.happenings heard (heard_alone old.log log served.happenings served.leads) ready.silent printed.0 printed.1 in
+serves old new body line observed text answer log ready served replies printed is fine still =
+    let all = all_observed old.log log new.log served.happenings observed (observed_alone old.log log served.happenings served.leads) ready.silent printed.0 printed.1 in
     record {
       actions = Served_body old.moment body answer served.happenings ∷ [];
       is = (record { answer = answer; line = line; happenings = served.happenings; replies = replies; does = refl; printed = is ∙ ap (λ t. line ++ t) all.0 }, still);
@@ -43,10 +43,10 @@ serves old new body line heard text answer log ready served replies printed is f
       prompt = fine ∙ ready.prompt;
     }
 
-pub calls : (old new : Play) (action : List Happening → Action) (heard : List ℕ) (result : Result (Unit {0}) AllocError) (log : LogRecord) → IsReady old → Engine.RefinesCall (alone LogsNote) action old.log old.engine log new.engine result → IsOk result → Printed log heard new.log → new.peers.wire.failed ≡ old.peers.wire.failed → standing new ≡ standing old
-    → TakesActions old new (λ actions. Calls old.log.texts old.log.names action actions heard × (standing new ≡ standing old))
-calls old new action heard result log ready called good printed fine still =
-    let all = all_heard old.log log new.log called.happenings heard (heard_alone old.log log called.happenings called.leads) ready.silent printed.0 printed.1 in
+pub calls : (old new : Play) (action : List Happening → Action) (observed : List ℕ) (result : Result (Unit {0}) AllocError) (log : LogRecord) → IsReady old → Engine.RefinesCall (alone LogsNote) action old.log old.engine log new.engine result → IsOk result → Printed log observed new.log → new.peers.wire.failed ≡ old.peers.wire.failed → standing new ≡ standing old
+    → TakesActions old new (λ actions. Calls old.log.texts old.log.names action actions observed × (standing new ≡ standing old))
+calls old new action observed result log ready called good printed fine still =
+    let all = all_observed old.log log new.log called.happenings observed (observed_alone old.log log called.happenings called.leads) ready.silent printed.0 printed.1 in
     record {
       actions = action called.happenings ∷ [];
       is = (record { happenings = called.happenings; unrefused = called.ok good; does = refl; printed = all.0 }, still);
@@ -59,7 +59,7 @@ calls old new action heard result log ready called good printed fine still =
 
 pub took_turn : (old new : Play) (stirred : Bool) (wire : TraceWire) → wire ≡ record old.peers.wire { stirred = false } → Engine.RefinesTurn (both WirePolls LogsNote) old.moment (wire, old.log) old.engine (new.peers.wire, new.log) new.engine → stirred ≡ new.peers.wire.stirred → new.moment ≡ old.moment → new.peers.connections ≡ old.peers.connections → TakesTurn old new stirred
 took_turn old new stirred wire begins turned is still same =
-    let heard = heard_beside (wire, old.log) (new.peers.wire, new.log) turned.happenings turned.leads in
+    let observed = observed_beside (wire, old.log) (new.peers.wire, new.log) turned.happenings turned.leads in
     let moved = moved_beside (wire, old.log) (new.peers.wire, new.log) turned.happenings turned.leads in
     record {
       turn = turned.happenings;
@@ -67,8 +67,8 @@ took_turn old new stirred wire begins turned is still same =
       sees = λ fine.
           let all = moved.sees fine in
           (ap (λ (w : TraceWire). w.failed) (sym begins) ∙ all.0, subst (λ (w : TraceWire). Leads PeersSee w.memory.peers.items turned.happenings new.peers.wire.memory.peers.items) begins all.1);
-      hears = heard.hears;
-      log = heard.log;
+      observes = observed.observes;
+      log = observed.log;
       moves = turned.stands;
       moment = still;
       connections = same;
@@ -77,7 +77,7 @@ took_turn old new stirred wire begins turned is still same =
 pub no_turns : (old : Play) → TakesTurns old [] old
 no_turns old = record {
   sees = λ fine. (fine, refl);
-  hears = λ text is. (text, is, sym (append-nil text));
+  observes = λ text is. (text, is, sym (append-nil text));
   log = refl;
   moves = moves_nothing old.engine;
   moment = refl;
@@ -100,9 +100,9 @@ one_more old mid new turns stirred all t = record {
       let one = t.sees fine in
       let before = all.sees one.0 in
       (before.0, subst (λ hs. Leads PeersSee old.peers.wire.memory.peers.items hs new.peers.wire.memory.peers.items) (sym (all_more turns t.turn)) (leads_append PeersSee _ _ _ (all_turns turns) t.turn before.1 one.1));
-  hears = λ text is.
-      let one = t.hears text is in
-      let before = all.hears one.0 one.1 in
+  observes = λ text is.
+      let one = t.observes text is in
+      let before = all.observes one.0 one.1 in
       let named : happenings_text mid.log.texts mid.log.names t.turn ≡ happenings_text old.log.texts old.log.names t.turn = ap (λ (l : LogRecord). happenings_text l.texts l.names t.turn) all.log in (
         before.0,
         before.1,
@@ -110,7 +110,7 @@ one_more old mid new turns stirred all t = record {
             ∙ ap (λ b. before.0 ++ (happenings_text old.log.texts old.log.names (all_turns turns) ++ b)) named
             ∙ ap (λ b. before.0 ++ b) (sym (text_more old.log.texts old.log.names (all_turns turns) t.turn) ∙ ap (happenings_text old.log.texts old.log.names) (sym (all_more turns t.turn))),
       );
-  log = t.log ∙ ap (λ (l : LogRecord). record l { heard = new.log.heard }) all.log;
+  log = t.log ∙ ap (λ (l : LogRecord). record l { observed = new.log.observed }) all.log;
   moves = subst (λ ds. Moves old.engine ds new.engine) (sym (map-append (Turned old.moment) turns (t.turn ∷ [])))
       (moves_then old.engine mid.engine new.engine (map (Turned old.moment) turns) (Turned old.moment t.turn ∷ []) all.moves (subst (λ m. Moves mid.engine (Turned m t.turn ∷ []) new.engine) all.moment t.moves));
   moment = t.moment ∙ all.moment;
@@ -148,13 +148,13 @@ pub till_most : (old new : Play) (count : ℕ) → AreBusy old new count → cou
 till_most old new count busy most = (busy.turns, record { busy = busy.turns; each = busy.each; ends = inr (busy.number ∙ most, refl) }, busy.takes)
 
 -- the text printed for turns
-pub ran : (old mid new : Play) (heard text : List ℕ) → IsReady old → TakesTillQuiet old mid → mid.peers.wire.failed ≡ false → Printed mid.log heard new.log → text ≡ heard ++ connections_text mid.peers.wire.memory.peers.items mid.peers.connections.items
+pub ran : (old mid new : Play) (observed text : List ℕ) → IsReady old → TakesTillQuiet old mid → mid.peers.wire.failed ≡ false → Printed mid.log observed new.log → text ≡ observed ++ connections_text mid.peers.wire.memory.peers.items mid.peers.connections.items
     → new.peers.connections.items ≡ map (seen mid.peers.wire.memory.peers.items) mid.peers.connections.items → new.peers.wire.memory.peers.items ≡ map emptied mid.peers.wire.memory.peers.items → new.engine ≡ mid.engine → new.moment ≡ mid.moment → new.peers.wire.failed ≡ mid.peers.wire.failed
     → TakesActions old new (λ actions. Turns old.log.texts old.log.names (standing old) actions text (standing new))
-ran old mid new heard text ready (turns, till, takes) fine printed is marked cleared engine moment prompt =
+ran old mid new observed text ready (turns, till, takes) fine printed is marked cleared engine moment prompt =
     let peers : List PeerState = mid.peers.wire.memory.peers.items in
     let same : mid.peers.connections.items ≡ old.peers.connections.items = ap (λ cs. cs.items) takes.connections in
-    let notified = takes.hears heard printed.0 in
+    let notified = takes.observes observed printed.0 in
     let empty : notified.0 ≡ [] = some_is notified.0 (sym notified.1 ∙ ready.silent) in
     record {
       actions = map (Turned old.moment) turns;
@@ -168,7 +168,7 @@ ran old mid new heard text ready (turns, till, takes) fine printed is marked cle
         after = stands new.moment old.moment new.peers.connections.items (map (seen peers) old.peers.connections.items) new.peers.wire.memory.peers.items (map emptied peers) (moment ∙ takes.moment) (marked ∙ ap (map (seen peers)) same) cleared;
       };
       moves = subst (λ e. Moves old.engine (map (Turned old.moment) turns) e) (sym engine) takes.moves;
-      log = printed.1 ∙ ap (λ (l : LogRecord). record l { heard = Some [] }) takes.log ∙ ap (λ (o : Option (List ℕ)). record old.log { heard = o }) (sym ready.silent);
+      log = printed.1 ∙ ap (λ (l : LogRecord). record l { observed = Some [] }) takes.log ∙ ap (λ (o : Option (List ℕ)). record old.log { observed = o }) (sym ready.silent);
       prompt = prompt ∙ fine;
     }
   where
@@ -189,7 +189,7 @@ from_here old mid new s text is does = record {
 }
 
 pub still_ready : (old mid : Play) (s : Standing) → Becomes old mid s → IsReady old → IsReady mid
-still_ready old mid s is ready = record { silent = ap (λ (l : LogRecord). l.heard) is.log ∙ ready.silent; prompt = is.prompt ∙ ready.prompt }
+still_ready old mid s is ready = record { silent = ap (λ (l : LogRecord). l.observed) is.log ∙ ready.silent; prompt = is.prompt ∙ ready.prompt }
 
 -- the connections and their peers changed
 pub becomes : (old mid : Play) (s : Standing) → Holds s.connections s.peers old.peers.wire.failed mid.peers → mid.engine ≡ old.engine → mid.log ≡ old.log → mid.moment ≡ s.moment → Becomes old mid s

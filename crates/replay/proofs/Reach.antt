@@ -123,7 +123,7 @@ went_on play old new number next after lines rest before done out1 out2 bytes mo
       did.5 ∙ ap (λ o. o ++ text) out ∙ append_assoc before done text,
       subst (λ n. Reached play.log.texts play.log.names number lines (standing play) play.engine (done ++ text) n more (standing new) new.engine) (sym one) (reached_next _ _ _ _ _ _ _ _ _ _ _ _ line does.actions text _ _ here known did.3 plays does.moves),
       does.log ∙ same,
-      record { silent = ap (λ (l : LogRecord). l.heard) does.log ∙ ready.silent; prompt = does.prompt },
+      record { silent = ap (λ (l : LogRecord). l.observed) does.log ∙ ready.silent; prompt = does.prompt },
     )
 
 -- the result for bad bytes

@@ -69,26 +69,26 @@ IsRequest Is.Tick = ⊥
 
 -- ---- the answer to a request
 
-says_so : (status : Status) (unsupported : List IppAttribute) (groups : List IppGroup) (answer : Response) → IsResponse status unsupported groups answer → IsOfIpp answer
-says_so status unsupported groups (responds.Ipp answer) is = tt
-says_so status unsupported groups (responds.Lpd answer) is = is
-says_so status unsupported groups responds.Nothing is = is
+answers_so : (status : Status) (unsupported : List IppAttribute) (groups : List IppGroup) (answer : Response) → IsResponse status unsupported groups answer → IsOfIpp answer
+answers_so status unsupported groups (responds.Ipp answer) is = tt
+answers_so status unsupported groups (responds.Lpd answer) is = is
+answers_so status unsupported groups responds.Nothing is = is
 
-says : (status : Status) (unsupported : List IppAttribute) (groups : List IppGroup) (reply : Effects) → IsResponse status unsupported groups reply.response → IsOfIpp reply.response
-says status unsupported groups reply answer = says_so status unsupported groups reply.response answer
+is_answer : (status : Status) (unsupported : List IppAttribute) (groups : List IppGroup) (reply : Effects) → IsResponse status unsupported groups reply.response → IsOfIpp reply.response
+is_answer status unsupported groups reply answer = answers_so status unsupported groups reply.response answer
 
-says_something : (status : Status) (unsupported : List IppAttribute) (groups : List IppGroup) (reply : Effects) → Replies status unsupported groups reply → IsOfIpp reply.response
-says_something status unsupported groups reply replies = says status unsupported groups reply replies.response
+is_answered : (status : Status) (unsupported : List IppAttribute) (groups : List IppGroup) (reply : Effects) → Replies status unsupported groups reply → IsOfIpp reply.response
+is_answered status unsupported groups reply replies = is_answer status unsupported groups reply replies.response
 
 -- the result of checks has an answer, if the result without a failed check has an answer
 answers : {A : Type 0} (Done : A → Type 0) (now : ℕ) (old : State) (reply : Effects) (new : State) → ((a : A) → Done a → IsOfIpp reply.response)
     → (asked : Result A _) → MatchResult asked Done (λ refusal. Refuses now old refusal reply new) → IsOfIpp reply.response
 answers Done now old reply new each (Ok a) is = each a is
-answers Done now old reply new each (Err refusal) refused = says_something _ _ _ reply refused.replies
+answers Done now old reply new each (Err refusal) refused = is_answered _ _ _ reply refused.replies
 
 changed_answer : (request : JobRequest) (change : JobChange) (unsupported : List IppAttribute) (now : ℕ) (old : State) (reply : Effects) (new : State) → ChangesJob now request change unsupported old reply new → IsOfIpp reply.response
 changed_answer request change unsupported now old reply new step =
-    answers (λ id. ChangesIt now old change unsupported id reply new) now old reply new (λ id is. says_something _ _ _ reply is.replies) (changed_of request change now old) step
+    answers (λ id. ChangesIt now old change unsupported id reply new) now old reply new (λ id is. is_answered _ _ _ reply is.replies) (changed_of request change now old) step
 
 held_answer : (request : JobRequest) (until : HoldUntil) (now : ℕ) (old : State) (reply : Effects) (new : State) → HoldsUntil now request until old reply new → IsOfIpp reply.response
 held_answer request NoHold now old reply new step = changed_answer request Change.Release [] now old reply new step
@@ -97,18 +97,18 @@ held_answer request (Unsupported attribute) now old reply new step = changed_ans
 
 paused_answer : (request : PrinterRequest) (paused : Bool) (now : ℕ) (old : State) (reply : Effects) (new : State) → SetsPaused now request paused old reply new → IsOfIpp reply.response
 paused_answer request paused now old reply new step =
-    answers (λ place. PausesIt now old paused place reply new) now old reply new (λ place is. says_something _ _ _ reply is.replies) (paused_of request old) step
+    answers (λ place. PausesIt now old paused place reply new) now old reply new (λ place is. is_answered _ _ _ reply is.replies) (paused_of request old) step
 
 shown_answer : {A : Type 0} (groups : A → List IppGroup) (now : ℕ) (old : State) (reply : Effects) (new : State) (asked : Result A _) → MatchResult asked (λ a. Shows now old (groups a) reply new) (λ refusal. Refuses now old refusal reply new) → IsOfIpp reply.response
 shown_answer groups now old reply new asked step =
-    answers (λ a. Shows now old (groups a) reply new) now old reply new (λ a is. says_something _ _ _ reply is.replies) asked step
+    answers (λ a. Shows now old (groups a) reply new) now old reply new (λ a is. is_answered _ _ _ reply is.replies) asked step
 
 stepped_answer : (event : Event) (now : ℕ) (old : State) (reply : Effects) (new : State) → IsRequest event → StepAt event now old reply new → IsOfIpp reply.response
-stepped_answer (Is.PrintJob request) now old reply new is step = answers (λ accepted. TakesJob now old accepted reply new) now old reply new (λ accepted done. says_something _ _ _ reply done.replies) (checked_of request now old) step
-stepped_answer (Is.ValidateJob request) now old reply new is step = answers (λ unsupported. Validates now old unsupported reply new) now old reply new (λ unsupported done. says_something _ _ _ reply done.replies) (validated_of request old) step
-stepped_answer (Is.CreateJob request) now old reply new is step = answers (λ accepted. CreatesIt now old accepted reply new) now old reply new (λ accepted done. says_something _ _ _ reply done.replies) (created_of request now old) step
-stepped_answer (Is.SendDocument request) now old reply new is step = answers (λ sent. SendsIt now old request sent reply new) now old reply new (λ sent done. says_something _ _ _ reply done.replies) (sent_of request old) step
-stepped_answer (Is.CancelJob request) now old reply new is step = answers (λ id. CancelsIt now old request.user id reply new) now old reply new (λ id done. says _ _ _ reply done.response) (canceled_of request old) step
+stepped_answer (Is.PrintJob request) now old reply new is step = answers (λ accepted. TakesJob now old accepted reply new) now old reply new (λ accepted done. is_answered _ _ _ reply done.replies) (checked_of request now old) step
+stepped_answer (Is.ValidateJob request) now old reply new is step = answers (λ unsupported. Validates now old unsupported reply new) now old reply new (λ unsupported done. is_answered _ _ _ reply done.replies) (validated_of request old) step
+stepped_answer (Is.CreateJob request) now old reply new is step = answers (λ accepted. CreatesIt now old accepted reply new) now old reply new (λ accepted done. is_answered _ _ _ reply done.replies) (created_of request now old) step
+stepped_answer (Is.SendDocument request) now old reply new is step = answers (λ sent. SendsIt now old request sent reply new) now old reply new (λ sent done. is_answered _ _ _ reply done.replies) (sent_of request old) step
+stepped_answer (Is.CancelJob request) now old reply new is step = answers (λ id. CancelsIt now old request.user id reply new) now old reply new (λ id done. is_answer _ _ _ reply done.response) (canceled_of request old) step
 stepped_answer (Is.GetJobAttributes request) now old reply new is step = shown_answer (λ job. job_group now request.requested old job ∷ []) now old reply new (named_job request.target old) step
 stepped_answer (Is.GetJobs request) now old reply new is step = shown_answer (λ wanted. job_groups wanted now request.requested old) now old reply new (wanted_of request old) step
 stepped_answer (Is.GetPrinterAttributes request) now old reply new is step = shown_answer (λ printer. printer_group printer.id printer.offer now request.requested old ∷ []) now old reply new (named_printer request.target old) step

@@ -35,15 +35,15 @@ use Rattle.replay.specs.Replay.{LinesGive, start}
 use Rattle.traces.specs.TraceLine.{IsDeviceIn, IsLine}
 use Rattle.replay.proofs.Requests.{body_replied}
 
--- ---- a run hears the same after whatever was heard before
+-- ---- what a run observes doesn't depend on what was observed before
 
 printed_after : (texts : Bool) (names : List (List ℕ)) (first before after : List (List ℕ)) (notes : List Note) → Notifies (PrintsEach texts names) before notes after → Notifies (PrintsEach texts names) (first ++ before) notes (first ++ after)
 printed_after texts names first before after [] same = ap (λ h. first ++ h) same
 printed_after texts names first before after (note ∷ notes) (mid, prints, rest) =
     (first ++ mid, ap (λ h. first ++ h) prints ∙ sym (append_assoc first before (note_text texts names note ∷ [])), printed_after texts names first mid after notes rest)
 
-heard_after : (texts : Bool) (names : List (List ℕ)) (first : List (List ℕ)) (old new : State) (timed : Timed) (outcome : Outcome) (before after : List (List ℕ)) → Comes (PrintsEach texts names) old before timed outcome new after → Comes (PrintsEach texts names) old (first ++ before) timed outcome new (first ++ after)
-heard_after texts names first old new timed outcome before after (notes, handled, notified) = (notes, handled, printed_after texts names first before after notes notified)
+observed_after : (texts : Bool) (names : List (List ℕ)) (first : List (List ℕ)) (old new : State) (timed : Timed) (outcome : Outcome) (before after : List (List ℕ)) → Comes (PrintsEach texts names) old before timed outcome new after → Comes (PrintsEach texts names) old (first ++ before) timed outcome new (first ++ after)
+observed_after texts names first old new timed outcome before after (notes, handled, notified) = (notes, handled, printed_after texts names first before after notes notified)
 
 -- the texts of notes are kept
 prints : (texts : Bool) (names : List (List ℕ)) (before : List (List ℕ)) (notes : List Note) → Notifies (PrintsEach texts names) before notes (before ++ map (note_text texts names) notes)
@@ -54,25 +54,25 @@ prints texts names before (note ∷ notes) =
 
 run_after : (texts : Bool) (names : List (List ℕ)) (first : List (List ℕ)) (old new : State) (events : List Timed) (outcomes : List Outcome) (before after : List (List ℕ)) → Run (PrintsEach texts names) old before events outcomes new after → Run (PrintsEach texts names) old (first ++ before) events outcomes new (first ++ after)
 run_after texts names first old new [] [] before after (same, silent) = (same, ap (λ h. first ++ h) silent)
-run_after texts names first old new (timed ∷ events) (outcome ∷ outcomes) before after (mid, heard, comes, later) =
-    (mid, first ++ heard, heard_after texts names first old mid timed outcome before heard comes, run_after texts names first mid new events outcomes heard after later)
+run_after texts names first old new (timed ∷ events) (outcome ∷ outcomes) before after (mid, observed, comes, later) =
+    (mid, first ++ observed, observed_after texts names first old mid timed outcome before observed comes, run_after texts names first mid new events outcomes observed after later)
 run_after texts names first old new [] (outcome ∷ outcomes) before after none = absurd none
 run_after texts names first old new (timed ∷ events) [] before after none = absurd none
 
 -- the change of the core by a part
 abbrev TakesActions : Bool → List (List ℕ) → Part → State → State → Type 0
-TakesActions texts names part old new = Run (PrintsEach texts names) old [] part.events part.outcomes new part.heard
+TakesActions texts names part old new = Run (PrintsEach texts names) old [] part.events part.outcomes new part.observed
 
 -- one part after another
-then_runs : (texts : Bool) (names : List (List ℕ)) (events : List Timed) (outcomes : List Outcome) (before heard : List (List ℕ)) (later : Part) (old mid new : State) → Run (PrintsEach texts names) old before events outcomes mid heard → TakesActions texts names later mid new → Run (PrintsEach texts names) old before (events ++ later.events) (outcomes ++ later.outcomes) new (heard ++ later.heard)
-then_runs texts names [] [] before heard later old mid new (same, silent) runs =
-    subst (λ s. Run (PrintsEach texts names) s before later.events later.outcomes new (heard ++ later.heard)) same
-    (subst (λ h. Run (PrintsEach texts names) mid h later.events later.outcomes new (heard ++ later.heard)) (append-nil heard ∙ silent)
-    (run_after texts names heard mid new later.events later.outcomes [] later.heard runs))
-then_runs texts names (timed ∷ events) (outcome ∷ outcomes) before heard later old mid new (next, notified, comes, rest) runs =
-    (next, notified, comes, then_runs texts names events outcomes notified heard later next mid new rest runs)
-then_runs texts names [] (outcome ∷ outcomes) before heard later old mid new none runs = absurd none
-then_runs texts names (timed ∷ events) [] before heard later old mid new none runs = absurd none
+then_runs : (texts : Bool) (names : List (List ℕ)) (events : List Timed) (outcomes : List Outcome) (before observed : List (List ℕ)) (later : Part) (old mid new : State) → Run (PrintsEach texts names) old before events outcomes mid observed → TakesActions texts names later mid new → Run (PrintsEach texts names) old before (events ++ later.events) (outcomes ++ later.outcomes) new (observed ++ later.observed)
+then_runs texts names [] [] before observed later old mid new (same, silent) runs =
+    subst (λ s. Run (PrintsEach texts names) s before later.events later.outcomes new (observed ++ later.observed)) same
+    (subst (λ h. Run (PrintsEach texts names) mid h later.events later.outcomes new (observed ++ later.observed)) (append-nil observed ∙ silent)
+    (run_after texts names observed mid new later.events later.outcomes [] later.observed runs))
+then_runs texts names (timed ∷ events) (outcome ∷ outcomes) before observed later old mid new (next, notified, comes, rest) runs =
+    (next, notified, comes, then_runs texts names events outcomes notified observed later next mid new rest runs)
+then_runs texts names [] (outcome ∷ outcomes) before observed later old mid new none runs = absurd none
+then_runs texts names (timed ∷ events) [] before observed later old mid new none runs = absurd none
 
 -- ---- the text printed for an event
 
@@ -92,14 +92,14 @@ record Happened (texts : Bool) (names : List (List ℕ)) (event : Event) (moment
   part : Part
   is_one : IsOne event moment reply part
   does : TakesActions texts names part old new
-  printed : text ≡ concat part.heard
+  printed : text ≡ concat part.observed
 
 one_event : (texts : Bool) (names : List (List ℕ)) (event : Event) (moment : ℕ) (reply : Effects) (old : State) (hs : List Happening) (new : State) → IsOneEvent moment event reply old hs new → Happened texts names event moment reply old (happenings_text texts names hs) new
 one_event texts names event moment reply old hs new it =
-    let heard = map (note_text texts names) it.notes in record {
-      part = record { events = record { event = event; moment = moment } ∷ []; outcomes = it.outcome ∷ []; heard = heard };
-      is_one = record { outcome = it.outcome; heard = heard; answered = it.answered; whole = it.whole; is = refl };
-      does = (new, heard, (it.notes, it.handled, prints texts names [] it.notes), (refl, refl));
+    let observed = map (note_text texts names) it.notes in record {
+      part = record { events = record { event = event; moment = moment } ∷ []; outcomes = it.outcome ∷ []; observed = observed };
+      is_one = record { outcome = it.outcome; observed = observed; answered = it.answered; whole = it.whole; is = refl };
+      does = (new, observed, (it.notes, it.handled, prints texts names [] it.notes), (refl, refl));
       printed = sym (seen_text texts names hs) ∙ ap (happenings_text texts names) it.notified ∙ notes_text texts names it.notes;
     }
 
@@ -111,7 +111,7 @@ record BodyMeant (texts : Bool) (names : List (List ℕ)) (asked : ParsedRequest
   answer : List ℕ
   means : BodyMeans asked moment part answer
   does : TakesActions texts names part old new
-  printed : text ≡ answer ++ concat part.heard
+  printed : text ≡ answer ++ concat part.observed
 
 -- a body that is no event changes nothing
 silent : (texts : Bool) (names : List (List ℕ)) (asked : ParsedRequest) (moment : ℕ) (line : List ℕ) (old : State) (hs : List Happening) (new : State) → BodyMeans asked moment nothing line → IsNoEvent old hs new → BodyMeant texts names asked moment old (line ++ happenings_text texts names hs) new
@@ -149,7 +149,7 @@ record IsMeant (texts : Bool) (names : List (List ℕ)) (bytes : List ℕ) (old 
   means : Means line old.moment part answer
   does : TakesActions texts names part before after
   moment : new.moment ≡ moment_after line old.moment
-  printed : text ≡ answer ++ concat part.heard
+  printed : text ≡ answer ++ concat part.observed
 
 -- an event that isn't answered
 unanswered : (texts : Bool) (names : List (List ℕ)) (bytes : List ℕ) (event : Event) (line : Line) (reply : Effects) (old new : Standing) (before : State) (hs : List Happening) (after : State) (text : List ℕ) → IsLine names bytes line → text ≡ happenings_text texts names hs → IsOneEvent old.moment event reply before hs after → ((part : Part) → IsOne event old.moment reply part → Means line old.moment part []) → new.moment ≡ moment_after line old.moment → IsMeant texts names bytes old before text new after
@@ -158,8 +158,8 @@ unanswered texts names bytes event line reply old new before hs after text is pr
     record { line = line; is = is; part = done.part; answer = []; means = means done.part done.is_one; does = done.does; moment = moment; printed = printed ∙ done.printed }
 
 -- a line of a report is also a line of each other report with the same content
-says_same : (names : List (List ℕ)) (text : List ℕ) (place : ℕ) (one other : Report) → report_of other ≡ report_of one → IsDeviceIn names text place one → IsDeviceIn names text place other
-says_same names text place one other same is = record { name = is.name; line = is.line; cut = is.cut; known = is.known; heard = is.heard ∙ ap (λ (r : ReportRecord). Some r) (sym same) }
+names_same : (names : List (List ℕ)) (text : List ℕ) (place : ℕ) (one other : Report) → report_of other ≡ report_of one → IsDeviceIn names text place one → IsDeviceIn names text place other
+names_same names text place one other same is = record { name = is.name; line = is.line; cut = is.cut; known = is.known; is_report = is.is_report ∙ ap (λ (r : ReportRecord). Some r) (sym same) }
 
 -- the one action of a line
 action_of : (actions : Trace) (action : Action) (old new : Ledger) → actions ≡ action ∷ [] → Allows actions old new → IsAtMostOne action old.core new.core
@@ -175,7 +175,7 @@ line_meant texts names bytes (Form.Ipp body) old actions text new a b plain is (
     record { line = Form.Ipp body; is = is; part = meant.part; answer = meant.answer; means = (served.0, served.1, meant.means); does = meant.does; moment = ap (λ (s : Standing). s.moment) same; printed = serves.printed ∙ meant.printed }
 line_meant texts names bytes (Form.Device device report) old actions text new a b plain (said, cut, is) (calls, same) runs =
     let did = action_of actions (Reported old.moment device (report_of report) calls.happenings) a b calls.does runs calls.unrefused in
-    unanswered texts names bytes (Is.Report device did.0) (Form.Device device did.0) did.2 old new a.core calls.happenings b.core text (said, cut, says_same names said device report did.0 did.1 is) calls.printed did.3 (λ part one. (did.2, one, refl)) (ap (λ (s : Standing). s.moment) same)
+    unanswered texts names bytes (Is.Report device did.0) (Form.Device device did.0) did.2 old new a.core calls.happenings b.core text (said, cut, names_same names said device report did.0 did.1 is) calls.printed did.3 (λ part one. (did.2, one, refl)) (ap (λ (s : Standing). s.moment) same)
 line_meant texts names bytes Form.Tick old actions text new a b plain is (calls, same) runs =
     let did = action_of actions (Ticked old.moment calls.happenings) a b calls.does runs calls.unrefused in
     unanswered texts names bytes Is.Tick Form.Tick did.0 old new a.core calls.happenings b.core text is calls.printed did.1 (λ part one. (did.0, one, refl)) (ap (λ (s : Standing). s.moment) same)
@@ -206,7 +206,7 @@ is_none names bytes s plain (inr (line, is, early)) = absurd (never (may_come li
 record AreMeant (texts : Bool) (names : List (List ℕ)) (number : ℕ) (lines : List (List ℕ)) (moment : ℕ) (old : State) (said : ProgramOutput) : Type 0 where
   part : Part
   new : State
-  run : Run (PrintsEach texts names) old [] part.events part.outcomes new part.heard
+  run : Run (PrintsEach texts names) old [] part.events part.outcomes new part.observed
   printed : LinesMean names number lines moment part said
 
 -- the meaning of a line in a trace without connections
@@ -224,7 +224,7 @@ lines_meant texts names number (bytes ∷ more) old actions said a b plain (inr 
     record {
       part = then_part meant.part run.part;
       new = run.new;
-      run = then_runs texts names meant.part.events meant.part.outcomes [] meant.part.heard run.part a.core parts.0.core run.new meant.does run.run;
+      run = then_runs texts names meant.part.events meant.part.outcomes [] meant.part.observed run.part a.core parts.0.core run.new meant.does run.run;
       printed = inr (
         meant.line,
         meant.part,

@@ -29,12 +29,12 @@ Moves old actions new = (opening : State) (trace : Trace) → StandsAt opening t
 
 -- all notes were printed, and no poll of the wire has failed
 pub record IsReady (p : Play) : Type 0 where
-  pub silent : p.log.heard ≡ Some []
+  pub silent : p.log.observed ≡ Some []
   pub prompt : p.peers.wire.failed ≡ false
 
 -- a server that starts with these settings
 pub record IsStart (texts : Bool) (settings : ServerSettings) (p : Play) : Type 0 where
-  pub log : p.log ≡ record { texts = texts; names = device_names settings; heard = Some [] }
+  pub log : p.log ≡ record { texts = texts; names = device_names settings; observed = Some [] }
   pub prompt : p.peers.wire.failed ≡ false
   pub starts : standing p ≡ start
   pub stands : StandsAt (opening settings 1) [] p.engine
@@ -59,8 +59,8 @@ pub record TakesTurn (old new : Play) (stirred : Bool) : Type 0 where
   pub turn : List Happening
   pub is : stirred ≡ any_stirs turn
   pub sees : new.peers.wire.failed ≡ false → (old.peers.wire.failed ≡ false) × Leads PeersSee old.peers.wire.memory.peers.items turn new.peers.wire.memory.peers.items
-  pub hears : ForSome new.log.heard (λ text. (before : List ℕ) × (old.log.heard ≡ Some before) × (text ≡ before ++ happenings_text old.log.texts old.log.names turn))
-  pub log : new.log ≡ record old.log { heard = new.log.heard }
+  pub observes : ForSome new.log.observed (λ text. (before : List ℕ) × (old.log.observed ≡ Some before) × (text ≡ before ++ happenings_text old.log.texts old.log.names turn))
+  pub log : new.log ≡ record old.log { observed = new.log.observed }
   pub moves : Moves old.engine (Turned old.moment turn ∷ []) new.engine
   pub moment : new.moment ≡ old.moment
   pub connections : new.peers.connections ≡ old.peers.connections
@@ -68,8 +68,8 @@ pub record TakesTurn (old new : Play) (stirred : Bool) : Type 0 where
 -- the play took turns, one after another
 pub record TakesTurns (old : Play) (turns : List (List Happening)) (new : Play) : Type 0 where
   pub sees : new.peers.wire.failed ≡ false → (old.peers.wire.failed ≡ false) × Leads PeersSee old.peers.wire.memory.peers.items (all_turns turns) new.peers.wire.memory.peers.items
-  pub hears : ForSome new.log.heard (λ text. (before : List ℕ) × (old.log.heard ≡ Some before) × (text ≡ before ++ happenings_text old.log.texts old.log.names (all_turns turns)))
-  pub log : new.log ≡ record old.log { heard = new.log.heard }
+  pub observes : ForSome new.log.observed (λ text. (before : List ℕ) × (old.log.observed ≡ Some before) × (text ≡ before ++ happenings_text old.log.texts old.log.names (all_turns turns)))
+  pub log : new.log ≡ record old.log { observed = new.log.observed }
   pub moves : Moves old.engine (map (Turned old.moment) turns) new.engine
   pub moment : new.moment ≡ old.moment
   pub connections : new.peers.connections ≡ old.peers.connections

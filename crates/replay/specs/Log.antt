@@ -8,7 +8,7 @@ use Rattle.traces.specs.Printed.{dispatch_lines, cancel_line}
 pub record LogRecord : Type 0 where
   pub texts : Bool
   pub names : List (List ℕ)
-  pub heard : Option (List ℕ)
+  pub observed : Option (List ℕ)
 
 -- the printed text of a note
 abbrev pub note_text : Bool → List (List ℕ) → Note → List ℕ
@@ -20,8 +20,8 @@ note_text texts names (Refused place id) = []
 -- the text of a note is appended, or memory was refused
 abbrev pub LogsNote : LogRecord → Note → LogRecord → Type 0
 LogsNote old note new =
-    (new ≡ record old { heard = option_map (λ text. text ++ note_text old.texts old.names note) old.heard })
-    ⊎ (new ≡ record old { heard = None })
+    (new ≡ record old { observed = option_map (λ text. text ++ note_text old.texts old.names note) old.observed })
+    ⊎ (new ≡ record old { observed = None })
 
 -- the printed text of a happening, which is that of its note
 abbrev pub happening_text : Bool → List (List ℕ) → Happening → List ℕ

@@ -51,22 +51,22 @@ PrintsEach texts names before note after = after ≡ before ++ note_text texts n
 pub record Part : Type 0 where
   pub events : List Timed
   pub outcomes : List Outcome
-  pub heard : List (List ℕ)
+  pub observed : List (List ℕ)
 
 abbrev pub nothing : Part
-nothing = record { events = []; outcomes = []; heard = [] }
+nothing = record { events = []; outcomes = []; observed = [] }
 
 -- two parts, one after the other
 abbrev pub then_part : Part → Part → Part
-then_part first later = record { events = first.events ++ later.events; outcomes = first.outcomes ++ later.outcomes; heard = first.heard ++ later.heard }
+then_part first later = record { events = first.events ++ later.events; outcomes = first.outcomes ++ later.outcomes; observed = first.observed ++ later.observed }
 
 -- the part of one event with this reply, where no memory was refused
 pub record IsOne (event : Event) (moment : ℕ) (reply : Effects) (part : Part) : Type 0 where
   pub outcome : Outcome
-  pub heard : List (List ℕ)
+  pub observed : List (List ℕ)
   pub answered : effects_of outcome ≡ Some reply
   pub whole : IsWhole outcome
-  pub is : part ≡ record { events = record { event = event; moment = moment } ∷ []; outcomes = outcome ∷ []; heard = heard }
+  pub is : part ≡ record { events = record { event = event; moment = moment } ∷ []; outcomes = outcome ∷ []; observed = observed }
 
 -- ---- the event of a line
 
@@ -111,11 +111,11 @@ LinesMean names number (bytes ∷ more) moment all said =
     (IsNoLine names bytes × (all ≡ nothing) × (said ≡ refused_as (codes "line " ++ decimal number)))
     ⊎ ((line : Line) × (part : Part) × (text : List ℕ) × (later : Part) × (rest : ProgramOutput)
     × IsLine names bytes line × Means line moment part text × LinesMean names (suc number) more (moment_after line moment) later rest
-    × (all ≡ then_part part later) × (said ≡ said_after (text ++ concat part.heard) rest))
+    × (all ≡ then_part part later) × (said ≡ said_after (text ++ concat part.observed) rest))
 
 -- one run of the core over the events of the lines, from the start of a server with these settings, and its text
 pub record IsOneRun (texts : Bool) (settings : ServerSettings) (number : ℕ) (lines : List (List ℕ)) (said : ProgramOutput) : Type 0 where
   pub part : Part
   pub new : State
-  pub run : Run (PrintsEach texts (device_names settings)) (opening settings 1) [] part.events part.outcomes new part.heard
+  pub run : Run (PrintsEach texts (device_names settings)) (opening settings 1) [] part.events part.outcomes new part.observed
   pub printed : LinesMean (device_names settings) number lines 0 part said

@@ -20,7 +20,7 @@ pub struct Log {
     alloc: Global,
     texts: bool,
     names: Vec<Text>,
-    heard: MemoryLog<u8>,
+    observed: MemoryLog<u8>,
 }
 
 impl Model for Log {
@@ -28,7 +28,7 @@ impl Model for Log {
 
     ghost Value = { LogRecord };
 
-    ghost view = { λ l. record { texts = l.texts; names = l.names.items; heard = l.heard } };
+    ghost view = { λ l. record { texts = l.texts; names = l.names.items; observed = l.observed } };
 }
 
 impl Observer for Log {
@@ -38,15 +38,15 @@ impl Observer for Log {
 
     fn dispatched(&mut self, made: &Dispatched<'_>) {
         match self.dispatch_text(made) {
-            Ok(text) => self.heard.keep_all(text),
-            Err(_) => self.heard.lose(),
+            Ok(text) => self.observed.keep_all(text),
+            Err(_) => self.observed.lose(),
         }
     }
 
     fn canceled(&mut self, cancel: Cancel) {
         match self.cancel_text(cancel) {
-            Ok(text) => self.heard.keep_all(text),
-            Err(_) => self.heard.lose(),
+            Ok(text) => self.observed.keep_all(text),
+            Err(_) => self.observed.lose(),
         }
     }
 
@@ -58,13 +58,13 @@ impl Observer for Log {
 impl Log {
     /// Creates an empty log.
     pub fn new(alloc: Global, texts: bool, names: Vec<Text>) -> Log
-        ensures { result ≡ record { texts = texts; names = names.items; heard = Some [] } }
+        ensures { result ≡ record { texts = texts; names = names.items; observed = Some [] } }
     {
         Log {
             alloc,
             texts,
             names,
-            heard: MemoryLog::new(alloc),
+            observed: MemoryLog::new(alloc),
         }
     }
 
@@ -77,9 +77,9 @@ impl Log {
 
     /// Removes and returns the text. The error is that memory for a part of it was refused.
     pub fn take(&mut self) -> Result<Vec<u8>, AllocError>
-        ensures { IfOk result (λ text. (self.old.heard ≡ Some text.items) × (self.new ≡ record self.old { heard = Some [] })) }
+        ensures { IfOk result (λ text. (self.old.observed ≡ Some text.items) × (self.new ≡ record self.old { observed = Some [] })) }
     {
-        self.heard.take()
+        self.observed.take()
     }
 
     /// Returns the text of a dispatch. The only error is out of memory.

@@ -114,8 +114,8 @@ impl Play {
     {
         let served = self.engine.serve_body(body, &mut self.log, self.moment)?;
         let mut text = reply_line(self.alloc, &served)?;
-        let heard = self.log.take()?;
-        text.extend_from_slice(&heard)?;
+        let observed = self.log.take()?;
+        text.extend_from_slice(&observed)?;
         Ok(text)
     }
 
@@ -126,8 +126,8 @@ impl Play {
     {
         self.engine
             .report(device, report, &mut self.log, self.moment)?;
-        let heard = self.log.take()?;
-        Ok(heard)
+        let observed = self.log.take()?;
+        Ok(observed)
     }
 
     /// Acts on a tick, and returns its text. The only error is out of memory.
@@ -136,8 +136,8 @@ impl Play {
         ensures { IfOk result (λ text. TakesActions self.old self.new (λ actions. Calls self.old.log.texts self.old.log.names (Ticked self.old.moment) actions text.items × (standing self.new ≡ standing self.old))) }
     {
         self.engine.tick(&mut self.log, self.moment)?;
-        let heard = self.log.take()?;
-        Ok(heard)
+        let observed = self.log.take()?;
+        Ok(observed)
     }
 
     /// Opens a connection, takes turns, and returns their text. The only error is out of memory.

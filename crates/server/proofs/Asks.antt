@@ -18,7 +18,7 @@ use Rattle.server.specs.Ledger.{with_entry}
 use Rattle.connections.specs.Choice.{part_of, lost_of}
 use Rattle.server.specs.Acting.{Asks, ActsOn, ActsNext}
 use Rattle.server.specs.Closing.{ClosesBroken}
-use Rattle.server.specs.Polling.{Acts, IsHeardAt}
+use Rattle.server.specs.Polling.{Acts, IsActedOnAt}
 use Rattle.server.specs.State.{EngineState, with_slots}
 use Rattle.server.specs.Refinement.{Represents, RefinesQuietly, AsksBy}
 use Rattle.server.specs.Refinement as Refinement
@@ -36,7 +36,7 @@ nothing_asked a slots key on = record {
       let became = on.changes f.entry f.fits in
       let fits' : RepresentsConnection f.entry on.after = subst (λ (e : Entry). RepresentsConnection e on.after) became.1.1 became.2 in (
         l,
-        (subst (λ (o : Option Entry). IsHeardAt o) (sym f.there) became.1.0, refl),
+        (subst (λ (o : Option Entry). IsActedOnAt o) (sym f.there) became.1.0, refl),
         fits_still l a slots key on.before on.after f.entry fits on.there on.slots f.there fits',
       );
   less = tt;
@@ -63,7 +63,7 @@ something_asked a slots key asked on =
 
 pub asks_by : (a : EngineState) (slots : Slots) (key : ℕ) (what : Option ConnectionAsk) → AsksAt a.core.settings key what a.slots slots → AsksBy key what a (with_slots slots a)
 asks_by a slots key None (inl none) = record {
-  stands = λ l fits. (l, (subst (λ (o : Option Entry). IsHeardAt o) (sym (absent l a key fits none.there)) tt, refl), subst (λ (xs : Slots). Represents l (with_slots xs a)) (sym none.same) fits);
+  stands = λ l fits. (l, (subst (λ (o : Option Entry). IsActedOnAt o) (sym (absent l a key fits none.there)) tt, refl), subst (λ (xs : Slots). Represents l (with_slots xs a)) (sym none.same) fits);
   less = tt;
 }
 asks_by a slots key None (inr on) = nothing_asked a slots key on

@@ -51,7 +51,7 @@ module _ {S : Type 0} {moves : S → Happening → S → Type 0} where
   pub joins_on : {Q R : Rel} {u v w : S} {a b c : EngineState} → RefinesQuietly moves Q u a v b → Refines moves R v b w c → Refines moves (Then Q R) u a w c
   joins_on {Q} {R} {u} {v} {w} {a} {b} {c} p q = refines_then moves Q R u v w a b c (aloud moves Q u v a b p) q
 
-  -- Q, and then R; the flag says whether memory was refused
+  -- Q, and then R; the flag is whether memory was refused
   pub joins_openly : {Q R : Rel} {u v w : S} {a b c : EngineState} {s t unsent : Bool} → RefinesReporting moves Q u a v b s → t ≡ s → RefinesReporting moves R v b w c unsent → RefinesReporting moves (Then Q R) u a w c (t || unsent)
   joins_openly {Q} {R} {u} {v} {w} {a} {b} {c} {s} {t} {unsent} p same q = reporting_flag moves (Then Q R) u w a c (s || unsent) (t || unsent) (ap (λ (x : Bool). x || unsent) same) (reporting_then moves Q R u v w a b c s unsent p q)
 

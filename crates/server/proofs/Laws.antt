@@ -71,20 +71,20 @@ collected before (note ∷ notes) = (before ++ note ∷ [], refl, subst (λ (ns 
 
 run_after : (first before after : List Note) (old new : State) (events : List Timed) (outcomes : List Outcome) → Run Collects old before events outcomes new after → Run Collects old (first ++ before) events outcomes new (first ++ after)
 run_after first before after old new [] [] (same, silent) = (same, ap (λ (ns : List Note). first ++ ns) silent)
-run_after first before after old new (timed ∷ events) (outcome ∷ outcomes) (mid, heard, comes, later) =
-    (mid, first ++ heard, comes_after first before heard old mid timed outcome comes, run_after first heard after mid new events outcomes later)
+run_after first before after old new (timed ∷ events) (outcome ∷ outcomes) (mid, noted, comes, later) =
+    (mid, first ++ noted, comes_after first before noted old mid timed outcome comes, run_after first noted after mid new events outcomes later)
 run_after first before after old new [] (outcome ∷ outcomes) none = absurd none
 run_after first before after old new (timed ∷ events) [] none = absurd none
 
-run_then : (before heard more : List Note) (old mid new : State) (events later : List Timed) (outcomes others : List Outcome) → Run Collects old before events outcomes mid heard → Run Collects mid [] later others new more → Run Collects old before (events ++ later) (outcomes ++ others) new (heard ++ more)
-run_then before heard more old mid new [] later [] others (same, silent) runs =
-    subst (λ (s : State). Run Collects s before later others new (heard ++ more)) same
-    (subst (λ (ns : List Note). Run Collects mid ns later others new (heard ++ more)) (append-nil heard ∙ silent)
-    (run_after heard [] more mid new later others runs))
-run_then before heard more old mid new (timed ∷ events) later (outcome ∷ outcomes) others (next, notified, comes, rest) runs =
-    (next, notified, comes, run_then notified heard more next mid new events later outcomes others rest runs)
-run_then before heard more old mid new [] later (outcome ∷ outcomes) others none runs = absurd none
-run_then before heard more old mid new (timed ∷ events) later [] others none runs = absurd none
+run_then : (before noted more : List Note) (old mid new : State) (events later : List Timed) (outcomes others : List Outcome) → Run Collects old before events outcomes mid noted → Run Collects mid [] later others new more → Run Collects old before (events ++ later) (outcomes ++ others) new (noted ++ more)
+run_then before noted more old mid new [] later [] others (same, silent) runs =
+    subst (λ (s : State). Run Collects s before later others new (noted ++ more)) same
+    (subst (λ (ns : List Note). Run Collects mid ns later others new (noted ++ more)) (append-nil noted ∙ silent)
+    (run_after noted [] more mid new later others runs))
+run_then before noted more old mid new (timed ∷ events) later (outcome ∷ outcomes) others (next, notified, comes, rest) runs =
+    (next, notified, comes, run_then notified noted more next mid new events later outcomes others rest runs)
+run_then before noted more old mid new [] later (outcome ∷ outcomes) others none runs = absurd none
+run_then before noted more old mid new (timed ∷ events) later [] others none runs = absurd none
 
 -- the happenings are a run of events at one moment
 record IsRunAt (moment : ℕ) (l : Ledger) (hs : List Happening) (l' : Ledger) : Type 0 where

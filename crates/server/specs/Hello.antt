@@ -41,18 +41,18 @@ abbrev pub IsSuperseded : ℕ → Rel
 IsSuperseded key l hs l' = IsSupersededAt key (l.entries key) l hs l'
 
 -- the device gives its name
-abbrev pub SaysName : ℕ → ℕ → List ℕ → Rel
-SaysName moment device name = Unanswered moment (Is.Report device (report.Hello name))
+abbrev pub GivesName : ℕ → ℕ → List ℕ → Rel
+GivesName moment device name = Unanswered moment (Is.Report device (report.Hello name))
 
 -- a device comes again: its old connection is superseded, the device is gone, and the device gives its name
 abbrev pub TakesOver : ℕ → ℕ → ℕ → List ℕ → Rel
-TakesOver moment old device name = Then (IsSuperseded old) (Then (IsGone moment (Some device)) (SaysName moment device name))
+TakesOver moment old device name = Then (IsSuperseded old) (Then (IsGone moment (Some device)) (GivesName moment device name))
 
 -- A device gives its name on the connection under a key. If the device has no other connection, the name is an event of
 -- the core. If the input of the other connection has ended, the other connection is superseded, and the name is an event
 -- too. Else the new connection is superseded and is refused, and no event comes.
 abbrev pub HandlesHello : ℕ → ℕ → ℕ → ℕ → List ℕ → Rel
 HandlesHello moment key id device name l hs l' =
-    (IsAlone device key l × SaysName moment device name l hs l')
+    (IsAlone device key l × GivesName moment device name l hs l')
     ⊎ (((other : ℕ) × HasOther true device key other l × TakesOver moment other device name l hs l')
     ⊎ ((other : ℕ) × HasOther false device key other l × Then (IsSuperseded key) (Notifies (DeviceRefused id (why.Connected device))) l hs l'))

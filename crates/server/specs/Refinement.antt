@@ -22,7 +22,7 @@ use Rattle.server.specs.Ledger.{Ledger, Fate, Drained, opening_ledger}
 use Rattle.server.specs.Rel.{Rel, Seen}
 use Rattle.server.specs.Acting.{Asks}
 use Rattle.server.specs.Closing.{ClosesAt}
-use Rattle.server.specs.Polling.{IsHeardAt}
+use Rattle.server.specs.Polling.{IsActedOnAt}
 use Rattle.server.specs.State.{EngineState, slot_at, with_slots}
 use Rattle.server.specs.Turn.{Turn, Turned, Served_body, Action, Trace, Allows, has_refusal, Outcome, Replied, BadRequest, OutOfMemory, served_as, IsBytes}
 
@@ -89,7 +89,7 @@ ReportsAmong notified R core observer old observer' new refused =
 
 -- the ask of the connection under a key, or that the connection has no ask, as a relation on ledgers
 abbrev pub AsksAs : ℕ → Option ConnectionAsk → Ledger → Ledger → Type 0
-AsksAs key None l l' = IsHeardAt (l.entries key) × (l' ≡ l)
+AsksAs key None l l' = IsActedOnAt (l.entries key) × (l' ≡ l)
 AsksAs key (Some asked) l l' = Seen (Asks key asked.id asked.ask) l [] l'
 
 -- after an ask the connection under the key can bring fewer steps than before, and no other connection can bring more

@@ -170,8 +170,8 @@ pub only_no_toml : (bytes : List ℕ) → settings_of bytes ≡ Err not_toml →
 unfolding settings_of
 only_no_toml bytes h = of_parsed (parse_document bytes) h
 
--- the code says that a text is no TOML of no other text
-pub no_toml_kept : (bytes : List ℕ) (told : Result ServerSettings SettingsFault) → Gives (λ s. s) told (settings_of bytes) → told ≡ Err NotToml → parse_document bytes ≡ None
+-- a text that the code takes for no TOML is none
+pub no_toml_kept : (bytes : List ℕ) (result : Result ServerSettings SettingsFault) → Gives (λ s. s) result (settings_of bytes) → result ≡ Err NotToml → parse_document bytes ≡ None
 no_toml_kept bytes (Ok settings) h e = cc
 no_toml_kept bytes (Err fault) h e =
     let same : fault ≡ NotToml = cc in

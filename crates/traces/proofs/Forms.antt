@@ -66,14 +66,14 @@ no_name names said name rest cut unknown = no_device names said (λ place report
 -- the report of a line is found, or the line has no report
 pub found_report : (line : List ℕ) (found : Option Report) → option_map report_of found ≡ reported_by line → Finds (IsReportIn line) found
 found_report line (Some report) is = sym is
-found_report line None is = λ report says. let no : None ≡ Some (report_of report) = is ∙ says in cc
+found_report line None is = λ report reports. let no : None ≡ Some (report_of report) = is ∙ reports in cc
 
 pub found_device : (names : List (List ℕ)) (said name rest : List ℕ) (place : ℕ) (found : Option Report) → IsCut 32 said name rest → position (λ device. bytes_eq device name) names ≡ Some place → Finds (IsReportIn rest) found → Finds (IsLine names (codes "dev " ++ said)) (option_map (Device place) found)
 found_device names said name rest place (Some report) cut known is =
-    (said, refl, record { name = name; line = rest; cut = cut; known = known; heard = is })
+    (said, refl, record { name = name; line = rest; cut = cut; known = known; is_report = is })
 found_device names said name rest place None cut known none = no_device names said (λ other report it.
     let same = same_cut name rest it.name it.line cut.lacks it.cut.lacks (sym cut.joined ∙ it.cut.joined) in
-    none report (rw same.1 it.heard))
+    none report (rw same.1 it.is_report))
 
 -- ---- lines of connections
 

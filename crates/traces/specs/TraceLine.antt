@@ -33,7 +33,7 @@ pub record IsDeviceIn (names : List (List ℕ)) (text : List ℕ) (place : ℕ) 
   pub line : List ℕ
   pub cut : IsCut 32 text name line
   pub known : position (λ device. bytes_eq device name) names ≡ Some place
-  pub heard : IsReportIn line report
+  pub is_report : IsReportIn line report
 
 -- the digits are the number of a connection, below 2^31, in decimal
 abbrev pub IsNumberIn : List ℕ → ℕ → Type 0

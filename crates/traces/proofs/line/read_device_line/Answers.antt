@@ -13,6 +13,6 @@ returns-in_default-place_of c =
 
 pub returns : goal.returns
 returns c =
-    let heard = found_report c.in-Some.cut.1.now c.in_ok-report.report c.in_ok-report.ensures in
+    let is_report = found_report c.in-Some.cut.1.now c.in_ok-report.report c.in_ok-report.ensures in
     let is : c.map.result ≡ option_map (Device c.in-Some-place_of.place) c.in_ok-report.report = search rules in
-    rw is (found_device c.args.devices.now c.args.said.now c.in-Some.cut.0.now c.in-Some.cut.1.now c.in-Some-place_of.place c.in_ok-report.report c.in-Some.ensures.some (search rules) heard)
+    rw is (found_device c.args.devices.now c.args.said.now c.in-Some.cut.0.now c.in-Some.cut.1.now c.in-Some-place_of.place c.in_ok-report.report c.in-Some.ensures.some (search rules) is_report)

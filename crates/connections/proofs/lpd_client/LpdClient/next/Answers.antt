@@ -3,14 +3,14 @@ use Rattle.connections.specs.declared.step.Step.{Step}
 use Rattle.connections.specs.Session.{is_queue}
 use Rattle.connections.specs.States.{LpdClientState}
 use Rattle.connections.specs.Peers.{NextLpd}
-use Rattle.connections.proofs.Readers.{item_heard, next_failed}
+use Rattle.connections.proofs.Readers.{item_acted_on, next_failed}
 use Rattle.connections.proofs.lpd_client.LpdClient.next.Goals as goal
 
 pub returns-in-Ok : goal.returns-in-Ok
 returns-in-Ok c =
     let t : LpdClientState = record { reader = c.self.inside.reader; session = c.self.inside.session } in
     subst (λ (s : LpdClientState). NextLpd (is_queue c.args.settings.now) c.handle_whole.result s c.handle_whole.new.self) c.self.view_is
-    (item_heard (is_queue c.args.settings.now) t c.handle_whole.new.self c.next_item.new.self c.in-Ok.item c.handle_whole.result c.in-Ok.ensures.answer c.in-Ok.ensures.falls c.handle_whole.ensures)
+    (item_acted_on (is_queue c.args.settings.now) t c.handle_whole.new.self c.next_item.new.self c.in-Ok.item c.handle_whole.result c.in-Ok.ensures.answer c.in-Ok.ensures.falls c.handle_whole.ensures)
 
 pub returns-in-Err : goal.returns-in-Err
 returns-in-Err c =

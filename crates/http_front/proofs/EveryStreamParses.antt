@@ -1,4 +1,4 @@
--- Every stream says something: a reader takes a step wherever it stands, until there is too little to tell.
+-- Every stream has its exchanges: a reader takes a step at each place, until bytes are missing for one.
 use Rattle.std.specs.Prelude.{ℕ, suc, zero, ◌≡◌, ◌+◌, ◌-◌, ◌<◌, ◌≤◌, ◌==◌, nat_le, Bool, true, false, List, [], ◌∷◌, ◌++◌, length, map, take, drop, Option, Some, None, Result, Ok, Err}
 use Rattle.std.proofs.Common.{arith, refl, subst, sym, ap, inl, inr}
 use Rattle.std.proofs.lemmas.Bool.Decides.{nat_tests}
@@ -164,27 +164,27 @@ step_by old Nothing is = (step.Waits, old, (refl, subst (λ (a : Awaited). Front
 
 -- ---- one step after another
 
-abbrev SaysOn : List ℕ → List HttpElement → Type 0
-SaysOn stream given = (later : List HttpElement) × Exchanges stream (given ++ later)
+abbrev HasMore : List ℕ → List HttpElement → Type 0
+HasMore stream given = (later : List HttpElement) × Exchanges stream (given ++ later)
 
-says_behind : (stream : List ℕ) (given said : List HttpElement) → SaysOn stream (given ++ said) → SaysOn stream given
-says_behind stream given said on = (said ++ on.0, subst (λ (s : List HttpElement). Exchanges stream s) (append_assoc given said on.0) on.1)
+parses_behind : (stream : List ℕ) (given said : List HttpElement) → HasMore stream (given ++ said) → HasMore stream given
+parses_behind stream given said on = (said ++ on.0, subst (λ (s : List HttpElement). Exchanges stream s) (append_assoc given said on.0) on.1)
 
-by_step : (old : HttpState) (stream : List ℕ) (given : List HttpElement) → HasRead stream given old → ((new : HttpState) (said : List HttpElement) → work new < work old → HasRead stream (given ++ said) new → SaysOn stream (given ++ said)) → (answer : Step) (new : HttpState) → Steps old answer new → SaysOn stream given
+by_step : (old : HttpState) (stream : List ℕ) (given : List HttpElement) → HasRead stream given old → ((new : HttpState) (said : List HttpElement) → work new < work old → HasRead stream (given ++ said) new → HasMore stream (given ++ said)) → (answer : Step) (new : HttpState) → Steps old answer new → HasMore stream given
 by_step old stream given stands again (step.Gives it) new went =
     let said = elements_of it new.part in
-    says_behind stream given said (again new said went.2 (went.0 stream given stands))
-by_step old stream given stands again step.Passes new went = says_behind stream given [] (again new [] (rank_passed old new went.1) (went.0 stream given stands))
+    parses_behind stream given said (again new said went.2 (went.0 stream given stands))
+by_step old stream given stands again step.Passes new went = parses_behind stream given [] (again new [] (rank_passed old new went.1) (went.0 stream given stands))
 by_step old stream given stands again step.Waits new went = ([], subst (λ (s : List HttpElement). Exchanges stream s) (sym (append-nil given)) (tells_all old went.1 stream given stands))
 
-says_in : (bound : ℕ) (old : HttpState) → work old < bound → (stream : List ℕ) (given : List HttpElement) → HasRead stream given old → SaysOn stream given
-says_in zero old less stream given stands = absurd (omega (arith, less))
-says_in (suc bound) old less stream given stands =
+parses_in : (bound : ℕ) (old : HttpState) → work old < bound → (stream : List ℕ) (given : List HttpElement) → HasRead stream given old → HasMore stream given
+parses_in zero old less stream given stands = absurd (omega (arith, less))
+parses_in (suc bound) old less stream given stands =
     let it = step_by old old.awaited refl in
-    by_step old stream given stands (λ new said lower on. says_in bound new (omega (arith, less, lower)) stream (given ++ said) on) it.0 it.1 it.2
+    by_step old stream given stands (λ new said lower on. parses_in bound new (omega (arith, less, lower)) stream (given ++ said) on) it.0 it.1 it.2
 
 pub gives_front : (stream : List ℕ) (given : List HttpElement) (reader : HttpState) → HasRead stream given reader → (later : List HttpElement) × Exchanges stream (given ++ later)
-gives_front stream given reader stands = says_in (work reader + 1) reader (omega arith) stream given stands
+gives_front stream given reader stands = parses_in (work reader + 1) reader (omega arith) stream given stands
 
-pub says_some : (stream : List ℕ) → (said : List HttpElement) × Exchanges stream said
-says_some stream = gives_front stream [] (record { part = []; rest = stream; awaited = Head }) (record { left = stream; leads = (zero, (refl, refl, refl)); kept = inr refl })
+pub parses_some : (stream : List ℕ) → (said : List HttpElement) × Exchanges stream said
+parses_some stream = gives_front stream [] (record { part = []; rest = stream; awaited = Head }) (record { left = stream; leads = (zero, (refl, refl, refl)); kept = inr refl })

@@ -1,7 +1,7 @@
 -- The reports of devices that reach the core: those that a device sends on its connections, and the end of each connection.
 use Rattle.std.specs.Prelude.{ℕ, ◌≡◌, ◌⊎◌, ◌==◌, Bool, true, false, if◌then◌else◌, List, [], ◌∷◌, ◌++◌, All, map, filter, slice_get, Some, None}
 use Rattle.std.specs.List.{flat_map}
-use Rattle.base_types.specs.Report.{ReportRecord, SaysHello, IsGone, report_of}
+use Rattle.base_types.specs.Report.{ReportRecord, HelloReport, GoneReport, report_of}
 use Rattle.settings_file.specs.Settings.{device_names}
 use Rattle.device_link.specs.Stream.{ParsesFirst}
 use Rattle.print_room.specs.State.{State}
@@ -10,7 +10,7 @@ use Rattle.events.specs.declared.event.Event.TheVariants as Is
 use Rattle.dispatcher.specs.Notes.{Note}
 use Rattle.dispatcher.specs.Run.{Outcome, Handles}
 use Rattle.connections.specs.Entry.{PeerRecord, Http, Queue, Link, Entry, device_of}
-use Rattle.connections.specs.Asking.{IsHeard}
+use Rattle.connections.specs.Asking.{IsActedOn}
 use Rattle.server.specs.Ledger.{Ledger, Fate}
 use Rattle.server.specs.Enqueuing.{IsAbsent}
 use Rattle.server.specs.Hello.{IsAlone}
@@ -67,7 +67,7 @@ said_on (Link reports device) = reports
 
 -- a whole connection: its reports, and then that the device is gone
 abbrev pub life_of : PeerRecord → List ReportRecord
-life_of progress = said_on progress ++ IsGone ∷ []
+life_of progress = said_on progress ++ GoneReport ∷ []
 
 -- the device gave its name on the connection, and has had no other connection since
 abbrev pub is_of : ℕ → PeerRecord → Bool
@@ -118,10 +118,10 @@ IsNameIn opening came name device = (state : State) × IsStateIn state opening c
 
 -- the first report on a connection of a device is the device's name
 abbrev pub IsGreeted : (List ℕ → ℕ → Type 0) → Entry → Type 0
-IsGreeted Name e = (device : ℕ) (reports : List ReportRecord) → e.progress ≡ Link reports (Some device) → (name : List ℕ) × (rest : List ReportRecord) × (reports ≡ SaysHello name ∷ rest) × Name name device
+IsGreeted Name e = (device : ℕ) (reports : List ReportRecord) → e.progress ≡ Link reports (Some device) → (name : List ℕ) × (rest : List ReportRecord) × (reports ≡ HelloReport name ∷ rest) × Name name device
 
 -- The events of a trace are one run of the core, which gives the observer's notes. For each device the reports among the events that came in turns are those on its connections, and the end of each connection. The settings have the name that the device gave. The reports of a connection are a prefix of those that its bytes contain. On each connection, open or closed, they are all that its bytes contain, unless it is draining or broken.
-pub record AreHeard (opening : State) (trace : Trace) (l : Ledger) : Type 0 where
+pub record AreDelivered (opening : State) (trace : Trace) (l : Ledger) : Type 0 where
   pub came : List Came
   pub timed : ComeOf trace came
   pub run : AreRun opening came l.core
@@ -131,5 +131,5 @@ pub record AreHeard (opening : State) (trace : Trace) (l : Ledger) : Type 0 wher
   pub closed_greeted : All (λ (it : Entry × Fate). IsGreeted (IsNameIn opening came) it.0) l.closed
   pub read : (key : ℕ) (e : Entry) → l.entries key ≡ Some e → IsRead e
   pub closed_read : All (λ (it : Entry × Fate). IsRead it.0) l.closed
-  pub heard : (key : ℕ) (e : Entry) → l.entries key ≡ Some e → IsHeard e
-  pub closed_heard : All (λ (it : Entry × Fate). IsHeard it.0) l.closed
+  pub acted_on : (key : ℕ) (e : Entry) → l.entries key ≡ Some e → IsActedOn e
+  pub closed_acted_on : All (λ (it : Entry × Fate). IsActedOn it.0) l.closed

@@ -1,11 +1,11 @@
--- Words that say nothing.
+-- A line with too many operands is no report.
 use Rattle.std.specs.Prelude.{ℕ, ◌≡◌, Bool, List, ◌∷◌, None}
 use Rattle.std.specs.List.{slice_split}
 use Rattle.std.proofs.Common.{refl}
 use Rattle.text.proofs.Splits.{parts}
 use Rattle.device_link.specs.Line.{said}
 
--- a word and three operands or more say nothing
+-- a word and three operands or more are no report
 pub nothing_said : (p : ℕ → Bool) (xs word first second : List ℕ) → said (word ∷ first ∷ second ∷ slice_split p xs) ≡ None
 nothing_said p xs word first second =
     let it = parts p xs in
