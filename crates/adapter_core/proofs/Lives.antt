@@ -9,8 +9,8 @@ use Rattle.base_types.specs.Report.{ReportRecord, report_of, ReadyReport, StopRe
 use Rattle.adapter_core.specs.declared.printer_state.PrinterState.{PrinterState}
 use Rattle.adapter_core.specs.declared.printer_state.PrinterState.TheVariants.{Running, Stopped}
 use Rattle.adapter_core.specs.Life.{Event, Links, Ordered, Came, Canceled, Sent, EndsCopy, Restarts, Printed, Is, Reported, Leads}
-use Rattle.adapter_core.specs.Promises.{AnswersOnce, SendsTheJob, HeedsCancel, ReportsState}
-use Rattle.adapter_core.specs.AdapterState.{WorkRecord, AdapterStateRecord, id_of, sending_of, heeded_of, reported_of, IsAfter, Lives, unreported, due_of, due_in, copy_sent_in, HasRoom, said_by, end_report, fail_report, pages_report, state_report, begun, with_came, with_sent, with_copy, with_restart, with_cancel, changed}
+use Rattle.adapter_core.specs.Promises.{AnswersOnce, SendsTheJob, ObeysCancel, ReportsState}
+use Rattle.adapter_core.specs.AdapterState.{WorkRecord, AdapterStateRecord, id_of, sending_of, cancel_state_of, reported_of, IsAfter, Lives, unreported, due_of, due_in, copy_sent_in, HasRoom, said_by, end_report, fail_report, pages_report, state_report, begun, with_came, with_sent, with_copy, with_restart, with_cancel, changed}
 
 -- ---- one event more
 
@@ -22,14 +22,14 @@ leads_then step at (first ∷ life) mid event end x s = (x.0, x.1, leads_then st
 record Allows (old : AdapterStateRecord) (event : Event) (new : AdapterStateRecord) : Type 0 where
   answers : AnswersOnce (option_map id_of old.work) event (option_map id_of new.work)
   sends : SendsTheJob (option_map sending_of old.work) event (option_map sending_of new.work)
-  heeds : HeedsCancel (option_map heeded_of old.work) event (option_map heeded_of new.work)
+  obeys : ObeysCancel (option_map cancel_state_of old.work) event (option_map cancel_state_of new.work)
   reports : ReportsState (reported_of old) event (reported_of new)
 
 lives_by : (old : AdapterStateRecord) (event : Event) (new : AdapterStateRecord) → Allows old event new → Lives old (event ∷ []) new
 lives_by old event new allows life stands = record {
   answers = leads_then AnswersOnce None life (option_map id_of old.work) event (option_map id_of new.work) stands.answers allows.answers;
   sends = leads_then SendsTheJob None life (option_map sending_of old.work) event (option_map sending_of new.work) stands.sends allows.sends;
-  heeds = leads_then HeedsCancel None life (option_map heeded_of old.work) event (option_map heeded_of new.work) stands.heeds allows.heeds;
+  obeys = leads_then ObeysCancel None life (option_map cancel_state_of old.work) event (option_map cancel_state_of new.work) stands.obeys allows.obeys;
   reports = leads_then ReportsState unreported life (reported_of old) event (reported_of new) stands.reports allows.reports;
 }
 
@@ -42,14 +42,14 @@ lives_then old mid new first later x y life stands = subst (λ l. IsAfter l new)
 -- ---- the server
 
 links_by : (work : Option WorkRecord) (printer : PrinterState) (reported : Option PrinterState) → Allows (record { work = work; printer = printer; reported = reported }) Links (record { work = None; printer = printer; reported = None })
-links_by None printer reported = record { answers = refl; sends = refl; heeds = refl; reports = refl }
-links_by (Some work) printer reported = record { answers = refl; sends = refl; heeds = refl; reports = refl }
+links_by None printer reported = record { answers = refl; sends = refl; obeys = refl; reports = refl }
+links_by (Some work) printer reported = record { answers = refl; sends = refl; obeys = refl; reports = refl }
 
 pub lives_linked : (old : AdapterStateRecord) → Lives old (Links ∷ []) (record old { work = None; reported = None })
 lives_linked old = lives_by old Links _ (links_by old.work old.printer old.reported)
 
 orders_by : (work : Option WorkRecord) (printer : PrinterState) (reported : Option PrinterState) (job octets times : ℕ) → work ≡ None → Allows (record { work = work; printer = printer; reported = reported }) (Ordered job octets times) (record { work = Some (begun job octets times); printer = printer; reported = reported })
-orders_by None printer reported job octets times none = record { answers = (refl, refl); sends = refl; heeds = refl; reports = refl }
+orders_by None printer reported job octets times none = record { answers = (refl, refl); sends = refl; obeys = refl; reports = refl }
 orders_by (Some work) printer reported job octets times none = absurd (cc none)
 
 pub lives_ordered : (old : AdapterStateRecord) (job octets times : ℕ) → old.work ≡ None → Lives old (Ordered job octets times ∷ []) (record old { work = Some (begun job octets times) })
@@ -57,7 +57,7 @@ lives_ordered old job octets times none = lives_by old (Ordered job octets times
 
 came_by : (work : Option WorkRecord) (printer : PrinterState) (reported : Option PrinterState) (octets : List ℕ) → HasRoom work (length octets) → Allows (record { work = work; printer = printer; reported = reported }) (Came octets) (record { work = option_map (with_came octets) work; printer = printer; reported = reported })
 came_by None printer reported octets room = absurd room
-came_by (Some work) printer reported octets room = record { answers = refl; sends = (rw (length-append work.came octets) room, refl); heeds = refl; reports = refl }
+came_by (Some work) printer reported octets room = record { answers = refl; sends = (rw (length-append work.came octets) room, refl); obeys = refl; reports = refl }
 
 lives_came : (old : AdapterStateRecord) (octets : List ℕ) → HasRoom old.work (length octets) → Lives old (Came octets ∷ []) (changed (with_came octets) old)
 lives_came old octets room = lives_by old (Came octets) _ (came_by old.work old.printer old.reported octets room)
@@ -77,13 +77,13 @@ marked_sending : (job : ℕ) (work : WorkRecord) (test : Bool) → Some (sending
 marked_sending job work true = refl
 marked_sending job work false = refl
 
-marked_heeded : (job : ℕ) (work : WorkRecord) (test : Bool) → Some (heeded_of (marked job work test)) ≡ Some (if test then record { job = work.job; canceled = true } else heeded_of work)
-marked_heeded job work true = refl
-marked_heeded job work false = refl
+marked_canceled : (job : ℕ) (work : WorkRecord) (test : Bool) → Some (cancel_state_of (marked job work test)) ≡ Some (if test then record { job = work.job; canceled = true } else cancel_state_of work)
+marked_canceled job work true = refl
+marked_canceled job work false = refl
 
 canceled_by : (work : Option WorkRecord) (printer : PrinterState) (reported : Option PrinterState) (job : ℕ) → Allows (record { work = work; printer = printer; reported = reported }) (Canceled job) (record { work = option_map (with_cancel job) work; printer = printer; reported = reported })
-canceled_by None printer reported job = record { answers = refl; sends = refl; heeds = refl; reports = refl }
-canceled_by (Some work) printer reported job = record { answers = marked_id job work (work.job == job); sends = marked_sending job work (work.job == job); heeds = marked_heeded job work (work.job == job); reports = refl }
+canceled_by None printer reported job = record { answers = refl; sends = refl; obeys = refl; reports = refl }
+canceled_by (Some work) printer reported job = record { answers = marked_id job work (work.job == job); sends = marked_sending job work (work.job == job); obeys = marked_canceled job work (work.job == job); reports = refl }
 
 pub lives_canceled : (old : AdapterStateRecord) (job : ℕ) → Lives old (Canceled job ∷ []) (changed (with_cancel job) old)
 lives_canceled old job = lives_by old (Canceled job) _ (canceled_by old.work old.printer old.reported job)
@@ -96,8 +96,8 @@ pub id_stays : (old : AdapterStateRecord) (job : ℕ) → option_map id_of (chan
 id_stays old job = id_canceled old.work job
 
 restarts_by : (work : Option WorkRecord) (printer : PrinterState) (reported : Option PrinterState) → Allows (record { work = work; printer = printer; reported = reported }) Restarts (record { work = option_map with_restart work; printer = printer; reported = reported })
-restarts_by None printer reported = record { answers = refl; sends = refl; heeds = refl; reports = refl }
-restarts_by (Some work) printer reported = record { answers = refl; sends = refl; heeds = refl; reports = refl }
+restarts_by None printer reported = record { answers = refl; sends = refl; obeys = refl; reports = refl }
+restarts_by (Some work) printer reported = record { answers = refl; sends = refl; obeys = refl; reports = refl }
 
 pub lives_restarted : (old : AdapterStateRecord) → Lives old (Restarts ∷ []) (changed with_restart old)
 lives_restarted old = lives_by old Restarts _ (restarts_by old.work old.printer old.reported)
@@ -130,7 +130,7 @@ sent_work work printer reported count few due =
     record {
       answers = refl;
       sends = (due.again, same, ap (λ (n : ℕ). Some (record { octets = work.octets; times = work.times; came = work.came; sent = work.sent + n; copies = work.copies; printed = false })) (sym size));
-      heeds = (due.goes, refl);
+      obeys = (due.goes, refl);
       reports = refl;
     }
 
@@ -147,14 +147,14 @@ copy_by (Some work) printer reported is =
     let parts : (nat_lt work.copies work.times ≡ true) × ((work.sent == work.octets) ≡ true) = and_parts (nat_lt work.copies work.times) (work.sent == work.octets) is in
     let again : work.copies < work.times = grind (arith, parts.0) in
     let all : work.sent ≡ work.octets = grind (arith, parts.1) in
-    record { answers = refl; sends = (again, all, refl); heeds = refl; reports = refl }
+    record { answers = refl; sends = (again, all, refl); obeys = refl; reports = refl }
 
 pub lives_copied : (old : AdapterStateRecord) → copy_sent_in old.work ≡ true → Lives old (EndsCopy ∷ []) (changed with_copy old)
 lives_copied old is = lives_by old EndsCopy _ (copy_by old.work old.printer old.reported is)
 
 set_by : (work : Option WorkRecord) (was : PrinterState) (reported : Option PrinterState) (printer : PrinterState) → Allows (record { work = work; printer = was; reported = reported }) (Is printer) (record { work = work; printer = printer; reported = reported })
-set_by None was reported printer = record { answers = refl; sends = refl; heeds = refl; reports = refl }
-set_by (Some work) was reported printer = record { answers = refl; sends = refl; heeds = refl; reports = refl }
+set_by None was reported printer = record { answers = refl; sends = refl; obeys = refl; reports = refl }
+set_by (Some work) was reported printer = record { answers = refl; sends = refl; obeys = refl; reports = refl }
 
 pub lives_set : (old : AdapterStateRecord) (printer : PrinterState) → Lives old (Is printer ∷ []) (record old { printer = printer })
 lives_set old printer = lives_by old (Is printer) _ (set_by old.work old.printer old.reported printer)
@@ -171,14 +171,14 @@ said_events (Some report) said is = ap events_of is
 
 pages_by : (work : Option WorkRecord) (printer : PrinterState) (reported : Option PrinterState) (printed : ℕ) → Lives (record { work = work; printer = printer; reported = reported }) (events_of (option_map (pages_report printed) work)) (record { work = work; printer = printer; reported = reported })
 pages_by None printer reported printed = lives_still (record { work = None; printer = printer; reported = reported })
-pages_by (Some work) printer reported printed = lives_by (record { work = Some work; printer = printer; reported = reported }) (Reported (PagesReport work.job printed)) _ (record { answers = (refl, refl); sends = refl; heeds = refl; reports = refl })
+pages_by (Some work) printer reported printed = lives_by (record { work = Some work; printer = printer; reported = reported }) (Reported (PagesReport work.job printed)) _ (record { answers = (refl, refl); sends = refl; obeys = refl; reports = refl })
 
 pub lives_pages : (at : AdapterStateRecord) (report : Option Report) (printed : ℕ) → option_map report_of report ≡ option_map (pages_report printed) at.work → Lives at (said_by report) at
 lives_pages at report printed is = subst (λ (e : List Event). Lives at e at) (sym (said_events report (option_map (pages_report printed) at.work) is)) (pages_by at.work at.printer at.reported printed)
 
 fail_by : (work : Option WorkRecord) (printer : PrinterState) (reported : Option PrinterState) → Lives (record { work = work; printer = printer; reported = reported }) (events_of (option_map fail_report work)) (record { work = None; printer = printer; reported = reported })
 fail_by None printer reported = lives_still (record { work = None; printer = printer; reported = reported })
-fail_by (Some work) printer reported = lives_by (record { work = Some work; printer = printer; reported = reported }) (Reported (FailReport work.job)) _ (record { answers = (refl, refl); sends = refl; heeds = refl; reports = refl })
+fail_by (Some work) printer reported = lives_by (record { work = Some work; printer = printer; reported = reported }) (Reported (FailReport work.job)) _ (record { answers = (refl, refl); sends = refl; obeys = refl; reports = refl })
 
 pub lives_failed : (old : AdapterStateRecord) (report : Option Report) → option_map report_of report ≡ option_map fail_report old.work → Lives old (said_by report) (record old { work = None })
 lives_failed old report is = subst (λ (e : List Event). Lives old e (record old { work = None })) (sym (said_events report (option_map fail_report old.work) is)) (fail_by old.work old.printer old.reported)
@@ -187,14 +187,14 @@ lives_failed old report is = subst (λ (e : List Event). Lives old e (record old
 record IsPrinted (life : List Event) (work : WorkRecord) (printer : PrinterState) (reported : Option PrinterState) : Type 0 where
   answers : Leads AnswersOnce None life (Some work.job)
   sends : Leads SendsTheJob None life (Some (record (sending_of work) { printed = true }))
-  heeds : Leads HeedsCancel None life (Some (heeded_of work))
+  obeys : Leads ObeysCancel None life (Some (cancel_state_of work))
   reports : Leads ReportsState unreported life (record { printer = printer; reported = reported })
 
 printed_by : (life : List Event) (work : WorkRecord) (printer : PrinterState) (reported : Option PrinterState) → IsAfter life (record { work = Some work; printer = printer; reported = reported }) → IsPrinted (life ++ Printed ∷ []) work printer reported
 printed_by life work printer reported stands = record {
   answers = leads_then AnswersOnce None life _ Printed (Some work.job) stands.answers refl;
   sends = leads_then SendsTheJob None life _ Printed _ stands.sends refl;
-  heeds = leads_then HeedsCancel None life _ Printed _ stands.heeds refl;
+  obeys = leads_then ObeysCancel None life _ Printed _ stands.obeys refl;
   reports = leads_then ReportsState unreported life _ Printed _ stands.reports refl;
 }
 
@@ -204,18 +204,18 @@ ended_by life work printer reported true is at =
     record {
       answers = leads_then AnswersOnce None life _ (Reported (DoneReport work.job)) None at.answers (refl, refl);
       sends = leads_then SendsTheJob None life _ (Reported (DoneReport work.job)) None at.sends (done, refl, refl);
-      heeds = leads_then HeedsCancel None life _ (Reported (DoneReport work.job)) None at.heeds refl;
+      obeys = leads_then ObeysCancel None life _ (Reported (DoneReport work.job)) None at.obeys refl;
       reports = leads_then ReportsState unreported life _ (Reported (DoneReport work.job)) _ at.reports refl;
     }
 ended_by life work printer reported false is at = record {
   answers = leads_then AnswersOnce None life _ (Reported (FailReport work.job)) None at.answers (refl, refl);
   sends = leads_then SendsTheJob None life _ (Reported (FailReport work.job)) None at.sends refl;
-  heeds = leads_then HeedsCancel None life _ (Reported (FailReport work.job)) None at.heeds refl;
+  obeys = leads_then ObeysCancel None life _ (Reported (FailReport work.job)) None at.obeys refl;
   reports = leads_then ReportsState unreported life _ (Reported (FailReport work.job)) _ at.reports refl;
 }
 
 nothing_printed : (printer : PrinterState) (reported : Option PrinterState) → Lives (record { work = None; printer = printer; reported = reported }) (Printed ∷ []) (record { work = None; printer = printer; reported = reported })
-nothing_printed printer reported = lives_by (record { work = None; printer = printer; reported = reported }) Printed _ (record { answers = refl; sends = refl; heeds = refl; reports = refl })
+nothing_printed printer reported = lives_by (record { work = None; printer = printer; reported = reported }) Printed _ (record { answers = refl; sends = refl; obeys = refl; reports = refl })
 
 finish_by : (work : Option WorkRecord) (printer : PrinterState) (reported : Option PrinterState) → Lives (record { work = work; printer = printer; reported = reported }) (Printed ∷ events_of (option_map end_report work)) (record { work = None; printer = printer; reported = reported })
 finish_by None printer reported = nothing_printed printer reported
@@ -232,10 +232,10 @@ IsState StopReport = Unit {0}
 IsState report = ⊥
 
 reports_state : (work : Option WorkRecord) (printer : PrinterState) (reported new : Option PrinterState) (report : ReportRecord) → ReportsState (record { printer = printer; reported = reported }) (Reported report) (record { printer = printer; reported = new }) → IsState report → Lives (record { work = work; printer = printer; reported = reported }) (Reported report ∷ []) (record { work = work; printer = printer; reported = new })
-reports_state None printer reported new ReadyReport reports is = lives_by _ (Reported ReadyReport) _ (record { answers = refl; sends = refl; heeds = refl; reports = reports })
-reports_state None printer reported new StopReport reports is = lives_by _ (Reported StopReport) _ (record { answers = refl; sends = refl; heeds = refl; reports = reports })
-reports_state (Some work) printer reported new ReadyReport reports is = lives_by _ (Reported ReadyReport) _ (record { answers = refl; sends = refl; heeds = refl; reports = reports })
-reports_state (Some work) printer reported new StopReport reports is = lives_by _ (Reported StopReport) _ (record { answers = refl; sends = refl; heeds = refl; reports = reports })
+reports_state None printer reported new ReadyReport reports is = lives_by _ (Reported ReadyReport) _ (record { answers = refl; sends = refl; obeys = refl; reports = reports })
+reports_state None printer reported new StopReport reports is = lives_by _ (Reported StopReport) _ (record { answers = refl; sends = refl; obeys = refl; reports = reports })
+reports_state (Some work) printer reported new ReadyReport reports is = lives_by _ (Reported ReadyReport) _ (record { answers = refl; sends = refl; obeys = refl; reports = reports })
+reports_state (Some work) printer reported new StopReport reports is = lives_by _ (Reported StopReport) _ (record { answers = refl; sends = refl; obeys = refl; reports = reports })
 reports_state work printer reported new report reports is = absurd is
 
 report_by : (work : Option WorkRecord) (printer : PrinterState) (reported : Option PrinterState) → Lives (record { work = work; printer = printer; reported = reported }) (events_of (state_report printer reported)) (record { work = work; printer = printer; reported = Some printer })

@@ -5,7 +5,7 @@ use Rattle.base_types.specs.Report.{ReportRecord, report_of, ReadyReport, StopRe
 use Rattle.adapter_core.specs.declared.printer_state.PrinterState.{PrinterState}
 use Rattle.adapter_core.specs.declared.printer_state.PrinterState.TheVariants.{Running, Stopped}
 use Rattle.adapter_core.specs.Life.{Event, Reported, Leads}
-use Rattle.adapter_core.specs.Promises.{Sending, Heeded, Reporting, AnswersOnce, SendsTheJob, HeedsCancel, ReportsState}
+use Rattle.adapter_core.specs.Promises.{Sending, CancelState, Reporting, AnswersOnce, SendsTheJob, ObeysCancel, ReportsState}
 
 -- a job in hand: the number of its octets and those that have come, how often it is to be sent and was sent, how many octets of this copy are sent, and whether it is canceled
 pub record WorkRecord : Type 0 where
@@ -28,8 +28,8 @@ id_of work = work.job
 abbrev pub sending_of : WorkRecord → Sending
 sending_of work = record { octets = work.octets; times = work.times; came = work.came; sent = work.sent; copies = work.copies; printed = false }
 
-abbrev pub heeded_of : WorkRecord → Heeded
-heeded_of work = record { job = work.job; canceled = work.canceled }
+abbrev pub cancel_state_of : WorkRecord → CancelState
+cancel_state_of work = record { job = work.job; canceled = work.canceled }
 
 abbrev pub reported_of : AdapterStateRecord → Reporting
 reported_of at = record { printer = at.printer; reported = at.reported }
@@ -42,7 +42,7 @@ unreported = record { printer = Running; reported = None }
 pub record IsAfter (life : List Event) (at : AdapterStateRecord) : Type 0 where
   pub answers : Leads AnswersOnce None life (option_map id_of at.work)
   pub sends : Leads SendsTheJob None life (option_map sending_of at.work)
-  pub heeds : Leads HeedsCancel None life (option_map heeded_of at.work)
+  pub obeys : Leads ObeysCancel None life (option_map cancel_state_of at.work)
   pub reports : Leads ReportsState unreported life (reported_of at)
 
 -- these events lead the adapter on, for each life before

@@ -57,25 +57,25 @@ SendsTheJob (Some job) event next = JobSends job event next
 
 -- ---- a cancel is obeyed: no octet of the job is sent after the cancel. The record has the job, and whether it is canceled.
 
-pub record Heeded : Type 0 where
+pub record CancelState : Type 0 where
   pub job : ℕ
   pub canceled : Bool
 
-abbrev pub canceled_if : ℕ → Heeded → Heeded
+abbrev pub canceled_if : ℕ → CancelState → CancelState
 canceled_if job at = if at.job == job then record at { canceled = true } else at
 
-abbrev pub JobHeeds : Heeded → Event → Option Heeded → Type 0
-JobHeeds at Links next = next ≡ None
-JobHeeds at (Canceled job) next = next ≡ Some (canceled_if job at)
-JobHeeds at (Sent octets) next = (at.canceled ≡ false) × (next ≡ Some at)
-JobHeeds at (Reported (DoneReport job)) next = next ≡ None
-JobHeeds at (Reported (FailReport job)) next = next ≡ None
-JobHeeds at event next = next ≡ Some at
+abbrev pub JobObeys : CancelState → Event → Option CancelState → Type 0
+JobObeys at Links next = next ≡ None
+JobObeys at (Canceled job) next = next ≡ Some (canceled_if job at)
+JobObeys at (Sent octets) next = (at.canceled ≡ false) × (next ≡ Some at)
+JobObeys at (Reported (DoneReport job)) next = next ≡ None
+JobObeys at (Reported (FailReport job)) next = next ≡ None
+JobObeys at event next = next ≡ Some at
 
-abbrev pub HeedsCancel : Option Heeded → Event → Option Heeded → Type 0
-HeedsCancel None (Ordered job octets times) next = next ≡ Some (record { job = job; canceled = false })
-HeedsCancel None event next = next ≡ None
-HeedsCancel (Some at) event next = JobHeeds at event next
+abbrev pub ObeysCancel : Option CancelState → Event → Option CancelState → Type 0
+ObeysCancel None (Ordered job octets times) next = next ≡ Some (record { job = job; canceled = false })
+ObeysCancel None event next = next ≡ None
+ObeysCancel (Some at) event next = JobObeys at event next
 
 -- ---- READY and STOP alternate as the printer's state does: each is reported for the printer's state at that time, and not twice. The record has the printer's state, and the state that was last reported.
 
