@@ -120,7 +120,7 @@ neither false x y first second is = second is
 
 -- bytes that are read are noted
 came_noted : (id : ℕ) (bytes : List ℕ) → came_line id bytes ≡ [] → ⊥
-came_noted id bytes is = neither (nat_lt (length bytes) 1024) (read_line id bytes) (octets_line id bytes) (λ none. cc) (λ none. cc) is
+came_noted id bytes is = neither (nat_lt (length bytes) 256) (read_line id bytes) (octets_line id bytes) (λ none. cc) (λ none. cc) is
 
 -- a call without a line is idle
 one_idle : (poll : Poll) (sum : Option ℕ) → note_of poll sum ≡ [] → IsIdle poll

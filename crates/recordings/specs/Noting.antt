@@ -9,8 +9,8 @@ use Rattle.recordings.specs.Lines.{line_about, accept_line, came_line, sent_line
 abbrev pub written_note : ℕ → Progress ℕ → Option ℕ → List ℕ
 written_note id (Done count) sum = sent_line id count sum
 written_note id Waiting sum = []
-written_note id End sum = line_about (codes "shut") id
-written_note id Fault sum = line_about (codes "break") id
+written_note id End sum = line_about (codes "shut ") id
+written_note id Fault sum = line_about (codes "break ") id
 
 -- The line of a call with its answer; empty for a call that would have to wait, and for an accept without a connection. The sum is that of the bytes that a write took.
 abbrev pub note_of : Poll → Option ℕ → List ℕ
@@ -20,10 +20,10 @@ note_of (Accepts door End) sum = []
 note_of (Accepts door Fault) sum = []
 note_of (Reads id (Done bytes)) sum = came_line id bytes
 note_of (Reads id Waiting) sum = []
-note_of (Reads id End) sum = line_about (codes "end") id
-note_of (Reads id Fault) sum = line_about (codes "fail") id
+note_of (Reads id End) sum = line_about (codes "end ") id
+note_of (Reads id Fault) sum = line_about (codes "fail ") id
 note_of (Writes id offered answer) sum = written_note id answer sum
-note_of (Closes id) sum = line_about (codes "close") id
+note_of (Closes id) sum = line_about (codes "close ") id
 
 -- the lines of the end of a turn at a moment; `true` if memory was refused to the server in the turn
 abbrev pub end_of : ℕ → Bool → List ℕ

@@ -38,8 +38,8 @@ pub(crate) fn put_read(
     match answer {
         Progress::Done(count) => put_came(output, id, &buffer[..count]),
         Progress::Waiting => Ok(()),
-        Progress::End => put_line(output, b"end", u64::from(id)),
-        Progress::Fault => put_line(output, b"fail", u64::from(id)),
+        Progress::End => put_line(output, b"end ", u64::from(id)),
+        Progress::Fault => put_line(output, b"fail ", u64::from(id)),
     }
 }
 
@@ -55,8 +55,8 @@ pub(crate) fn put_write(
     match answer {
         Progress::Done(count) => put_sent(output, Sent { id, count, sum }),
         Progress::Waiting => Ok(()),
-        Progress::End => put_line(output, b"shut", u64::from(id)),
-        Progress::Fault => put_line(output, b"break", u64::from(id)),
+        Progress::End => put_line(output, b"shut ", u64::from(id)),
+        Progress::Fault => put_line(output, b"break ", u64::from(id)),
     }
 }
 

@@ -221,7 +221,7 @@ impl RecordedLines {
         if !self.keeps {
             return Ok(());
         }
-        put_line(&mut self.text, b"close", u64::from(id))?;
+        put_line(&mut self.text, b"close ", u64::from(id))?;
         Ok(())
     }
 }

@@ -12,7 +12,7 @@ use std::alloc::AllocError;
 use wires::{Door, WireId};
 
 /// The number of bytes from which on the bytes of a read are written after their line.
-const MANY: usize = 1024;
+const MANY: usize = 256;
 
 /// The beginning of the first line of a file that continues another file.
 pub const GOES_ON: &[u8] = b"#goes on behind ";
@@ -28,14 +28,12 @@ fn put_number(output: &mut Vec<u8>, number: u64) -> Result<(), AllocError>
     output.extend_from_slice(buffer.format(number).as_bytes())
 }
 
-/// Appends a word, a space and a number.
+/// Appends a word and a number. The word ends in a space.
 fn put_about(output: &mut Vec<u8>, word: &[u8], number: u64) -> Result<(), AllocError>
     ensures { OnOk result (output.new.items ≡ output.old.items ++ about word.now number) }
 {
     output.extend_from_slice(word)?;
-    output.extend_from_slice(b" ")?;
-    put_number(output, number)?;
-    Ok(())
+    put_number(output, number)
 }
 
 /// Appends a line of a word and a number.
@@ -52,15 +50,15 @@ pub(crate) fn put_accepted(output: &mut Vec<u8>, door: Door, id: WireId) -> Resu
     ensures { OnOk result (output.new.items ≡ output.old.items ++ accept_line door id) }
 {
     output.extend_from_slice(b"accept ")?;
-    put_line(output, door.word().as_bytes(), u64::from(id))?;
-    Ok(())
+    output.extend_from_slice(door.word().as_bytes())?;
+    put_line(output, b" ", u64::from(id))
 }
 
 /// Appends the line of bytes that were read, with the bytes in it.
 fn put_read(output: &mut Vec<u8>, id: WireId, bytes: &[u8]) -> Result<(), AllocError>
     ensures { OnOk result (output.new.items ≡ output.old.items ++ read_line id bytes.now) }
 {
-    put_about(output, b"read", u64::from(id))?;
+    put_about(output, b"read ", u64::from(id))?;
     output.extend_from_slice(b" ")?;
     put_data(output, bytes)?;
     output.extend_from_slice(b"\n")?;
@@ -71,8 +69,8 @@ fn put_read(output: &mut Vec<u8>, id: WireId, bytes: &[u8]) -> Result<(), AllocE
 fn put_octets(output: &mut Vec<u8>, id: WireId, bytes: &[u8]) -> Result<(), AllocError>
     ensures { OnOk result (output.new.items ≡ output.old.items ++ octets_line id bytes.now) }
 {
-    put_about(output, b"octets", u64::from(id))?;
-    put_about(output, b"", bytes.len() as u64)?;
+    put_about(output, b"octets ", u64::from(id))?;
+    put_about(output, b" ", bytes.len() as u64)?;
     output.extend_from_slice(b"\n")?;
     output.extend_from_slice(bytes)?;
     output.extend_from_slice(b"\n")?;
@@ -94,8 +92,8 @@ pub(crate) fn put_came(output: &mut Vec<u8>, id: WireId, bytes: &[u8]) -> Result
 fn put_zeros(output: &mut Vec<u8>, id: WireId, zeros: usize, bytes: &[u8]) -> Result<(), AllocError>
     ensures { OnOk result (output.new.items ≡ output.old.items ++ zeros_line id zeros bytes.now) }
 {
-    put_about(output, b"zeros", u64::from(id))?;
-    put_about(output, b"", zeros as u64)?;
+    put_about(output, b"zeros ", u64::from(id))?;
+    put_about(output, b" ", zeros as u64)?;
     output.extend_from_slice(b" ")?;
     put_data(output, bytes)?;
     output.extend_from_slice(b"\n")?;
@@ -119,8 +117,8 @@ pub(crate) fn put_redacted(
 pub(crate) fn put_sent(output: &mut Vec<u8>, sent: Sent) -> Result<(), AllocError>
     ensures { OnOk result (output.new.items ≡ output.old.items ++ sent_line sent.id sent.count sent.sum) }
 {
-    put_about(output, b"sent", u64::from(sent.id))?;
-    put_about(output, b"", sent.count as u64)?;
+    put_about(output, b"sent ", u64::from(sent.id))?;
+    put_about(output, b" ", sent.count as u64)?;
     put_sum(output, sent.sum)?;
     output.extend_from_slice(b"\n")?;
     Ok(())
@@ -131,7 +129,7 @@ fn put_sum(output: &mut Vec<u8>, sum: Option<u32>) -> Result<(), AllocError>
     ensures { OnOk result (output.new.items ≡ output.old.items ++ sum_words sum) }
 {
     match sum {
-        Some(sum) => put_about(output, b"", u64::from(sum)),
+        Some(sum) => put_about(output, b" ", u64::from(sum)),
         None => output.extend_from_slice(b" -"),
     }
 }
@@ -140,7 +138,7 @@ fn put_sum(output: &mut Vec<u8>, sum: Option<u32>) -> Result<(), AllocError>
 pub fn put_turn(output: &mut Vec<u8>, moment: Moment) -> Result<(), AllocError>
     ensures { OnOk result (output.new.items ≡ output.old.items ++ turn_line moment) }
 {
-    put_line(output, b"turn", moment.millis())
+    put_line(output, b"turn ", moment.millis())
 }
 
 /// Appends the line `refused`: memory was refused.
@@ -168,12 +166,12 @@ pub fn put_entry(output: &mut Vec<u8>, entry: &Entry) -> Result<(), AllocError>
         Entry::Came(came) => put_read(output, came.id, &came.bytes),
         Entry::Octets(came) => put_octets(output, came.id, &came.bytes),
         Entry::Zeros(came) => put_zeros(output, came.id, came.zeros, &came.bytes),
-        Entry::Ended(id) => put_line(output, b"end", u64::from(*id)),
-        Entry::Failed(id) => put_line(output, b"fail", u64::from(*id)),
+        Entry::Ended(id) => put_line(output, b"end ", u64::from(*id)),
+        Entry::Failed(id) => put_line(output, b"fail ", u64::from(*id)),
         Entry::Sent(sent) => put_sent(output, *sent),
-        Entry::Shut(id) => put_line(output, b"shut", u64::from(*id)),
-        Entry::Broken(id) => put_line(output, b"break", u64::from(*id)),
-        Entry::Closed(id) => put_line(output, b"close", u64::from(*id)),
+        Entry::Shut(id) => put_line(output, b"shut ", u64::from(*id)),
+        Entry::Broken(id) => put_line(output, b"break ", u64::from(*id)),
+        Entry::Closed(id) => put_line(output, b"close ", u64::from(*id)),
         Entry::Refused => put_refused(output),
         Entry::Restarted => put_restarted(output),
         Entry::Turn(moment) => put_turn(output, *moment),
@@ -193,7 +191,7 @@ fn put_settings(
         output.extend_from_slice(b"\n")?;
     }
     output.extend_from_slice(b".\n")?;
-    put_about(output, b"recorded", began)?;
+    put_about(output, b"recorded ", began)?;
     output.extend_from_slice(b" ")?;
     output.extend_from_slice(version.as_bytes())
 }
@@ -220,7 +218,7 @@ pub fn put_base(
     first: JobId,
 ) -> Result<(), AllocError> {
     put_settings(output, settings, began, version)?;
-    put_line(output, b" first", u64::from(first.number()))
+    put_line(output, b" first ", u64::from(first.number()))
 }
 
 /// Appends the line before the turns of a file that continues the file `name`.
