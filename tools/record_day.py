@@ -267,7 +267,7 @@ def verify_cuts(trace):
     short, line = cut_short(trace)
     said, status = verify(short)
     refused = status == 2 and f"line {line}: " in said
-    return refused and verify(cut_off(trace))[0] == "same"
+    return refused and verify(cut_off(trace))[0].startswith("same, up to line ")
 
 
 def ahead_of_midnight(folder, seconds):
@@ -299,7 +299,7 @@ def pass_midnight(folder):
     alone, status = verify(next_trace)
     whole = folder / "whole.trace"
     whole.write_bytes(trace.read_bytes() + next_trace.read_bytes())
-    return verify(trace)[0] == "same" and status == 2 and "goes on" in alone and verify(whole)[0] == "same"
+    return verify(trace)[0] == "same" and status == 2 and "continues another file" in alone and verify(whole)[0] == "same"
 
 
 def show_sizes(trace):
