@@ -268,10 +268,6 @@ files_then a b c files rests stored opening trace filed =
     let f = files stored opening trace filed in
     (f.0, rested opening (trace ++ f.0) b c stored rests f.1)
 
--- a server that isn't moved
-pub files_same : (a : Server) → FilesTurn a a
-files_same a stored opening trace filed = ([], subst (λ (t : Trace). IsFiled opening t a stored) (sym (append-nil trace)) filed)
-
 -- ---- lists of turns
 
 pub keeps_then : (a b c : Server) (x y z : List ℕ) → KeepsFiled a x b y → KeepsFiled b y c z → KeepsFiled a x c z

@@ -15,10 +15,6 @@ pub record Alike (R S : Rel) : Type 0 where
 abbrev pub Fixed : Rel → Type 0
 Fixed R = Alike R R
 
--- relations that say less
-pub alike_as : (R S R' S' : Rel) → ((l : Ledger) (hs : List Happening) (a : Ledger) → R' l hs a → R l hs a) → ((l : Ledger) (hs : List Happening) (a : Ledger) → S' l hs a → S l hs a) → Alike R S → Alike R' S'
-alike_as R S R' S' left right r = record { one = λ l hs rest a ks more b e p q. r.one l hs rest a ks more b e (left l hs a p) (right l ks b q) }
-
 -- the happenings and the end are functions of the ledger
 pub fixed_just : (hs : Ledger → List Happening) (to : Ledger → Ledger) → Fixed (λ l ks a. (ks ≡ hs l) × (a ≡ to l))
 fixed_just hs to = record { one = λ l xs rest a ks more b e p q. (p.0 ∙ sym q.0, p.1 ∙ sym q.1) }
@@ -82,9 +78,6 @@ begins_chooses kind is choice of = record { begins = λ l hs a it. begins_just k
 pub begins_notifies : (kind : Happening → Bool) (is : Bool) (note : Note) → kind (Notified note) ≡ is → Begins kind is (Notifies note)
 begins_notifies kind is note of = record { begins = λ l hs a it. begins_just kind is (Notified note) [] hs of it.0 }
 
-pub begins_polls : (kind : Happening → Bool) (is : Bool) (poll : Poll) → kind (Polled poll) ≡ is → Begins kind is (Polls poll)
-begins_polls kind is poll of = record { begins = λ l hs a it. begins_just kind is (Polled poll) [] hs of it.0 }
-
 -- a choice comes first
 abbrev pub is_choice : Happening → Bool
 is_choice (Polled poll) = false
@@ -97,12 +90,6 @@ first_one x y hs rest ks more front back e p q = let both : x ∷ (front ++ rest
 
 pub same_choice : (choice other : Choice) → Chosen choice ≡ Chosen other → choice ≡ other
 same_choice choice other same = cc
-
--- the choice that comes first is one
-pub choice_one : (choice other : Choice) (R S : Rel) (l : Ledger) (hs rest : List Happening) (a : Ledger) (ks more : List Happening) (b : Ledger) → hs ++ rest ≡ ks ++ more → Then (Chooses choice) R l hs a → Then (Chooses other) S l ks b → choice ≡ other
-choice_one choice other R S l hs rest a ks more b e p q =
-    same_choice choice other
-    (first_one (Chosen choice) (Chosen other) hs rest ks more p.back q.back e (p.whole ∙ ap (λ (z : List Happening). z ++ p.back) p.first.0) (q.whole ∙ ap (λ (z : List Happening). z ++ q.back) q.first.0))
 
 -- one after the other, where the first part notifies how the second parts are alike
 pub then_one : {X : Type 0} (D D' R R' : Rel) (l : Ledger) (hs rest : List Happening) (a : Ledger) (ks more : List Happening) (b : Ledger) → hs ++ rest ≡ ks ++ more → (p : Then D R l hs a) (q : Then D' R' l ks b)
@@ -131,10 +118,6 @@ fixed_or kind br bs r s = alike_or kind br br bs bs r s
 pub alike_if : (test : Bool) {R R' S S' : Rel} → Alike R R' → Alike S S' → Alike (If test R S) (If test R' S')
 alike_if true r s = record { one = λ l hs rest a ks more b e p q. r.one l hs rest a ks more b e p q }
 alike_if false r s = record { one = λ l hs rest a ks more b e p q. s.one l hs rest a ks more b e p q }
-
--- relations that are alike for each value, at the value in the ledger
-pub alike_by : {A : Type 0} (of : Ledger → A) (R S : A → Rel) → ((x : A) → Alike (R x) (S x)) → Alike (λ l hs a. R (of l) l hs a) (λ l hs a. S (of l) l hs a)
-alike_by of R S each = record { one = λ l hs rest a ks more b e p q. (each (of l)).one l hs rest a ks more b e p q }
 
 -- ---- many times
 

@@ -333,12 +333,6 @@ reported_left device key (Some other) e fate notified l there is r = by (other =
     by true same = left_named device key e fate notified l there (is ∙ ap (λ (d : ℕ). Some d) (same_key other device same)) r
     by false apart = reported_as device notified (notified ++ []) (without key e fate l) (sym (append-nil notified)) (left_other device key e fate notified l there (ap (names device) is ∙ apart) r)
 
--- the connection is closed, and then no report of a device changes any more
-pub reported_closed : (device key : ℕ) (e : Entry) (fate : Fate) (notified : List ReportRecord) (l m l' : Ledger) → l.entries key ≡ Some e → m ≡ without key e fate l → KeptAll m l' → IsReported device notified l → IsReported device (notified ++ gone_notified device (device_of e.progress)) l'
-reported_closed device key e fate notified l m l' there after kept r =
-    reported_kept device (notified ++ gone_notified device (device_of e.progress)) m l' kept
-    (subst (λ (x : Ledger). IsReported device (notified ++ gone_notified device (device_of e.progress)) x) (sym after) (reported_left device key (device_of e.progress) e fate notified l there refl r))
-
 -- ---- more reports of a device
 
 -- of a device, where it is this one

@@ -75,9 +75,6 @@ moves_feeds moment key bytes l hs l' good it = feeds_at moment key bytes (l.entr
 pub moves_fails : (moment key : ℕ) → Moves true moment (Fails moment key)
 moves_fails moment key = moves_then true moment (Breaks key) (ClosesBroken moment) (moves_calm true moment (Breaks key) (calms_breaks key)) (moves_settles moment)
 
-pub calms_poll : (R : Rel) → ((l : Ledger) (hs : List Happening) (l' : Ledger) → R l hs l' → (run_notes hs ≡ []) × (l' ≡ l)) → Calms R
-calms_poll R is l hs l' it = let same = is l hs l' it in calm_still l hs l' same.0 same.1
-
 pub polled_then : (moment : ℕ) (R : Rel) (l : Ledger) (hs : List Happening) (l' : Ledger) → Good l → (poll : Poll) → (it : Then (Polls poll) R l hs l') → ((mid : Ledger) → mid ≡ l → R mid it.back l' → Goes true moment mid it.back l') → Goes true moment l hs l'
 polled_then moment R l hs l' good poll it goes =
     goes_then true moment l it.front it.mid it.back l' hs it.whole (goes_calm true moment l it.front it.mid good (calm_still l it.front it.mid (ap run_notes it.first.0) it.first.1)) (goes it.mid it.first.1 it.second)

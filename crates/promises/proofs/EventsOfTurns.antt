@@ -1,5 +1,5 @@
 -- Parts of a turn at which events come, and closings.
-use Rattle.std.proofs.Common.{◌≡◌, ℕ, zero, suc, Bool, true, false, List, [], ◌∷◌, refl, sym, ap, subst, Option, Some, None, inl, inr}
+use Rattle.std.proofs.Common.{◌≡◌, ℕ, zero, suc, Bool, true, false, List, [], ◌∷◌, refl, sym, ap, subst, Option, Some, None, inl}
 use Rattle.std.proofs.lemmas.List.Elements.{All-cons, All-nil}
 use Rattle.base_types.specs.declared.report.Report.TheVariants as report
 use Rattle.events.specs.declared.event.Event.{Event}
@@ -7,7 +7,7 @@ use Rattle.events.specs.declared.event.Event.TheVariants as Is
 use Rattle.connections.specs.Entry.{Entry, device_of}
 use Rattle.server.specs.Polls.{Happening}
 use Rattle.server.specs.Ledger.{Ledger, Fate, Broken}
-use Rattle.server.specs.Rel.{Rel, Nothing, Then, If, Or, Times, Many, Each}
+use Rattle.server.specs.Rel.{Rel, Nothing, Then, If, Times, Many, Each}
 use Rattle.server.specs.Happening.{Happens, Unanswered}
 use Rattle.server.specs.Closing.{Leaves, IsGone, ClosesAs, ClosesFirst, ClosesBroken}
 use Rattle.promises.specs.Orders.{named_by, run_notes}
@@ -28,10 +28,6 @@ pub moves_then : (turn : Bool) (moment : ℕ) (R S : Rel) → Moves turn moment 
 moves_then turn moment R S r s l hs l' good it =
     let first = r l it.front it.mid good it.first in
     goes_then turn moment l it.front it.mid it.back l' hs it.whole first (s it.mid it.back l' first.good it.second)
-
-pub moves_or : (turn : Bool) (moment : ℕ) (R S : Rel) → Moves turn moment R → Moves turn moment S → Moves turn moment (Or R S)
-moves_or turn moment R S r s l hs l' good (inl it) = r l hs l' good it
-moves_or turn moment R S r s l hs l' good (inr it) = s l hs l' good it
 
 pub moves_if : (turn : Bool) (moment : ℕ) (t : Bool) (R S : Rel) → Moves turn moment R → Moves turn moment S → Moves turn moment (If t R S)
 moves_if turn moment true R S r s l hs l' good it = r l hs l' good it

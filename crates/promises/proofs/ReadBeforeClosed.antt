@@ -1,5 +1,5 @@
 -- All that was read on a connection was acted on before it was closed, unless nothing counted any more.
-use Rattle.std.proofs.Common.{◌≡◌, ℕ, zero, suc, Bool, true, false, List, [], ◌∷◌, ◌++◌, take, length, refl, sym, ◌∙◌, ap, subst, Option, Some, None, inl, inr, All}
+use Rattle.std.proofs.Common.{◌≡◌, ℕ, zero, suc, Bool, true, false, List, [], ◌∷◌, ◌++◌, take, length, refl, sym, ap, subst, Option, Some, None, inl, inr, All}
 use Rattle.std.specs.Prelude.{nat_lt}
 use Rattle.std.proofs.lemmas.List.Elements.{All-append, All-cons, All-nil}
 use Rattle.base_types.specs.declared.limits.TheConstants.Limits.{CONNECTIONS}
@@ -50,10 +50,6 @@ ends_same l l' same ended = subst (λ (closed : List (Entry × Fate)). All (λ (
 
 calmly : {R : Rel} → Calms R → Ends R
 calmly calms l hs l' it = ends_same l l' (calms l hs l' it).kept.closed
-
--- the same for a ledger that equals a ledger with the same closed connections
-ends_to : (m l l' : Ledger) → m.closed ≡ l.closed → l' ≡ m → EndActedOn l → EndActedOn l'
-ends_to m l l' same after = ends_same l l' (ap (λ (x : Ledger). x.closed) after ∙ same)
 
 ends_then : {R S : Rel} → Ends R → Ends S → Ends (Then R S)
 ends_then f g l hs l' it ended = g it.mid it.back l' it.second (f l it.front it.mid it.first ended)

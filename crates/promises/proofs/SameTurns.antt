@@ -26,7 +26,7 @@ use Rattle.server.specs.Happening.{now_at, Unanswered}
 use Rattle.server.specs.Closing.{IsBroken, NoneBroken, ClosesBroken}
 use Rattle.server.specs.Polling.{Opens, AcceptsAs, AcceptsOne, AcceptsAt, FedWhole, FeedsAt, FeedsOne, Fails, ReadsAs, ReadsOpen, ReadsAt, is_read, ReadsOne, WritesAs, WritesOpen, WritesAt, WritesOne, is_done, EndsAt, EndsOne, Serves}
 use Rattle.server.specs.Turn as Between
-use Rattle.server.specs.Turn.{Ticks, Notes, is_tick_due, TicksIfDue, Covers, Rounds, Round, Turn, BodyAsks, BodyComes, Action, Turned, Served_body, Reported, Ticked, Trace, DoesAction, Runs, is_refusal, has_refusal}
+use Rattle.server.specs.Turn.{Ticks, Notes, is_tick_due, TicksIfDue, Rounds, Round, Turn, BodyAsks, BodyComes, Action, Turned, Served_body, Reported, Ticked, Trace, DoesAction, Runs, is_refusal, has_refusal}
 use Rattle.server.specs.Law.{happenings_of, happenings_in}
 use Rattle.promises.specs.Keyed.{key_chosen, keyed, keyed_of, keyed_in, SeenLeadsToOne}
 use Rattle.promises.specs.OneLedger.{StepsOnce, SameQueries, AsksOnce}
@@ -129,9 +129,6 @@ settled_each (suc n) R each = settled_then (Each n R) (R n) (settled_each n R ea
 onward_each : (n : ℕ) (R : ℕ → Rel) → ((i : ℕ) → Settled (R i)) → ((i : ℕ) → Onward (R i)) → Onward (Each n R)
 onward_each zero R keeps each = onward Nothing same_nothing
 onward_each (suc n) R keeps each = onward_then (Each n R) (R n) (settled_each n R keeps) (onward_each n R keeps each) (each n)
-
-settled_other : (l l' : Ledger) → ((key : ℕ) → IsBroken (l'.entries key) → IsBroken (l.entries key)) → NoneBroken l → NoneBroken l'
-settled_other l l' before none key is = none key (before key is)
 
 -- a connection that is accepted isn't broken
 opened_sound : (t : Bool) (door : Door) (id : ℕ) (o : Option Entry) → IsBroken (if t then Some (opening_entry door id) else o) → (IsBroken o → ⊥) → ⊥

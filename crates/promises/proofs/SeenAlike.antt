@@ -7,7 +7,7 @@ use Rattle.wires.specs.Poll.{Poll}
 use Rattle.dispatcher.specs.Notes.{Note}
 use Rattle.server.specs.Polls.{Happening, Polled, Notified, Choice, Chosen}
 use Rattle.server.specs.Ledger.{Ledger}
-use Rattle.server.specs.Rel.{Rel, Nothing, Polls, Notifies, Chooses, Then, If, Or, Times, Many, Each, EachOf}
+use Rattle.server.specs.Rel.{Rel, Nothing, Polls, Notifies, Chooses, Then, If, Or, Times, Many, EachOf}
 use Rattle.server.specs.Turn.{is_refusal, has_refusal}
 use Rattle.promises.specs.Keyed.{keyed_one, keyed}
 use Rattle.promises.proofs.Determined.{times_cons}
@@ -114,10 +114,6 @@ same_or {R} {R'} {S} {S'} refuses refuse r = record { one = one }
 pub same_if : (test : Bool) {R R' S S' : Rel} → Same R R' → Same S S' → Same (If test R S) (If test R' S')
 same_if true r s = record { one = λ l hs rest a ks more b e c d p q. r.one l hs rest a ks more b e c d p q }
 same_if false r s = record { one = λ l hs rest a ks more b e c d p q. s.one l hs rest a ks more b e c d p q }
-
-pub same_each : (n : ℕ) (R : ℕ → Rel) → ((i : ℕ) → One (R i)) → One (Each n R)
-same_each zero R each = same_nothing
-same_each (suc n) R each = same_then (same_each n R each) (each n)
 
 pub same_each_of : {A : Type 0} (xs : List A) (R : A → Rel) → ((x : A) → One (R x)) → One (EachOf xs R)
 same_each_of [] R each = same_nothing

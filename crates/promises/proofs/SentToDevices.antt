@@ -78,9 +78,6 @@ is_key k = grind (arith, nat_tests)
 pub not_key : (k key : ℕ) → k ≢ key → (k == key) ≡ false
 not_key k key apart = grind (arith, nat_tests, apart)
 
-pub no_bytes : ℕ → List ℕ
-no_bytes device = []
-
 -- the connection has the same number, more bytes may have been read on it, and it still drains if it did
 pub record ReadsOn (d e : Entry) : Type 0 where
   pub same : e.id ≡ d.id

@@ -1,9 +1,8 @@
 -- The bytes that an input gives, and the bytes that are left in it.
-use Rattle.std.proofs.Common.{◌≡◌, ℕ, Bool, List, Option, Some, None, IsNone, IfSome, IfOk, Result, Ok, Err, refl, sym, subst, inl, inr, take}
+use Rattle.std.proofs.Common.{◌≡◌, ℕ, Bool, List, Option, Some, None, IfSome, IfOk, Result, Ok, Err, refl, sym, subst, inl, inr, take}
 use Rattle.std.specs.Result.{result_ok}
 use Rattle.std.specs.Io.KnownBytes.{Appends}
 use Rattle.base_types.specs.declared.limits.TheConstants.Limits.{INPUT_BYTES}
-use Rattle.program.specs.declared.exit_status.ExitStatus.{ExitStatus}
 use Rattle.program.specs.declared.exit_status.ExitStatus.TheVariants as Ends
 use Rattle.program.specs.Input.{IsWhole}
 use Rattle.program.specs.Said.{ProgramOutput}
@@ -20,14 +19,5 @@ if_some_weaker (Some x) P Q f h = f x h
 pub input_gives : (texts : Bool) (before after : Option (List ℕ)) (trace lent : List ℕ) (said : ProgramOutput) → IsWhole INPUT_BYTES before after trace → lent ≡ trace → TraceGives texts lent said → InputGives texts before after said
 input_gives texts before after trace lent said whole same gives = inl (trace, whole, subst (λ t. TraceGives texts t said) same gives)
 
--- the due text, if the program fails
-pub due_left : (texts : Bool) (before after : Option (List ℕ)) (text : List ℕ) (due : Option ExitStatus)
-    → IfSome due (λ status. InputGives texts before after (record { text = text; status = status })) → (IsNone due → InputLeaves texts before after text) → InputLeaves texts before after text
-due_left texts before after text None given left = left refl
-due_left texts before after text (Some status) given left = inr (inr (_, given, refl))
-
 pub fails : (texts : Bool) (before after held holds : Option (List ℕ)) (text lent : List ℕ) (n : ℕ) → InputLeaves texts before after text → lent ≡ text → Appends held holds (take n lent) → Replays texts before after held holds Ends.Failed
 fails texts before after held holds text lent n left same written = inr (refl, text, n, left, subst (λ t. Appends held holds (take n t)) same written)
-
-pub succeeds : (texts : Bool) (before after held holds : Option (List ℕ)) (text : List ℕ) (status : ExitStatus) → InputGives texts before after (record { text = text; status = status }) → Appends held holds text → Replays texts before after held holds status
-succeeds texts before after held holds text status given written = inl (_, given, written, refl)

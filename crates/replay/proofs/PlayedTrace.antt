@@ -124,9 +124,6 @@ pub record AreBusy (old new : Play) (count : ℕ) : Type 0 where
   pub number : length turns ≡ count
   pub takes : TakesTurns old turns new
 
-pub none_busy : (old : Play) → AreBusy old old 0
-none_busy old = record { turns = []; each = All-nil (λ turn. any_stirs turn ≡ true); number = refl; takes = no_turns old }
-
 pub one_busy : (old mid new : Play) (count after : ℕ) (stirred : Bool) → AreBusy old mid count → TakesTurn mid new stirred → stirred ≡ true → after ≡ count + 1 → AreBusy old new after
 one_busy old mid new count after stirred busy t is next = record {
   turns = busy.turns ++ t.turn ∷ [];
