@@ -36,9 +36,6 @@ lives_by old event new allows life stands = record {
 lives_still : (at : AdapterStateRecord) → Lives at [] at
 lives_still at life stands = subst (λ l. IsAfter l at) (sym (append-nil life)) stands
 
-lives_then : (old mid new : AdapterStateRecord) (first : Event) (later : List Event) → Lives old (first ∷ []) mid → Lives mid later new → Lives old (first ∷ later) new
-lives_then old mid new first later x y life stands = subst (λ l. IsAfter l new) (append_assoc life (first ∷ []) later) (y (life ++ first ∷ []) (x life stands))
-
 -- ---- the server
 
 links_by : (work : Option WorkRecord) (printer : PrinterState) (reported : Option PrinterState) → Allows (record { work = work; printer = printer; reported = reported }) Links (record { work = None; printer = printer; reported = None })
@@ -88,26 +85,12 @@ canceled_by (Some work) printer reported job = record { answers = marked_id job 
 pub lives_canceled : (old : AdapterStateRecord) (job : ℕ) → Lives old (Canceled job ∷ []) (changed (with_cancel job) old)
 lives_canceled old job = lives_by old (Canceled job) _ (canceled_by old.work old.printer old.reported job)
 
-id_canceled : (work : Option WorkRecord) (job : ℕ) → option_map id_of (option_map (with_cancel job) work) ≡ option_map id_of work
-id_canceled None job = refl
-id_canceled (Some work) job = marked_id job work (work.job == job)
-
-pub id_stays : (old : AdapterStateRecord) (job : ℕ) → option_map id_of (changed (with_cancel job) old).work ≡ option_map id_of old.work
-id_stays old job = id_canceled old.work job
-
 restarts_by : (work : Option WorkRecord) (printer : PrinterState) (reported : Option PrinterState) → Allows (record { work = work; printer = printer; reported = reported }) Restarts (record { work = option_map with_restart work; printer = printer; reported = reported })
 restarts_by None printer reported = record { answers = refl; sends = refl; obeys = refl; reports = refl }
 restarts_by (Some work) printer reported = record { answers = refl; sends = refl; obeys = refl; reports = refl }
 
 pub lives_restarted : (old : AdapterStateRecord) → Lives old (Restarts ∷ []) (changed with_restart old)
 lives_restarted old = lives_by old Restarts _ (restarts_by old.work old.printer old.reported)
-
-id_restarted : (work : Option WorkRecord) → option_map id_of (option_map with_restart work) ≡ option_map id_of work
-id_restarted None = refl
-id_restarted (Some work) = refl
-
-pub id_stays_restarted : (old : AdapterStateRecord) → option_map id_of (changed with_restart old).work ≡ option_map id_of old.work
-id_stays_restarted old = id_restarted old.work
 
 -- ---- the printer
 

@@ -2,7 +2,7 @@
 use Rattle.std.specs.Prelude.{ℕ, suc, ◌≡◌, ◌==◌, ◌+◌, ◌-◌, ◌<◌, ◌≤◌, nat_lt, Bool, true, false, List, [], ◌∷◌, ◌++◌, map, length, take, drop, slice_index_or, Option, Some, None, IsSome, Result, Ok, Err, OnOk}
 use Rattle.std.proofs.Common.{rules, arith, refl, subst, sym, ap, ◌∙◌, zero-add, lit<}
 use Rattle.std.proofs.lemmas.Bool.{lt-ltb}
-use Rattle.std.proofs.lemmas.List.{append_assoc, append-nil, length-append, take-append-drop, length-take-le, length-drop}
+use Rattle.std.proofs.lemmas.List.{append_assoc, append-nil, length-append, take-append-drop, length-take-le}
 use Rattle.std.proofs.lemmas.List.Elements.{All-head, All-tail}
 use Rattle.std.proofs.lemmas.List.Quantifiers.{position-Some}
 use Rattle.std.specs.declared.alloc.AllocError.{AllocError}
@@ -142,9 +142,6 @@ answers_octets old size faultless there few =
     advance old (map HasOctet part) (record { part = part; rest = left; octets = old.octets - size; fault = old.fault })
     (subst (λ (f : Option OrderFault). parsed_from (place_by f old.octets) old.rest ≡ with_front (map HasOctet part) (parsed_from (place_by f (old.octets - size)) left)) (sym faultless) here)
 
-pub octets_fall : (bytes : List ℕ) (size : ℕ) → 0 < size → size ≤ length bytes → length (drop size bytes) < length bytes
-octets_fall bytes size some there = omega (arith, some, there, length-drop size bytes)
-
 -- between a job's octets and the next line
 at_line : (old : OrderReaderState) → old.fault ≡ None → old.octets ≡ 0 → place_of old ≡ InLine []
 at_line old faultless outside = subst (λ (f : Option OrderFault). place_by f old.octets ≡ InLine []) (sym faultless) (ap (λ n. octets_left n) outside)
@@ -170,12 +167,6 @@ answers_order old count order faultless outside line parses =
     let here : parsed_from (place_of old) old.rest ≡ with_front (Orders order ∷ []) (parsed_from (octets_left (octets_after order)) (drop (count + 1) old.rest)) = subst (λ (o : Option Order). parsed_from (place_of old) old.rest ≡ with_front (line_parsed o).said (parsed_from (line_parsed o).place (drop (count + 1) old.rest))) parses parsed in
     advance old (Orders order ∷ []) (record { part = []; rest = drop (count + 1) old.rest; octets = octets_after order; fault = old.fault })
     (subst (λ (f : Option OrderFault). parsed_from (place_of old) old.rest ≡ with_front (Orders order ∷ []) (parsed_from (place_by f (octets_after order)) (drop (count + 1) old.rest))) (sym faultless) here)
-
-pub order_falls : (bytes : List ℕ) (count : ℕ) → first_line_of DEVICE_LINE_BYTES bytes ≡ front.Whole count → length (drop (count + 1) bytes) < length bytes
-order_falls bytes count line =
-    let at = whole_line DEVICE_LINE_BYTES bytes count line in
-    let within : count < length bytes = search (rules, position-Some (λ byte. byte == 10) bytes count 0 at.0) in
-    omega (arith, within, length-drop (count + 1) bytes)
 
 fault_stands : (old : OrderReaderState) (fault : OrderFault) → parsed_from (place_of old) old.rest ≡ silent (AtFault fault) → Answers old (Err (Fault fault)) (record old { fault = Some fault })
 fault_stands old fault is = (
@@ -214,10 +205,3 @@ answers_nothing old faultless outside begun =
     let parts = unfinished_line DEVICE_LINE_BYTES old.rest begun in
     let here = line_begun [] old.rest (found_nowhere 10 old.rest parts.0) (omega (arith, parts.1)) in
     waits old (ap (λ (h : ParsedOrders). h.said) (ap (λ (p : OrderPlace). parsed_from p old.rest) (at_line old faultless outside) ∙ here))
-
--- the answer while no octet has come
-pub answers_no_octet : (old : OrderReaderState) → length old.rest ≡ 0 → Answers old (Ok None) old
-answers_no_octet old none =
-    let by : (rest : List ℕ) → length rest ≡ 0 → (parsed_from (place_of old) rest).said ≡ [] = λ rest.
-    elim rest as (λ r. length r ≡ 0 → (parsed_from (place_of old) r).said ≡ []) [ [] ↦ λ is. refl | byte ∷ bytes ↦ λ is. absurd (omega (arith, is)) ] in
-    waits old (by old.rest none)

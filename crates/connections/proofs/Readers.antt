@@ -33,7 +33,7 @@ use Rattle.connections.specs.Session.{is_queue}
 use Rattle.connections.specs.Entry.{PeerRecord, Entry, with_progress}
 use Rattle.connections.specs.Entry as entry
 use Rattle.connections.specs.Steps.{StepsDevice, StepsHello, silent, step_of}
-use Rattle.connections.specs.Peers.{with_http, with_lpd, with_link, HandlesIpp, HandlesLpdIfAny, HandlesReportIfAny, IsNewIpp, IsFedIpp, TakesIfItem, NextIpp, NextLpd, NextDevice, NextPeer, IsFedPeer, link_step, Greets, ComesOf}
+use Rattle.connections.specs.Peers.{with_http, with_lpd, with_link, HandlesIpp, HandlesLpdIfAny, HandlesReportIfAny, IsFedIpp, TakesIfItem, NextIpp, NextLpd, NextDevice, NextPeer, IsFedPeer, link_step, Greets, ComesOf}
 use Rattle.connections.specs.Asking.{IppItemComes as NextItem, LpdItemComes, FindsFault, ReportComes, FindsLinkFault, ItemComes, IsActedOnAs}
 use Rattle.connections.specs.Representation.{FitsIpp, FitsLpd, FitsDevice, FitsPeer}
 
@@ -390,7 +390,3 @@ fed_peer read piece progress off (of.Lpd t) (of.Ipp u) f it = absurd it
 fed_peer read piece progress off (of.Lpd t) (of.Device u) f it = absurd it
 fed_peer read piece progress off (of.Device t) (of.Ipp u) f it = absurd it
 fed_peer read piece progress off (of.Device t) (of.Lpd u) f it = absurd it
-
--- a client of which nothing was read
-pub new_ipp : (t : IppClientState) → IsNewIpp t → FitsIpp [] (entry.Http [] false []) t
-new_ipp t (stands, closes, body_read, unreported) = fits_ipp [] [] false [] t.reader t stands refl closes body_read

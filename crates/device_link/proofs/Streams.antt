@@ -1,7 +1,7 @@
 -- Where a reader stands after a piece, a line, or a fault.
 use Rattle.std.specs.Prelude.{ℕ, ◌≡◌, ◌==◌, ◌+◌, ◌<◌, ◌≤◌, Bool, true, false, List, [], ◌∷◌, ◌++◌, length, take, drop, Option, Some, None, IsSome, Result, Ok, Err, OnOk}
 use Rattle.std.proofs.Common.{rules, arith, refl, subst, sym, ap, ◌∙◌}
-use Rattle.std.proofs.lemmas.List.{append-nil, drop-append-le, take-append-le, length-append, length-drop}
+use Rattle.std.proofs.lemmas.List.{append-nil, drop-append-le, take-append-le, length-append}
 use Rattle.std.proofs.Math.Seq.{take-append_seam}
 use Rattle.std.proofs.lemmas.List.Quantifiers.{position-Some}
 use Rattle.std.specs.declared.alloc.AllocError.{AllocError}
@@ -83,9 +83,6 @@ parsed_leads greeted bytes coming (report ∷ reports) next left x =
 
 -- ---- a fault stays
 
-faulty_same : (fault other : LinkFault) → silence (Faulty other) ≡ silence (Faulty fault) → other ≡ fault
-faulty_same fault other is = let endings : Faulty other ≡ Faulty fault = ap (λ (h : ParsedLines). h.ending) is in (cc)
-
 no_report : (report : ReportRecord) (later : ParsedLines) (fault : LinkFault) → with_front (report ∷ []) later ≡ silence (Faulty fault) → ⊥
 no_report report later fault is = let none : report ∷ later.reports ≡ [] = ap (λ (h : ParsedLines). h.reports) is in (cc)
 
@@ -158,12 +155,6 @@ answers_report old count report faultless line parses stream given stands =
     let at : ParsesAtFront old.greeted old.rest (report_of report) (drop (count + 1) old.rest) = record { count = count; line = line; parses = parses; rest_is = refl } in
     let on : Leads old.greeted old.rest (report_of report ∷ []) true (drop (count + 1) old.rest) = (drop (count + 1) old.rest, at, (refl, refl)) in
     record { left = drop (count + 1) old.rest; leads = leads_then false stream given old.greeted old.rest (report_of report ∷ []) true (drop (count + 1) old.rest) here on; kept = refl }
-
-pub report_falls : (bytes : List ℕ) (count : ℕ) → first_line_of DEVICE_LINE_BYTES bytes ≡ Front.Whole count → length (drop (count + 1) bytes) < length bytes
-report_falls bytes count line =
-    let at = whole_line DEVICE_LINE_BYTES bytes count line in
-    let within : count < length bytes = search (rules, position-Some (λ byte. byte == 10) bytes count 0 at.0) in
-    omega (arith, within, length-drop (count + 1) bytes)
 
 -- the answer for a fault at the beginning of the bytes that are left
 fault_stands : (old : LinkState) (fault : LinkFault) → ((left : List ℕ) → IsLeft old.fault old.greeted old.rest left → parsed_in old.greeted (texts_of left) ≡ silence (Faulty fault)) → Answers old (Err (Fault fault)) (record old { fault = Some fault })

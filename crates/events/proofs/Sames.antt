@@ -67,14 +67,3 @@ same_self (Is.ListQueue request) = record { queue = refl; form = refl; operands 
 same_self (Is.RemoveJobs request) = record { queue = refl; agent = refl; operands = refl }
 same_self (Is.Report device report) = (refl, refl)
 same_self event = refl
-
-pub same_back : (one other : Event) → SameEvent one other → SameEvent other one
-same_back one other same =
-    by_same (λ one other. SameEvent other one)
-    (record {
-      equal = same_self;
-      files = λ one other same. record { queue = sym same.queue; owner = sym same.owner; name = sym same.name; documents = sym same.documents };
-      lists = λ one other same. record { queue = sym same.queue; form = sym same.form; operands = sym same.operands };
-      removes = λ one other same. record { queue = sym same.queue; agent = sym same.agent; operands = sym same.operands };
-      reports = λ device one other same. (refl, sym same);
-    }) one other same

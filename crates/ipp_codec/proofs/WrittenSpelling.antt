@@ -1,20 +1,9 @@
 -- The written bytes are the spelling; the meaning of an owned collection.
-use Rattle.std.proofs.Common.{◌≡◌, ℕ, List, [], ◌∷◌, ◌++◌, refl, sym, ap, ◌∙◌, append_assoc, Vec, Global}
-use Rattle.ipp_codec.specs.declared.value.Member.{Member}
-use Rattle.ipp_codec.specs.declared.value.Value.TheViews.{Collection}
+use Rattle.std.proofs.Common.{◌≡◌, ℕ, List, [], ◌∷◌, ◌++◌, refl, sym, ap, ◌∙◌, append_assoc}
 use Rattle.ipp_codec.specs.declared.value.Value.TheOpen as layer
-use Rattle.ipp_codec.specs.declared.value.Value.TheVariants.{rolls-Collection}
-use Rattle.ipp_codec.specs.declared.value.Value.TheFolds.{fold-roll-Value}
-use Rattle.ipp_codec.specs.Message.{IppValue, plain, collection, IppValues, no_value, value_and, IppMembers, no_member, member_and, IppMember, IppAttribute, IppGroup, values_of, members_of}
+use Rattle.ipp_codec.specs.Message.{IppValue, plain, collection, IppValues, no_value, value_and, IppMembers, no_member, member_and, IppAttribute, IppGroup, values_of}
 use Rattle.ipp_codec.specs.Spelling.{Element, finish, value_bytes, bytes_of, value_then, values_then, members_then, attributes_then, elements}
-use Rattle.ipp_codec.specs.Owned.{value_owned, members_owned, value_step, member_step}
 use Rattle.ipp_codec.specs.Written.{value_written, values_written, members_written, attributes_written, groups_written}
-
-pub collection_owned : (v : Vec Member Global) → value_owned (Collection v) ≡ collection (members_of (members_owned v.items))
-collection_owned v =
-    let r = rolls-Collection v in
-    let f = fold-roll-Value IppValue IppMember value_step member_step (layer.Collection v) in
-    ap value_owned (sym r) ∙ f
 
 mutual
   value_is : (name : List ℕ) (v : IppValue) (es : List Element) → bytes_of (value_then name v es) ≡ value_written name v ++ bytes_of es

@@ -1,5 +1,5 @@
 -- The first attribute of each name, kept one after the other, with their names in a set.
-use Rattle.std.proofs.Common.{◌≡◌, ◌∙◌, ℕ, Bool, true, false, cond, not, ◌||◌, List, [], ◌∷◌, ◌++◌, filter, refl, sym, ap, subst, append_assoc, append-nil, Bor, Ordering}
+use Rattle.std.proofs.Common.{◌≡◌, ◌∙◌, ℕ, Bool, true, false, cond, not, ◌||◌, List, [], ◌∷◌, ◌++◌, filter, refl, sym, ap, subst, append_assoc, Bor, Ordering}
 use Rattle.std.specs.List.{list_any}
 use Rattle.std.specs.Str.{bytes_eq}
 use Rattle.std.specs.Ordering.{nat_cmp, is_eq}
@@ -114,10 +114,6 @@ kept_then kept a rest apart =
     ap (λ (b : Bool). kept ++ cond (not b) (a ∷ filter (is_new kept) (filter (differs a) (first_of_each rest))) (filter (is_new kept) (filter (differs a) (first_of_each rest)))) apart
     ∙ (ap (λ (xs : List IppAttribute). kept ++ a ∷ xs) (with_another kept a (first_of_each rest))
     ∙ sym (append_assoc kept (a ∷ []) (filter (is_new (kept ++ a ∷ [])) (first_of_each rest))))
-
--- at the end
-pub kept_last : (kept : List IppAttribute) → kept_with kept [] ≡ kept
-kept_last kept = append-nil kept
 
 -- ---- their names in a set
 

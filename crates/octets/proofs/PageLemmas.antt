@@ -1,7 +1,7 @@
 -- Octets in pages: the octets put after them, and the place of an octet.
-use Rattle.std.proofs.Common.{◌≡◌, ℕ, zero, suc, ◌+◌, ◌*◌, ◌/◌, ◌%◌, ◌<◌, ◌≤◌, List, [], ◌∷◌, ◌++◌, length, take, drop, get_or, refl, sym, ap, subst, ◌∙◌, append_assoc, arith}
+use Rattle.std.proofs.Common.{◌≡◌, ℕ, zero, suc, ◌+◌, ◌*◌, ◌/◌, ◌%◌, ◌<◌, ◌≤◌, List, [], ◌∷◌, ◌++◌, length, drop, get_or, refl, sym, ap, subst, ◌∙◌, append_assoc, arith}
 use Rattle.std.specs.List.{AllByRecursion}
-use Rattle.std.proofs.lemmas.List.{append-nil, length-append, length-drop, drop-append-le, drop_at, drop-drop, take_more}
+use Rattle.std.proofs.lemmas.List.{append-nil, length-append, length-drop, drop-append-le, drop_at, drop-drop}
 use Rattle.octets.specs.declared.page.TheConstants.{PAGE_BYTES}
 use Rattle.octets.specs.Document.{IsFrontOf}
 use Rattle.octets.specs.Pages.{joined, IsFull}
@@ -79,10 +79,3 @@ in_last pages end start full room within high =
         some = λ h. omega (arith, h, ap length passed);
       },
     )
-
--- one page more of a copy
-pub copied_more : (pages : List (List ℕ)) (i : ℕ) (page now new : List ℕ) → i < length pages → page ≡ get_or pages i page → now ≡ joined (take i pages) → new ≡ now ++ page → new ≡ joined (take (i + 1) pages)
-copied_more pages i page now new low is so_far more =
-    more ∙ ap (λ (l : List ℕ). l ++ page) so_far
-    ∙ ap (λ (l : List ℕ). joined (take i pages) ++ l) (is ∙ sym (append-nil (get_or pages i page)))
-    ∙ sym (ap joined (take_more pages i page low) ∙ joined-append (take i pages) (get_or pages i page ∷ []))

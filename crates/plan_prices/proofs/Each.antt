@@ -13,13 +13,6 @@ each_more P xs i x l is here before k d h = elim (last_or_before k i h) [
   | inr e ↦ subst (λ j. P (get_or xs j d)) (sym e) (subst P (is ∙ get_or_default xs i x d l) here)
 ]
 
--- at one default
-pub each_more_at : {X : Type 0} (P : ℕ → X → Type 0) (xs : List X) (d : X) (i : ℕ) (x : X) → i < length xs → x ≡ get_or xs i x → P i x → ((k : ℕ) → k < i → P k (get_or xs k d)) → (k : ℕ) → k < i + 1 → P k (get_or xs k d)
-each_more_at P xs d i x l is here before k h = elim (last_or_before k i h) [
-  | inl lt ↦ before k lt
-  | inr e ↦ subst (λ j. P j (get_or xs j d)) (sym e) (subst (P i) (is ∙ get_or_default xs i x d l) here)
-]
-
 -- past the end is the default
 pub each_all_at : {X : Type 0} (P : ℕ → X → Type 0) (xs : List X) (d : X) (i : ℕ) → length xs ≤ i → ((k : ℕ) → P k d) → ((k : ℕ) → k < i → P k (get_or xs k d)) → (k : ℕ) → P k (get_or xs k d)
 each_all_at P xs d i end none before k = elim (cases_lt k i) [

@@ -14,4 +14,3 @@ pub mod Starts
 pub mod ExchangedJobs
 pub mod EqualJobsInOrder
 pub mod Written
-pub mod Latest

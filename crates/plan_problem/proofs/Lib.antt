@@ -1,6 +1,5 @@
 pub mod Places
 pub mod Rows
-pub mod Pairs
 pub mod Filters
 pub mod Stages
 pub mod Causes

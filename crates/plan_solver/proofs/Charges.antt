@@ -1,5 +1,5 @@
 -- The cost of a place for a job.
-use Rattle.std.proofs.Common.{◌≡◌, ℕ, ◌+◌, ◌*◌, ◌≤◌, suc, mul_comm, List, Option, Some, None, min, get_or, arith}
+use Rattle.std.proofs.Common.{◌≡◌, ℕ, ◌+◌, ◌*◌, ◌≤◌, suc, List, Option, Some, None, min, get_or, arith}
 use Rattle.std.proofs.Math.Nat.{suc-mul}
 use Rattle.plan_solver.specs.declared.costs.Costs.{Costs}
 use Rattle.plan_solver.specs.declared.costs.Place.{Place}
@@ -18,9 +18,6 @@ cost_at-low waits row place = omega arith
 -- no place costs more than a place that the job can't have
 pub cost_of-low : (costs : Costs) (job : ℕ) (place : Place) → cost_of costs job place ≤ UNABLE
 cost_of-low costs job place = cost_at-low _ _ place
-
-pub suc-times : (after time : ℕ) → suc after * time ≡ time + time * after
-suc-times after time = omega (arith, suc-mul after time, mul_comm after time)
 
 -- without a time, or without a wait
 pub unable : (wait after : ℕ) → min (wait + suc after * UNABLE) UNABLE ≡ UNABLE

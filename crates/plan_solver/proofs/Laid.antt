@@ -100,9 +100,6 @@ room_later costs f k jobs prices free free' slacks slacks' room lt len ef ek now
   ];
 }
 
-pub room_none : (costs : Costs) (jobs prices : List ℕ) (free : List Place) (slacks : List ℕ) → jobs ≡ [] → HasRoom (cost_of costs) jobs prices free slacks
-room_none costs jobs prices free slacks e = record { at = λ q d lq ld. absurd (omega (arith, lq, ap length e)) }
-
 pub laid_none : (devices : ℕ) (columns : List Place) → columns ≡ [] → IsLaid devices columns
 laid_none devices columns e = record {
   known = λ c below. absurd (omega (arith, below, ap length e));

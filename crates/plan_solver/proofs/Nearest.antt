@@ -1,5 +1,5 @@
 -- The columns that were looked at so far.
-use Rattle.std.proofs.Common.{◌≡◌, ℕ, ◌<◌, ◌≤◌, ◌+◌, List, Option, Some, None, get_or, arith}
+use Rattle.std.proofs.Common.{◌≡◌, ℕ, ◌<◌, ◌≤◌, List, Option, Some, None, get_or, arith}
 use Rattle.plan_solver.specs.declared.search.TheConstants.{UNSETTLED}
 use Rattle.plan_solver.specs.Search.{IsNearestOf, IsRelaxed}
 
@@ -7,10 +7,6 @@ use Rattle.plan_solver.specs.Search.{IsNearestOf, IsRelaxed}
 abbrev pub IsFound : List ℕ → List ℕ → (n reach least : ℕ) → Option ℕ → Type 0
 IsFound lengths ranks n reach least None = least ≡ reach
 IsFound lengths ranks n reach least (Some c) = (c < n) × (get_or ranks c 0 ≡ UNSETTLED) × (get_or lengths c 0 ≡ least) × (least < reach)
-
-pub found_more : (lengths ranks : List ℕ) (n reach least : ℕ) (r : Option ℕ) → IsFound lengths ranks n reach least r → IsFound lengths ranks (n + 1) reach least r
-found_more lengths ranks n reach least None h = h
-found_more lengths ranks n reach least (Some c) h = (omega (arith, h.0), h.1, h.2, h.3)
 
 pub found_low : (lengths ranks : List ℕ) (n reach least : ℕ) (r : Option ℕ) → IsFound lengths ranks n reach least r → least ≤ reach
 found_low lengths ranks n reach least None h = omega (arith, h)

@@ -3,14 +3,12 @@ use Rattle.std.proofs.Common.{◌≡◌, ℕ, zero, suc, ◌<◌, ◌≤◌, Lis
 use Rattle.std.proofs.lemmas.List.Elements.{All-cons, All-head, All-tail, All-weaker}
 use Rattle.base_types.specs.declared.device.Activity.{Activity}
 use Rattle.base_types.specs.declared.device.Activity.TheVariants.{Running, Stopped}
-use Rattle.base_types.specs.declared.report.Report.{Report}
 use Rattle.base_types.specs.declared.report.Report.TheVariants as reported
 use Rattle.base_types.specs.Device.{Device}
 use Rattle.settings_file.specs.Settings.{DeviceEntry}
 use Rattle.print_room.specs.Opening.{opening_device}
 use Rattle.print_room.specs.Activity.{KeepsTime}
-use Rattle.print_room.specs.State.{with_device, doing}
-use Rattle.print_room.specs.Report.{refitted}
+use Rattle.print_room.specs.State.{with_device}
 
 pub set_one : (change : Device → Device) (devices : List Device) (place : ℕ) (d : Device) → place < length devices → set devices place (change (get_or devices place d)) ≡ with_device place change devices
 set_one change [] place d inside = absurd (omega arith)
@@ -41,18 +39,6 @@ keeps_later last now (Stopped None) later keeps = tt
 -- each device's job takes no longer at a later moment
 pub all_keep_later : (last now : ℕ) (devices : List Device) → last ≤ now → All (λ d. KeepsTime last d.activity) devices → All (λ d. KeepsTime now d.activity) devices
 all_keep_later last now devices later all = All-weaker (λ (d : Device). KeepsTime last d.activity) (λ (d : Device). KeepsTime now d.activity) (λ d keeps. keeps_later last now d.activity later keeps) devices all
-
--- a report other than of media, of a time or of the device's end is about the device's activity
-pub other_report : (now place : ℕ) (report : Report) (activity : Activity) (devices : List Device) → ((names : _) → report ≡ reported.Media names → ⊥) → ((time : _) → report ≡ reported.Busy time → ⊥) → (report ≡ reported.Gone → ⊥) → with_device place (refitted now report activity) devices ≡ with_device place (doing activity) devices
-other_report now place (reported.Hello name) activity devices media busy gone = refl
-other_report now place (reported.Media names) activity devices media busy gone = absurd (media names refl)
-other_report now place reported.Ready activity devices media busy gone = refl
-other_report now place reported.Stop activity devices media busy gone = refl
-other_report now place (reported.Busy time) activity devices media busy gone = absurd (busy time refl)
-other_report now place (reported.Pages number printed) activity devices media busy gone = refl
-other_report now place (reported.Done number) activity devices media busy gone = refl
-other_report now place (reported.Fail number) activity devices media busy gone = refl
-other_report now place reported.Gone activity devices media busy gone = absurd (gone refl)
 
 -- a device that is changed twice
 pub twice_changed : (place : ℕ) (first next : Device → Device) (devices : List Device) → with_device place next (with_device place first devices) ≡ with_device place (λ d. next (first d)) devices

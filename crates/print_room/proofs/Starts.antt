@@ -1,5 +1,5 @@
 -- The starts of jobs, device by device.
-use Rattle.std.proofs.Common.{◌≡◌, ℕ, suc, ◌+◌, ◌<◌, Bool, true, false, if◌then◌else◌, List, [], ◌∷◌, ◌++◌, length, drop, get_or, Option, Some, None, is_some, option_to_list, refl, sym, ◌∙◌, ap, add-one, arith, append_assoc, All, IfSome}
+use Rattle.std.proofs.Common.{◌≡◌, ℕ, suc, ◌+◌, ◌<◌, Bool, true, false, if◌then◌else◌, List, [], ◌∷◌, ◌++◌, length, drop, get_or, Option, Some, None, option_to_list, refl, sym, ◌∙◌, ap, add-one, arith, append_assoc, All, IfSome}
 use Rattle.std.proofs.Math.Seq.{drop-cons}
 use Rattle.std.proofs.lemmas.List.Elements.{All-nil, All-cons, All-append, All-weaker}
 use Rattle.base_types.specs.Device.{Device}
@@ -17,34 +17,7 @@ split_at xs i x inside is = rw (add-one, drop-cons xs i x, ← is) refl
 
 -- ---- the first job of a device's list
 
-or_some : (first next : Option Started) → is_some first ≡ true → or_next first next ≡ first
-or_some None next h = absurd (cc)
-or_some (Some first) next h = refl
-
-or_none : (first next : Option Started) → is_some first ≡ false → or_next first next ≡ next
-or_none None next h = refl
-or_none (Some first) next h = absurd (cc)
-
--- a class that has a job for the device
-pub first_found : (classes : List PlannedClass) (i place : ℕ) (class : PlannedClass) (first : Option Started) → i < length classes → class ≡ get_or classes i class → first ≡ first_of_queue class place (queue_of class.priced.way place) → is_some first ≡ true → first_of (drop i classes) place ≡ first
-first_found classes i place class first inside is found some =
-    rw (split_at classes i class inside is, ← found) (or_some first (first_of (drop (i + 1) classes) place) some)
-
--- a class that has no job for the device
-pub first_later : (classes : List PlannedClass) (i place : ℕ) (class : PlannedClass) (first : Option Started) → i < length classes → class ≡ get_or classes i class → first ≡ first_of_queue class place (queue_of class.priced.way place) → is_some first ≡ false → first_of (drop i classes) place ≡ first_of (drop (i + 1) classes) place
-first_later classes i place class first inside is found none =
-    rw (split_at classes i class inside is, ← found) (or_none first (first_of (drop (i + 1) classes) place) none)
-
 -- ---- the starts
-
--- one device more
-pub starts_next : (now : ℕ) (classes : List PlannedClass) (devices : List Device) (place : ℕ) (device : Device) (starts all : List Started) (start : Option Started) → place < length devices → device ≡ get_or devices place device → start ≡ (if is_free now device then first_of classes place else None)
-    → starts ++ starts_from now classes place (drop place devices) ≡ all → (starts ++ option_to_list start) ++ starts_from now classes (place + 1) (drop (place + 1) devices) ≡ all
-starts_next now classes devices place device starts all start inside is begins so_far =
-    let split : starts_from now classes place (drop place devices) ≡ option_to_list start ++ starts_from now classes (suc place) (drop (place + 1) devices) = rw (split_at devices place device inside is, ← begins) refl in
-    append_assoc starts (option_to_list start) (starts_from now classes (place + 1) (drop (place + 1) devices))
-    ∙ (ap (λ (p : ℕ). starts ++ (option_to_list start ++ starts_from now classes p (drop (place + 1) devices))) (add-one place)
-    ∙ (ap (λ (ss : List Started). starts ++ ss) (sym split) ∙ so_far))
 
 -- ---- beginning
 

@@ -7,7 +7,7 @@ use Rattle.http_front.specs.declared.item.HttpItem.{HttpItem}
 use Rattle.http_front.specs.declared.item.HttpItem.TheVariants as item
 use Rattle.http_front.specs.Stream.{HttpElement, HasHead, Invites, HasByte, EndsBody, IsRefused, elements_of, Exchanges, ParsesFirst, SomeParse, FirstStays}
 use Rattle.lpd.specs.Stream.{Open, Faulty, NoneFollows as NoItemFollows, OneParse as OneLpdParse}
-use Rattle.device_link.specs.Stream.{device_reports, ParsedLines, NoneFollows as NoReportFollows}
+use Rattle.device_link.specs.Stream.{ParsedLines, NoneFollows as NoReportFollows}
 use Rattle.device_link.specs.Stream as Link
 use Rattle.connections.specs.declared.ask.Ask.{Ask}
 use Rattle.connections.specs.declared.ask.Ask.TheVariants as ask
@@ -232,9 +232,6 @@ module _ (some : SomeParse) (stays : FirstStays) (no_item : NoItemFollows) (one_
       inl
       (part_step said closes body e comes mid what new it.part (subst (λ (x : HttpItem). ParsesFirst e.read (said ++ elements_of x it.part)) is it.next) (subst (λ (x : HttpItem). StepsIpp x closes body comes) is it.comes)
       (it.after ∙ ap (λ (x : HttpItem). with_progress (Http (said ++ elements_of x it.part) (closes_after x closes) (body_after x comes it.part body)) e) is) steps none)
-
-  no_http : {A : Type 0} (progress : PeerRecord) (said : List HttpElement) (closes : Bool) (body : List ℕ) → progress ≡ Http said closes body → (progress ≡ Http said closes body → ⊥) → A
-  no_http progress said closes body is never = absurd (never is)
 
   breaks : {A : Type 0} (comes : Step) (mid : Entry) (what : Ask) (new : Entry) → comes ≡ no_memory → StepsTo comes mid what new → lost_of what ≡ None → A
   breaks comes mid what new is steps none = let broke : (what ≡ ask.Broke growth.Input) × (new ≡ broken mid) = subst (λ (s : Step). StepsTo s mid what new) is steps in lost_some what (ask.Broke growth.Input) _ broke.0 refl none

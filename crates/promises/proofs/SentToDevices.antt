@@ -267,21 +267,6 @@ pub breaks_same : (sent other : ℕ → List ℕ) (device : ℕ) (x y : Option E
 breaks_same sent other device x y same (inl was) = inl was
 breaks_same sent other device x y same (inr (counts, rest, is)) = inr (counts, rest, is ∙ ap (λ (bytes : List ℕ). due_at x ++ bytes) (sym same))
 
-pub sent_as : (sent other : ℕ → List ℕ) (l : Ledger) (hs : List Happening) (l' : Ledger) → ((device : ℕ) → other device ≡ sent device) → Sent sent l hs l' → Sent other l hs l'
-sent_as sent other l hs l' same p = record {
-  core = p.core;
-  closed = p.closed;
-  notes = p.notes;
-  each = λ key. record {
-    counts = λ device is. let it = (p.each key).counts device is in (it.0, it.1 ∙ ap (λ (bytes : List ℕ). due_at (l.entries key) ++ bytes) (sym (same device)));
-    breaks = λ device is. breaks_same sent other device (l.entries key) (l'.entries key) (same device) ((p.each key).breaks device is);
-    device = (p.each key).device;
-    fresh = (p.each key).fresh;
-    client = (p.each key).client;
-    stays = (p.each key).stays;
-  };
-}
-
 pub calm_still : (l : Ledger) (hs : List Happening) (l' : Ledger) → run_notes hs ≡ [] → l' ≡ l → Calm l hs l'
 calm_still l hs l' silent same = record {
   core = ap (λ (x : Ledger). x.core) same;

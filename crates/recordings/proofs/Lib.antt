@@ -1,2 +1,1 @@
 pub mod PlainPrefix
-pub mod Fronts

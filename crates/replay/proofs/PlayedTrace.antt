@@ -74,16 +74,6 @@ took_turn old new stirred wire begins turned is still same =
       connections = same;
     }
 
-pub no_turns : (old : Play) → TakesTurns old [] old
-no_turns old = record {
-  sees = λ fine. (fine, refl);
-  observes = λ text is. (text, is, sym (append-nil text));
-  log = refl;
-  moves = moves_nothing old.engine;
-  moment = refl;
-  connections = refl;
-}
-
 -- the happenings of some turns and of one more
 all_more : (turns : List (List Happening)) (turn : List Happening) → all_turns (turns ++ turn ∷ []) ≡ all_turns turns ++ turn
 all_more [] turn = append-nil turn

@@ -243,9 +243,6 @@ module _ (moment : ℕ) (P : Rel) (k : Holds moment P) where
   sets_in : (key : ℕ) (e : Entry) → Within P (Sets key e)
   sets_in key e = calmly_in (calm_sets key e)
 
-  enqueues_in : (key : ℕ) (bytes : List ℕ) → Within P (Enqueues key bytes)
-  enqueues_in key bytes = calmly_in (calm_enqueues key bytes)
-
   -- ---- events
 
   -- P holds for an event and its reply, if the observer is notified of an event that was dropped

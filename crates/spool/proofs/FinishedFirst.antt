@@ -36,11 +36,6 @@ first_map_at place f keeps (suc count) [] first = first
 first_map_at zero f keeps (suc count) (s ∷ jobs) first = (keeps s first.0, first.1)
 first_map_at (suc place) f keeps (suc count) (s ∷ jobs) first = (first.0, first_map_at place f keeps count jobs first.1)
 
-first_fewer : (count : ℕ) (jobs : List SpooledRecord) → AllFinished (suc count) jobs → AllFinished count jobs
-first_fewer zero jobs first = tt
-first_fewer (suc count) [] first = first
-first_fewer (suc count) (s ∷ jobs) first = (first.0, first_fewer count jobs first.1)
-
 -- a job after them goes
 first_behind : (place count : ℕ) (jobs : List SpooledRecord) → count ≤ place → AllFinished count jobs → AllFinished count (remove jobs place)
 first_behind place zero jobs behind first = tt
