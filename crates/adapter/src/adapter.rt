@@ -13,8 +13,8 @@ use base_types::{JobId, Report, Text};
 use std::alloc::{AllocError, Global};
 use std::rt::Files;
 
-/// The most pieces of the server's stream that a turn reads, and the most items of one piece.
-const PIECES: u32 = 64;
+/// The most segments of the server's stream that a turn reads, and the most items of one segment.
+const SEGMENTS: u32 = 64;
 
 const ITEMS: u32 = 131_072;
 
@@ -195,18 +195,18 @@ impl<S: Stream, P: Printer<S>> Adapter<S, P> {
     /// Reads all bytes of the server that are there.
     fn read_server<F: Files>(&mut self, files: &F, now: u64) -> Result<(), Stop> {
         self.turned_away &= !self.is_accepted(now);
-        for _ in 0..PIECES {
+        for _ in 0..SEGMENTS {
             match self.line.read()? {
                 ServerInput::Nothing => return Ok(()),
                 ServerInput::End => return Err(Stop::Lost),
-                ServerInput::Bytes => self.handle_piece(files, now)?,
+                ServerInput::Bytes => self.handle_segment(files, now)?,
             }
         }
         Ok(())
     }
 
-    /// Acts on the items of a piece.
-    fn handle_piece<F: Files>(&mut self, files: &F, now: u64) -> Result<(), Stop> {
+    /// Acts on the items of a segment.
+    fn handle_segment<F: Files>(&mut self, files: &F, now: u64) -> Result<(), Stop> {
         self.worked = true;
         self.received = true;
         for _ in 0..ITEMS {

@@ -4,13 +4,13 @@ use adapter_core::{OrderError, OrderItem, OrderReader, write_report};
 use adapter_printers::{Connector, Network, Reached, Readiness, Stream, has_to_wait};
 use base_types::Report;
 use std::alloc::{AllocError, Global};
-use text::drop_front;
+use text::drop_prefix;
 
 /// The number of bytes that one read asks for.
-const PIECE: usize = 65_536;
+const SEGMENT: usize = 65_536;
 
 /// The most reads of a turn whose bytes are dropped once the adapter sends nothing more.
-const LAST_PIECES: u32 = 64;
+const LAST_SEGMENTS: u32 = 64;
 
 /// The result of a read from the server.
 #[derive(Clone, Copy)]
@@ -40,7 +40,7 @@ impl<S: Stream> ServerLine<S> {
             alloc,
             caller,
             reader: OrderReader::new(alloc),
-            buffer: vec![in alloc; 0; PIECE]?,
+            buffer: vec![in alloc; 0; SEGMENT]?,
             output: Vec::new(alloc),
         })
     }
@@ -116,7 +116,7 @@ impl<S: Stream> ServerLine<S> {
         }
         match link.write(&self.output) {
             Ok(count) => {
-                drop_front(&mut self.output, count);
+                drop_prefix(&mut self.output, count);
                 Ok(count > 0)
             }
             Err(error) if has_to_wait(&error) => Ok(false),
@@ -136,7 +136,7 @@ impl<S: Stream> ServerLine<S> {
         if self.output.is_empty() && link.end_writing().is_err() {
             return false;
         }
-        for _ in 0..LAST_PIECES {
+        for _ in 0..LAST_SEGMENTS {
             match link.read(&mut self.buffer) {
                 Ok(0) => return false,
                 Ok(_) => {}

@@ -26,15 +26,15 @@ record Allows (old : AdapterStateRecord) (event : Event) (new : AdapterStateReco
   reports : ReportsState (reported_of old) event (reported_of new)
 
 lives_by : (old : AdapterStateRecord) (event : Event) (new : AdapterStateRecord) → Allows old event new → Lives old (event ∷ []) new
-lives_by old event new allows life stands = record {
-  answers = leads_then AnswersOnce None life (option_map id_of old.work) event (option_map id_of new.work) stands.answers allows.answers;
-  sends = leads_then SendsTheJob None life (option_map sending_of old.work) event (option_map sending_of new.work) stands.sends allows.sends;
-  obeys = leads_then ObeysCancel None life (option_map cancel_state_of old.work) event (option_map cancel_state_of new.work) stands.obeys allows.obeys;
-  reports = leads_then ReportsState unreported life (reported_of old) event (reported_of new) stands.reports allows.reports;
+lives_by old event new allows life reaches = record {
+  answers = leads_then AnswersOnce None life (option_map id_of old.work) event (option_map id_of new.work) reaches.answers allows.answers;
+  sends = leads_then SendsTheJob None life (option_map sending_of old.work) event (option_map sending_of new.work) reaches.sends allows.sends;
+  obeys = leads_then ObeysCancel None life (option_map cancel_state_of old.work) event (option_map cancel_state_of new.work) reaches.obeys allows.obeys;
+  reports = leads_then ReportsState unreported life (reported_of old) event (reported_of new) reaches.reports allows.reports;
 }
 
 lives_still : (at : AdapterStateRecord) → Lives at [] at
-lives_still at life stands = subst (λ l. IsAfter l at) (sym (append-nil life)) stands
+lives_still at life reaches = subst (λ l. IsAfter l at) (sym (append-nil life)) reaches
 
 -- ---- the server
 
@@ -174,11 +174,11 @@ record IsPrinted (life : List Event) (work : WorkRecord) (printer : PrinterState
   reports : Leads ReportsState unreported life (record { printer = printer; reported = reported })
 
 printed_by : (life : List Event) (work : WorkRecord) (printer : PrinterState) (reported : Option PrinterState) → IsAfter life (record { work = Some work; printer = printer; reported = reported }) → IsPrinted (life ++ Printed ∷ []) work printer reported
-printed_by life work printer reported stands = record {
-  answers = leads_then AnswersOnce None life _ Printed (Some work.job) stands.answers refl;
-  sends = leads_then SendsTheJob None life _ Printed _ stands.sends refl;
-  obeys = leads_then ObeysCancel None life _ Printed _ stands.obeys refl;
-  reports = leads_then ReportsState unreported life _ Printed _ stands.reports refl;
+printed_by life work printer reported reaches = record {
+  answers = leads_then AnswersOnce None life _ Printed (Some work.job) reaches.answers refl;
+  sends = leads_then SendsTheJob None life _ Printed _ reaches.sends refl;
+  obeys = leads_then ObeysCancel None life _ Printed _ reaches.obeys refl;
+  reports = leads_then ReportsState unreported life _ Printed _ reaches.reports refl;
 }
 
 ended_by : (life : List Event) (work : WorkRecord) (printer : PrinterState) (reported : Option PrinterState) (all : Bool) → (work.copies == work.times) ≡ all → IsPrinted life work printer reported → IsAfter (life ++ Reported (if all then DoneReport work.job else FailReport work.job) ∷ []) (record { work = None; printer = printer; reported = reported })
@@ -202,9 +202,9 @@ nothing_printed printer reported = lives_by (record { work = None; printer = pri
 
 finish_by : (work : Option WorkRecord) (printer : PrinterState) (reported : Option PrinterState) → Lives (record { work = work; printer = printer; reported = reported }) (Printed ∷ events_of (option_map end_report work)) (record { work = None; printer = printer; reported = reported })
 finish_by None printer reported = nothing_printed printer reported
-finish_by (Some work) printer reported = λ life stands.
+finish_by (Some work) printer reported = λ life reaches.
     let new : AdapterStateRecord = record { work = None; printer = printer; reported = reported } in
-    subst (λ l. IsAfter l new) (append_assoc life (Printed ∷ []) (Reported (end_report work) ∷ [])) (ended_by (life ++ Printed ∷ []) work printer reported (work.copies == work.times) refl (printed_by life work printer reported stands))
+    subst (λ l. IsAfter l new) (append_assoc life (Printed ∷ []) (Reported (end_report work) ∷ [])) (ended_by (life ++ Printed ∷ []) work printer reported (work.copies == work.times) refl (printed_by life work printer reported reaches))
 
 pub lives_finished : (old : AdapterStateRecord) (report : Option Report) → option_map report_of report ≡ option_map end_report old.work → Lives old (Printed ∷ said_by report) (record old { work = None })
 lives_finished old report is = subst (λ (e : List Event). Lives old (Printed ∷ e) (record old { work = None })) (sym (said_events report (option_map end_report old.work) is)) (finish_by old.work old.printer old.reported)

@@ -27,11 +27,11 @@ use Rattle.adapter_core.specs.declared.order.JobNumbers.{JobNumbers}
 use Rattle.adapter_core.specs.declared.order.Order.{Order}
 use Rattle.adapter_core.specs.declared.order.Order.TheVariants.{Job, Cancel}
 use Rattle.adapter_core.specs.OrderLine.{id_in, octets_in, copies_in, numbers_in, sides_in, finishings_in, job_said, cancel_said, described, said, order_in, above_zero}
-use Rattle.adapter_core.specs.OrderStream.{OrderElement, Orders, HasOctet, InLine, ParsedOrders, with_front, octets_left, octets_after, line_parsed, parsed_from, orders_in}
+use Rattle.adapter_core.specs.OrderStream.{OrderElement, Orders, HasOctet, InLine, ParsedOrders, with_prefix, octets_left, octets_after, line_parsed, parsed_from, orders_in}
 use Rattle.adapter_core.specs.SentOrders.{Wanted, ToPrint, ToCancel, sent, meant, IsWithin, AreWithin, all_sent, all_meant}
 use Rattle.adapter_core.proofs.OrderStreams.{parsed_then, line_whole, octets_first}
 
--- ---- bytes that stand nowhere
+-- ---- bytes that are nowhere
 
 pub lacks_by : (p : ℕ → Bool) (byte : ℕ) → p byte ≡ false → (bytes : List ℕ) → list_all p bytes ≡ true → Lacks byte bytes
 lacks_by p byte fails [] all = All-nil (λ b. (b == byte) ≡ false)
@@ -114,9 +114,9 @@ cancel_back id is =
     ap said words ∙ ap (λ (o : Option ℕ). option_map Cancel o) (id_back id is)
 
 -- a line that is one of the server's
-line_ordered : (line : List ℕ) (order : Order) (rest : List ℕ) → Lacks 10 line → length line ≤ 1000 → order_in line ≡ Some order → orders_in (line ++ (10 ∷ rest)) ≡ with_front (Orders order ∷ []) (parsed_from (octets_left (octets_after order)) rest)
+line_ordered : (line : List ℕ) (order : Order) (rest : List ℕ) → Lacks 10 line → length line ≤ 1000 → order_in line ≡ Some order → orders_in (line ++ (10 ∷ rest)) ≡ with_prefix (Orders order ∷ []) (parsed_from (octets_left (octets_after order)) rest)
 line_ordered line order rest lacks short parses =
-    line_whole [] line rest lacks (omega (arith, short)) ∙ ap (λ (o : Option Order). with_front (line_parsed o).said (parsed_from (line_parsed o).place rest)) parses
+    line_whole [] line rest lacks (omega (arith, short)) ∙ ap (λ (o : Option Order). with_prefix (line_parsed o).said (parsed_from (line_parsed o).place rest)) parses
 
 cancel_parsed : (id : ℕ) → IsJobId id → orders_in (cancel_line id) ≡ record { said = Orders (Cancel id) ∷ []; place = InLine [] }
 cancel_parsed id is =
@@ -188,16 +188,16 @@ letters_lack true true false = (lacks_by (isnt 10) 10 refl (codes " SP") refl, l
 letters_lack true true true = (lacks_by (isnt 10) 10 refl (codes " SPB") refl, lit≤ tt)
 
 -- a line of words: the first word, and the text after its space
-abbrev behind : List ℕ → List ℕ → List ℕ
-behind word rest = word ++ (32 ∷ rest)
+abbrev tail : List ℕ → List ℕ → List ℕ
+tail word rest = word ++ (32 ∷ rest)
 
 -- texts without a line feed, of at most `most` bytes
 record IsShort (most : ℕ) (text : List ℕ) : Type 0 where
   lacks : Lacks 10 text
   few : length text ≤ most
 
-short_behind : (n m : ℕ) (word rest : List ℕ) → IsShort n word → IsShort m rest → IsShort (n + (1 + m)) (behind word rest)
-short_behind n m word rest w r = record {
+short_after : (n m : ℕ) (word rest : List ℕ) → IsShort n word → IsShort m rest → IsShort (n + (1 + m)) (tail word rest)
+short_after n m word rest w r = record {
   lacks = joined_lacks 10 word (32 ∷ rest) w.lacks (All-cons (λ b. (b == 10) ≡ false) 32 rest refl r.lacks);
   few = omega (arith, w.few, r.few, length-append word (32 ∷ rest));
 }
@@ -222,10 +222,10 @@ sides_no_space ShortEdge = lacks_by (isnt 32) 32 refl (codes "S") refl
 
 -- the part of a job's line about its sheets
 abbrev sheets : JobNeeds → List ℕ
-sheets needs = behind (sides_word needs.sides) (needs.media ++ finishings_word needs.finishings)
+sheets needs = tail (sides_word needs.sides) (needs.media ++ finishings_word needs.finishings)
 
 abbrev on_line : ℕ → ℕ → JobNeeds → List ℕ
-on_line id octets needs = behind (codes "JOB") (behind (decimal id) (behind (decimal octets) (behind (decimal needs.copies) (sheets needs))))
+on_line id octets needs = tail (codes "JOB") (tail (decimal id) (tail (decimal octets) (tail (decimal needs.copies) (sheets needs))))
 
 job_words : (id octets : ℕ) (needs : JobNeeds) → IsJobId id → octets ≤ JOB_OCTETS → IsCopies needs.copies → words_of (on_line id octets needs) ≡ codes "JOB" ∷ decimal id ∷ decimal octets ∷ decimal needs.copies ∷ sides_word needs.sides ∷ words_of (needs.media ++ finishings_word needs.finishings)
 job_words id octets needs is few some =
@@ -234,11 +234,11 @@ job_words id octets needs is few some =
     let c = decimal needs.copies in
     let s = sides_word needs.sides in
     let m = needs.media ++ finishings_word needs.finishings in
-    let last : words_of (behind s m) ≡ s ∷ words_of m = word_then s m (sides_no_space needs.sides) in
-    let third : words_of (behind c (behind s m)) ≡ c ∷ s ∷ words_of m = word_then c (behind s m) (decimal_lacks 32 needs.copies refl (omega (arith, some.1))) ∙ ap (λ (w : List (List ℕ)). c ∷ w) last in
-    let second : words_of (behind b (behind c (behind s m))) ≡ b ∷ c ∷ s ∷ words_of m = word_then b (behind c (behind s m)) (decimal_lacks 32 octets refl (omega (arith, few))) ∙ ap (λ (w : List (List ℕ)). b ∷ w) third in
-    let first : words_of (behind a (behind b (behind c (behind s m)))) ≡ a ∷ b ∷ c ∷ s ∷ words_of m = word_then a (behind b (behind c (behind s m))) (decimal_lacks 32 id refl (omega (arith, is.1))) ∙ ap (λ (w : List (List ℕ)). a ∷ w) second in
-    word_then (codes "JOB") (behind a (behind b (behind c (behind s m)))) (lacks_by (isnt 32) 32 refl (codes "JOB") refl) ∙ ap (λ (w : List (List ℕ)). codes "JOB" ∷ w) first
+    let last : words_of (tail s m) ≡ s ∷ words_of m = word_then s m (sides_no_space needs.sides) in
+    let third : words_of (tail c (tail s m)) ≡ c ∷ s ∷ words_of m = word_then c (tail s m) (decimal_lacks 32 needs.copies refl (omega (arith, some.1))) ∙ ap (λ (w : List (List ℕ)). c ∷ w) last in
+    let second : words_of (tail b (tail c (tail s m))) ≡ b ∷ c ∷ s ∷ words_of m = word_then b (tail c (tail s m)) (decimal_lacks 32 octets refl (omega (arith, few))) ∙ ap (λ (w : List (List ℕ)). b ∷ w) third in
+    let first : words_of (tail a (tail b (tail c (tail s m)))) ≡ a ∷ b ∷ c ∷ s ∷ words_of m = word_then a (tail b (tail c (tail s m))) (decimal_lacks 32 id refl (omega (arith, is.1))) ∙ ap (λ (w : List (List ℕ)). a ∷ w) second in
+    word_then (codes "JOB") (tail a (tail b (tail c (tail s m)))) (lacks_by (isnt 32) 32 refl (codes "JOB") refl) ∙ ap (λ (w : List (List ℕ)). codes "JOB" ∷ w) first
 
 abbrev job_of : ℕ → ℕ → JobNeeds → Order
 job_of id octets needs = Job (record { job = id; octets = octets; copies = needs.copies; sides = needs.sides; finishings = needs.finishings; media = needs.media })
@@ -263,14 +263,14 @@ job_short id octets needs is few some media =
     let letters = letters_lack needs.finishings.staple needs.finishings.punch needs.finishings.bind in
     let last : IsShort 4 (finishings_word needs.finishings) = record { lacks = letters.0; few = letters.1 } in
     let m = needs.media ++ finishings_word needs.finishings in
-    let five = short_behind 1 68 (sides_word needs.sides) m (short_sides needs.sides) (short_joined 64 4 needs.media (finishings_word needs.finishings) name last) in
-    let four = short_behind 10 70 (decimal needs.copies) (sheets needs) (short_number needs.copies (omega (arith, some.1))) five in
-    let three = short_behind 10 81 (decimal octets) (behind (decimal needs.copies) (sheets needs)) (short_number octets (omega (arith, few))) four in
-    let two = short_behind 10 92 (decimal id) (behind (decimal octets) (behind (decimal needs.copies) (sheets needs))) (short_number id is.1) three in
-    short_behind 3 103 (codes "JOB") (behind (decimal id) (behind (decimal octets) (behind (decimal needs.copies) (sheets needs)))) (record { lacks = lacks_by (isnt 10) 10 refl (codes "JOB") refl; few = lit≤ tt }) two
+    let five = short_after 1 68 (sides_word needs.sides) m (short_sides needs.sides) (short_joined 64 4 needs.media (finishings_word needs.finishings) name last) in
+    let four = short_after 10 70 (decimal needs.copies) (sheets needs) (short_number needs.copies (omega (arith, some.1))) five in
+    let three = short_after 10 81 (decimal octets) (tail (decimal needs.copies) (sheets needs)) (short_number octets (omega (arith, few))) four in
+    let two = short_after 10 92 (decimal id) (tail (decimal octets) (tail (decimal needs.copies) (sheets needs))) (short_number id is.1) three in
+    short_after 3 103 (codes "JOB") (tail (decimal id) (tail (decimal octets) (tail (decimal needs.copies) (sheets needs)))) (record { lacks = lacks_by (isnt 10) 10 refl (codes "JOB") refl; few = lit≤ tt }) two
 
-behind_then : (word rest more : List ℕ) → behind word rest ++ more ≡ behind word (rest ++ more)
-behind_then word rest more = append_assoc word (32 ∷ rest) more
+after_then : (word rest more : List ℕ) → tail word rest ++ more ≡ tail word (rest ++ more)
+after_then word rest more = append_assoc word (32 ∷ rest) more
 
 job_line_is : (id octets : ℕ) (needs : JobNeeds) (more : List ℕ) → job_line id octets needs ++ more ≡ on_line id octets needs ++ (10 ∷ more)
 job_line_is id octets needs more =
@@ -282,17 +282,17 @@ job_line_is id octets needs more =
     let m = needs.media ++ f in
     let end : List ℕ = 10 ∷ [] in
     let medium : needs.media ++ (f ++ end) ≡ m ++ end = sym (append_assoc needs.media f end) in
-    let sheet : behind s (needs.media ++ (f ++ end)) ≡ behind s m ++ end = ap (behind s) medium ∙ sym (behind_then s m end) in
-    let third : behind c (behind s (needs.media ++ (f ++ end))) ≡ behind c (behind s m) ++ end = ap (behind c) sheet ∙ sym (behind_then c (behind s m) end) in
-    let second : behind b (behind c (behind s (needs.media ++ (f ++ end)))) ≡ behind b (behind c (behind s m)) ++ end = ap (behind b) third ∙ sym (behind_then b (behind c (behind s m)) end) in
-    let first : behind a (behind b (behind c (behind s (needs.media ++ (f ++ end))))) ≡ behind a (behind b (behind c (behind s m))) ++ end = ap (behind a) second ∙ sym (behind_then a (behind b (behind c (behind s m))) end) in
-    let all : job_line id octets needs ≡ on_line id octets needs ++ end = ap (behind (codes "JOB")) first ∙ sym (behind_then (codes "JOB") (behind a (behind b (behind c (behind s m)))) end) in
+    let sheet : tail s (needs.media ++ (f ++ end)) ≡ tail s m ++ end = ap (tail s) medium ∙ sym (after_then s m end) in
+    let third : tail c (tail s (needs.media ++ (f ++ end))) ≡ tail c (tail s m) ++ end = ap (tail c) sheet ∙ sym (after_then c (tail s m) end) in
+    let second : tail b (tail c (tail s (needs.media ++ (f ++ end)))) ≡ tail b (tail c (tail s m)) ++ end = ap (tail b) third ∙ sym (after_then b (tail c (tail s m)) end) in
+    let first : tail a (tail b (tail c (tail s (needs.media ++ (f ++ end))))) ≡ tail a (tail b (tail c (tail s m))) ++ end = ap (tail a) second ∙ sym (after_then a (tail b (tail c (tail s m))) end) in
+    let all : job_line id octets needs ≡ on_line id octets needs ++ end = ap (tail (codes "JOB")) first ∙ sym (after_then (codes "JOB") (tail a (tail b (tail c (tail s m)))) end) in
     ap (λ (t : List ℕ). t ++ more) all ∙ append_assoc (on_line id octets needs) end more
 
 octets_all : (octets : List ℕ) → parsed_from (octets_left (length octets)) octets ≡ record { said = map HasOctet octets; place = InLine [] }
 octets_all octets =
     let first = octets_first octets [] 0 in
-    let count : parsed_from (octets_left (length octets)) (octets ++ []) ≡ with_front (map HasOctet octets) (parsed_from (octets_left 0) []) = subst (λ (n : ℕ). parsed_from (octets_left n) (octets ++ []) ≡ with_front (map HasOctet octets) (parsed_from (octets_left 0) [])) (add-zero (length octets)) first in
+    let count : parsed_from (octets_left (length octets)) (octets ++ []) ≡ with_prefix (map HasOctet octets) (parsed_from (octets_left 0) []) = subst (λ (n : ℕ). parsed_from (octets_left n) (octets ++ []) ≡ with_prefix (map HasOctet octets) (parsed_from (octets_left 0) [])) (add-zero (length octets)) first in
     ap (λ (b : List ℕ). parsed_from (octets_left (length octets)) b) (sym (append-nil octets)) ∙ count
     ∙ ap (λ (s : List OrderElement). record { said = s; place = InLine [] }) (append-nil (map HasOctet octets))
 
@@ -305,7 +305,7 @@ job_parsed id octets needs within =
     let short = job_short id (length octets) needs is few some media in
     ap (λ (b : List ℕ). orders_in b) (job_line_is id (length octets) needs octets)
     ∙ line_ordered (on_line id (length octets) needs) (job_of id (length octets) needs) octets short.lacks (omega (arith, short.few)) (job_back id (length octets) needs is few some media)
-    ∙ ap (λ (h : ParsedOrders). with_front (Orders (job_of id (length octets) needs) ∷ []) h) (octets_all octets)
+    ∙ ap (λ (h : ParsedOrders). with_prefix (Orders (job_of id (length octets) needs) ∷ []) h) (octets_all octets)
 
 -- ---- one after the other
 
@@ -317,4 +317,4 @@ pub parsed_all : (wanted : List Wanted) → AreWithin wanted → orders_in (all_
 parsed_all [] within = refl
 parsed_all (first ∷ later) within =
     parsed_then (InLine []) (sent first) (all_sent later) (record { said = meant first; place = InLine [] }) (parsed_one first within.0)
-    ∙ ap (λ (h : ParsedOrders). with_front (meant first) h) (parsed_all later within.1)
+    ∙ ap (λ (h : ParsedOrders). with_prefix (meant first) h) (parsed_all later within.1)

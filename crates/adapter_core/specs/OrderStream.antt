@@ -26,8 +26,8 @@ pub record ParsedOrders : Type 0 where
   pub said : List OrderElement
   pub place : OrderPlace
 
-abbrev pub with_front : List OrderElement → ParsedOrders → ParsedOrders
-with_front front later = record { said = front ++ later.said; place = later.place }
+abbrev pub with_prefix : List OrderElement → ParsedOrders → ParsedOrders
+with_prefix prefix later = record { said = prefix ++ later.said; place = later.place }
 
 abbrev pub silent : OrderPlace → ParsedOrders
 silent place = record { said = []; place = place }
@@ -57,7 +57,7 @@ byte_parsed (AtFault fault) byte = silent (AtFault fault)
 -- the parse of bytes from a place on
 abbrev pub parsed_from : OrderPlace → List ℕ → ParsedOrders
 parsed_from place [] = silent place
-parsed_from place (byte ∷ bytes) = with_front (byte_parsed place byte).said (parsed_from (byte_parsed place byte).place bytes)
+parsed_from place (byte ∷ bytes) = with_prefix (byte_parsed place byte).said (parsed_from (byte_parsed place byte).place bytes)
 
 -- the parse of a whole stream of bytes
 abbrev pub orders_in : List ℕ → ParsedOrders
@@ -79,7 +79,7 @@ place_of reader = place_by reader.fault reader.octets
 
 -- The reader was fed this stream and has given these elements. They are the first of the stream, and the parse of the bytes that the reader hasn't read follows.
 abbrev pub HasRead : List ℕ → List OrderElement → OrderReaderState → Type 0
-HasRead stream given reader = orders_in stream ≡ with_front given (parsed_from (place_of reader) reader.rest)
+HasRead stream given reader = orders_in stream ≡ with_prefix given (parsed_from (place_of reader) reader.rest)
 
 -- the reader went from one state to another and gave this from its stream
 abbrev pub Advances : OrderReaderState → List OrderElement → OrderReaderState → Type 0

@@ -36,9 +36,9 @@ abbrev pub statuses : PjlPlace → List ℕ → List PjlStatus
 statuses place [] = []
 statuses place (byte ∷ bytes) = with_first (status_at place byte) (statuses (place_after place byte) bytes)
 
-abbrev pub place_behind : PjlPlace → List ℕ → PjlPlace
-place_behind place [] = place
-place_behind place (byte ∷ bytes) = place_behind (place_after place byte) bytes
+abbrev pub place_later : PjlPlace → List ℕ → PjlPlace
+place_later place [] = place
+place_later place (byte ∷ bytes) = place_later (place_after place byte) bytes
 
 abbrev pub SegmentationKeepsStatuses : Type 0
-SegmentationKeepsStatuses = (place : PjlPlace) (bytes more : List ℕ) → statuses place (bytes ++ more) ≡ statuses place bytes ++ statuses (place_behind place bytes) more
+SegmentationKeepsStatuses = (place : PjlPlace) (bytes more : List ℕ) → statuses place (bytes ++ more) ≡ statuses place bytes ++ statuses (place_later place bytes) more

@@ -13,7 +13,7 @@ use std::alloc::{AllocError, Global};
 use std::marker::Model;
 use text::{FirstLine, Unread, first_line};
 
-/// A reader of the server's stream, which is fed in pieces of any length. In clauses it is a record of the
+/// A reader of the server's stream, which is fed in segments of any length. In clauses it is a record of the
 /// octets of a job that it lends, the bytes that aren't read, how many octets of a job are among these and
 /// those to come, and its fault.
 #[derive(Drop)]
@@ -65,15 +65,15 @@ impl OrderReader {
     /// dropped.
     ///
     /// The only error is out of memory: then none of the bytes is taken, and the part stays lent.
-    pub fn feed(&mut self, piece: &[u8]) -> Result<(), AllocError>
-        ensures fed { OnOk result ((stream : List ℕ) (given : List OrderElement) → HasRead stream given self.old → HasRead (stream ++ piece.now) given self.new) }
+    pub fn feed(&mut self, segment: &[u8]) -> Result<(), AllocError>
+        ensures fed { OnOk result ((stream : List ℕ) (given : List OrderElement) → HasRead stream given self.old → HasRead (stream ++ segment.now) given self.new) }
         ensures err { OnErr result (self.new ≡ self.old) }
         ensures over { IsSome self.old.fault → IsOk result × (self.new ≡ self.old) }
     {
         if self.fault().is_some() {
             return Ok(());
         }
-        self.append(piece)
+        self.append(segment)
     }
 
     /// Returns the next order, if its line is whole, or the next octets of a job, which [`OrderReader::part`]
@@ -129,7 +129,7 @@ impl OrderReader {
         ensures answer { Answers self.old result self.new }
         ensures falls { IfOk result (λ item. IsSome item → work self.new < work self.old) }
     {
-        match self.read_front(length)? {
+        match self.read_prefix(length)? {
             None => Err(self.fail(OrderFault::BadLine)),
             Some(order) => {
                 self.pass_line(length, octets_after(&order));
@@ -160,7 +160,7 @@ impl OrderReader {
     }
 
     /// The order of the line of `length` bytes at the beginning.
-    fn read_front(&self, length: usize) -> Result<Option<Order>, AllocError>
+    fn read_prefix(&self, length: usize) -> Result<Option<Order>, AllocError>
         requires { length < length_of self.now.rest }
         ensures { IfOk result (λ order. order ≡ order_in (take length self.now.rest)) }
     {
@@ -200,11 +200,11 @@ impl OrderReader {
 
     /// Appends bytes to those that aren't read. The only error is out of memory, and leaves the reader as it
     /// was.
-    fn append(&mut self, piece: &[u8]) -> Result<(), AllocError>
-        ensures ok { OnOk result (self.new ≡ record self.old { part = []; rest = self.old.rest ++ piece.now }) }
+    fn append(&mut self, segment: &[u8]) -> Result<(), AllocError>
+        ensures ok { OnOk result (self.new ≡ record self.old { part = []; rest = self.old.rest ++ segment.now }) }
         ensures err { OnErr result (self.new ≡ self.old) }
     {
-        self.unread.append(piece)?;
+        self.unread.append(segment)?;
         self.unread.pass(self.lent);
         self.lent = 0;
         Ok(())

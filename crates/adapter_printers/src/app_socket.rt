@@ -1,7 +1,7 @@
 //! AppSocket: one connection for each job. The job's octets are sent, and the printer's bytes are read until
 //! it closes the connection.
 use crate::printer_event::{Breach, PrinterEvent};
-use crate::printer_link::{CALLS, IoOutcome, PIECE, PrinterLink};
+use crate::printer_link::{CALLS, IoOutcome, PrinterLink, SEGMENT};
 use crate::protocol::Protocol;
 use crate::stream::Stream;
 use adapter_core::{AdapterState, JobOrder};
@@ -53,7 +53,7 @@ impl AppSocket {
 
     /// Drops all bytes of the printer that are there.
     fn listen<S: Stream>(&mut self, session: &mut PrinterLink<S>, now: u64) -> IoOutcome {
-        let mut buffer = [0u8; PIECE];
+        let mut buffer = [0u8; SEGMENT];
         for _ in 0..CALLS {
             match session.read(&mut buffer) {
                 IoOutcome::Bytes(_) => self.received = now,

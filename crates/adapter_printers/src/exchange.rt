@@ -7,7 +7,7 @@ use http1::encode::Frame;
 use http1::{BodySize, Client, Event, Header, Limits, ReadError, WriteError};
 use httparse::spans::{EMPTY_HEADER_SPAN, HeaderSpan, ResponseSpans, Span};
 use std::alloc::{AllocError, Global};
-use text::{decimal, drop_front};
+use text::{decimal, drop_prefix};
 
 /// The most fields of a head.
 const FIELDS: usize = 64;
@@ -23,7 +23,7 @@ enum Progress {
     Broken(ReplyFault),
 }
 
-/// A request and its reply, on a connection of their own. It keeps at most a head and a piece, and the body.
+/// A request and its reply, on a connection of their own. It keeps at most a head and a segment, and the body.
 #[derive(Drop)]
 pub(crate) struct Exchange {
     client: Client,
@@ -72,7 +72,7 @@ impl Exchange {
 
     /// Appends the beginning of a request whose body comes in chunks, with the first of them. The only error is
     /// out of memory.
-    pub(crate) fn write_front(
+    pub(crate) fn write_prefix(
         &mut self,
         address: &IppAddress,
         chunk: &[u8],
@@ -202,7 +202,7 @@ impl Exchange {
             }
         }
         let count = read.consumed.min(self.input.len());
-        drop_front(&mut self.input, count);
+        drop_prefix(&mut self.input, count);
         Ok(!matches!(read.event, Event::NeedMore))
     }
 
@@ -215,14 +215,14 @@ impl Exchange {
         }
     }
 
-    /// Appends a piece of the body.
+    /// Appends a segment of the body.
     fn keep(&mut self, span: Span) -> Result<(), AllocError> {
-        let piece = part(&self.input, span);
-        if piece.len() > BODY_BYTES.saturating_sub(self.body.len()) {
+        let segment = part(&self.input, span);
+        if segment.len() > BODY_BYTES.saturating_sub(self.body.len()) {
             self.progress = Progress::Broken(ReplyFault::TooLong);
             return Ok(());
         }
-        self.body.extend_from_slice(piece)
+        self.body.extend_from_slice(segment)
     }
 }
 

@@ -17,7 +17,7 @@ pub enum Format {
 }
 
 /// The first bytes of documents, with their formats.
-const FRONTS: [(&[u8], Format); 12] = [
+const PREFIXES: [(&[u8], Format); 12] = [
     (b"%PDF-", Format::Pdf),
     (b"%!", Format::PostScript),
     (b"\x1b%-12345X", Format::Pcl),
@@ -51,13 +51,13 @@ const LOOKED_AT: usize = 512;
 impl Format {
     /// The format of a document with these first bytes.
     pub fn sniffed(bytes: &[u8]) -> Format {
-        for &(front, format) in &FRONTS {
-            if bytes.starts_with(front) {
+        for &(prefix, format) in &PREFIXES {
+            if bytes.starts_with(prefix) {
                 return format;
             }
         }
-        let front = &bytes[..bytes.len().min(LOOKED_AT)];
-        if !front.is_empty() && front.iter().all(|byte| is_text(*byte)) {
+        let prefix = &bytes[..bytes.len().min(LOOKED_AT)];
+        if !prefix.is_empty() && prefix.iter().all(|byte| is_text(*byte)) {
             Format::Text
         } else {
             Format::Octets

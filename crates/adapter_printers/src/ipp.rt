@@ -2,7 +2,7 @@
 use crate::format::{Format, MediaType};
 use crate::ipp_printer::IppPrinter;
 use crate::printer_event::{Breach, PrinterEvent};
-use crate::printer_link::{CALLS, IoOutcome, PIECE, PrinterLink};
+use crate::printer_link::{CALLS, IoOutcome, PrinterLink, SEGMENT};
 use crate::protocol::Protocol;
 use crate::stream::Stream;
 use crate::task_outcome::TaskOutcome;
@@ -40,7 +40,7 @@ impl Ipp {
 
     /// Reads all bytes of the printer that are there, up to the end of its reply.
     fn listen<S: Stream>(&mut self, session: &mut PrinterLink<S>) -> Result<IoOutcome, AllocError> {
-        let mut buffer = [0u8; PIECE];
+        let mut buffer = [0u8; SEGMENT];
         for _ in 0..CALLS {
             match session.read(&mut buffer) {
                 IoOutcome::Bytes(count) => self.printer.handle_bytes(&buffer[..count])?,

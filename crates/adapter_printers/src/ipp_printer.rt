@@ -13,7 +13,7 @@ use ipp_requests::{
     ask_of_job, ask_of_printer, cancel_job, is_stopped, loaded_media, print_job, reply_in,
 };
 use std::alloc::{AllocError, Global};
-use text::drop_front;
+use text::drop_prefix;
 
 /// The time after which the printer's state is asked again, in ms.
 const BETWEEN_STATES: u64 = 10_000;
@@ -33,7 +33,7 @@ const BETWEEN_LOOKS: u64 = 1_000;
 const CHUNK: usize = 65_536;
 
 /// The number of octets that determine the format of a document.
-const FRONT: usize = 512;
+const PREFIX: usize = 512;
 
 /// The attributes that are requested of a printer.
 const PRINTER_NAMES: [&[u8]; 9] = [
@@ -161,7 +161,7 @@ impl IppPrinter {
         }
         match self.stage {
             TaskStage::Printing(job) if self.looks.is_due(now) => Task::Follow(job),
-            TaskStage::Waits if self.can_send(now) && has_front(adapter) => Task::Print,
+            TaskStage::Waits if self.can_send(now) && has_prefix(adapter) => Task::Print,
             _ => Task::Nothing,
         }
     }
@@ -176,7 +176,7 @@ impl IppPrinter {
     pub fn owes_answer(&self, adapter: &AdapterState) -> bool {
         match self.stage {
             TaskStage::None => false,
-            TaskStage::Waits => has_front(adapter),
+            TaskStage::Waits => has_prefix(adapter),
             TaskStage::Sending | TaskStage::Sent | TaskStage::Printing(_) => true,
         }
     }
@@ -224,7 +224,7 @@ impl IppPrinter {
             Task::Ask => ask_of_printer(self.alloc, uri, &PRINTER_NAMES),
             Task::Follow(job) => ask_of_job(self.alloc, uri, job, &JOB_NAMES),
             Task::Cancel(job) => cancel_job(self.alloc, uri, job),
-            Task::Print => return self.write_front(format),
+            Task::Print => return self.write_prefix(format),
         };
         let body = encoded(body)?;
         self.exchange
@@ -232,7 +232,7 @@ impl IppPrinter {
     }
 
     /// Writes the beginning of the request that sends the job. The only error is out of memory.
-    fn write_front(&mut self, format: &str) -> Result<(), AllocError> {
+    fn write_prefix(&mut self, format: &str) -> Result<(), AllocError> {
         let job = self.wish.job();
         let name = format!(in self.alloc; "printd-{job}")?;
         let state: &[u8] = match &self.state {
@@ -249,7 +249,7 @@ impl IppPrinter {
             self.left_out = Some(left_out);
         }
         self.exchange
-            .write_front(&self.address, &body, &mut self.output)
+            .write_prefix(&self.address, &body, &mut self.output)
     }
 
     /// The bytes that are to be written before all others.
@@ -266,7 +266,7 @@ impl IppPrinter {
     pub fn pass(&mut self, count: usize) -> Result<(), AllocError> {
         if !self.output.is_empty() {
             let count = count.min(self.output.len());
-            drop_front(&mut self.output, count);
+            drop_prefix(&mut self.output, count);
             return Ok(());
         }
         self.chunk = self.chunk.saturating_sub(count);
@@ -576,6 +576,6 @@ fn encoded(body: Result<Vec<u8>, EncodeFault>) -> Result<Vec<u8>, AllocError> {
 }
 
 /// Returns whether enough of the job is there to determine the document's format.
-fn has_front(adapter: &AdapterState) -> bool {
-    adapter.room() == Some(0) || adapter.due().len() >= FRONT
+fn has_prefix(adapter: &AdapterState) -> bool {
+    adapter.room() == Some(0) || adapter.due().len() >= PREFIX
 }

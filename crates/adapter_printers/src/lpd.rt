@@ -168,7 +168,7 @@ impl Lpd {
             adapter.end_copy();
             self.go_on(LpdStage::End)?;
         }
-        Ok(session.write_front(&mut self.output, now))
+        Ok(session.write_prefix(&mut self.output, now))
     }
 }
 

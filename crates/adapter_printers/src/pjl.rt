@@ -2,13 +2,13 @@
 ghost use Rattle.std.specs.Prelude.{◌≤◌, IfOk, length};
 
 use crate::printer_event::{Breach, PrinterEvent};
-use crate::printer_link::{CALLS, IoOutcome, PIECE, PrinterLink};
+use crate::printer_link::{CALLS, IoOutcome, PrinterLink, SEGMENT};
 use crate::protocol::Protocol;
 use crate::stream::Stream;
 use adapter_core::{AdapterState, JobOrder, PjlReader, PjlStatus};
 use base_types::Sides;
 use std::alloc::{AllocError, Global};
-use text::{cut_at, drop_front};
+use text::{cut_at, drop_prefix};
 
 /// The least code of a printer that needs a person: a cover is open, or paper is out or jammed.
 const NEEDS_SOMEONE: u32 = 40_000;
@@ -70,7 +70,7 @@ impl Pjl {
     ) -> Result<PrinterEvent, AllocError> {
         for _ in 0..CALLS {
             if self.input.is_empty() {
-                match self.read_piece(session)? {
+                match self.read_segment(session)? {
                     IoOutcome::Bytes(_) => {}
                     IoOutcome::Nothing => return Ok(PrinterEvent::Nothing),
                     IoOutcome::End | IoOutcome::Broken => return Ok(PrinterEvent::Failed(
@@ -86,12 +86,12 @@ impl Pjl {
         Ok(PrinterEvent::Nothing)
     }
 
-    /// Reads a piece of the printer's bytes.
-    fn read_piece<S: Stream>(
+    /// Reads a segment of the printer's bytes.
+    fn read_segment<S: Stream>(
         &mut self,
         session: &mut PrinterLink<S>,
     ) -> Result<IoOutcome, AllocError> {
-        let mut buffer = [0u8; PIECE];
+        let mut buffer = [0u8; SEGMENT];
         let moved = session.read(&mut buffer);
         if let IoOutcome::Bytes(count) = moved {
             self.input.extend_from_slice(&buffer[..count])?;
@@ -107,8 +107,8 @@ impl Pjl {
         now: u64,
     ) -> Result<PrinterEvent, AllocError> {
         let name = self.name()?;
-        let read = read_front(&mut self.reader, &self.input, name.as_bytes())?;
-        drop_front(&mut self.input, read.0);
+        let read = read_prefix(&mut self.reader, &self.input, name.as_bytes())?;
+        drop_prefix(&mut self.input, read.0);
         if read.1 == PjlStatus::Other {
             return Ok(PrinterEvent::Nothing);
         }
@@ -150,7 +150,7 @@ impl Pjl {
             self.output = self.foot()?;
             self.part = PjlStage::Foot;
         }
-        Ok(session.write_front(&mut self.output, now))
+        Ok(session.write_prefix(&mut self.output, now))
     }
 
     /// The bytes before a job: the request for reports, and the options of the job. The only error is out of
@@ -252,7 +252,7 @@ impl Protocol for Pjl {
 
 /// Reads bytes up to the first status of the printer or of the job of a name. Returns how many were read, and
 /// the status; `Other` if there is none.
-fn read_front(
+fn read_prefix(
     reader: &mut PjlReader,
     input: &[u8],
     name: &[u8],

@@ -12,13 +12,13 @@ use crate::stream::{Network, Readiness, Stream};
 use adapter_core::AdapterState;
 use std::io;
 use std::rt::Files;
-use text::drop_front;
+use text::drop_prefix;
 
 /// The most calls to a printer in a turn.
 pub(crate) const CALLS: u32 = 64;
 
 /// The number of bytes that one read asks for.
-pub(crate) const PIECE: usize = 1024;
+pub(crate) const SEGMENT: usize = 1024;
 
 /// The state of the connection to a printer.
 #[derive(Clone, Copy)]
@@ -174,10 +174,10 @@ impl<S: Stream> PrinterLink<S> {
     }
 
     /// Writes a prefix of a text, and removes the bytes that went.
-    pub(crate) fn write_front(&mut self, text: &mut Vec<u8>, now: u64) -> IoOutcome {
+    pub(crate) fn write_prefix(&mut self, text: &mut Vec<u8>, now: u64) -> IoOutcome {
         let moved = self.write(text, now);
         if let IoOutcome::Bytes(count) = moved {
-            drop_front(text, count);
+            drop_prefix(text, count);
         }
         moved
     }

@@ -20,7 +20,7 @@ const TABLES: [&str; 2] = ["/proc/self/net/tcp", "/proc/self/net/tcp6"];
 /// after it at which the socket's number is.
 const WAITING: usize = 4;
 
-const NUMBER_BEHIND: usize = 4;
+const NUMBER_AFTER: usize = 4;
 
 /// Returns how many bytes that a socket took its peer hasn't acknowledged, if the system reports it. The end
 /// of the writing side counts as a byte.
@@ -56,7 +56,7 @@ fn look_up(alloc: Global, files: &impl Files, table: &str, number: u64) -> io::R
 fn bytes_of(line: &str, number: u64) -> Option<u64> {
     let mut words = line.split_whitespace();
     let waiting = words.nth(WAITING)?;
-    let inode = words.nth(NUMBER_BEHIND)?;
+    let inode = words.nth(NUMBER_AFTER)?;
     if inode.parse::<u64>() != Ok(number) {
         return None;
     }

@@ -6,25 +6,25 @@ use Rattle.std.specs.Str.{bytes_eq}
 use Rattle.text.specs.Digits.{number_up_to}
 
 -- the octets after a prefix of a text; `None` where the text has another prefix
-abbrev pub behind : List ℕ → List ℕ → Option (List ℕ)
-behind front text = if bytes_eq (take (length front) text) front then Some (drop (length front) text) else None
+abbrev pub tail : List ℕ → List ℕ → Option (List ℕ)
+tail prefix text = if bytes_eq (take (length prefix) text) prefix then Some (drop (length prefix) text) else None
 
 -- the octets after the scheme and `://`; the scheme ends at the first colon
-abbrev pub behind_scheme : List ℕ → Option (List ℕ)
-behind_scheme uri = option_and_then (λ colon. behind (codes "://") (drop colon uri)) (position (λ byte. byte == 58) uri)
+abbrev pub after_scheme : List ℕ → Option (List ℕ)
+after_scheme uri = option_and_then (λ colon. tail (codes "://") (drop colon uri)) (position (λ byte. byte == 58) uri)
 
 -- the authority: the host with its port, up to the first `/`
 abbrev pub authority_of : List ℕ → List ℕ
-authority_of uri = option_map_or (before_first (λ byte. byte == 47)) (behind_scheme uri) []
+authority_of uri = option_map_or (before_first (λ byte. byte == 47)) (after_scheme uri) []
 
 -- the octets after the last colon, if there is a colon
-abbrev pub behind_colon : List ℕ → Option (List ℕ)
-behind_colon [] = None
-behind_colon (byte ∷ bytes) = option_or (behind_colon bytes) (if byte == 58 then Some bytes else None)
+abbrev pub after_colon : List ℕ → Option (List ℕ)
+after_colon [] = None
+after_colon (byte ∷ bytes) = option_or (after_colon bytes) (if byte == 58 then Some bytes else None)
 
 -- the port of an authority, if the authority has a valid port
 abbrev pub port_named : List ℕ → Option ℕ
-port_named authority = option_and_then (number_up_to 65535) (behind_colon authority)
+port_named authority = option_and_then (number_up_to 65535) (after_colon authority)
 
 -- the port of IPP clients
 abbrev pub ipp_port : List ℕ → ℕ

@@ -2,7 +2,7 @@
 ghost use Rattle.std.specs.Prelude.{◌≡◌, ◌==◌};
 ghost use Rattle.std.specs.Option.{option_copied};
 ghost use Rattle.std.specs.List.{before_first};
-ghost use Rattle.announcements.specs.Port.{behind_scheme, authority_of, behind_colon, port_named, ipp_port};
+ghost use Rattle.announcements.specs.Port.{after_scheme, authority_of, after_colon, port_named, ipp_port};
 
 use text::{find_byte, number_up_to};
 
@@ -20,8 +20,8 @@ pub fn ipp_port(uri_base: &[u8]) -> u16
 }
 
 /// The octets after the scheme and `://`; `None` where there is no scheme.
-fn behind_scheme(uri: &[u8]) -> Option<&[u8]>
-    ensures { option_copied result ≡ behind_scheme uri.now }
+fn after_scheme(uri: &[u8]) -> Option<&[u8]>
+    ensures { option_copied result ≡ after_scheme uri.now }
 {
     match find_byte(uri, b':') {
         Some(colon) => uri[colon..].strip_prefix(b"://"),
@@ -33,7 +33,7 @@ fn behind_scheme(uri: &[u8]) -> Option<&[u8]>
 fn authority_of(uri: &[u8]) -> &[u8]
     ensures { result.now ≡ authority_of uri.now }
 {
-    match behind_scheme(uri) {
+    match after_scheme(uri) {
         Some(rest) => up_to_slash(rest),
         None => &[],
     }
@@ -49,13 +49,13 @@ fn up_to_slash(rest: &[u8]) -> &[u8]
 }
 
 /// The octets after the last colon, if there is a colon.
-fn behind_colon(authority: &[u8]) -> Option<&[u8]>
-    ensures { option_copied result ≡ behind_colon authority.now }
+fn after_colon(authority: &[u8]) -> Option<&[u8]>
+    ensures { option_copied result ≡ after_colon authority.now }
 {
     let [first, rest @ ..] = authority else {
         return None;
     };
-    match behind_colon(rest) {
+    match after_colon(rest) {
         Some(port) => Some(port),
         None if *first == b':' => Some(rest),
         None => None,
@@ -66,6 +66,6 @@ fn behind_colon(authority: &[u8]) -> Option<&[u8]>
 fn port_named(authority: &[u8]) -> Option<u16>
     ensures { result ≡ port_named authority.now }
 {
-    let number = number_up_to(behind_colon(authority)?, u64::from(u16::MAX))?;
+    let number = number_up_to(after_colon(authority)?, u64::from(u16::MAX))?;
     Some(number as u16)
 }

@@ -15,17 +15,17 @@ use Rattle.connections.specs.Asking.{StepsTo, Asking, Feeds}
 use Rattle.connections.specs.Peers.{NextPeer, IsFedPeer}
 use Rattle.connections.specs.Connections.{ConnectionState, with_peer, Takes}
 use Rattle.connections.specs.Representation.{FitsPeer, RepresentsConnection, Becomes}
-use Rattle.connections.proofs.Readers.{Goes, peer_comes, rested, fed_peer}
+use Rattle.connections.proofs.Readers.{Goes, peer_next, rested, fed_peer}
 
 -- ---- the waiting bytes
 
-drop_front-append : (xs ys : List ℕ) → drop (length xs) (xs ++ ys) ≡ ys
-drop_front-append [] ys = refl
-drop_front-append (x ∷ xs) ys = drop_front-append xs ys
+drop_prefix-append : (xs ys : List ℕ) → drop (length xs) (xs ++ ys) ≡ ys
+drop_prefix-append [] ys = refl
+drop_prefix-append (x ∷ xs) ys = drop_prefix-append xs ys
 
 -- the waiting bytes by the entry are the bytes that the connection holds
 pub waits : (e : Entry) (c : ConnectionState) → RepresentsConnection e c → waiting e ≡ c.output
-waits e c f = ap (λ (due : List ℕ). drop (length e.taken) due) (sym f.due) ∙ drop_front-append e.taken c.output
+waits e c f = ap (λ (due : List ℕ). drop (length e.taken) due) (sym f.due) ∙ drop_prefix-append e.taken c.output
 
 above : (most n : ℕ) → most < n → nat_lt most n ≡ true
 above most n more = grind (arith, nat_tests, more)
@@ -84,7 +84,7 @@ pub asks : (settings : ServerSettings) (what : Step) (asked : Ask) (c d : Connec
 asks settings what asked c d p counts next takes_ e f =
     let counts' : (e.draining || e.broken) ≡ false = counts_as e c false f counts in
     let whole : e.broken ≡ false = right_false e.draining e.broken counts' in
-    let h = peer_comes settings e c.peer p what (subst (λ (b : Bool). FitsPeer e.read e.progress b c.peer) whole f.peer) next in
+    let h = peer_next settings e c.peer p what (subst (λ (b : Bool). FitsPeer e.read e.progress b c.peer) whole f.peer) next in
     let t = takes e h.progress c d p what asked f whole h.broken h.whole takes_ in
     (t.0, record { counts = counts'; comes = what; mid = with_progress h.progress e; takes_item = h.takes_item; steps = t.1 }, t.2)
 
@@ -98,10 +98,10 @@ rests settings c d p counts next is e f =
 pub counts_no_more : (settings : ServerSettings) (c d : ConnectionState) → (c.draining || c.broken) ≡ true → d ≡ c → Becomes (Asking settings None) c d
 counts_no_more settings c d off is e f = (e, (inl (counts_as e c true f off), refl), subst (λ (k : ConnectionState). RepresentsConnection e k) (sym is) f)
 
--- a piece was fed
-pub fed : (piece : List ℕ) (c d : ConnectionState) (p : Peer) → c.draining ≡ false → IsFedPeer piece c.peer p → d ≡ with_peer p c → Becomes (Feeds piece how.Fed) c d
-fed piece c d p counts feeds is e f = (
-  reading piece e,
+-- a segment was fed
+pub fed : (segment : List ℕ) (c d : ConnectionState) (p : Peer) → c.draining ≡ false → IsFedPeer segment c.peer p → d ≡ with_peer p c → Becomes (Feeds segment how.Fed) c d
+fed segment c d p counts feeds is e f = (
+  reading segment e,
   (sym f.draining ∙ counts, refl),
-  subst (λ (k : ConnectionState). RepresentsConnection (reading piece e) k) (sym is) (record { id = f.id; peer = fed_peer e.read piece e.progress e.broken c.peer p f.peer feeds; ended = f.ended; draining = f.draining; broken = f.broken; due = f.due }),
+  subst (λ (k : ConnectionState). RepresentsConnection (reading segment e) k) (sym is) (record { id = f.id; peer = fed_peer e.read segment e.progress e.broken c.peer p f.peer feeds; ended = f.ended; draining = f.draining; broken = f.broken; due = f.due }),
 )

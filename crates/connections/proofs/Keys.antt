@@ -21,34 +21,34 @@ none_left (None ∷ slots) from (suc key) none = none_left slots (from + 1) key 
 none_left (Some x ∷ slots) from key none = absurd cc
 
 -- the last entry has no lesser key than the first slot
-least : {T : Type 0} → (slots : List (Option T)) (from : ℕ) (front : List (ℕ × T)) (last : ℕ × T) → entries_from from slots ≡ front ++ last ∷ [] → from ≤ last.0
+least : {T : Type 0} → (slots : List (Option T)) (from : ℕ) (prefix : List (ℕ × T)) (last : ℕ × T) → entries_from from slots ≡ prefix ++ last ∷ [] → from ≤ last.0
 least [] from [] last are = absurd cc
-least [] from (x ∷ front) last are = absurd cc
-least (None ∷ slots) from front last are = omega (arith, least slots (from + 1) front last are)
+least [] from (x ∷ prefix) last are = absurd cc
+least (None ∷ slots) from prefix last are = omega (arith, least slots (from + 1) prefix last are)
 least (Some x ∷ slots) from [] last are =
     let first : from ≡ last.0 = ap (λ entries. (first_of last entries).0) are in
     omega (arith, first)
-least (Some x ∷ slots) from (y ∷ front) last are = omega (arith, least slots (from + 1) front last (ap rest_of are))
+least (Some x ∷ slots) from (y ∷ prefix) last are = omega (arith, least slots (from + 1) prefix last (ap rest_of are))
 
 -- the last entry is one of the slots
-pub within : {T : Type 0} → (slots : List (Option T)) (from : ℕ) (front : List (ℕ × T)) (last : ℕ × T) → entries_from from slots ≡ front ++ last ∷ [] → last.0 + 1 ≤ from + length slots
+pub within : {T : Type 0} → (slots : List (Option T)) (from : ℕ) (prefix : List (ℕ × T)) (last : ℕ × T) → entries_from from slots ≡ prefix ++ last ∷ [] → last.0 + 1 ≤ from + length slots
 within [] from [] last are = absurd cc
-within [] from (x ∷ front) last are = absurd cc
-within (None ∷ slots) from front last are = omega (arith, within slots (from + 1) front last are)
+within [] from (x ∷ prefix) last are = absurd cc
+within (None ∷ slots) from prefix last are = omega (arith, within slots (from + 1) prefix last are)
 within (Some x ∷ slots) from [] last are =
     let first : from ≡ last.0 = ap (λ entries. (first_of last entries).0) are in
     omega (arith, first)
-within (Some x ∷ slots) from (y ∷ front) last are = omega (arith, within slots (from + 1) front last (ap rest_of are))
+within (Some x ∷ slots) from (y ∷ prefix) last are = omega (arith, within slots (from + 1) prefix last (ap rest_of are))
 
 -- after the last entry each key is free
-pub none_behind : {T : Type 0} → (slots : List (Option T)) (from : ℕ) (front : List (ℕ × T)) (last : ℕ × T) (key : ℕ) → entries_from from slots ≡ front ++ last ∷ [] → last.0 + 1 ≤ from + key → slice_index_or slots key None ≡ None
-none_behind [] from front last zero are behind = refl
-none_behind [] from front last (suc key) are behind = refl
-none_behind (None ∷ slots) from front last zero are behind = refl
-none_behind (None ∷ slots) from front last (suc key) are behind = none_behind slots (from + 1) front last key are (omega (arith, behind))
-none_behind (Some x ∷ slots) from [] last zero are behind =
+pub none_after : {T : Type 0} → (slots : List (Option T)) (from : ℕ) (prefix : List (ℕ × T)) (last : ℕ × T) (key : ℕ) → entries_from from slots ≡ prefix ++ last ∷ [] → last.0 + 1 ≤ from + key → slice_index_or slots key None ≡ None
+none_after [] from prefix last zero are tail = refl
+none_after [] from prefix last (suc key) are tail = refl
+none_after (None ∷ slots) from prefix last zero are tail = refl
+none_after (None ∷ slots) from prefix last (suc key) are tail = none_after slots (from + 1) prefix last key are (omega (arith, tail))
+none_after (Some x ∷ slots) from [] last zero are tail =
     let first : from ≡ last.0 = ap (λ entries. (first_of last entries).0) are in
-    absurd (omega (arith, behind, first))
-none_behind (Some x ∷ slots) from [] last (suc key) are behind = none_left slots (from + 1) key (ap rest_of are)
-none_behind (Some x ∷ slots) from (y ∷ front) last zero are behind = absurd (omega (arith, behind, least slots (from + 1) front last (ap rest_of are)))
-none_behind (Some x ∷ slots) from (y ∷ front) last (suc key) are behind = none_behind slots (from + 1) front last key (ap rest_of are) (omega (arith, behind))
+    absurd (omega (arith, tail, first))
+none_after (Some x ∷ slots) from [] last (suc key) are tail = none_left slots (from + 1) key (ap rest_of are)
+none_after (Some x ∷ slots) from (y ∷ prefix) last zero are tail = absurd (omega (arith, tail, least slots (from + 1) prefix last (ap rest_of are)))
+none_after (Some x ∷ slots) from (y ∷ prefix) last (suc key) are tail = none_after slots (from + 1) prefix last key (ap rest_of are) (omega (arith, tail))

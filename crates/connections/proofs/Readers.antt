@@ -91,20 +91,20 @@ next_is_item None t u all_reported takes = (all_reported, takes)
 next_is_item (Some what) t u all_reported takes = inr (all_reported, takes)
 
 fits_ipp : (read : List ℕ) (said : List HttpElement) (closes : Bool) (body : List ℕ) (reader : HttpState) (u : IppClientState) → Http.HasRead read said reader → u.reader ≡ reader → u.closes ≡ closes → Body.HasRead body u.body → FitsIpp read (entry.Http said closes body) u
-fits_ipp read said closes body reader u stands same is body_read = record {
+fits_ipp read said closes body reader u reaches same is body_read = record {
   said = said;
   body = body;
   unreported = [];
   is = ap (λ (x : Bool). entry.Http said x body) (sym is);
   all_reported = λ off. refl;
-  stands = subst (λ (xs : List HttpElement). Http.HasRead read xs u.reader) (sym (append-nil said)) (subst (λ (r : HttpState). Http.HasRead read said r) (sym same) stands);
+  reaches = subst (λ (xs : List HttpElement). Http.HasRead read xs u.reader) (sym (append-nil said)) (subst (λ (r : HttpState). Http.HasRead read said r) (sym same) reaches);
   body_read = subst (λ (xs : List ℕ). Body.HasRead xs u.body) (sym (append-nil body)) body_read;
 }
 
 -- all that the body was fed was reported
-stands_reported : (read : List ℕ) (progress : PeerRecord) (t : IppClientState) (f : FitsIpp read progress t) → t.unreported ≡ false → Http.HasRead read f.said t.reader
-stands_reported read progress t f off =
-    let none : Http.HasRead read (f.said ++ map HasByte []) t.reader = subst (λ (xs : List ℕ). Http.HasRead read (f.said ++ map HasByte xs) t.reader) (f.all_reported off) f.stands in
+reaches_reported : (read : List ℕ) (progress : PeerRecord) (t : IppClientState) (f : FitsIpp read progress t) → t.unreported ≡ false → Http.HasRead read f.said t.reader
+reaches_reported read progress t f off =
+    let none : Http.HasRead read (f.said ++ map HasByte []) t.reader = subst (λ (xs : List ℕ). Http.HasRead read (f.said ++ map HasByte xs) t.reader) (f.all_reported off) f.reaches in
     subst (λ (xs : List HttpElement). Http.HasRead read xs t.reader) (append-nil f.said) none
 
 body_reported : (read : List ℕ) (progress : PeerRecord) (t : IppClientState) (f : FitsIpp read progress t) → t.unreported ≡ false → Body.HasRead f.body t.body
@@ -113,56 +113,56 @@ body_reported read progress t f off =
     subst (λ (xs : List ℕ). Body.HasRead xs t.body) (append-nil f.body) none
 
 parses_first : (read : List ℕ) (said : List HttpElement) (reader : HttpState) → Http.HasRead read said reader → Http.ParsesFirst read said
-parses_first read said reader stands = record { next = reader.awaited; left = stands.left; leads = stands.leads }
+parses_first read said reader reaches = record { next = reader.awaited; left = reaches.left; leads = reaches.leads }
 
 -- the step for an item
 abbrev Comes : Entry → List HttpElement → Bool → List ℕ → Step → IppClientState → Type 0
 Comes e said closes body what u = (progress : PeerRecord) × NextItem e said closes body what (with_progress progress e) × FitsIpp e.read progress u
 
 part_comes : (e : Entry) (said : List HttpElement) (t u : IppClientState) (body : List ℕ) (reader : HttpState) (what : Step) → Http.HasRead e.read (said ++ elements_of item.BodyPart reader.part) reader → Body.HasRead body t.body → HandlesIpp item.BodyPart what (with_http reader t) u → Comes e said t.closes body what u
-part_comes e said t u body reader (step.Due due last) stands body_read it = (
+part_comes e said t u body reader (step.Due due last) reaches body_read it = (
   entry.Http (said ++ elements_of item.BodyPart reader.part) t.closes (body ++ reader.part),
-  record { item = item.BodyPart; part = reader.part; next = parses_first e.read (said ++ elements_of item.BodyPart reader.part) reader stands; comes = inl it.0; after = refl },
-  fits_ipp e.read (said ++ elements_of item.BodyPart reader.part) t.closes (body ++ reader.part) reader u stands (ap (λ (x : IppClientState). x.reader) it.1) (ap (λ (x : IppClientState). x.closes) it.1) (it.2 body body_read),
+  record { item = item.BodyPart; part = reader.part; next = parses_first e.read (said ++ elements_of item.BodyPart reader.part) reader reaches; comes = inl it.0; after = refl },
+  fits_ipp e.read (said ++ elements_of item.BodyPart reader.part) t.closes (body ++ reader.part) reader u reaches (ap (λ (x : IppClientState). x.reader) it.1) (ap (λ (x : IppClientState). x.closes) it.1) (it.2 body body_read),
 )
-part_comes e said t u body reader (step.Asks ask last) stands body_read it = absurd it
-part_comes e said t u body reader (step.Breaks ask) stands body_read it = (
+part_comes e said t u body reader (step.Asks ask last) reaches body_read it = absurd it
+part_comes e said t u body reader (step.Breaks ask) reaches body_read it = (
   entry.Http (said ++ elements_of item.BodyPart reader.part) t.closes body,
-  record { item = item.BodyPart; part = reader.part; next = parses_first e.read (said ++ elements_of item.BodyPart reader.part) reader stands; comes = inr it.0; after = refl },
-  fits_ipp e.read (said ++ elements_of item.BodyPart reader.part) t.closes body reader u stands (ap (λ (x : IppClientState). x.reader) it.1) (ap (λ (x : IppClientState). x.closes) it.1) (subst (λ (x : IppClientState). Body.HasRead body x.body) (sym it.1) body_read),
+  record { item = item.BodyPart; part = reader.part; next = parses_first e.read (said ++ elements_of item.BodyPart reader.part) reader reaches; comes = inr it.0; after = refl },
+  fits_ipp e.read (said ++ elements_of item.BodyPart reader.part) t.closes body reader u reaches (ap (λ (x : IppClientState). x.reader) it.1) (ap (λ (x : IppClientState). x.closes) it.1) (subst (λ (x : IppClientState). Body.HasRead body x.body) (sym it.1) body_read),
 )
 
 item_comes : (e : Entry) (said : List HttpElement) (t u : IppClientState) (body : List ℕ) (reader : HttpState) (what : Step) (it : HttpItem) → Http.HasRead e.read (said ++ elements_of it reader.part) reader → Body.HasRead body t.body → HandlesIpp it what (with_http reader t) u → Comes e said t.closes body what u
-item_comes e said t u body reader what (item.Head closes) stands body_read (is, same, begun) = (
+item_comes e said t u body reader what (item.Head closes) reaches body_read (is, same, begun) = (
   entry.Http (said ++ elements_of (item.Head closes) reader.part) closes [],
-  record { item = item.Head closes; part = reader.part; next = parses_first e.read (said ++ elements_of (item.Head closes) reader.part) reader stands; comes = is; after = refl },
-  fits_ipp e.read (said ++ elements_of (item.Head closes) reader.part) closes [] reader u stands (ap (λ (x : IppClientState). x.reader) same) (ap (λ (x : IppClientState). x.closes) same) begun,
+  record { item = item.Head closes; part = reader.part; next = parses_first e.read (said ++ elements_of (item.Head closes) reader.part) reader reaches; comes = is; after = refl },
+  fits_ipp e.read (said ++ elements_of (item.Head closes) reader.part) closes [] reader u reaches (ap (λ (x : IppClientState). x.reader) same) (ap (λ (x : IppClientState). x.closes) same) begun,
 )
-item_comes e said t u body reader what item.Continue stands body_read (is, same) = (
+item_comes e said t u body reader what item.Continue reaches body_read (is, same) = (
   entry.Http (said ++ elements_of item.Continue reader.part) t.closes body,
-  record { item = item.Continue; part = reader.part; next = parses_first e.read (said ++ elements_of item.Continue reader.part) reader stands; comes = is; after = refl },
-  fits_ipp e.read (said ++ elements_of item.Continue reader.part) t.closes body reader u stands (ap (λ (x : IppClientState). x.reader) same) (ap (λ (x : IppClientState). x.closes) same) (subst (λ (x : IppClientState). Body.HasRead body x.body) (sym same) body_read),
+  record { item = item.Continue; part = reader.part; next = parses_first e.read (said ++ elements_of item.Continue reader.part) reader reaches; comes = is; after = refl },
+  fits_ipp e.read (said ++ elements_of item.Continue reader.part) t.closes body reader u reaches (ap (λ (x : IppClientState). x.reader) same) (ap (λ (x : IppClientState). x.closes) same) (subst (λ (x : IppClientState). Body.HasRead body x.body) (sym same) body_read),
 )
-item_comes e said t u body reader what item.BodyPart stands body_read it = part_comes e said t u body reader what stands body_read it
-item_comes e said t u body reader what item.BodyEnd stands body_read (same, begun, ends) = (
+item_comes e said t u body reader what item.BodyPart reaches body_read it = part_comes e said t u body reader what reaches body_read it
+item_comes e said t u body reader what item.BodyEnd reaches body_read (same, begun, ends) = (
   entry.Http (said ++ elements_of item.BodyEnd reader.part) t.closes [],
-  record { item = item.BodyEnd; part = reader.part; next = parses_first e.read (said ++ elements_of item.BodyEnd reader.part) reader stands; comes = ends body body_read; after = refl },
-  fits_ipp e.read (said ++ elements_of item.BodyEnd reader.part) t.closes [] reader u stands (ap (λ (x : IppClientState). x.reader) same) (ap (λ (x : IppClientState). x.closes) same) begun,
+  record { item = item.BodyEnd; part = reader.part; next = parses_first e.read (said ++ elements_of item.BodyEnd reader.part) reader reaches; comes = ends body body_read; after = refl },
+  fits_ipp e.read (said ++ elements_of item.BodyEnd reader.part) t.closes [] reader u reaches (ap (λ (x : IppClientState). x.reader) same) (ap (λ (x : IppClientState). x.closes) same) begun,
 )
-item_comes e said t u body reader what (item.Refuse refusal) stands body_read (is, same) = (
+item_comes e said t u body reader what (item.Refuse refusal) reaches body_read (is, same) = (
   entry.Http (said ++ elements_of (item.Refuse refusal) reader.part) t.closes body,
-  record { item = item.Refuse refusal; part = reader.part; next = parses_first e.read (said ++ elements_of (item.Refuse refusal) reader.part) reader stands; comes = is; after = refl },
-  fits_ipp e.read (said ++ elements_of (item.Refuse refusal) reader.part) t.closes body reader u stands (ap (λ (x : IppClientState). x.reader) same) (ap (λ (x : IppClientState). x.closes) same) (subst (λ (x : IppClientState). Body.HasRead body x.body) (sym same) body_read),
+  record { item = item.Refuse refusal; part = reader.part; next = parses_first e.read (said ++ elements_of (item.Refuse refusal) reader.part) reader reaches; comes = is; after = refl },
+  fits_ipp e.read (said ++ elements_of (item.Refuse refusal) reader.part) t.closes body reader u reaches (ap (λ (x : IppClientState). x.reader) same) (ap (λ (x : IppClientState). x.closes) same) (subst (λ (x : IppClientState). Body.HasRead body x.body) (sym same) body_read),
 )
 
 ipp_comes : (settings : ServerSettings) (e : Entry) (t u : IppClientState) (what : Step) → FitsIpp e.read e.progress t → NextIpp (Some what) t u → HasCome settings e what (of.Ipp u)
 ipp_comes settings e t u what f (inl (on, is, same)) =
     let fits : FitsIpp e.read (entry.Http (f.said ++ map HasByte f.unreported) t.closes (f.body ++ f.unreported)) u =
-    fits_ipp e.read (f.said ++ map HasByte f.unreported) t.closes (f.body ++ f.unreported) t.reader u f.stands (ap (λ (x : IppClientState). x.reader) same) (ap (λ (x : IppClientState). x.closes) same) (subst (λ (x : IppClientState). Body.HasRead (f.body ++ f.unreported) x.body) (sym same) f.body_read) in
+    fits_ipp e.read (f.said ++ map HasByte f.unreported) t.closes (f.body ++ f.unreported) t.reader u f.reaches (ap (λ (x : IppClientState). x.reader) same) (ap (λ (x : IppClientState). x.closes) same) (subst (λ (x : IppClientState). Body.HasRead (f.body ++ f.unreported) x.body) (sym same) f.body_read) in
     let next : NextItem e f.said t.closes f.body silent (with_progress (entry.Http (f.said ++ map HasByte f.unreported) t.closes (f.body ++ f.unreported)) e) = record {
       item = item.BodyPart;
       part = f.unreported;
-      next = parses_first e.read (f.said ++ map HasByte f.unreported) t.reader f.stands;
+      next = parses_first e.read (f.said ++ map HasByte f.unreported) t.reader f.reaches;
       comes = inl refl;
       after = refl;
     } in
@@ -174,7 +174,7 @@ ipp_comes settings e t u what f (inl (on, is, same)) =
     } in
     subst (λ (w : Step). HasCome settings e w (of.Ipp u)) (sym is) comes
 ipp_comes settings e t u what f (inr (off, (it, reader, answers, falls, takes_item))) =
-    let c = item_comes e f.said t u f.body reader what it (answers.0 e.read f.said (stands_reported e.read e.progress t f off)) (body_reported e.read e.progress t f off) takes_item in
+    let c = item_comes e f.said t u f.body reader what it (answers.0 e.read f.said (reaches_reported e.read e.progress t f off)) (body_reported e.read e.progress t f off) takes_item in
     record { progress = c.0; takes_item = subst (λ (k : PeerRecord). ItemComes settings k e what (with_progress c.0 e)) (sym f.is) c.1; broken = c.2; whole = λ goes. c.2 }
 
 -- ---- an LPD client
@@ -182,23 +182,23 @@ ipp_comes settings e t u what f (inr (off, (it, reader, answers, falls, takes_it
 lpd_comes : (settings : ServerSettings) (e : Entry) (t u : LpdClientState) (what : Step) → FitsLpd e.read e.progress t → NextLpd (is_queue settings) (Some what) t u → HasCome settings e what (of.Lpd u)
 lpd_comes settings e t u what f (inl (it, reader, answers, falls, (same, comes))) =
     let items : List ItemRecord = f.items ++ item_record it reader.file ∷ [] in
-    let stands : Lpd.HasRead e.read items reader = answers e.read f.items f.stands in
-    let fits : FitsLpd e.read (entry.Queue (f.items ++ item_record it reader.file ∷ []) u.session) u = record { items = f.items ++ item_record it reader.file ∷ []; is = refl; stands = subst (λ (r : LpdState). Lpd.HasRead e.read (f.items ++ item_record it reader.file ∷ []) r) (sym same) stands } in
+    let reaches : Lpd.HasRead e.read items reader = answers e.read f.items f.reaches in
+    let fits : FitsLpd e.read (entry.Queue (f.items ++ item_record it reader.file ∷ []) u.session) u = record { items = f.items ++ item_record it reader.file ∷ []; is = refl; reaches = subst (λ (r : LpdState). Lpd.HasRead e.read (f.items ++ item_record it reader.file ∷ []) r) (sym same) reaches } in
     let next : LpdItemComes (is_queue settings) e f.items t.session what (with_progress (entry.Queue (f.items ++ item_record it reader.file ∷ []) u.session) e) = record {
       said = item_record it reader.file;
       session_after = u.session;
-      next = record { next = reader.awaited; left = stands.left; leads = stands.leads };
+      next = record { next = reader.awaited; left = reaches.left; leads = reaches.leads };
       comes = comes;
       after = refl;
     } in
     record { progress = entry.Queue (f.items ++ item_record it reader.file ∷ []) u.session; takes_item = subst (λ (k : PeerRecord). ItemComes settings k e what (with_progress (entry.Queue (f.items ++ item_record it reader.file ∷ []) u.session) e)) (sym f.is) (inl next); broken = fits; whole = λ goes. fits }
 lpd_comes settings e t u what f (inr (inl (fault, answers, comes, is))) =
-    let found = answers.1 e.read f.items f.stands in
-    let fits : FitsLpd e.read e.progress u = record { items = f.items; is = f.is ∙ sym (ap (λ (x : LpdClientState). entry.Queue f.items x.session) is); stands = found.1 } in
+    let found = answers.1 e.read f.items f.reaches in
+    let fits : FitsLpd e.read e.progress u = record { items = f.items; is = f.is ∙ sym (ap (λ (x : LpdClientState). entry.Queue f.items x.session) is); reaches = found.1 } in
     let next : FindsFault e f.items what (with_progress e.progress e) = record { fault = fault; is = found.0; comes = comes; after = refl } in
     record { progress = e.progress; takes_item = subst (λ (k : PeerRecord). ItemComes settings k e what (with_progress e.progress e)) (sym f.is) (inr (inl next)); broken = fits; whole = λ goes. fits }
 lpd_comes settings e t u what f (inr (inr (answers, comes, is))) =
-    let fits : FitsLpd e.read e.progress u = record { items = f.items; is = f.is ∙ sym (ap (λ (x : LpdClientState). entry.Queue f.items x.session) is); stands = subst (λ (r : LpdState). Lpd.HasRead e.read f.items r) (sym answers.0) f.stands } in
+    let fits : FitsLpd e.read e.progress u = record { items = f.items; is = f.is ∙ sym (ap (λ (x : LpdClientState). entry.Queue f.items x.session) is); reaches = subst (λ (r : LpdState). Lpd.HasRead e.read f.items r) (sym answers.0) f.reaches } in
     record { progress = e.progress; takes_item = subst (λ (k : PeerRecord). ItemComes settings k e what (with_progress e.progress e)) (sym f.is) (inr (inr (comes, refl))); broken = fits; whole = λ goes. fits }
 
 -- ---- a device
@@ -220,9 +220,9 @@ first_is_hello (Some (FailReport job)) r is = cc
 first_is_hello (Some GoneReport) r is = cc
 
 hello_first : (read : List ℕ) (r : ReportRecord) (reader : LinkState) → Link.HasRead read (r ∷ []) reader → IsHello r
-hello_first read r reader stands =
-    let front = stands.leads.1 in
-    first_is_hello (said (words_of (strip_carriage_return (take front.count read)))) r front.parses
+hello_first read r reader reaches =
+    let prefix = reaches.leads.1 in
+    first_is_hello (said (words_of (strip_carriage_return (take prefix.count read)))) r prefix.parses
 
 -- the step for a report, and the device then: the device has given its name, unless the connection breaks
 record Comes_of (named : List ℕ → Option ℕ) (device : Option ℕ) (it : ReportRecord) (what : Step) (after : Option ℕ) : Type 0 where
@@ -245,10 +245,10 @@ first_comes named (reported.Fail job) what after hello greets = absurd hello
 first_comes named reported.Gone what after hello greets = absurd hello
 
 report_comes : (named : List ℕ → Option ℕ) (read : List ℕ) (given : List ReportRecord) (device : Option ℕ) (it : Report) (reader : LinkState) (what : Step) (after : Option ℕ) → (device ≡ None → given ≡ []) → Link.HasRead read (given ++ report_of it ∷ []) reader → ComesOf named device it what after → Comes_of named device (report_of it) what after
-report_comes named read given None it reader what after unnamed stands comes =
-    let only : Link.HasRead read (report_of it ∷ []) reader = subst (λ (rs : List ReportRecord). Link.HasRead read (rs ++ report_of it ∷ []) reader) (unnamed refl) stands in
+report_comes named read given None it reader what after unnamed reaches comes =
+    let only : Link.HasRead read (report_of it ∷ []) reader = subst (λ (rs : List ReportRecord). Link.HasRead read (rs ++ report_of it ∷ []) reader) (unnamed refl) reaches in
     first_comes named it what after (hello_first read (report_of it) reader only) comes
-report_comes named read given (Some device) it reader what after unnamed stands (is, some) = record {
+report_comes named read given (Some device) it reader what after unnamed reaches (is, some) = record {
   steps = ((it, refl, is), some);
   goes = λ goes no. let never : Some device ≡ None = sym some ∙ no in cc;
 }
@@ -259,12 +259,12 @@ off_device read reports u = record { reports = reports; is = refl; linked = λ n
 device_comes : (settings : ServerSettings) (e : Entry) (t u : DeviceState) (what : Step) → FitsDevice e.read e.progress false t → NextDevice (device_named settings) (Some what) t u → HasCome settings e what (of.Device u)
 device_comes settings e t u what f (inl (it, reader, answers, falls, (same, comes))) =
     let linked = f.linked refl in
-    let stands : Link.HasRead e.read (f.reports ++ report_of it ∷ []) reader = answers e.read f.reports linked.stands in
-    let c = report_comes (device_named settings) e.read f.reports t.device it reader what u.device linked.unnamed stands comes in
+    let reaches : Link.HasRead e.read (f.reports ++ report_of it ∷ []) reader = answers e.read f.reports linked.reaches in
+    let c = report_comes (device_named settings) e.read f.reports t.device it reader what u.device linked.unnamed reaches comes in
     let next : ReportComes (device_named settings) e f.reports t.device what (with_progress (entry.Link (f.reports ++ report_of it ∷ []) u.device) e) = record {
       said = report_of it;
       device_after = u.device;
-      next = record { next = reader.greeted; left = stands.left; leads = stands.leads };
+      next = record { next = reader.greeted; left = reaches.left; leads = reaches.leads };
       comes = c.steps;
       after = refl;
     } in
@@ -275,11 +275,11 @@ device_comes settings e t u what f (inl (it, reader, answers, falls, (same, come
       whole = λ goes. record {
         reports = f.reports ++ report_of it ∷ [];
         is = refl;
-        linked = λ on. record { stands = subst (λ (r : LinkState). Link.HasRead e.read (f.reports ++ report_of it ∷ []) r) (sym same) stands; unnamed = λ none. absurd (c.goes goes none) };
+        linked = λ on. record { reaches = subst (λ (r : LinkState). Link.HasRead e.read (f.reports ++ report_of it ∷ []) r) (sym same) reaches; unnamed = λ none. absurd (c.goes goes none) };
       };
     }
 device_comes settings e t u what f (inr (inl (fault, answers, comes, is))) =
-    let found = answers.1 e.read f.reports (f.linked refl).stands in
+    let found = answers.1 e.read f.reports (f.linked refl).reaches in
     let progress : e.progress ≡ entry.Link f.reports u.device = f.is ∙ sym (ap (λ (x : DeviceState). entry.Link f.reports x.device) is) in
     let next : FindsLinkFault e f.reports t.device what (with_progress e.progress e) = record { fault = fault; is = found.0; comes = comes; after = refl } in
     record {
@@ -299,38 +299,38 @@ device_comes settings e t u what f (inr (inr (answers, comes, is))) =
 
 -- ---- any of them
 
-pub peer_comes : (settings : ServerSettings) (e : Entry) (x y : Peer) (what : Step) → FitsPeer e.read e.progress false x → NextPeer settings (Some what) x y → HasCome settings e what y
-peer_comes settings e (of.Ipp t) (of.Ipp u) what f next = ipp_comes settings e t u what f next
-peer_comes settings e (of.Lpd t) (of.Lpd u) what f next = lpd_comes settings e t u what f next
-peer_comes settings e (of.Device t) (of.Device u) what f next = device_comes settings e t u what f next
-peer_comes settings e (of.Ipp t) (of.Lpd u) what f next = absurd next
-peer_comes settings e (of.Ipp t) (of.Device u) what f next = absurd next
-peer_comes settings e (of.Lpd t) (of.Ipp u) what f next = absurd next
-peer_comes settings e (of.Lpd t) (of.Device u) what f next = absurd next
-peer_comes settings e (of.Device t) (of.Ipp u) what f next = absurd next
-peer_comes settings e (of.Device t) (of.Lpd u) what f next = absurd next
+pub peer_next : (settings : ServerSettings) (e : Entry) (x y : Peer) (what : Step) → FitsPeer e.read e.progress false x → NextPeer settings (Some what) x y → HasCome settings e what y
+peer_next settings e (of.Ipp t) (of.Ipp u) what f next = ipp_comes settings e t u what f next
+peer_next settings e (of.Lpd t) (of.Lpd u) what f next = lpd_comes settings e t u what f next
+peer_next settings e (of.Device t) (of.Device u) what f next = device_comes settings e t u what f next
+peer_next settings e (of.Ipp t) (of.Lpd u) what f next = absurd next
+peer_next settings e (of.Ipp t) (of.Device u) what f next = absurd next
+peer_next settings e (of.Lpd t) (of.Ipp u) what f next = absurd next
+peer_next settings e (of.Lpd t) (of.Device u) what f next = absurd next
+peer_next settings e (of.Device t) (of.Ipp u) what f next = absurd next
+peer_next settings e (of.Device t) (of.Lpd u) what f next = absurd next
 
 -- the bytes that are left have no whole item
 pub rested : (settings : ServerSettings) (read : List ℕ) (progress : PeerRecord) (x y : Peer) → FitsPeer read progress false x → NextPeer settings None x y → IsActedOnAs read progress × FitsPeer read progress false y
 rested settings read progress (of.Ipp t) (of.Ipp u) f (off, (answers, is)) =
-    let all : Exchanges read f.said = answers.1 read f.said (stands_reported read progress t f off) in
-    let stands : Http.HasRead read f.said u.reader = subst (λ (xs : List HttpElement). Http.HasRead read xs u.reader) (append-nil f.said) (answers.0 read f.said (stands_reported read progress t f off)) in
+    let all : Exchanges read f.said = answers.1 read f.said (reaches_reported read progress t f off) in
+    let reaches : Http.HasRead read f.said u.reader = subst (λ (xs : List HttpElement). Http.HasRead read xs u.reader) (append-nil f.said) (answers.0 read f.said (reaches_reported read progress t f off)) in
     let body_read : Body.HasRead f.body u.body = subst (λ (v : IppClientState). Body.HasRead f.body v.body) (sym is) (body_reported read progress t f off) in
-    let fits : FitsIpp read (entry.Http f.said t.closes f.body) u = fits_ipp read f.said t.closes f.body u.reader u stands refl (ap (λ (v : IppClientState). v.closes) is) body_read in
+    let fits : FitsIpp read (entry.Http f.said t.closes f.body) u = fits_ipp read f.said t.closes f.body u.reader u reaches refl (ap (λ (v : IppClientState). v.closes) is) body_read in
     (subst (λ (k : PeerRecord). IsActedOnAs read k) (sym f.is) all, subst (λ (k : PeerRecord). FitsIpp read k u) (sym f.is) fits)
 rested settings read progress (of.Lpd t) (of.Lpd u) f (answers, is) =
-    let all : LpdItems read f.items Open = answers.1 read f.items f.stands in
+    let all : LpdItems read f.items Open = answers.1 read f.items f.reaches in
     let same : entry.Queue f.items t.session ≡ entry.Queue f.items u.session = sym (ap (λ (v : LpdClientState). entry.Queue f.items v.session) is) in
-    (subst (λ (k : PeerRecord). IsActedOnAs read k) (sym f.is) all, record { items = f.items; is = f.is ∙ same; stands = subst (λ (r : LpdState). Lpd.HasRead read f.items r) (sym answers.0) f.stands })
+    (subst (λ (k : PeerRecord). IsActedOnAs read k) (sym f.is) all, record { items = f.items; is = f.is ∙ same; reaches = subst (λ (r : LpdState). Lpd.HasRead read f.items r) (sym answers.0) f.reaches })
 rested settings read progress (of.Device t) (of.Device u) f (answers, is) =
     let linked = f.linked refl in
-    let all = answers.1 read f.reports linked.stands in
+    let all = answers.1 read f.reports linked.reaches in
     let same : entry.Link f.reports t.device ≡ entry.Link f.reports u.device = sym (ap (λ (v : DeviceState). entry.Link f.reports v.device) is) in (
       subst (λ (k : PeerRecord). IsActedOnAs read k) (sym f.is) all,
       record {
         reports = f.reports;
         is = f.is ∙ same;
-        linked = λ whole. record { stands = subst (λ (r : LinkState). Link.HasRead read f.reports r) (sym answers.0) linked.stands; unnamed = λ none. linked.unnamed (sym (ap (λ (v : DeviceState). v.device) is) ∙ none) };
+        linked = λ whole. record { reaches = subst (λ (r : LinkState). Link.HasRead read f.reports r) (sym answers.0) linked.reaches; unnamed = λ none. linked.unnamed (sym (ap (λ (v : DeviceState). v.device) is) ∙ none) };
       },
     )
 rested settings read progress (of.Ipp t) (of.Lpd u) f it = absurd it
@@ -344,8 +344,8 @@ map_bytes : (xs ys : List ℕ) → map HasByte xs ++ map HasByte ys ≡ map HasB
 map_bytes [] ys = refl
 map_bytes (x ∷ xs) ys = ap (λ (zs : List HttpElement). HasByte x ∷ zs) (map_bytes xs ys)
 
-fed_ipp : (read piece : List ℕ) (progress : PeerRecord) (t u : IppClientState) → FitsIpp read progress t → IsFedIpp piece t u → FitsIpp (read ++ piece) progress u
-fed_ipp read piece progress t u f (inl (is, stands)) =
+fed_ipp : (read segment : List ℕ) (progress : PeerRecord) (t u : IppClientState) → FitsIpp read progress t → IsFedIpp segment t u → FitsIpp (read ++ segment) progress u
+fed_ipp read segment progress t u f (inl (is, reaches)) =
     let same : entry.Http f.said t.closes f.body ≡ entry.Http f.said u.closes f.body = sym (ap (λ (v : IppClientState). entry.Http f.said v.closes f.body) is) in
     record {
       said = f.said;
@@ -353,40 +353,40 @@ fed_ipp read piece progress t u f (inl (is, stands)) =
       unreported = f.unreported;
       is = f.is ∙ same;
       all_reported = λ off. f.all_reported (sym (ap (λ (v : IppClientState). v.unreported) is) ∙ off);
-      stands = stands read (f.said ++ map HasByte f.unreported) f.stands;
+      reaches = reaches read (f.said ++ map HasByte f.unreported) f.reaches;
       body_read = subst (λ (v : IppClientState). Body.HasRead (f.body ++ f.unreported) v.body) (sym is) f.body_read;
     }
-fed_ipp read piece progress t u f (inr (is, stands, body_read)) =
+fed_ipp read segment progress t u f (inr (is, reaches, body_read)) =
     let same : entry.Http f.said t.closes f.body ≡ entry.Http f.said u.closes f.body = sym (ap (λ (v : IppClientState). entry.Http f.said v.closes f.body) is) in
     let on : u.unreported ≡ true = ap (λ (v : IppClientState). v.unreported) is in
-    let said : (f.said ++ map HasByte f.unreported) ++ map HasByte piece ≡ f.said ++ map HasByte (f.unreported ++ piece) =
-    append_assoc f.said (map HasByte f.unreported) (map HasByte piece) ∙ ap (λ (xs : List HttpElement). f.said ++ xs) (map_bytes f.unreported piece) in
+    let said : (f.said ++ map HasByte f.unreported) ++ map HasByte segment ≡ f.said ++ map HasByte (f.unreported ++ segment) =
+    append_assoc f.said (map HasByte f.unreported) (map HasByte segment) ∙ ap (λ (xs : List HttpElement). f.said ++ xs) (map_bytes f.unreported segment) in
     record {
       said = f.said;
       body = f.body;
-      unreported = f.unreported ++ piece;
+      unreported = f.unreported ++ segment;
       is = f.is ∙ same;
       all_reported = λ off. let never : true ≡ false = sym on ∙ off in cc;
-      stands = subst (λ (xs : List HttpElement). Http.HasRead (read ++ piece) xs u.reader) said (stands read (f.said ++ map HasByte f.unreported) f.stands);
-      body_read = subst (λ (xs : List ℕ). Body.HasRead xs u.body) (append_assoc f.body f.unreported piece) (body_read (f.body ++ f.unreported) f.body_read);
+      reaches = subst (λ (xs : List HttpElement). Http.HasRead (read ++ segment) xs u.reader) said (reaches read (f.said ++ map HasByte f.unreported) f.reaches);
+      body_read = subst (λ (xs : List ℕ). Body.HasRead xs u.body) (append_assoc f.body f.unreported segment) (body_read (f.body ++ f.unreported) f.body_read);
     }
 
--- a piece was fed
-pub fed_peer : (read piece : List ℕ) (progress : PeerRecord) (off : Bool) (x y : Peer) → FitsPeer read progress off x → IsFedPeer piece x y → FitsPeer (read ++ piece) progress off y
-fed_peer read piece progress off (of.Ipp t) (of.Ipp u) f fed = fed_ipp read piece progress t u f fed
-fed_peer read piece progress off (of.Lpd t) (of.Lpd u) f (is, stands) =
+-- a segment was fed
+pub fed_peer : (read segment : List ℕ) (progress : PeerRecord) (off : Bool) (x y : Peer) → FitsPeer read progress off x → IsFedPeer segment x y → FitsPeer (read ++ segment) progress off y
+fed_peer read segment progress off (of.Ipp t) (of.Ipp u) f fed = fed_ipp read segment progress t u f fed
+fed_peer read segment progress off (of.Lpd t) (of.Lpd u) f (is, reaches) =
     let same : entry.Queue f.items t.session ≡ entry.Queue f.items u.session = sym (ap (λ (v : LpdClientState). entry.Queue f.items v.session) is) in
-    record { items = f.items; is = f.is ∙ same; stands = stands read f.items f.stands }
-fed_peer read piece progress off (of.Device t) (of.Device u) f (is, stands) =
+    record { items = f.items; is = f.is ∙ same; reaches = reaches read f.items f.reaches }
+fed_peer read segment progress off (of.Device t) (of.Device u) f (is, reaches) =
     let same : entry.Link f.reports t.device ≡ entry.Link f.reports u.device = sym (ap (λ (v : DeviceState). entry.Link f.reports v.device) is) in
     record {
       reports = f.reports;
       is = f.is ∙ same;
-      linked = λ whole. record { stands = stands read f.reports (f.linked whole).stands; unnamed = λ none. (f.linked whole).unnamed (sym (ap (λ (v : DeviceState). v.device) is) ∙ none) };
+      linked = λ whole. record { reaches = reaches read f.reports (f.linked whole).reaches; unnamed = λ none. (f.linked whole).unnamed (sym (ap (λ (v : DeviceState). v.device) is) ∙ none) };
     }
-fed_peer read piece progress off (of.Ipp t) (of.Lpd u) f it = absurd it
-fed_peer read piece progress off (of.Ipp t) (of.Device u) f it = absurd it
-fed_peer read piece progress off (of.Lpd t) (of.Ipp u) f it = absurd it
-fed_peer read piece progress off (of.Lpd t) (of.Device u) f it = absurd it
-fed_peer read piece progress off (of.Device t) (of.Ipp u) f it = absurd it
-fed_peer read piece progress off (of.Device t) (of.Lpd u) f it = absurd it
+fed_peer read segment progress off (of.Ipp t) (of.Lpd u) f it = absurd it
+fed_peer read segment progress off (of.Ipp t) (of.Device u) f it = absurd it
+fed_peer read segment progress off (of.Lpd t) (of.Ipp u) f it = absurd it
+fed_peer read segment progress off (of.Lpd t) (of.Device u) f it = absurd it
+fed_peer read segment progress off (of.Device t) (of.Ipp u) f it = absurd it
+fed_peer read segment progress off (of.Device t) (of.Lpd u) f it = absurd it

@@ -114,8 +114,8 @@ Asking settings (Some what) e new = AsksNext settings what e new
 
 -- ---- the bytes of a peer
 
--- a piece is read whole, or discarded by a draining connection, or memory for it is refused and the connection breaks
+-- a segment is read whole, or discarded by a draining connection, or memory for it is refused and the connection breaks
 abbrev pub Feeds : List ℕ → Fed → Entry → Entry → Type 0
-Feeds piece fed.Discarded e new = (e.draining ≡ true) × (new ≡ e)
-Feeds piece fed.Fed e new = (e.draining ≡ false) × (new ≡ reading piece e)
-Feeds piece (fed.Refused id) e new = (e.draining ≡ false) × (id ≡ e.id) × (new ≡ broken e)
+Feeds segment fed.Discarded e new = (e.draining ≡ true) × (new ≡ e)
+Feeds segment fed.Fed e new = (e.draining ≡ false) × (new ≡ reading segment e)
+Feeds segment (fed.Refused id) e new = (e.draining ≡ false) × (id ≡ e.id) × (new ≡ broken e)

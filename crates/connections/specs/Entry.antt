@@ -62,9 +62,9 @@ waiting e = drop (length e.taken) e.due
 abbrev pub with_progress : PeerRecord → Entry → Entry
 with_progress progress e = record e { progress = progress }
 
--- a piece was read
+-- a segment was read
 abbrev pub reading : List ℕ → Entry → Entry
-reading piece e = record e { read = e.read ++ piece }
+reading segment e = record e { read = e.read ++ segment }
 
 -- the input of the connection has ended
 abbrev pub ending : Entry → Entry

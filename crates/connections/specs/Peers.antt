@@ -45,20 +45,20 @@ with_http reader t = record t { reader = reader }
 abbrev pub with_body : ReaderState → IppClientState → IppClientState
 with_body body t = record t { body = body }
 
--- a piece was fed to the reader
+-- a segment was fed to the reader
 abbrev pub FeedsReader : List ℕ → IppClientState → IppClientState → Type 0
-FeedsReader piece t u = (u ≡ with_http u.reader t) × ((stream : List ℕ) (given : List HttpElement) → Http.HasRead stream given t.reader → Http.HasRead (stream ++ piece) given u.reader)
+FeedsReader segment t u = (u ≡ with_http u.reader t) × ((stream : List ℕ) (given : List HttpElement) → Http.HasRead stream given t.reader → Http.HasRead (stream ++ segment) given u.reader)
 
--- a piece is bytes of a body, and was fed to the body at once; a later step reports it
+-- a segment is bytes of a body, and was fed to the body at once; a later step reports it
 abbrev pub FeedsBody : List ℕ → IppClientState → IppClientState → Type 0
-FeedsBody piece t u =
+FeedsBody segment t u =
     (u ≡ record t { reader = u.reader; body = u.body; unreported = true })
-    × ((stream : List ℕ) (given : List HttpElement) → Http.HasRead stream given t.reader → Http.HasRead (stream ++ piece) (given ++ map HasByte piece) u.reader)
-    × ((bytes : List ℕ) → Body.HasRead bytes t.body → Body.HasRead (bytes ++ piece) u.body)
+    × ((stream : List ℕ) (given : List HttpElement) → Http.HasRead stream given t.reader → Http.HasRead (stream ++ segment) (given ++ map HasByte segment) u.reader)
+    × ((bytes : List ℕ) → Body.HasRead bytes t.body → Body.HasRead (bytes ++ segment) u.body)
 
--- a piece was fed
+-- a segment was fed
 abbrev pub IsFedIpp : List ℕ → IppClientState → IppClientState → Type 0
-IsFedIpp piece t u = FeedsReader piece t u ⊎ FeedsBody piece t u
+IsFedIpp segment t u = FeedsReader segment t u ⊎ FeedsBody segment t u
 
 -- a request begins, with an empty body so far
 abbrev pub BeginsIpp : Bool → Step → IppClientState → IppClientState → Type 0
@@ -115,7 +115,7 @@ abbrev pub with_lpd : LpdState → LpdClientState → LpdClientState
 with_lpd reader t = record t { reader = reader }
 
 abbrev pub IsFedLpd : List ℕ → LpdClientState → LpdClientState → Type 0
-IsFedLpd piece t u = (u ≡ with_lpd u.reader t) × ((stream : List ℕ) (given : List ItemRecord) → Lpd.HasRead stream given t.reader → Lpd.HasRead (stream ++ piece) given u.reader)
+IsFedLpd segment t u = (u ≡ with_lpd u.reader t) × ((stream : List ℕ) (given : List ItemRecord) → Lpd.HasRead stream given t.reader → Lpd.HasRead (stream ++ segment) given u.reader)
 
 -- the step and the session after an item that was read
 abbrev pub ComesTo : (List ℕ → Bool) → ItemRecord → Step → LpdClientState → LpdClientState → Type 0
@@ -148,7 +148,7 @@ abbrev pub with_link : LinkState → DeviceState → DeviceState
 with_link reader t = record t { reader = reader }
 
 abbrev pub IsFedDevice : List ℕ → DeviceState → DeviceState → Type 0
-IsFedDevice piece t u = (u ≡ with_link u.reader t) × ((stream : List ℕ) (given : List ReportRecord) → Link.HasRead stream given t.reader → Link.HasRead (stream ++ piece) given u.reader)
+IsFedDevice segment t u = (u ≡ with_link u.reader t) × ((stream : List ℕ) (given : List ReportRecord) → Link.HasRead stream given t.reader → Link.HasRead (stream ++ segment) given u.reader)
 
 abbrev pub link_step : LinkError → Option ℕ → Step
 link_step (link.Fault fault) device = faulty device
@@ -190,10 +190,10 @@ IsNewPeer door.Devices (of.Device t) = IsNewDevice t
 IsNewPeer _ _ = ⊥
 
 abbrev pub IsFedPeer : List ℕ → Peer → Peer → Type 0
-IsFedPeer piece (of.Ipp t) (of.Ipp u) = IsFedIpp piece t u
-IsFedPeer piece (of.Lpd t) (of.Lpd u) = IsFedLpd piece t u
-IsFedPeer piece (of.Device t) (of.Device u) = IsFedDevice piece t u
-IsFedPeer piece _ _ = ⊥
+IsFedPeer segment (of.Ipp t) (of.Ipp u) = IsFedIpp segment t u
+IsFedPeer segment (of.Lpd t) (of.Lpd u) = IsFedLpd segment t u
+IsFedPeer segment (of.Device t) (of.Device u) = IsFedDevice segment t u
+IsFedPeer segment _ _ = ⊥
 
 abbrev pub NextPeer : ServerSettings → Option Step → Peer → Peer → Type 0
 NextPeer settings what (of.Ipp t) (of.Ipp u) = NextIpp what t u

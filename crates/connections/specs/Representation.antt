@@ -22,18 +22,18 @@ pub record FitsIpp (read : List ℕ) (progress : PeerRecord) (t : IppClientState
   pub unreported : List ℕ
   pub is : progress ≡ entry.Http said t.closes body
   pub all_reported : t.unreported ≡ false → unreported ≡ []
-  pub stands : Http.HasRead read (said ++ map HasByte unreported) t.reader
+  pub reaches : Http.HasRead read (said ++ map HasByte unreported) t.reader
   pub body_read : Body.HasRead (body ++ unreported) t.body
 
 -- the reader of an LPD client has been fed all bytes read
 pub record FitsLpd (read : List ℕ) (progress : PeerRecord) (t : LpdClientState) : Type 0 where
   pub items : List ItemRecord
   pub is : progress ≡ entry.Queue items t.session
-  pub stands : Lpd.HasRead read items t.reader
+  pub reaches : Lpd.HasRead read items t.reader
 
 -- the reader of a device has been fed all bytes read; a device without a name gave no reports
 pub record IsLinked (read : List ℕ) (reports : List ReportRecord) (t : DeviceState) : Type 0 where
-  pub stands : Link.HasRead read reports t.reader
+  pub reaches : Link.HasRead read reports t.reader
   pub unnamed : t.device ≡ None → reports ≡ []
 
 -- a device's record fits its entry; on a broken connection the reader is free

@@ -4,7 +4,7 @@ use Rattle.std.specs.Option.{option_map_or}
 use Rattle.settings_file.specs.Settings.{ServerSettings}
 use Rattle.wires.specs.Poll.{Poll, Closes}
 use Rattle.wires.specs.declared.wire.Door.{Door}
-use Rattle.send_queues.specs.SendQueue.{OffersFront}
+use Rattle.send_queues.specs.SendQueue.{OffersPrefix}
 use Rattle.send_queues.specs.declared.queue.TheConstants.{RESERVED_BYTES}
 use Rattle.send_queues.specs.declared.queue.Offered.{Offered}
 use Rattle.send_queues.specs.declared.queue.Offered.TheVariants as offer
@@ -61,10 +61,10 @@ abbrev pub AsksAt : ServerSettings → ℕ → Option ConnectionAsk → List (Op
 AsksAt settings key None old new = NoSlot key old new ⊎ OnSlot key (Becomes (Asking settings None)) old new
 AsksAt settings key (Some asked) old new = OnSlot key (λ c d. (asked.id ≡ c.id) × Becomes (Asking settings (Some asked.ask)) c d × (load d < load c)) old new
 
--- the result of feeding a piece under a key
+-- the result of feeding a segment under a key
 abbrev pub FeedsAt : ℕ → List ℕ → Option Fed → List (Option ConnectionState) → List (Option ConnectionState) → Type 0
-FeedsAt key piece None old new = NoSlot key old new
-FeedsAt key piece (Some how) old new = OnSlot key (Becomes (Feeds piece how)) old new
+FeedsAt key segment None old new = NoSlot key old new
+FeedsAt key segment (Some how) old new = OnSlot key (Becomes (Feeds segment how)) old new
 
 -- an upper bound on the steps that the connection under a key can still bring
 abbrev pub work_at : List (Option ConnectionState) → ℕ → ℕ
@@ -113,7 +113,7 @@ pub record Offers {W : Type 0} (polled : W → Poll → W → Type 0) (key : ℕ
   pub before : ConnectionState
   pub left : List ℕ
   pub there : slice_index_or old key None ≡ Some before
-  pub offers : OffersFront polled before.id before.output wire answer left wire'
+  pub offers : OffersPrefix polled before.id before.output wire answer left wire'
   pub slots : new ≡ slice_set old key (Some (record before { output = left }))
 
 abbrev pub OffersAt : {W : Type 0} → (W → Poll → W → Type 0) → ℕ → List (Option ConnectionState) → W → Offered → List (Option ConnectionState) → W → Type 0

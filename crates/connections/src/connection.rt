@@ -2,7 +2,7 @@
 ghost use Rattle.std.specs.Prelude.{◌≡◌, ◌<◌, ◌++◌, false, IfOk, IfSome, IsTrue, OnOk, OnErr, length};
 ghost use Rattle.send_queues.specs.Outgoing.{bytes_of, is_job};
 ghost use Rattle.send_queues.specs.declared.queue.TheConstants.{RESERVED_BYTES};
-ghost use Rattle.send_queues.specs.SendQueue.{OffersFront};
+ghost use Rattle.send_queues.specs.SendQueue.{OffersPrefix};
 ghost use Rattle.connections.specs.Entry.{opening_entry, ending, broken, superseded_entry};
 ghost use Rattle.connections.specs.Steps.{due_bytes};
 ghost use Rattle.connections.specs.Asking.{Asking, Feeds};
@@ -21,10 +21,10 @@ use std::alloc::{AllocError, Global};
 use std::marker::Model;
 use wires::{Door, Wire, WireId};
 
-/// The result of feeding a piece that was read.
+/// The result of feeding a segment that was read.
 #[derive(Clone, Copy, PartialEq, Eq)]
 pub enum Fed {
-    /// The connection is draining, and the piece was discarded.
+    /// The connection is draining, and the segment was discarded.
     Discarded,
     Fed,
     /// Memory was refused, and the connection of this number broke.
@@ -152,16 +152,16 @@ impl Connection {
         self.broken = true;
     }
 
-    /// Feeds a piece that was read. A draining connection discards it; if memory is refused, the connection
+    /// Feeds a segment that was read. A draining connection discards it; if memory is refused, the connection
     /// breaks.
     #[tactic(auto, using(crate::proofs::Entries::fed))]
-    pub fn feed(&mut self, piece: &[u8]) -> Fed
-        ensures { Becomes (Feeds piece.now result) self.old self.new }
+    pub fn feed(&mut self, segment: &[u8]) -> Fed
+        ensures { Becomes (Feeds segment.now result) self.old self.new }
     {
         if self.draining {
             return Fed::Discarded;
         }
-        match self.peer.feed(piece) {
+        match self.peer.feed(segment) {
             Ok(()) => Fed::Fed,
             Err(_) => {
                 self.broken = true;
@@ -235,7 +235,7 @@ impl Connection {
 
     /// Offers a prefix of the waiting bytes to the wire, which may take some of them.
     pub fn offer<W: Wire>(&mut self, wire: &mut W) -> Offered
-        ensures offers { OffersFront W.polled self.old.id self.old.output wire.old result self.new.output wire.new }
+        ensures offers { OffersPrefix W.polled self.old.id self.old.output wire.old result self.new.output wire.new }
         ensures rest { self.new ≡ record self.old { output = self.new.output } }
     {
         self.output.offer(self.id, wire)

@@ -41,11 +41,11 @@ impl Device {
 
     /// Feeds the next bytes of the wire to the reader. The only error is out of memory, and none of the bytes
     /// is taken.
-    pub fn feed(&mut self, piece: &[u8]) -> Result<(), AllocError>
-        ensures ok { OnOk result (IsFedDevice piece.now self.old self.new) }
+    pub fn feed(&mut self, segment: &[u8]) -> Result<(), AllocError>
+        ensures ok { OnOk result (IsFedDevice segment.now self.old self.new) }
         ensures err { OnErr result (self.new ≡ self.old) }
     {
-        self.reader.feed(piece)
+        self.reader.feed(segment)
     }
 
     /// The device that gave its name.

@@ -51,45 +51,45 @@ impl IppClient {
 
     /// Feeds the next bytes of the wire to the reader, or to the body if all of them are bytes of it: so a long
     /// body is copied once. The only error is out of memory, and none of the bytes is taken.
-    pub fn feed(&mut self, piece: &[u8]) -> Result<(), AllocError>
-        ensures ok { OnOk result (IsFedIpp piece.now self.old self.new) }
+    pub fn feed(&mut self, segment: &[u8]) -> Result<(), AllocError>
+        ensures ok { OnOk result (IsFedIpp segment.now self.old self.new) }
         ensures err { OnErr result (self.new ≡ self.old) }
     {
-        match u32::try_from(piece.len()) {
-            Ok(count) => self.feed_counted(piece, count),
-            Err(_) => self.feed_reader(piece),
+        match u32::try_from(segment.len()) {
+            Ok(count) => self.feed_counted(segment, count),
+            Err(_) => self.feed_reader(segment),
         }
     }
 
     /// Feeds so many bytes to the reader, or to the body.
-    fn feed_counted(&mut self, piece: &[u8], count: u32) -> Result<(), AllocError>
-        requires { length piece.now ≡ count }
-        ensures ok { OnOk result (IsFedIpp piece.now self.old self.new) }
+    fn feed_counted(&mut self, segment: &[u8], count: u32) -> Result<(), AllocError>
+        requires { length segment.now ≡ count }
+        ensures ok { OnOk result (IsFedIpp segment.now self.old self.new) }
         ensures err { OnErr result (self.new ≡ self.old) }
     {
         if self.reader.awaits_body(count) {
-            self.feed_body(piece, count)
+            self.feed_body(segment, count)
         } else {
-            self.feed_reader(piece)
+            self.feed_reader(segment)
         }
     }
 
     /// Feeds bytes to the reader.
-    fn feed_reader(&mut self, piece: &[u8]) -> Result<(), AllocError>
-        ensures ok { OnOk result (FeedsReader piece.now self.old self.new) }
+    fn feed_reader(&mut self, segment: &[u8]) -> Result<(), AllocError>
+        ensures ok { OnOk result (FeedsReader segment.now self.old self.new) }
         ensures err { OnErr result (self.new ≡ self.old) }
     {
-        self.reader.feed(piece)
+        self.reader.feed(segment)
     }
 
     /// Feeds so many bytes, which are bytes of a body, to that body.
-    fn feed_body(&mut self, piece: &[u8], count: u32) -> Result<(), AllocError>
-        requires counted { length piece.now ≡ count }
+    fn feed_body(&mut self, segment: &[u8], count: u32) -> Result<(), AllocError>
+        requires counted { length segment.now ≡ count }
         requires awaited { AwaitsBody count self.old.reader }
-        ensures ok { OnOk result (FeedsBody piece.now self.old self.new) }
+        ensures ok { OnOk result (FeedsBody segment.now self.old self.new) }
         ensures err { OnErr result (self.new ≡ self.old) }
     {
-        self.body.feed(piece)?;
+        self.body.feed(segment)?;
         self.reader.hear_body(count);
         self.unreported = true;
         Ok(())

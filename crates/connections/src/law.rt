@@ -5,8 +5,8 @@ ghost use Rattle.connections.specs.Choice.{AsksOne};
 pub fn one_ask()
     ensures { AsksOne }
 {
-    http_front::one_front();
-    lpd::one_front();
-    device_link::one_front();
+    http_front::one_prefix();
+    lpd::one_prefix();
+    device_link::one_prefix();
     ipp_operations::one_asked();
 }

@@ -49,11 +49,11 @@ impl LpdClient {
 
     /// Feeds the next bytes of the wire to the reader. The only error is out of memory, and none of the bytes
     /// is taken.
-    pub fn feed(&mut self, piece: &[u8]) -> Result<(), AllocError>
-        ensures ok { OnOk result (IsFedLpd piece.now self.old self.new) }
+    pub fn feed(&mut self, segment: &[u8]) -> Result<(), AllocError>
+        ensures ok { OnOk result (IsFedLpd segment.now self.old self.new) }
         ensures err { OnErr result (self.new ≡ self.old) }
     {
-        self.reader.feed(piece)
+        self.reader.feed(segment)
     }
 
     /// Returns the step for the next item of the stream if it is whole, or for the first fault.

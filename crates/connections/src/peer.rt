@@ -33,14 +33,14 @@ impl Peer {
 
     /// Feeds the next bytes of the wire to the reader. The only error is out of memory, and none of the bytes
     /// is taken.
-    pub fn feed(&mut self, piece: &[u8]) -> Result<(), AllocError>
-        ensures ok { OnOk result (IsFedPeer piece.now self.old self.new) }
+    pub fn feed(&mut self, segment: &[u8]) -> Result<(), AllocError>
+        ensures ok { OnOk result (IsFedPeer segment.now self.old self.new) }
         ensures err { OnErr result (self.new ≡ self.old) }
     {
         match self {
-            Peer::Ipp(client) => client.feed(piece),
-            Peer::Lpd(client) => client.feed(piece),
-            Peer::Device(device) => device.feed(piece),
+            Peer::Ipp(client) => client.feed(segment),
+            Peer::Lpd(client) => client.feed(segment),
+            Peer::Device(device) => device.feed(segment),
         }
     }
 

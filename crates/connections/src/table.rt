@@ -55,11 +55,11 @@ pub fn enqueue(
     None
 }
 
-/// Feeds a piece to the connection under a key. Returns `None` if there is no connection.
-pub fn feed(connections: &mut Slab<Connection>, key: usize, piece: &[u8]) -> Option<Fed>
-    ensures { FeedsAt key piece.now result connections.old.slots connections.new.slots }
+/// Feeds a segment to the connection under a key. Returns `None` if there is no connection.
+pub fn feed(connections: &mut Slab<Connection>, key: usize, segment: &[u8]) -> Option<Fed>
+    ensures { FeedsAt key segment.now result connections.old.slots connections.new.slots }
 {
-    Some(connections.get_mut(key)?.feed(piece))
+    Some(connections.get_mut(key)?.feed(segment))
 }
 
 /// Records that the input of the connection under a key has ended.

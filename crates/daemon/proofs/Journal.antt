@@ -11,7 +11,7 @@ use Rattle.server.specs.Polls.{Happening, Polled, Notified, Chosen}
 use Rattle.server.specs.Ledger.{Ledger}
 use Rattle.server.specs.State.{EngineState}
 use Rattle.server.specs.Turn.{Trace, Turned, is_due, is_tick_due}
-use Rattle.server.specs.Refinement.{Represents, StandsAt}
+use Rattle.server.specs.Refinement.{Represents, IsAt}
 use Rattle.journal.specs.declared.gate.Pass.{Pass}
 use Rattle.journal.specs.declared.gate.Pass.TheVariants.{Outward}
 use Rattle.journal.specs.Passing.{calls_in, IsIdle, IsQuiet, AreOutward}
@@ -84,7 +84,7 @@ files_noted grows pass moment notified a b c d turn rests idles ends stored open
       record {
         journaled = idles.2 ∙ (rests.0.2 ∙ (turn.journaled ∙ filed.journaled));
         whole = ends.0 ∙ (ap (λ (n : NoteState). n.heads) rests.1 ∙ (adds.heads ∙ filed.whole));
-        stands = subst (λ (e : EngineState). StandsAt opening (trace ++ Turned moment hs ∷ []) e) (sym same) (turn.stands opening trace filed.stands);
+        reaches = subst (λ (e : EngineState). IsAt opening (trace ++ Turned moment hs ∷ []) e) (sym same) (turn.reaches opening trace filed.reaches);
         file = λ now is.
             let e = noted_end moment c.wire.notes d.wire.notes ends now is in
             let l = adds.added filed.whole e.0 (sym (ap (λ (n : NoteState). n.lines) rests.1) ∙ e.3) in
@@ -164,12 +164,12 @@ unticked pass moment notified a b turn none l fits =
 abbrev pub Quiets : Type 0
 Quiets = (moment : ℕ) (old new : Ledger) (hs : List Happening) → TurnsUnticked moment old hs new → IsQuiet hs → new ≡ old
 
--- what stands at a trace and keeps no lines is filed
-lost_lines : (opening : State) (trace : Trace) (d : Server) (stored : List ℕ) → d.journaled ≡ true → d.wire.notes.heads ≡ false → StandsAt opening trace d.engine → d.wire.notes.lines ≡ None → IsFiled opening trace d stored
-lost_lines opening trace d stored journaled whole stands none = record {
+-- what is at a trace and keeps no lines is filed
+lost_lines : (opening : State) (trace : Trace) (d : Server) (stored : List ℕ) → d.journaled ≡ true → d.wire.notes.heads ≡ false → IsAt opening trace d.engine → d.wire.notes.lines ≡ None → IsFiled opening trace d stored
+lost_lines opening trace d stored journaled whole reaches none = record {
   journaled = journaled;
   whole = whole;
-  stands = stands;
+  reaches = reaches;
   file = λ now is. absurd (none-some now (sym none ∙ is));
 }
 
@@ -184,7 +184,7 @@ none_filed quiets pass moment notified before after a b c turn rests none unnoti
       Turned moment hs ∷ [],
       lost_lines opening (trace ++ Turned moment hs ∷ []) c stored
           (rests.0.2 ∙ (turn.journaled ∙ filed.journaled)) (ap (λ (n : NoteState). n.heads) rests.1 ∙ (adds.heads ∙ filed.whole))
-          (subst (λ (e : EngineState). StandsAt opening (trace ++ Turned moment hs ∷ []) e) (sym rests.0.0) (turn.stands opening trace filed.stands)) lines,
+          (subst (λ (e : EngineState). IsAt opening (trace ++ Turned moment hs ∷ []) e) (sym rests.0.0) (turn.reaches opening trace filed.reaches)) lines,
     )
 none_filed quiets pass moment notified before after a b c turn rests none unnotified was is same stored opening trace filed (Some now) lines =
     let hs = turn.happenings in
@@ -192,7 +192,7 @@ none_filed quiets pass moment notified before after a b c turn rests none unnoti
     let l = adds.added filed.whole now (sym (ap (λ (n : NoteState). n.lines) rests.1) ∙ lines) in
     let empty : l.1 ≡ [] = no_more l.0 l.1 now l.3 (sym (is now lines) ∙ (same ∙ was l.0 l.2)) in
     let quiet = are_quiet hs l.1 l.4 empty (turn.unnotified unnotified) in
-    let stood = filed.stands in
+    let stood = filed.reaches in
     let r = unticked pass moment notified a b turn none stood.0 stood.2 in
     let back : r.0 ≡ stood.0 = quiets moment stood.0 r.0 hs r.1 quiet in
     let fits : Represents stood.0 c.engine = subst (λ (e : EngineState). Represents stood.0 e) (sym rests.0.0) (subst (λ (x : Ledger). Represents x b.engine) back r.2) in
@@ -201,7 +201,7 @@ none_filed quiets pass moment notified before after a b c turn rests none unnoti
       subst (λ (t : Trace). IsFiled opening t c stored) (sym (append-nil trace)) (record {
         journaled = rests.0.2 ∙ (turn.journaled ∙ filed.journaled);
         whole = ap (λ (n : NoteState). n.heads) rests.1 ∙ (adds.heads ∙ filed.whole);
-        stands = (stood.0, stood.1, fits);
+        reaches = (stood.0, stood.1, fits);
         file = λ text said. subst (λ (t : List ℕ). IsFile trace (stored ++ t)) (sym kept ∙ same_Some now text (sym lines ∙ said)) (filed.file l.0 l.2);
       }),
     )
@@ -218,7 +218,7 @@ pub rested : (opening : State) (trace : Trace) (a b : Server) (stored : List ℕ
 rested opening trace a b stored rests filed = record {
   journaled = rests.0.2 ∙ filed.journaled;
   whole = ap (λ (n : NoteState). n.heads) rests.1 ∙ filed.whole;
-  stands = subst (λ (e : EngineState). StandsAt opening trace e) (sym rests.0.0) filed.stands;
+  reaches = subst (λ (e : EngineState). IsAt opening trace e) (sym rests.0.0) filed.reaches;
   file = λ now is. filed.file now (sym (ap (λ (n : NoteState). n.lines) rests.1) ∙ is);
 }
 
@@ -242,7 +242,7 @@ sends_stored sends moment a d stored none due (notified, b, turn, idles, lines) 
   happenings = turn.happenings;
   calls = idles.1 ∙ turn.calls;
   decided = λ opening trace filed.
-      let stood = filed.stands in
+      let stood = filed.reaches in
       let r = unticked Outward moment notified a b turn due stood.0 stood.2 in
       (all_stored opening trace a stored none filed, (stood.0, stood.1, sends moment stood.0 r.0 turn.happenings r.1 turn.are_passed));
 }
@@ -256,7 +256,7 @@ pub sends_nothing : (a : Server) (stored : List ℕ) → a.wire.notes.lines ≡ 
 sends_nothing a stored none = record {
   happenings = [];
   calls = sym (append-nil (calls_of a));
-  decided = λ opening trace filed. (all_stored opening trace a stored none filed, (filed.stands.0, filed.stands.1, λ id offered count is. absurd (no_place is)));
+  decided = λ opening trace filed. (all_stored opening trace a stored none filed, (filed.reaches.0, filed.reaches.1, λ id offered count is. absurd (no_place is)));
 }
 
 -- the server rests afterwards
@@ -283,7 +283,7 @@ keeps_stored a b stored stored' kept idles heads lines none is opening trace fil
   subst (λ (t : Trace). IsFiled opening t b stored') (sym (append-nil trace)) (record {
     journaled = idles.2 ∙ filed.journaled;
     whole = heads ∙ filed.whole;
-    stands = subst (λ (e : EngineState). StandsAt opening trace e) (sym idles.0) filed.stands;
+    reaches = subst (λ (e : EngineState). IsAt opening trace e) (sym idles.0) filed.reaches;
     file = λ now said. subst (λ (t : List ℕ). IsFile trace t) (sym is ∙ (sym (append-nil stored') ∙ ap (λ (t : List ℕ). stored' ++ t) (same_Some [] now (sym none ∙ said)))) (filed.file kept lines);
   }),
 )

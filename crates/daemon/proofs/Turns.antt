@@ -7,7 +7,7 @@ use Rattle.server.specs.Law.{happenings_in}
 use Rattle.server.specs.Polls.{Happening, Polled, Notified, Chosen}
 use Rattle.server.specs.State.{EngineState}
 use Rattle.server.specs.Turn.{Trace, Turned}
-use Rattle.server.specs.Refinement.{Represents, StandsAt}
+use Rattle.server.specs.Refinement.{Represents, IsAt}
 use Rattle.journal.specs.declared.gate.Pass.{Pass}
 use Rattle.journal.specs.declared.gate.Pass.TheVariants.{All}
 use Rattle.journal.specs.Passing.{calls_in, passed}
@@ -30,7 +30,7 @@ pub after_rest : (pass : Pass) (moment : ℕ) (notified : Bool) (a b c : Server)
 after_rest pass moment notified a b c (idles, noted) turn = record {
   happenings = turn.happenings;
   turns = λ l fits. turn.turns l (subst (λ (e : EngineState). Represents l e) (sym idles.0) fits);
-  stands = λ opening trace stands. turn.stands opening trace (subst (λ (e : EngineState). StandsAt opening trace e) (sym idles.0) stands);
+  reaches = λ opening trace reaches. turn.reaches opening trace (subst (λ (e : EngineState). IsAt opening trace e) (sym idles.0) reaches);
   are_passed = turn.are_passed;
   calls = turn.calls ∙ ap (λ (polls : List Poll). polls ++ passed pass (calls_in turn.happenings)) idles.1;
   notes = subst (λ (n : NoteState). AreNoted (calls_in turn.happenings) n c.wire.notes) noted turn.notes;
@@ -81,21 +81,21 @@ all_calls hs more old begun turned rested new first turn idles later =
     later ∙ (ap (λ (polls : List Poll). polls ++ calls_in more) (idles ∙ (turn ∙ ap (λ (polls : List Poll). polls ++ calls_in hs) first))
     ∙ (append_assoc old (calls_in hs) (calls_in more) ∙ ap (λ (polls : List Poll). old ++ polls) (sym (calls_then hs more))))
 
-pub has_turned : (opening : State) (trace : Trace) (moments : List ℕ) (old new : Server) → StandsAt opening trace old.engine → ServesTurns moments old new → HasTurned opening trace moments old new
-has_turned opening trace [] old new stands idles = record {
+pub has_turned : (opening : State) (trace : Trace) (moments : List ℕ) (old new : Server) → IsAt opening trace old.engine → ServesTurns moments old new → HasTurned opening trace moments old new
+has_turned opening trace [] old new reaches idles = record {
   turns = [];
   are_at = tt;
-  stands = subst (λ (t : Trace). StandsAt opening t new.engine) (sym (append-nil trace)) (subst (λ (e : EngineState). StandsAt opening trace e) (sym idles.0) stands);
+  reaches = subst (λ (t : Trace). IsAt opening t new.engine) (sym (append-nil trace)) (subst (λ (e : EngineState). IsAt opening trace e) (sym idles.0) reaches);
   calls = idles.1 ∙ sym (append-nil (calls_of old));
 }
-has_turned opening trace (moment ∷ moments) old new stands (begun, served, first, (notified, turned, turn, idles, lines), later) =
-    let At = λ (t : Trace) (e : EngineState). StandsAt opening t e in
+has_turned opening trace (moment ∷ moments) old new reaches (begun, served, first, (notified, turned, turn, idles, lines), later) =
+    let At = λ (t : Trace) (e : EngineState). IsAt opening t e in
     let after = trace ++ Turned moment turn.happenings ∷ [] in
-    let stood = subst (At trace) (sym first.0) stands in
-    let rest = has_turned opening after moments served new (subst (At after) (sym idles.0) (turn.stands opening trace stood)) later in
+    let stood = subst (At trace) (sym first.0) reaches in
+    let rest = has_turned opening after moments served new (subst (At after) (sym idles.0) (turn.reaches opening trace stood)) later in
     record {
       turns = Turned moment turn.happenings ∷ rest.turns;
       are_at = (refl, rest.are_at);
-      stands = subst (λ (t : Trace). StandsAt opening t new.engine) (append_assoc trace (Turned moment turn.happenings ∷ []) rest.turns) rest.stands;
+      reaches = subst (λ (t : Trace). IsAt opening t new.engine) (append_assoc trace (Turned moment turn.happenings ∷ []) rest.turns) rest.reaches;
       calls = all_calls turn.happenings (happenings_in rest.turns) (calls_of old) (calls_of begun) (calls_of turned) (calls_of served) (calls_of new) first.1 (turn.calls ∙ ap (λ (polls : List Poll). calls_of begun ++ polls) (all_passed (calls_in turn.happenings))) idles.1 rest.calls;
     }

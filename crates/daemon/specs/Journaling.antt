@@ -6,7 +6,7 @@ use Rattle.recordings.specs.Noting.{NoteState, are_comments, with_note}
 use Rattle.server.specs.Polls.{Happening}
 use Rattle.server.specs.Ledger.{Ledger, opening_ledger}
 use Rattle.server.specs.Turn.{Trace, Allows}
-use Rattle.server.specs.Refinement.{StandsAt}
+use Rattle.server.specs.Refinement.{IsAt}
 use Rattle.journal.specs.declared.gate.Pass.TheVariants.{Outward}
 use Rattle.journal.specs.Passing.{calls_in, passed}
 use Rattle.journal.specs.Laws.{AreDue}
@@ -18,7 +18,7 @@ use Rattle.daemon.specs.Serving.{calls_of}
 pub record IsFiled (opening : State) (trace : Trace) (server : Server) (stored : List ℕ) : Type 0 where
   pub journaled : server.journaled ≡ true
   pub whole : server.wire.notes.heads ≡ false
-  pub stands : StandsAt opening trace server.engine
+  pub reaches : IsAt opening trace server.engine
   pub file : (kept : List ℕ) → server.wire.notes.lines ≡ Some kept → IsFile trace (stored ++ kept)
 
 -- wherever the engine was at a filed trace, it is at a filed trace that begins with that trace

@@ -8,7 +8,7 @@ use Rattle.server.specs.Polls.{Happening, Polled, Notified, Chosen}
 use Rattle.server.specs.Ledger.{Ledger}
 use Rattle.server.specs.Rel.{Seen}
 use Rattle.server.specs.Turn.{Trace, Turn, Turned}
-use Rattle.server.specs.Refinement.{Represents, StandsAt}
+use Rattle.server.specs.Refinement.{Represents, IsAt}
 use Rattle.journal.specs.declared.gate.Pass.{Pass}
 use Rattle.journal.specs.declared.gate.Pass.TheVariants.{All}
 use Rattle.journal.specs.Passing.{calls_in, ArePassed, passed}
@@ -34,7 +34,7 @@ HasNoNote (Chosen choice ∷ hs) = HasNoNote hs
 pub record TakesTurn (pass : Pass) (moment : ℕ) (notified : Bool) (old new : Server) : Type 0 where
   pub happenings : List Happening
   pub turns : (l : Ledger) → Represents l old.engine → (l' : Ledger) × Seen (Turn moment) l happenings l' × Represents l' new.engine
-  pub stands : (opening : State) (trace : Trace) → StandsAt opening trace old.engine → StandsAt opening (trace ++ Turned moment happenings ∷ []) new.engine
+  pub reaches : (opening : State) (trace : Trace) → IsAt opening trace old.engine → IsAt opening (trace ++ Turned moment happenings ∷ []) new.engine
   pub are_passed : ArePassed pass (calls_in happenings)
   pub calls : calls_of new ≡ calls_of old ++ passed pass (calls_in happenings)
   pub notes : AreNoted (calls_in happenings) old.wire.notes new.wire.notes
@@ -72,5 +72,5 @@ AreTurnsAt _ _ = ⊥
 pub record HasTurned (opening : State) (before : Trace) (moments : List ℕ) (old new : Server) : Type 0 where
   pub turns : Trace
   pub are_at : AreTurnsAt moments turns
-  pub stands : StandsAt opening (before ++ turns) new.engine
+  pub reaches : IsAt opening (before ++ turns) new.engine
   pub calls : calls_of new ≡ calls_of old ++ calls_in (happenings_in turns)

@@ -2,7 +2,7 @@
 ghost use Rattle.std.specs.Prelude.{ℕ, List};
 ghost use Rattle.print_room.specs.State.{State};
 ghost use Rattle.server.specs.Turn.{Trace};
-ghost use Rattle.server.specs.Refinement.{StandsAt};
+ghost use Rattle.server.specs.Refinement.{IsAt};
 ghost use Rattle.daemon.specs.Serving.{ServesTurns, HasTurned};
 ghost use Rattle.daemon.specs.declared.serving.Server.{Server};
 
@@ -11,5 +11,5 @@ ghost use Rattle.daemon.specs.declared.serving.Server.{Server};
 ///
 /// A new server's engine is at the empty trace ([`crate::Server::new`]).
 pub fn turns_are_one_trace()
-    ensures { (opening : State) (trace : Trace) (moments : List ℕ) (old new : Server) → StandsAt opening trace old.engine → ServesTurns moments old new → HasTurned opening trace moments old new }
+    ensures { (opening : State) (trace : Trace) (moments : List ℕ) (old new : Server) → IsAt opening trace old.engine → ServesTurns moments old new → HasTurned opening trace moments old new }
 {}

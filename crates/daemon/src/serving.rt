@@ -2,7 +2,7 @@
 ghost use Rattle.std.specs.Prelude.{◌≡◌, ◌&&◌, [], IfOk, IsFalse, Some, is_some, true, false};
 ghost use Rattle.settings_file.specs.Settings.{MeetsLimits};
 ghost use Rattle.print_room.specs.Opening.{opening};
-ghost use Rattle.server.specs.Refinement.{StandsAt};
+ghost use Rattle.server.specs.Refinement.{IsAt};
 ghost use Rattle.journal.specs.declared.gate.Pass.TheVariants.{All};
 ghost use Rattle.daemon.specs.Serving.{calls_of, Idles, Rests, TakesTurn, ServesTurn, AddsLines};
 ghost use Rattle.daemon.specs.Journaling.{FilesTurn, NotesEnd, AddsComments};
@@ -82,7 +82,7 @@ impl Server {
     /// memory.
     pub fn new(alloc: Global, sockets: Sockets, settings: Settings) -> Result<Server, AllocError>
         requires { MeetsLimits settings }
-        ensures stands { IfOk result (λ server. StandsAt (opening settings 1) [] server.engine) }
+        ensures reaches { IfOk result (λ server. IsAt (opening settings 1) [] server.engine) }
         ensures calls { IfOk result (λ server. calls_of server ≡ sockets.history.calls) }
     {
         let names = settings.device_names(alloc)?;

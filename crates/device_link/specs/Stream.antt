@@ -24,13 +24,13 @@ abbrev pub silence : Ending → ParsedLines
 silence ending = record { reports = []; ending = ending }
 
 -- these reports, before the later reports
-abbrev pub with_front : List ReportRecord → ParsedLines → ParsedLines
-with_front reports later = record { reports = reports ++ later.reports; ending = later.ending }
+abbrev pub with_prefix : List ReportRecord → ParsedLines → ParsedLines
+with_prefix reports later = record { reports = reports ++ later.reports; ending = later.ending }
 
 -- the report of a line, before the later reports; a line that isn't a report is a fault, and the end
 abbrev pub parsed_after : Option ReportRecord → ParsedLines → ParsedLines
 parsed_after None later = silence (Faulty BadLine)
-parsed_after (Some report) later = with_front (report ∷ []) later
+parsed_after (Some report) later = with_prefix (report ∷ []) later
 
 -- the reports in the texts between line feeds; the last text isn't a whole line yet
 abbrev pub parsed_in : Bool → List (List ℕ) → ParsedLines
@@ -44,7 +44,7 @@ abbrev pub device_reports : List ℕ → ParsedLines
 device_reports stream = parsed_in false (texts_of stream)
 
 -- a whole line at the beginning is a report, and these bytes are after it
-pub record ParsesAtFront (greeted : Bool) (bytes : List ℕ) (report : ReportRecord) (rest : List ℕ) : Type 0 where
+pub record ParsesAtPrefix (greeted : Bool) (bytes : List ℕ) (report : ReportRecord) (rest : List ℕ) : Type 0 where
   pub count : ℕ
   pub line : first_line_of DEVICE_LINE_BYTES bytes ≡ Whole count
   pub parses : report_in greeted (take count bytes) ≡ Some report
@@ -53,7 +53,7 @@ pub record ParsesAtFront (greeted : Bool) (bytes : List ℕ) (report : ReportRec
 -- the bytes parse as these reports, with these bytes left; `next` is whether the device has given its name then
 abbrev pub Leads : Bool → List ℕ → List ReportRecord → Bool → List ℕ → Type 0
 Leads greeted bytes [] next left = (next ≡ greeted) × (left ≡ bytes)
-Leads greeted bytes (report ∷ reports) next left = (rest : List ℕ) × ParsesAtFront greeted bytes report rest × Leads true rest reports next left
+Leads greeted bytes (report ∷ reports) next left = (rest : List ℕ) × ParsesAtPrefix greeted bytes report rest × Leads true rest reports next left
 
 -- these are the first reports of the stream, whatever bytes follow
 pub record ParsesFirst (stream : List ℕ) (reports : List ReportRecord) : Type 0 where
@@ -105,7 +105,7 @@ Answers old (Err OutOfMemory) new = new ≡ old
 
 -- the first reports of a stream are a prefix of the reports of the stream with more bytes after it
 abbrev pub FirstStays : Type 0
-FirstStays = (stream more : List ℕ) (first : List ReportRecord) → ParsesFirst stream first → (later : ParsedLines) × (device_reports (stream ++ more) ≡ with_front first later)
+FirstStays = (stream more : List ℕ) (first : List ReportRecord) → ParsesFirst stream first → (later : ParsedLines) × (device_reports (stream ++ more) ≡ with_prefix first later)
 
 -- two prefixes of a stream's reports are equal if their lengths are equal
 abbrev pub FirstIsOne : Type 0
@@ -117,4 +117,4 @@ NoneFollows = (stream : List ℕ) (reports : List ReportRecord) (said : ReportRe
 
 -- the reports of a whole stream are those that a reader has given, and then those that the reader's state parses from its bytes and the bytes that follow
 abbrev pub ParsesTheRest : Type 0
-ParsesTheRest = (stream coming : List ℕ) (given : List ReportRecord) (reader : LinkState) → HasRead stream given reader → device_reports (stream ++ coming) ≡ with_front given (ahead reader coming)
+ParsesTheRest = (stream coming : List ℕ) (given : List ReportRecord) (reader : LinkState) → HasRead stream given reader → device_reports (stream ++ coming) ≡ with_prefix given (ahead reader coming)

@@ -3,7 +3,7 @@ ghost use Rattle.device_link.specs.Stream.{FirstIsOne, NoneFollows, FirstStays, 
 
 /// Two prefixes of a stream's reports are equal if their lengths are equal, and a stream contains no report after
 /// all of its reports.
-pub fn one_front()
+pub fn one_prefix()
     ensures one { FirstIsOne }
     ensures last { NoneFollows }
 {}

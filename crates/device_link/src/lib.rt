@@ -17,7 +17,7 @@ mod order;
 mod reader;
 
 pub use fault::{LinkError, LinkFault};
-pub use law::{given_first, one_front};
+pub use law::{given_first, one_prefix};
 pub use line::read_report;
 pub use number::MOST_PRINTED;
 pub use order::{write_cancel, write_job};

@@ -13,7 +13,7 @@ use std::alloc::{AllocError, Global};
 use std::marker::Model;
 use text::{FirstLine, Unread, first_line};
 
-/// A reader of a device's stream, which is fed in pieces of any length. In clauses it is a record of the
+/// A reader of a device's stream, which is fed in segments of any length. In clauses it is a record of the
 /// bytes that aren't read, whether the device has given its name, and its fault.
 #[derive(Drop)]
 pub struct LinkReader {
@@ -47,15 +47,15 @@ impl LinkReader {
     /// Feeds the next bytes of the connection. After a fault they are dropped.
     ///
     /// The only error is out of memory, and none of the bytes is taken then.
-    pub fn feed(&mut self, piece: &[u8]) -> Result<(), AllocError>
-        ensures fed { OnOk result ((stream : List ℕ) (given : List ReportRecord) → HasRead stream given self.old → HasRead (stream ++ piece.now) given self.new) }
+    pub fn feed(&mut self, segment: &[u8]) -> Result<(), AllocError>
+        ensures fed { OnOk result ((stream : List ℕ) (given : List ReportRecord) → HasRead stream given self.old → HasRead (stream ++ segment.now) given self.new) }
         ensures err { OnErr result (self.new ≡ self.old) }
         ensures over { IsSome self.old.fault → IsOk result × (self.new ≡ self.old) }
     {
         if self.fault().is_some() {
             return Ok(());
         }
-        self.append(piece)
+        self.append(segment)
     }
 
     /// Returns the next report, if its line is whole.
@@ -86,7 +86,7 @@ impl LinkReader {
         ensures answer { Answers self.old result self.new }
         ensures falls { IfOk result (λ report. IsSome report → work self.new < work self.old) }
     {
-        match self.read_front(length)? {
+        match self.read_prefix(length)? {
             None => Err(self.fail(LinkFault::BadLine)),
             Some(report) => {
                 self.pass_line(length);
@@ -110,7 +110,7 @@ impl LinkReader {
     }
 
     /// The report of the line of `length` bytes at the beginning.
-    fn read_front(&self, length: usize) -> Result<Option<Report>, AllocError>
+    fn read_prefix(&self, length: usize) -> Result<Option<Report>, AllocError>
         requires { length < length_of self.now.rest }
         ensures { IfOk result (λ report. option_map report_of report ≡ report_in self.now.greeted (take length self.now.rest)) }
     {
@@ -137,10 +137,10 @@ impl LinkReader {
 
     /// Appends bytes to those that aren't read. The only error is out of memory, and leaves the reader as it
     /// was.
-    fn append(&mut self, piece: &[u8]) -> Result<(), AllocError>
-        ensures ok { OnOk result (self.new ≡ record self.old { rest = self.old.rest ++ piece.now }) }
+    fn append(&mut self, segment: &[u8]) -> Result<(), AllocError>
+        ensures ok { OnOk result (self.new ≡ record self.old { rest = self.old.rest ++ segment.now }) }
         ensures err { OnErr result (self.new ≡ self.old) }
     {
-        self.unread.append(piece)
+        self.unread.append(segment)
     }
 }

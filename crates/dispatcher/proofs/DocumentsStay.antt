@@ -59,9 +59,9 @@ pub record RoomKeeps (old : State) : Type 0 where
 -- ---- a document is sent only if no check refuses it
 
 -- the result of two checks is the result of the second check on the value of the first
-behind : {A B : Type 0} (first : Result A Rejection) (second : A → Result B Rejection) (made : B) → (first >>= second) ≡ Ok made → (a : A) × (first ≡ Ok a) × (second a ≡ Ok made)
-behind (Ok a) second made is = (a, refl, is)
-behind (Err refusal) second made is = absurd (cc)
+tail : {A B : Type 0} (first : Result A Rejection) (second : A → Result B Rejection) (made : B) → (first >>= second) ≡ Ok made → (a : A) × (first ≡ Ok a) × (second a ≡ Ok made)
+tail (Ok a) second made is = (a, refl, is)
+tail (Err refusal) second made is = absurd (cc)
 
 at_last : {A : Type 0} (cause : Option SpoolRefusal) (one made : A) → (unrefused cause >>= (λ _. Ok one)) ≡ Ok made → (cause ≡ None) × (one ≡ made)
 at_last None one made is = (refl, cc is)
@@ -77,9 +77,9 @@ pub record IsSent (request : SendDocument) (old : State) (sent : Sent) : Type 0 
 
 pub is_sent : (request : SendDocument) (old : State) (sent : Sent) → sent_of request old ≡ Ok sent → IsSent request old sent
 is_sent request old sent is =
-    let job = behind (named_job request.job.target old) (sent_to_job request old) sent is in
-    let printer = behind (printer_of_job job.0 old) (sent_to_printer request old job.0) sent job.2 in
-    let format = behind (checked_format request.form printer.0.offer) (sent_in_format request old job.0) sent printer.2 in
+    let job = tail (named_job request.job.target old) (sent_to_job request old) sent is in
+    let printer = tail (printer_of_job job.0 old) (sent_to_printer request old job.0) sent job.2 in
+    let format = tail (checked_format request.form printer.0.offer) (sent_in_format request old job.0) sent printer.2 in
     let one : Sent = record { job = job.0.id; format = format.0; groups = sent_group old job.0 request.last ∷ [] } in
     let last = at_last (sending_refusal job.0.id request.job.user (length request.octets) request.last old) one sent format.2 in
     record {

@@ -9,7 +9,7 @@ use base_types::Limits;
 use plan_audit::{Audit, Objection, fault_line};
 use plan_checker::{PlanVerdict, check_plan};
 use plan_text::{PlanText, ReadError, read_plan_text};
-use program::{ExitStatus, InputFault, read_whole, write_front};
+use program::{ExitStatus, InputFault, read_whole, write_prefix};
 use std::alloc::{AllocError, Global};
 use std::io::{Read, Write};
 use std::slice;
@@ -37,7 +37,7 @@ pub fn run_draw<R: Read, W: Write>(
         return failed();
     };
     let picture = drawing.picture.as_bytes();
-    if write_front(writer, picture) == picture.len() {
+    if write_prefix(writer, picture) == picture.len() {
         drawing.audit
     } else {
         failed()

@@ -44,7 +44,7 @@ impl ShortTime {
     /// The number of characters of the time.
     pub fn letters(self) -> usize {
         let millis = self.0;
-        let (number, behind) = if millis < 1_000 {
+        let (number, tail) = if millis < 1_000 {
             (millis, 2)
         } else if millis < 60_000 {
             (millis / 1_000, 3)
@@ -53,7 +53,7 @@ impl ShortTime {
         } else {
             (millis / 3_600_000, 3)
         };
-        digits_of(number).saturating_add(behind)
+        digits_of(number).saturating_add(tail)
     }
 }
 
@@ -91,11 +91,11 @@ impl fmt::Display for ShortTime {
 
 impl Page {
     /// Appends two numbers, each with the text after it.
-    fn put_two(self, one: u128, behind_one: &str, other: u128, behind_other: &str) -> Page {
+    fn put_two(self, one: u128, after_one: &str, other: u128, after_other: &str) -> Page {
         self.put_shown(one)
-            .put(behind_one)
+            .put(after_one)
             .put_shown(other)
-            .put(behind_other)
+            .put(after_other)
     }
 
     /// Appends a time in ms, in words: `15 ms`, `12.5 s`, `2 min 30 s`, `1 h 5 min`. The rest is cut off.

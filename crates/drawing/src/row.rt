@@ -157,8 +157,8 @@ pub(crate) fn waiting_row(scale: Scale, columns: u16, steps: &[WaitingStep]) -> 
 
 /// Puts the number of a mark, which ends in a column; a number without room there starts with the row.
 fn put_mark(cells: &mut [u8], column: u16, number: u64) {
-    let behind = usize::from(column).saturating_add(1);
-    put_number(cells, behind.saturating_sub(digits_of(number)), number);
+    let tail = usize::from(column).saturating_add(1);
+    put_number(cells, tail.saturating_sub(digits_of(number)), number);
 }
 
 /// The row of the scale's numbers, each of which ends below its moment; the first number starts there.

@@ -27,8 +27,8 @@ use Rattle.http_front.specs.declared.reader.Step.TheVariants as step
 use Rattle.http_front.specs.Section.{section_in}
 use Rattle.http_front.specs.Chunk.{IsSizeOf, chunk_end}
 use Rattle.http_front.specs.Head.{Asks, judged}
-use Rattle.http_front.specs.Stream.{HttpElement, Waits, FrontIs, body_front, body_by, after_head, after_body, begins_head, is_last, elements_of, Exchanges, HttpState, HasRead, Steps, work}
-use Rattle.http_front.proofs.Fronts.{behind, rank_passed, waits_blank, passes_blank, waits_head, refuses_long, refuses_head, takes_head, invites, waits_size, refuses_long_size, refuses_size, last_size, large_size, some_size, waits_chunk, breaks_chunk, ends_chunk, ends_body, waits_trailer, refuses_trailer, ends_trailer}
+use Rattle.http_front.specs.Stream.{HttpElement, Waits, PrefixIs, body_prefix, body_by, after_head, after_body, begins_head, is_last, elements_of, Exchanges, HttpState, HasRead, Steps, work}
+use Rattle.http_front.proofs.Prefixes.{tail, rank_passed, waits_blank, passes_blank, waits_head, refuses_long, refuses_head, takes_head, invites, waits_size, refuses_long_size, refuses_size, last_size, large_size, some_size, waits_chunk, breaks_chunk, ends_chunk, ends_body, waits_trailer, refuses_trailer, ends_trailer}
 use Rattle.http_front.proofs.Steps.{tells_all, lends, lends_less}
 use Rattle.http_front.proofs.HeadsAreDecided.{Decided, request_decides, chunk_decides}
 
@@ -84,24 +84,24 @@ size_by bytes (inr none) = (None, λ l whole. none ((l.digits, (l.pad, l.extensi
 size_some : (bytes : List ℕ) → (size : Option ℕ) × IsSizeOf bytes size
 size_some bytes = size_by bytes (chunk_decides bytes)
 
--- ---- a step, wherever a reader stands
+-- ---- a step, in each state of a reader
 
 -- a step is taken, if only to wait
 abbrev StepsSo : HttpState → Type 0
 StepsSo old = (answer : Step) × (new : HttpState) × Steps old answer new
 
 head_asks : (old : HttpState) (count : ℕ) (asked : Result Request HttpRejection) → old.awaited ≡ Head → begins_head old.rest ≡ true → section_in HTTP_HEAD_BYTES old.rest ≡ line.Whole count → Asks (take count old.rest) asked → StepsSo old
-head_asks old count (Ok request) is begins lines asks = (step.Gives (item.Head request.closes), behind old count (after_head request), takes_head old count request is begins lines asks)
-head_asks old count (Err refusal) is begins lines asks = (step.Gives (item.Refuse refusal), behind old count Nothing, refuses_head old count refusal is begins lines asks)
+head_asks old count (Ok request) is begins lines asks = (step.Gives (item.Head request.closes), tail old count (after_head request), takes_head old count request is begins lines asks)
+head_asks old count (Err refusal) is begins lines asks = (step.Gives (item.Refuse refusal), tail old count Nothing, refuses_head old count refusal is begins lines asks)
 
 head_lines : (old : HttpState) (lines : FirstLine) → old.awaited ≡ Head → begins_head old.rest ≡ true → section_in HTTP_HEAD_BYTES old.rest ≡ lines → StepsSo old
 head_lines old (line.Whole count) is begins lines = let asks = asks_some (take count old.rest) in head_asks old count asks.0 is begins lines asks.1
-head_lines old line.TooLong is begins lines = (step.Gives (item.Refuse HeadTooLarge), behind old 0 Nothing, refuses_long old is begins lines)
+head_lines old line.TooLong is begins lines = (step.Gives (item.Refuse HeadTooLarge), tail old 0 Nothing, refuses_long old is begins lines)
 head_lines old line.Unfinished is begins lines = (step.Waits, old, waits_head old is begins lines)
 
 head_begins : (old : HttpState) (begins : Bool) → old.awaited ≡ Head → 0 < length old.rest → begins_head old.rest ≡ begins → StepsSo old
 head_begins old true is some begins = head_lines old (section_in HTTP_HEAD_BYTES old.rest) is begins refl
-head_begins old false is some blank = (step.Passes, behind old 1 Head, passes_blank old is some blank)
+head_begins old false is some blank = (step.Passes, tail old 1 Head, passes_blank old is some blank)
 
 at_head : (old : HttpState) (rest : List ℕ) → old.awaited ≡ Head → old.rest ≡ rest → StepsSo old
 at_head old [] is none = (step.Waits, old, waits_blank old is none)
@@ -110,22 +110,22 @@ at_head old (byte ∷ rest) is some =
     head_begins old (begins_head old.rest) is (omega (arith, long)) refl
 
 chunk_ends : (old : HttpState) (room : ℕ) (closes : Bool) (at : ChunkEnd) → old.awaited ≡ Body 0 (ChunkOf room closes) → chunk_end old.rest ≡ at → StepsSo old
-chunk_ends old room closes end.Whole is at = (step.Passes, behind old 2 (Size room closes), ends_chunk old room closes is at)
-chunk_ends old room closes end.Broken is at = (step.Gives (item.Refuse BadRequest), behind old 0 Nothing, breaks_chunk old room closes is at)
+chunk_ends old room closes end.Whole is at = (step.Passes, tail old 2 (Size room closes), ends_chunk old room closes is at)
+chunk_ends old room closes end.Broken is at = (step.Gives (item.Refuse BadRequest), tail old 0 Nothing, breaks_chunk old room closes is at)
 chunk_ends old room closes end.Unfinished is at = (step.Waits, old, waits_chunk old room closes is at)
 
 at_following : (old : HttpState) (next : Following) → old.awaited ≡ Body 0 next → StepsSo old
-at_following old (Close last) is = (step.Gives item.BodyEnd, behind old 0 (after_body last), ends_body old last is)
+at_following old (Close last) is = (step.Gives item.BodyEnd, tail old 0 (after_body last), ends_body old last is)
 at_following old (ChunkOf room closes) is = chunk_ends old room closes (chunk_end old.rest) is refl
 
-body_waits : (count : ℕ) (next : Following) (bytes : List ℕ) → bytes ≡ [] → Waits ≡ body_front (suc count) next bytes
+body_waits : (count : ℕ) (next : Following) (bytes : List ℕ) → bytes ≡ [] → Waits ≡ body_prefix (suc count) next bytes
 body_waits count next bytes none =
     let some : (suc count == 0) ≡ false = grind (arith, nat_tests) in
     rw (none, some) refl
 
 -- one byte at a time
 at_body : (old : HttpState) (count : ℕ) (next : Following) (rest : List ℕ) → old.awaited ≡ Body (suc count) next → old.rest ≡ rest → StepsSo old
-at_body old count next [] is none = (step.Waits, old, (refl, subst (λ (a : Awaited). FrontIs a old.rest Waits) (sym is) (body_waits count next old.rest none)))
+at_body old count next [] is none = (step.Waits, old, (refl, subst (λ (a : Awaited). PrefixIs a old.rest Waits) (sym is) (body_waits count next old.rest none)))
 at_body old count next (byte ∷ rest) is some =
     let long : length old.rest ≡ length (byte ∷ rest) = ap (λ (b : List ℕ). length b) some in
     let within : 1 ≤ length old.rest = omega (arith, long) in (
@@ -135,56 +135,56 @@ at_body old count next (byte ∷ rest) is some =
     )
 
 size_fits : (old : HttpState) (count room : ℕ) (closes : Bool) (size : ℕ) → old.awaited ≡ Size room closes → first_line_of HTTP_CHUNK_LINE_BYTES old.rest ≡ line.Whole count → IsSizeOf (take (count + 1) old.rest) (Some size) → 0 < size → (fits : Bool) → nat_le size room ≡ fits → StepsSo old
-size_fits old count room closes size is line tells some true fits = (step.Passes, behind old (count + 1) (Body size (ChunkOf (room - size) closes)), some_size old count room closes size is line tells some (grind (arith, fits)))
-size_fits old count room closes size is line tells some false large = (step.Gives (item.Refuse ContentTooLarge), behind old (count + 1) Nothing, large_size old count room closes size is line tells (grind (arith, large)))
+size_fits old count room closes size is line tells some true fits = (step.Passes, tail old (count + 1) (Body size (ChunkOf (room - size) closes)), some_size old count room closes size is line tells some (grind (arith, fits)))
+size_fits old count room closes size is line tells some false large = (step.Gives (item.Refuse ContentTooLarge), tail old (count + 1) Nothing, large_size old count room closes size is line tells (grind (arith, large)))
 
 size_tells : (old : HttpState) (count room : ℕ) (closes : Bool) (size : Option ℕ) → old.awaited ≡ Size room closes → first_line_of HTTP_CHUNK_LINE_BYTES old.rest ≡ line.Whole count → IsSizeOf (take (count + 1) old.rest) size → StepsSo old
-size_tells old count room closes None is line tells = (step.Gives (item.Refuse BadRequest), behind old (count + 1) Nothing, refuses_size old count room closes is line tells)
-size_tells old count room closes (Some zero) is line tells = (step.Passes, behind old (count + 1) (Trailer (is_last closes (HTTP_BODY_BYTES - room))), last_size old count room closes 0 is line tells refl)
+size_tells old count room closes None is line tells = (step.Gives (item.Refuse BadRequest), tail old (count + 1) Nothing, refuses_size old count room closes is line tells)
+size_tells old count room closes (Some zero) is line tells = (step.Passes, tail old (count + 1) (Trailer (is_last closes (HTTP_BODY_BYTES - room))), last_size old count room closes 0 is line tells refl)
 size_tells old count room closes (Some (suc size)) is line tells = size_fits old count room closes (suc size) is line tells (omega arith) (nat_le (suc size) room) refl
 
-at_size : (old : HttpState) (room : ℕ) (closes : Bool) (front : FirstLine) → old.awaited ≡ Size room closes → first_line_of HTTP_CHUNK_LINE_BYTES old.rest ≡ front → StepsSo old
-at_size old room closes (line.Whole count) is front = let size = size_some (take (count + 1) old.rest) in size_tells old count room closes size.0 is front size.1
-at_size old room closes line.TooLong is front = (step.Gives (item.Refuse BadRequest), behind old 0 Nothing, refuses_long_size old room closes is front)
-at_size old room closes line.Unfinished is front = (step.Waits, old, waits_size old room closes is front)
+at_size : (old : HttpState) (room : ℕ) (closes : Bool) (prefix : FirstLine) → old.awaited ≡ Size room closes → first_line_of HTTP_CHUNK_LINE_BYTES old.rest ≡ prefix → StepsSo old
+at_size old room closes (line.Whole count) is prefix = let size = size_some (take (count + 1) old.rest) in size_tells old count room closes size.0 is prefix size.1
+at_size old room closes line.TooLong is prefix = (step.Gives (item.Refuse BadRequest), tail old 0 Nothing, refuses_long_size old room closes is prefix)
+at_size old room closes line.Unfinished is prefix = (step.Waits, old, waits_size old room closes is prefix)
 
 at_trailer : (old : HttpState) (last : Bool) (lines : FirstLine) → old.awaited ≡ Trailer last → section_in HTTP_TRAILER_BYTES old.rest ≡ lines → StepsSo old
-at_trailer old last (line.Whole count) is lines = (step.Gives item.BodyEnd, behind old count (after_body last), ends_trailer old last count is lines)
-at_trailer old last line.TooLong is lines = (step.Gives (item.Refuse BadRequest), behind old 0 Nothing, refuses_trailer old last is lines)
+at_trailer old last (line.Whole count) is lines = (step.Gives item.BodyEnd, tail old count (after_body last), ends_trailer old last count is lines)
+at_trailer old last line.TooLong is lines = (step.Gives (item.Refuse BadRequest), tail old 0 Nothing, refuses_trailer old last is lines)
 at_trailer old last line.Unfinished is lines = (step.Waits, old, waits_trailer old last is lines)
 
 step_by : (old : HttpState) (awaited : Awaited) → old.awaited ≡ awaited → StepsSo old
 step_by old Head is = at_head old old.rest is refl
-step_by old (Invitation framing closes) is = (step.Gives item.Continue, behind old 0 (body_by framing closes), invites old framing closes is)
+step_by old (Invitation framing closes) is = (step.Gives item.Continue, tail old 0 (body_by framing closes), invites old framing closes is)
 step_by old (Body zero next) is = at_following old next is
 step_by old (Body (suc count) next) is = at_body old count next old.rest is refl
 step_by old (Size room closes) is = at_size old room closes (first_line_of HTTP_CHUNK_LINE_BYTES old.rest) is refl
 step_by old (Trailer last) is = at_trailer old last (section_in HTTP_TRAILER_BYTES old.rest) is refl
-step_by old Nothing is = (step.Waits, old, (refl, subst (λ (a : Awaited). FrontIs a old.rest Waits) (sym is) refl))
+step_by old Nothing is = (step.Waits, old, (refl, subst (λ (a : Awaited). PrefixIs a old.rest Waits) (sym is) refl))
 
 -- ---- one step after another
 
 abbrev HasMore : List ℕ → List HttpElement → Type 0
 HasMore stream given = (later : List HttpElement) × Exchanges stream (given ++ later)
 
-parses_behind : (stream : List ℕ) (given said : List HttpElement) → HasMore stream (given ++ said) → HasMore stream given
-parses_behind stream given said on = (said ++ on.0, subst (λ (s : List HttpElement). Exchanges stream s) (append_assoc given said on.0) on.1)
+parses_after : (stream : List ℕ) (given said : List HttpElement) → HasMore stream (given ++ said) → HasMore stream given
+parses_after stream given said on = (said ++ on.0, subst (λ (s : List HttpElement). Exchanges stream s) (append_assoc given said on.0) on.1)
 
 by_step : (old : HttpState) (stream : List ℕ) (given : List HttpElement) → HasRead stream given old → ((new : HttpState) (said : List HttpElement) → work new < work old → HasRead stream (given ++ said) new → HasMore stream (given ++ said)) → (answer : Step) (new : HttpState) → Steps old answer new → HasMore stream given
-by_step old stream given stands again (step.Gives it) new went =
+by_step old stream given reaches again (step.Gives it) new went =
     let said = elements_of it new.part in
-    parses_behind stream given said (again new said went.2 (went.0 stream given stands))
-by_step old stream given stands again step.Passes new went = parses_behind stream given [] (again new [] (rank_passed old new went.1) (went.0 stream given stands))
-by_step old stream given stands again step.Waits new went = ([], subst (λ (s : List HttpElement). Exchanges stream s) (sym (append-nil given)) (tells_all old went.1 stream given stands))
+    parses_after stream given said (again new said went.2 (went.0 stream given reaches))
+by_step old stream given reaches again step.Passes new went = parses_after stream given [] (again new [] (rank_passed old new went.1) (went.0 stream given reaches))
+by_step old stream given reaches again step.Waits new went = ([], subst (λ (s : List HttpElement). Exchanges stream s) (sym (append-nil given)) (tells_all old went.1 stream given reaches))
 
 parses_in : (bound : ℕ) (old : HttpState) → work old < bound → (stream : List ℕ) (given : List HttpElement) → HasRead stream given old → HasMore stream given
-parses_in zero old less stream given stands = absurd (omega (arith, less))
-parses_in (suc bound) old less stream given stands =
+parses_in zero old less stream given reaches = absurd (omega (arith, less))
+parses_in (suc bound) old less stream given reaches =
     let it = step_by old old.awaited refl in
-    by_step old stream given stands (λ new said lower on. parses_in bound new (omega (arith, less, lower)) stream (given ++ said) on) it.0 it.1 it.2
+    by_step old stream given reaches (λ new said lower on. parses_in bound new (omega (arith, less, lower)) stream (given ++ said) on) it.0 it.1 it.2
 
-pub gives_front : (stream : List ℕ) (given : List HttpElement) (reader : HttpState) → HasRead stream given reader → (later : List HttpElement) × Exchanges stream (given ++ later)
-gives_front stream given reader stands = parses_in (work reader + 1) reader (omega arith) stream given stands
+pub gives_prefix : (stream : List ℕ) (given : List HttpElement) (reader : HttpState) → HasRead stream given reader → (later : List HttpElement) × Exchanges stream (given ++ later)
+gives_prefix stream given reader reaches = parses_in (work reader + 1) reader (omega arith) stream given reaches
 
 pub parses_some : (stream : List ℕ) → (said : List HttpElement) × Exchanges stream said
-parses_some stream = gives_front stream [] (record { part = []; rest = stream; awaited = Head }) (record { left = stream; leads = (zero, (refl, refl, refl)); kept = inr refl })
+parses_some stream = gives_prefix stream [] (record { part = []; rest = stream; awaited = Head }) (record { left = stream; leads = (zero, (refl, refl, refl)); kept = inr refl })

@@ -12,7 +12,7 @@ use Rattle.base_types.specs.declared.limits.TheConstants.Limits.{HTTP_FIELDS}
 use Rattle.http_front.specs.declared.refusal.HttpRejection.TheVariants.{BadRequest}
 use Rattle.http_front.specs.Head.{Asks}
 
--- a head at the front that is all of the bytes leaves nothing
+-- a head at the beginning that is all of the bytes leaves nothing
 all_read : (bytes : List ℕ) (count : ℕ) (r : parsed.Request) (h k : RequestHead) → HoldsRequest bytes count r h → ReadsRequest bytes k [] → (h ≡ k) × (count ≡ length bytes)
 all_read bytes count r h k held whole =
     let same = request_unique bytes h k (drop count bytes) [] held.reads whole in

@@ -1,4 +1,4 @@
--- Whether bytes begin with a piece of the grammar of heads, or of the line before a chunk, is decided: they do, or they don't.
+-- Whether bytes begin with a part of the grammar of heads, or of the line before a chunk, is decided: they do, or they don't.
 use Rattle.std.specs.Prelude.{ℕ, suc, zero, ◌≡◌, ◌+◌, ◌==◌, ◌<◌, ◌≤◌, ◌⊎◌, nat_lt, nat_le, Bool, true, false, List, [], ◌∷◌, ◌++◌, length, Option, Some, None, IsUtf8, ⊤}
 use Rattle.std.proofs.Common.{arith, refl, subst, sym, ap, ◌∙◌, inl, inr, length-append}
 use Rattle.std.specs.Char.{is_ascii_hexdigit}
@@ -21,11 +21,11 @@ decided_as : {P Q : Type 0} → Decided P → (P → Q) → (Q → P) → Decide
 decided_as (inl is) to from = inl (to is)
 decided_as (inr none) to from = inr (λ x. none (from x))
 
--- whether bytes begin with this piece
+-- whether bytes begin with this part
 abbrev Decides : {A : Type 0} → Piece A → Type 0
 Decides G = (text : List ℕ) → Decided (Begins G text)
 
--- ---- one piece after another
+-- ---- one part after another
 
 then_next : {A B : Type 0} (G : Piece A) (H : Piece B) → IsDeterministic G → (text : List ℕ) (first : Begins G text) → Decided (Begins H first.1) → Decided (Begins (Then G H) text)
 then_next G H one text first (inl second) = inl ((first.0, second.0), second.1, (first.1, first.2, second.2))
@@ -73,7 +73,7 @@ newline_by text (inr two) (inr one) = inr (λ x. no_newline text two one x.0 x.1
 newline_decides : Decides Newline
 newline_decides text = newline_by text (bytes_decides (13 ∷ 10 ∷ []) text) (bytes_decides (10 ∷ []) text)
 
--- ---- bytes that pass a test, up to a piece
+-- ---- bytes that pass a test, up to a part
 
 abbrev Upto : {A : Type 0} → (ℕ → Bool) → Piece A → Piece (List ℕ × A)
 Upto test H it text rest = (middle : List ℕ) × AllPass test it.0 × (text ≡ it.0 ++ middle) × H it.1 middle rest

@@ -1,4 +1,4 @@
--- A stream has one reading, and its elements stay at the front if more bytes come.
+-- A stream has one reading, and its elements stay at the beginning if more bytes come.
 use Rattle.std.specs.Prelude.{ℕ, suc, zero, ◌≡◌, ◌+◌, ◌==◌, ◌≤◌, nat_le, if◌then◌else◌, Bool, true, false, MatchBool, List, [], ◌∷◌, ◌++◌, length, map, take, drop, Option, Some, None, Result, Ok, Err}
 use Rattle.std.proofs.Common.{arith, refl, subst, sym, ap, ◌∙◌, inl, inr}
 use Rattle.std.proofs.lemmas.List.{append_assoc, length-append, take-append-le, drop-append-le}
@@ -22,11 +22,11 @@ use Rattle.http_front.specs.declared.chunk.ChunkEnd.TheVariants as end
 use Rattle.http_front.specs.Section.{section_in}
 use Rattle.http_front.specs.Chunk.{IsSizeOf, chunk_end}
 use Rattle.http_front.specs.Head.{judged, Asks}
-use Rattle.http_front.specs.Stream.{HttpElement, EndsBody, after_body, Front, Goes, Waits, FrontIs, HeadIn, SizeIn, begun, sized, chunk_front, following, byte_of, trailer_front, is_line_end, ParsesIn, LeadsIn}
+use Rattle.http_front.specs.Stream.{HttpElement, EndsBody, after_body, Prefix, Goes, Waits, PrefixIs, HeadIn, SizeIn, begun, sized, chunk_prefix, following, byte_of, trailer_prefix, is_line_end, ParsesIn, LeadsIn}
 use Rattle.http_front.proofs.Sections.{section_whole, section_within, section_long}
-use Rattle.http_front.proofs.Fronts.{size_within, broken_grown, whole_grown}
+use Rattle.http_front.proofs.Prefixes.{size_within, broken_grown, whole_grown}
 
--- one front
+-- one prefix
 
 asks_one : (bytes : List ℕ) (x y : Result Request HttpRejection) → Asks bytes x → Asks bytes y → x ≡ y
 asks_one bytes x y (inl a) (inl b) =
@@ -36,7 +36,7 @@ asks_one bytes x y (inl a) (inr b) = absurd (b.0 a.0 a.1)
 asks_one bytes x y (inr a) (inl b) = absurd (a.0 b.0 b.1)
 asks_one bytes x y (inr a) (inr b) = a.1 ∙ sym b.1
 
-head_one : (bytes : List ℕ) (line : FirstLine) (a b : Front) → HeadIn bytes line a → HeadIn bytes line b → a ≡ b
+head_one : (bytes : List ℕ) (line : FirstLine) (a b : Prefix) → HeadIn bytes line a → HeadIn bytes line b → a ≡ b
 head_one bytes (Whole count) a b x y = x.2 ∙ ap (λ asked. begun asked (drop count bytes)) (asks_one (take count bytes) x.0 y.0 x.1 y.1) ∙ sym y.2
 head_one bytes TooLong a b x y = x ∙ sym y
 head_one bytes Unfinished a b x y = x ∙ sym y
@@ -49,48 +49,48 @@ size_same bytes (Some m) None x y = absurd (y x.0 x.1)
 size_same bytes None (Some n) x y = absurd (x y.0 y.1)
 size_same bytes None None x y = refl
 
-size_one : (bytes : List ℕ) (room : ℕ) (closes : Bool) (line : FirstLine) (a b : Front) → SizeIn bytes room closes line a → SizeIn bytes room closes line b → a ≡ b
+size_one : (bytes : List ℕ) (room : ℕ) (closes : Bool) (line : FirstLine) (a b : Prefix) → SizeIn bytes room closes line a → SizeIn bytes room closes line b → a ≡ b
 size_one bytes room closes (Whole count) a b x y = x.2 ∙ ap (λ size. sized size room closes (drop (count + 1) bytes)) (size_same (take (count + 1) bytes) x.0 y.0 x.1 y.1) ∙ sym y.2
 size_one bytes room closes TooLong a b x y = x ∙ sym y
 size_one bytes room closes Unfinished a b x y = x ∙ sym y
 
-by_bool : (t : Bool) (P Q : Front → Type 0) → ((a b : Front) → P a → P b → a ≡ b) → ((a b : Front) → Q a → Q b → a ≡ b) → (a b : Front) → MatchBool t (P a) (Q a) → MatchBool t (P b) (Q b) → a ≡ b
+by_bool : (t : Bool) (P Q : Prefix → Type 0) → ((a b : Prefix) → P a → P b → a ≡ b) → ((a b : Prefix) → Q a → Q b → a ≡ b) → (a b : Prefix) → MatchBool t (P a) (Q a) → MatchBool t (P b) (Q b) → a ≡ b
 by_bool true P Q p q a b x y = p a b x y
 by_bool false P Q p q a b x y = q a b x y
 
-front_one : (awaited : Awaited) (bytes : List ℕ) (a b : Front) → FrontIs awaited bytes a → FrontIs awaited bytes b → a ≡ b
-front_one Head [] a b x y = x ∙ sym y
-front_one Head (byte ∷ bytes) a b x y =
+prefix_one : (awaited : Awaited) (bytes : List ℕ) (a b : Prefix) → PrefixIs awaited bytes a → PrefixIs awaited bytes b → a ≡ b
+prefix_one Head [] a b x y = x ∙ sym y
+prefix_one Head (byte ∷ bytes) a b x y =
     by_bool (is_line_end byte) (λ f. f ≡ Goes [] bytes Head) (λ f. HeadIn (byte ∷ bytes) (section_in HTTP_HEAD_BYTES (byte ∷ bytes)) f)
     (λ a b x y. x ∙ sym y) (λ a b x y. head_one (byte ∷ bytes) (section_in HTTP_HEAD_BYTES (byte ∷ bytes)) a b x y) a b x y
-front_one (Invitation framing closes) bytes a b x y = x ∙ sym y
-front_one (Body count next) bytes a b x y = x ∙ sym y
-front_one (Size room closes) bytes a b x y = size_one bytes room closes (first_line_of HTTP_CHUNK_LINE_BYTES bytes) a b x y
-front_one (Trailer closes) bytes a b x y = x ∙ sym y
-front_one Nothing bytes a b x y = x ∙ sym y
+prefix_one (Invitation framing closes) bytes a b x y = x ∙ sym y
+prefix_one (Body count next) bytes a b x y = x ∙ sym y
+prefix_one (Size room closes) bytes a b x y = size_one bytes room closes (first_line_of HTTP_CHUNK_LINE_BYTES bytes) a b x y
+prefix_one (Trailer closes) bytes a b x y = x ∙ sym y
+prefix_one Nothing bytes a b x y = x ∙ sym y
 
--- the front stays where more comes
+-- the prefix stays where more comes
 
 pub goes_is : (said parsed : List HttpElement) (rest left : List ℕ) (next after : Awaited) → Goes said rest next ≡ Goes parsed left after → (said ≡ parsed) × (rest ≡ left) × (next ≡ after)
 goes_is said parsed rest left next after same = ((cc), (cc), (cc))
 
-abbrev MoreOf : List ℕ → Front → Front → Type 0
-MoreOf more front grown = (said : List HttpElement) (rest : List ℕ) (next : Awaited) → Goes said rest next ≡ front → Goes said (rest ++ more) next ≡ grown
+abbrev MoreOf : List ℕ → Prefix → Prefix → Type 0
+MoreOf more prefix grown = (said : List HttpElement) (rest : List ℕ) (next : Awaited) → Goes said rest next ≡ prefix → Goes said (rest ++ more) next ≡ grown
 
 goes_more : (more : List ℕ) (parsed : List HttpElement) (left : List ℕ) (after : Awaited) → MoreOf more (Goes parsed left after) (Goes parsed (left ++ more) after)
 goes_more more parsed left after said rest next is =
     let parts = goes_is said parsed rest left next after is in
     rw (parts.0, parts.1, parts.2) refl
 
-waits_more : (more : List ℕ) (grown : Front) → MoreOf more Waits grown
+waits_more : (more : List ℕ) (grown : Prefix) → MoreOf more Waits grown
 waits_more more grown said rest next is = absurd (let no : Goes said rest next ≡ Waits = is in (cc))
 
-if_more : (more : List ℕ) (t : Bool) (f g grown late : Front) → MoreOf more f grown → MoreOf more g late → MoreOf more (if t then f else g) (if t then grown else late)
+if_more : (more : List ℕ) (t : Bool) (f g grown late : Prefix) → MoreOf more f grown → MoreOf more g late → MoreOf more (if t then f else g) (if t then grown else late)
 if_more more true f g grown late first second = first
 if_more more false f g grown late first second = second
 
-as_more : (more : List ℕ) (front grown same : Front) → MoreOf more front grown → grown ≡ same → MoreOf more front same
-as_more more front grown same first is said rest next goes = first said rest next goes ∙ is
+as_more : (more : List ℕ) (prefix grown same : Prefix) → MoreOf more prefix grown → grown ≡ same → MoreOf more prefix same
+as_more more prefix grown same first is said rest next goes = first said rest next goes ∙ is
 
 begun_more : (asked : Result Request HttpRejection) (bytes more : List ℕ) → MoreOf more (begun asked bytes) (begun asked (bytes ++ more))
 begun_more (Ok request) bytes more = goes_more more _ bytes _
@@ -124,14 +124,14 @@ size_more bytes more room closes TooLong said rest next line x =
     subst (λ l. SizeIn (bytes ++ more) room closes l (Goes said (rest ++ more) next)) (sym (too_long_grown HTTP_CHUNK_LINE_BYTES bytes more line)) (goes_more more _ bytes _ said rest next x)
 size_more bytes more room closes Unfinished said rest next line x = absurd (let no : Goes said rest next ≡ Waits = x in (cc))
 
-chunk_more : (bytes more : List ℕ) (room : ℕ) (closes : Bool) (at : ChunkEnd) → chunk_end bytes ≡ at → MoreOf more (chunk_front room closes bytes at) (chunk_front room closes (bytes ++ more) (chunk_end (bytes ++ more)))
+chunk_more : (bytes more : List ℕ) (room : ℕ) (closes : Bool) (at : ChunkEnd) → chunk_end bytes ≡ at → MoreOf more (chunk_prefix room closes bytes at) (chunk_prefix room closes (bytes ++ more) (chunk_end (bytes ++ more)))
 chunk_more bytes more room closes end.Whole is =
     let grown = whole_grown bytes more is in
     let later : drop 2 bytes ++ more ≡ drop 2 (bytes ++ more) = sym (drop-append-le 2 bytes more grown.1) in
     as_more more _ (Goes [] (drop 2 bytes ++ more) (Size room closes)) _ (goes_more more [] (drop 2 bytes) (Size room closes))
-    (ap (λ r. Goes [] r (Size room closes)) later ∙ ap (λ e. chunk_front room closes (bytes ++ more) e) (sym grown.0))
+    (ap (λ r. Goes [] r (Size room closes)) later ∙ ap (λ e. chunk_prefix room closes (bytes ++ more) e) (sym grown.0))
 chunk_more bytes more room closes end.Broken is =
-    as_more more _ (chunk_front room closes (bytes ++ more) end.Broken) _ (goes_more more _ bytes _) (ap (λ e. chunk_front room closes (bytes ++ more) e) (sym (broken_grown bytes more is)))
+    as_more more _ (chunk_prefix room closes (bytes ++ more) end.Broken) _ (goes_more more _ bytes _) (ap (λ e. chunk_prefix room closes (bytes ++ more) e) (sym (broken_grown bytes more is)))
 chunk_more bytes more room closes end.Unfinished is = waits_more more _
 
 following_more : (next : Following) (bytes more : List ℕ) → MoreOf more (following next bytes) (following next (bytes ++ more))
@@ -142,40 +142,40 @@ byte_more : (count : ℕ) (next : Following) (bytes more : List ℕ) → MoreOf 
 byte_more count next [] more = waits_more more _
 byte_more count next (byte ∷ bytes) more = goes_more more _ bytes _
 
-trailer_more : (bytes more : List ℕ) (closes : Bool) (line : FirstLine) → section_in HTTP_TRAILER_BYTES bytes ≡ line → MoreOf more (trailer_front closes bytes line) (trailer_front closes (bytes ++ more) (section_in HTTP_TRAILER_BYTES (bytes ++ more)))
+trailer_more : (bytes more : List ℕ) (closes : Bool) (line : FirstLine) → section_in HTTP_TRAILER_BYTES bytes ≡ line → MoreOf more (trailer_prefix closes bytes line) (trailer_prefix closes (bytes ++ more) (section_in HTTP_TRAILER_BYTES (bytes ++ more)))
 trailer_more bytes more closes (Whole count) lines =
     let later : drop count bytes ++ more ≡ drop count (bytes ++ more) = sym (drop-append-le count bytes more (section_within HTTP_TRAILER_BYTES bytes count lines)) in
-    as_more more _ (trailer_front closes (bytes ++ more) (Whole count)) _
+    as_more more _ (trailer_prefix closes (bytes ++ more) (Whole count)) _
     (as_more more _ _ _ (goes_more more (EndsBody ∷ []) (drop count bytes) (after_body closes)) (ap (λ r. Goes (EndsBody ∷ []) r (after_body closes)) later))
-    (ap (λ s. trailer_front closes (bytes ++ more) s) (sym (section_whole HTTP_TRAILER_BYTES bytes more count lines)))
+    (ap (λ s. trailer_prefix closes (bytes ++ more) s) (sym (section_whole HTTP_TRAILER_BYTES bytes more count lines)))
 trailer_more bytes more closes TooLong lines =
-    as_more more _ (trailer_front closes (bytes ++ more) TooLong) _ (goes_more more _ bytes _) (ap (λ s. trailer_front closes (bytes ++ more) s) (sym (section_long HTTP_TRAILER_BYTES bytes more lines)))
+    as_more more _ (trailer_prefix closes (bytes ++ more) TooLong) _ (goes_more more _ bytes _) (ap (λ s. trailer_prefix closes (bytes ++ more) s) (sym (section_long HTTP_TRAILER_BYTES bytes more lines)))
 trailer_more bytes more closes Unfinished lines = waits_more more _
 
 by_case : (t : Bool) (P Q P' Q' : Type 0) → (P → P') → (Q → Q') → MatchBool t P Q → MatchBool t P' Q'
 by_case true P Q P' Q' p q x = p x
 by_case false P Q P' Q' p q x = q x
 
-front_more : (awaited : Awaited) (bytes more : List ℕ) (said : List HttpElement) (rest : List ℕ) (next : Awaited) → FrontIs awaited bytes (Goes said rest next) → FrontIs awaited (bytes ++ more) (Goes said (rest ++ more) next)
-front_more Head [] more said rest next x = absurd (let no : Goes said rest next ≡ Waits = x in (cc))
-front_more Head (byte ∷ bytes) more said rest next x =
+prefix_more : (awaited : Awaited) (bytes more : List ℕ) (said : List HttpElement) (rest : List ℕ) (next : Awaited) → PrefixIs awaited bytes (Goes said rest next) → PrefixIs awaited (bytes ++ more) (Goes said (rest ++ more) next)
+prefix_more Head [] more said rest next x = absurd (let no : Goes said rest next ≡ Waits = x in (cc))
+prefix_more Head (byte ∷ bytes) more said rest next x =
     by_case (is_line_end byte) _ _ _ _ (goes_more more [] bytes Head said rest next) (head_more (byte ∷ bytes) more (section_in HTTP_HEAD_BYTES (byte ∷ bytes)) said rest next refl) x
-front_more (Invitation framing closes) bytes more said rest next x = goes_more more _ bytes _ said rest next x
-front_more (Body count after) bytes more said rest next x = if_more more (count == 0) _ _ _ _ (following_more after bytes more) (byte_more count after bytes more) said rest next x
-front_more (Size room closes) bytes more said rest next x = size_more bytes more room closes (first_line_of HTTP_CHUNK_LINE_BYTES bytes) said rest next refl x
-front_more (Trailer closes) bytes more said rest next x = trailer_more bytes more closes (section_in HTTP_TRAILER_BYTES bytes) refl said rest next x
-front_more Nothing bytes more said rest next x = absurd (let no : Goes said rest next ≡ Waits = x in (cc))
+prefix_more (Invitation framing closes) bytes more said rest next x = goes_more more _ bytes _ said rest next x
+prefix_more (Body count after) bytes more said rest next x = if_more more (count == 0) _ _ _ _ (following_more after bytes more) (byte_more count after bytes more) said rest next x
+prefix_more (Size room closes) bytes more said rest next x = size_more bytes more room closes (first_line_of HTTP_CHUNK_LINE_BYTES bytes) said rest next refl x
+prefix_more (Trailer closes) bytes more said rest next x = trailer_more bytes more closes (section_in HTTP_TRAILER_BYTES bytes) refl said rest next x
+prefix_more Nothing bytes more said rest next x = absurd (let no : Goes said rest next ≡ Waits = x in (cc))
 
 -- whole streams
 
 pub stays_in : (n m : ℕ) (awaited : Awaited) (bytes more : List ℕ) (given : List HttpElement) (next : Awaited) (left : List ℕ) (said : List HttpElement) → LeadsIn n awaited bytes given next left → ParsesIn m awaited (bytes ++ more) said → (later : List HttpElement) × (said ≡ given ++ later)
 stays_in zero m awaited bytes more given next left said x y = (said, rw x.0 refl)
 stays_in (suc n) zero awaited bytes more given next left said x y = absurd (
-    let no : Goes x.0 (x.1 ++ more) x.2 ≡ Waits = front_one awaited (bytes ++ more) _ _ (front_more awaited bytes more x.0 x.1 x.2 x.4) y.1 in
+    let no : Goes x.0 (x.1 ++ more) x.2 ≡ Waits = prefix_one awaited (bytes ++ more) _ _ (prefix_more awaited bytes more x.0 x.1 x.2 x.4) y.1 in
     (cc)
     )
 stays_in (suc n) (suc m) awaited bytes more given next left said x y =
-    let same = goes_is _ _ _ _ _ _ (front_one awaited (bytes ++ more) (Goes x.0 (x.1 ++ more) x.2) (Goes y.0 y.1 y.2) (front_more awaited bytes more x.0 x.1 x.2 x.4) y.4) in
+    let same = goes_is _ _ _ _ _ _ (prefix_one awaited (bytes ++ more) (Goes x.0 (x.1 ++ more) x.2) (Goes y.0 y.1 y.2) (prefix_more awaited bytes more x.0 x.1 x.2 x.4) y.4) in
     let tail : ParsesIn m x.2 (x.1 ++ more) y.3 = subst (λ a. ParsesIn m a (x.1 ++ more) y.3) (sym same.2) (subst (λ b. ParsesIn m y.2 b y.3) (sym same.1) y.6) in
     let later = stays_in n m x.2 x.1 more x.3 next left y.3 x.6 tail in
     (later.0, y.5 ∙ ap (λ s. s ++ y.3) (sym same.0) ∙ ap (λ s. x.0 ++ s) later.1 ∙ sym (append_assoc x.0 x.3 later.0) ∙ ap (λ s. s ++ later.0) (sym x.5))
@@ -190,14 +190,14 @@ said_first (suc n) awaited bytes said x =
 pub leads_more : (n : ℕ) (awaited : Awaited) (bytes more : List ℕ) (said : List HttpElement) (next : Awaited) (left : List ℕ) → LeadsIn n awaited bytes said next left → LeadsIn n awaited (bytes ++ more) said next (left ++ more)
 leads_more zero awaited bytes more said next left x = (x.0, x.1, ap (λ l. l ++ more) x.2)
 leads_more (suc n) awaited bytes more said next left x =
-    (x.0, x.1 ++ more, x.2, x.3, front_more awaited bytes more x.0 x.1 x.2 x.4, x.5, leads_more n x.2 x.1 more x.3 next left x.6)
+    (x.0, x.1 ++ more, x.2, x.3, prefix_more awaited bytes more x.0 x.1 x.2 x.4, x.5, leads_more n x.2 x.1 more x.3 next left x.6)
 
 pub parses_one : (n m : ℕ) (awaited : Awaited) (bytes : List ℕ) (given said : List HttpElement) → ParsesIn n awaited bytes given → ParsesIn m awaited bytes said → given ≡ said
 parses_one zero zero awaited bytes given said x y = x.0 ∙ sym y.0
-parses_one zero (suc m) awaited bytes given said x y = absurd (let no : Goes y.0 y.1 y.2 ≡ Waits = front_one awaited bytes _ _ y.4 x.1 in (cc))
-parses_one (suc n) zero awaited bytes given said x y = absurd (let no : Goes x.0 x.1 x.2 ≡ Waits = front_one awaited bytes _ _ x.4 y.1 in (cc))
+parses_one zero (suc m) awaited bytes given said x y = absurd (let no : Goes y.0 y.1 y.2 ≡ Waits = prefix_one awaited bytes _ _ y.4 x.1 in (cc))
+parses_one (suc n) zero awaited bytes given said x y = absurd (let no : Goes x.0 x.1 x.2 ≡ Waits = prefix_one awaited bytes _ _ x.4 y.1 in (cc))
 parses_one (suc n) (suc m) awaited bytes given said x y =
-    let same = goes_is _ _ _ _ _ _ (front_one awaited bytes (Goes x.0 x.1 x.2) (Goes y.0 y.1 y.2) x.4 y.4) in
+    let same = goes_is _ _ _ _ _ _ (prefix_one awaited bytes (Goes x.0 x.1 x.2) (Goes y.0 y.1 y.2) x.4 y.4) in
     let tail : ParsesIn m x.2 x.1 y.3 = subst (λ a. ParsesIn m a x.1 y.3) (sym same.2) (subst (λ b. ParsesIn m y.2 b y.3) (sym same.1) y.6) in
     x.5 ∙ ap (λ s. s ++ x.3) same.0 ∙ ap (λ s. y.0 ++ s) (parses_one n m x.2 x.1 x.3 y.3 x.6 tail) ∙ sym y.5
 
@@ -206,14 +206,14 @@ none_of [] same = refl
 none_of (one ∷ more) same = absurd (omega (arith, same))
 
 -- of one length bytes say one thing first
-pub leads_one : (n m : ℕ) (awaited : Awaited) (bytes : List ℕ) (one other : List HttpElement) (next : Awaited) (left : List ℕ) (after : Awaited) (behind : List ℕ) → LeadsIn n awaited bytes one next left → LeadsIn m awaited bytes other after behind → length one ≡ length other → one ≡ other
-leads_one zero m awaited bytes one other next left after behind x y same = x.0 ∙ sym (none_of other (sym same ∙ ap (λ (s : List HttpElement). length s) x.0))
-leads_one (suc n) zero awaited bytes one other next left after behind x y same = none_of one (same ∙ ap (λ (s : List HttpElement). length s) y.0) ∙ sym y.0
-leads_one (suc n) (suc m) awaited bytes one other next left after behind x y same =
-    let front = goes_is _ _ _ _ _ _ (front_one awaited bytes (Goes x.0 x.1 x.2) (Goes y.0 y.1 y.2) x.4 y.4) in
-    let tail : LeadsIn m x.2 x.1 y.3 after behind = subst (λ a. LeadsIn m a x.1 y.3 after behind) (sym front.2) (subst (λ b. LeadsIn m y.2 b y.3 after behind) (sym front.1) y.6) in
-    let is : one ≡ y.0 ++ x.3 = x.5 ∙ ap (λ s. s ++ x.3) front.0 in
+pub leads_one : (n m : ℕ) (awaited : Awaited) (bytes : List ℕ) (one other : List HttpElement) (next : Awaited) (left : List ℕ) (after : Awaited) (remainder : List ℕ) → LeadsIn n awaited bytes one next left → LeadsIn m awaited bytes other after remainder → length one ≡ length other → one ≡ other
+leads_one zero m awaited bytes one other next left after remainder x y same = x.0 ∙ sym (none_of other (sym same ∙ ap (λ (s : List HttpElement). length s) x.0))
+leads_one (suc n) zero awaited bytes one other next left after remainder x y same = none_of one (same ∙ ap (λ (s : List HttpElement). length s) y.0) ∙ sym y.0
+leads_one (suc n) (suc m) awaited bytes one other next left after remainder x y same =
+    let prefix = goes_is _ _ _ _ _ _ (prefix_one awaited bytes (Goes x.0 x.1 x.2) (Goes y.0 y.1 y.2) x.4 y.4) in
+    let tail : LeadsIn m x.2 x.1 y.3 after remainder = subst (λ a. LeadsIn m a x.1 y.3 after remainder) (sym prefix.2) (subst (λ b. LeadsIn m y.2 b y.3 after remainder) (sym prefix.1) y.6) in
+    let is : one ≡ y.0 ++ x.3 = x.5 ∙ ap (λ s. s ++ x.3) prefix.0 in
     let long : length one ≡ length y.0 + length x.3 = ap (λ (s : List HttpElement). length s) is ∙ length-append y.0 x.3 in
     let long' : length other ≡ length y.0 + length y.3 = ap (λ (s : List HttpElement). length s) y.5 ∙ length-append y.0 y.3 in
     let later : length x.3 ≡ length y.3 = omega (arith, long, long', same) in
-    is ∙ ap (λ s. y.0 ++ s) (leads_one n m x.2 x.1 x.3 y.3 next left after behind x.6 tail later) ∙ sym y.5
+    is ∙ ap (λ s. y.0 ++ s) (leads_one n m x.2 x.1 x.3 y.3 next left after remainder x.6 tail later) ∙ sym y.5

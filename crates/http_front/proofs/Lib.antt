@@ -1,7 +1,7 @@
 pub mod Heads
 pub mod Sections
 pub mod Steps
-pub mod Fronts
+pub mod Prefixes
 pub mod Laws
 pub mod ReaderPlace
 pub mod Orders

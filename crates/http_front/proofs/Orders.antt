@@ -18,7 +18,7 @@ use Rattle.http_front.specs.declared.chunk.ChunkEnd.{ChunkEnd}
 use Rattle.http_front.specs.declared.chunk.ChunkEnd.TheVariants as end
 use Rattle.http_front.specs.Section.{section_in}
 use Rattle.http_front.specs.Chunk.{chunk_end}
-use Rattle.http_front.specs.Stream.{HttpElement, HasHead, Invites, HasByte, EndsBody, IsRefused, Front, Goes, Waits, FrontIs, AtHead, HeadIn, SizeIn, begun, refused, sized, chunk_front, following, byte_of, trailer_front, is_line_end, is_last, after_head, after_body, body_by, ParsesIn}
+use Rattle.http_front.specs.Stream.{HttpElement, HasHead, Invites, HasByte, EndsBody, IsRefused, Prefix, Goes, Waits, PrefixIs, AtHead, HeadIn, SizeIn, begun, refused, sized, chunk_prefix, following, byte_of, trailer_prefix, is_line_end, is_last, after_head, after_body, body_by, ParsesIn}
 use Rattle.http_front.specs.Order.{Place, Between, Headed, Within, in_order, is_none}
 use Rattle.http_front.proofs.Laws.{goes_is}
 
@@ -45,8 +45,8 @@ Allows place awaited = ⊥
 abbrev Later : Awaited → List HttpElement → Type 0
 Later next later = ((place : Place) → Allows place next → in_order place later ≡ true) × (next ≡ Nothing → later ≡ [])
 
-abbrev OrderOf : Place → Front → Type 0
-OrderOf place front = (said : List HttpElement) (rest : List ℕ) (next : Awaited) → Goes said rest next ≡ front → (later : List HttpElement) → Later next later → in_order place (said ++ later) ≡ true
+abbrev OrderOf : Place → Prefix → Type 0
+OrderOf place prefix = (said : List HttpElement) (rest : List ℕ) (next : Awaited) → Goes said rest next ≡ prefix → (later : List HttpElement) → Later next later → in_order place (said ++ later) ≡ true
 
 goes_order : (place : Place) (parsed : List HttpElement) (left : List ℕ) (after : Awaited) → ((later : List HttpElement) → Later after later → in_order place (parsed ++ later) ≡ true) → OrderOf place (Goes parsed left after)
 goes_order place parsed left after holds said rest next is later ok =
@@ -65,7 +65,7 @@ last_order (Within closes parsed) refusal later is = rw is refl
 refused_order : (place : Place) (refusal : HttpRejection) (bytes : List ℕ) → OrderOf place (refused refusal bytes)
 refused_order place refusal bytes = goes_order place (IsRefused refusal ∷ []) bytes Nothing (λ later ok. last_order place refusal later (ok.1 refl))
 
-if_order : (place : Place) (t : Bool) (f g : Front) → (t ≡ true → OrderOf place f) → (t ≡ false → OrderOf place g) → OrderOf place (if t then f else g)
+if_order : (place : Place) (t : Bool) (f g : Prefix) → (t ≡ true → OrderOf place f) → (t ≡ false → OrderOf place g) → OrderOf place (if t then f else g)
 if_order place true f g first second = first refl
 if_order place false f g first second = second refl
 
@@ -150,7 +150,7 @@ ends_order place closes parsed inside last is bytes =
     goes_order place (EndsBody ∷ []) bytes (after_body last)
     (λ later ok. inside.ends later (subst (λ (b : Bool). (if b then is_none later else in_order Between later) ≡ true) is (after_order last later ok)))
 
-chunk_order : (place : Place) (closes : Bool) (parsed : ℕ) → Inside place closes parsed → (bytes : List ℕ) (room : ℕ) (also : Bool) → (also ≡ closes) × (parsed + room ≡ HTTP_BODY_BYTES) → (at : ChunkEnd) → OrderOf place (chunk_front room also bytes at)
+chunk_order : (place : Place) (closes : Bool) (parsed : ℕ) → Inside place closes parsed → (bytes : List ℕ) (room : ℕ) (also : Bool) → (also ≡ closes) × (parsed + room ≡ HTTP_BODY_BYTES) → (at : ChunkEnd) → OrderOf place (chunk_prefix room also bytes at)
 chunk_order place closes parsed inside bytes room also allowed end.Whole = goes_order place [] (drop 2 bytes) (Size room also) (λ later ok. ok.0 place (inside.allows (Size room also) allowed))
 chunk_order place closes parsed inside bytes room also allowed end.Broken = refused_order place BadRequest bytes
 chunk_order place closes parsed inside bytes room also allowed end.Unfinished = waits_order place
@@ -202,12 +202,12 @@ size_order place bytes room also at (Whole count) said rest next x later ok = si
 size_order place bytes room also at TooLong said rest next x later ok = refused_order place BadRequest bytes said rest next x later ok
 size_order place bytes room also at Unfinished said rest next x later ok = waits_order place said rest next x later ok
 
-trailer_order : (place : Place) (last : Bool) → At place (Trailer last) → (bytes : List ℕ) (line : FirstLine) → OrderOf place (trailer_front last bytes line)
+trailer_order : (place : Place) (last : Bool) → At place (Trailer last) → (bytes : List ℕ) (line : FirstLine) → OrderOf place (trailer_prefix last bytes line)
 trailer_order place last at bytes (Whole count) = ends_order place at.closes at.parsed at.inside last at.allowed (drop count bytes)
 trailer_order place last at bytes TooLong = refused_order place BadRequest bytes
 trailer_order place last at bytes Unfinished = waits_order place
 
--- any front
+-- any prefix
 
 head_place : (place : Place) → Allows place Head → place ≡ Between
 head_place Between ok = refl
@@ -221,16 +221,16 @@ invited_order (Headed closes) framing also ok bytes =
     (λ later after. after.0 (Within closes 0) (subst (λ (b : Bool). Allows (Within b 0) (body_by framing also)) ok (allows_body_by framing also).1))
 invited_order (Within closes parsed) framing also ok bytes = absurd ok
 
-front_order : (place : Place) (awaited : Awaited) (bytes : List ℕ) (said : List HttpElement) (rest : List ℕ) (next : Awaited) → Allows place awaited → FrontIs awaited bytes (Goes said rest next) → (later : List HttpElement) → Later next later → in_order place (said ++ later) ≡ true
-front_order place Head bytes said rest next allowed x later ok =
+prefix_order : (place : Place) (awaited : Awaited) (bytes : List ℕ) (said : List HttpElement) (rest : List ℕ) (next : Awaited) → Allows place awaited → PrefixIs awaited bytes (Goes said rest next) → (later : List HttpElement) → Later next later → in_order place (said ++ later) ≡ true
+prefix_order place Head bytes said rest next allowed x later ok =
     subst (λ p. in_order p (said ++ later) ≡ true) (sym (head_place place allowed)) (at_head_order bytes said rest next x later ok)
-front_order place (Invitation framing closes) bytes said rest next allowed x later ok = invited_order place framing closes allowed bytes said rest next x later ok
-front_order place (Body count after) bytes said rest next allowed x later ok = body_order place count after (at_body place count after allowed) bytes said rest next x later ok
-front_order place (Size room closes) bytes said rest next allowed x later ok =
+prefix_order place (Invitation framing closes) bytes said rest next allowed x later ok = invited_order place framing closes allowed bytes said rest next x later ok
+prefix_order place (Body count after) bytes said rest next allowed x later ok = body_order place count after (at_body place count after allowed) bytes said rest next x later ok
+prefix_order place (Size room closes) bytes said rest next allowed x later ok =
     size_order place bytes room closes (at_size place room closes allowed) (first_line_of HTTP_CHUNK_LINE_BYTES bytes) said rest next x later ok
-front_order place (Trailer last) bytes said rest next allowed x later ok =
+prefix_order place (Trailer last) bytes said rest next allowed x later ok =
     trailer_order place last (at_trailer place last allowed) bytes (section_in HTTP_TRAILER_BYTES bytes) said rest next x later ok
-front_order place Nothing bytes said rest next allowed x later ok = waits_order place said rest next x later ok
+prefix_order place Nothing bytes said rest next allowed x later ok = waits_order place said rest next x later ok
 
 nothing_said : (steps : ℕ) (bytes : List ℕ) (said : List HttpElement) → ParsesIn steps Nothing bytes said → said ≡ []
 nothing_said zero bytes said x = x.0
@@ -245,4 +245,4 @@ pub order_in : (steps : ℕ) (place : Place) (awaited : Awaited) (bytes : List �
 order_in zero place awaited bytes said allowed x = rw x.0 (none_order place)
 order_in (suc steps) place awaited bytes said allowed x =
     let ok : Later x.2 x.3 = (λ p allowed. order_in steps p x.2 x.1 x.3 allowed x.6, λ over. nothing_said steps x.1 x.3 (subst (λ a. ParsesIn steps a x.1 x.3) over x.6)) in
-    subst (λ s. in_order place s ≡ true) (sym x.5) (front_order place awaited bytes x.0 x.1 x.2 allowed x.4 x.3 ok)
+    subst (λ s. in_order place s ≡ true) (sym x.5) (prefix_order place awaited bytes x.0 x.1 x.2 allowed x.4 x.3 ok)

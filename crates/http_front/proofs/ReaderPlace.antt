@@ -1,4 +1,4 @@
--- The place of a reader in its stream after a piece, and the elements that it will give.
+-- The place of a reader in its stream after a segment, and the elements that it will give.
 use Rattle.std.specs.Prelude.{ℕ, suc, zero, ◌≡◌, ◌⊎◌, ◌≤◌, ◌-◌, List, [], ◌∷◌, ◌++◌, length, map, take, drop, Result, Ok, Err, OnOk}
 use Rattle.std.proofs.Common.{arith, refl, subst, sym, ap, inl, inr}
 use Rattle.std.specs.declared.alloc.AllocError.{AllocError}
@@ -9,29 +9,29 @@ use Rattle.http_front.specs.Stream.{HttpElement, HasByte, Goes, Waits, ParsesIn,
 use Rattle.http_front.proofs.Steps.{parses_then, lends}
 use Rattle.http_front.proofs.Laws.{stays_in, said_first, leads_more}
 
-kept_fed : (reader : HttpState) (left piece : List ℕ) → (IsOver reader ⊎ (left ≡ reader.rest)) → IsOver reader ⊎ (left ++ piece ≡ reader.rest ++ piece)
-kept_fed reader left piece (inl over) = inl over
-kept_fed reader left piece (inr same) = inr (ap (λ l. l ++ piece) same)
+kept_fed : (reader : HttpState) (left segment : List ℕ) → (IsOver reader ⊎ (left ≡ reader.rest)) → IsOver reader ⊎ (left ++ segment ≡ reader.rest ++ segment)
+kept_fed reader left segment (inl over) = inl over
+kept_fed reader left segment (inr same) = inr (ap (λ l. l ++ segment) same)
 
--- a piece of which nothing is read yet
-pub stands_fed : (stream : List ℕ) (given : List HttpElement) (piece : List ℕ) (reader : HttpState) → HasRead stream given reader → HasRead (stream ++ piece) given (record { part = []; rest = reader.rest ++ piece; awaited = reader.awaited })
-stands_fed stream given piece reader stands = record {
-  left = stands.left ++ piece;
-  leads = (stands.leads.0, leads_more stands.leads.0 Head stream piece given reader.awaited stands.left stands.leads.1);
-  kept = kept_fed reader stands.left piece stands.kept;
+-- a segment of which nothing is read yet
+pub reaches_fed : (stream : List ℕ) (given : List HttpElement) (segment : List ℕ) (reader : HttpState) → HasRead stream given reader → HasRead (stream ++ segment) given (record { part = []; rest = reader.rest ++ segment; awaited = reader.awaited })
+reaches_fed stream given segment reader reaches = record {
+  left = reaches.left ++ segment;
+  leads = (reaches.leads.0, leads_more reaches.leads.0 Head stream segment given reader.awaited reaches.left reaches.leads.1);
+  kept = kept_fed reader reaches.left segment reaches.kept;
 }
 
 -- a reader that awaits nothing
-pub stands_still : (stream : List ℕ) (given : List HttpElement) (piece : List ℕ) (reader : HttpState) → IsOver reader → HasRead stream given reader → HasRead (stream ++ piece) given reader
-stands_still stream given piece reader over stands = record {
-  left = stands.left ++ piece;
-  leads = (stands.leads.0, leads_more stands.leads.0 Head stream piece given reader.awaited stands.left stands.leads.1);
+pub reaches_still : (stream : List ℕ) (given : List HttpElement) (segment : List ℕ) (reader : HttpState) → IsOver reader → HasRead stream given reader → HasRead (stream ++ segment) given reader
+reaches_still stream given segment reader over reaches = record {
+  left = reaches.left ++ segment;
+  leads = (reaches.leads.0, leads_more reaches.leads.0 Head stream segment given reader.awaited reaches.left reaches.leads.1);
   kept = inl over;
 }
 
-pub fed_by : (old new : HttpState) (piece : List ℕ) (answer : Result (Unit {0}) AllocError) → OnOk answer (new ≡ record { part = []; rest = old.rest ++ piece; awaited = old.awaited }) → OnOk answer ((stream : List ℕ) (given : List HttpElement) → HasRead stream given old → HasRead (stream ++ piece) given new)
-fed_by old new piece (Ok done) is = λ stream given stands. subst (λ n. HasRead (stream ++ piece) given n) (sym is) (stands_fed stream given piece old stands)
-fed_by old new piece (Err error) is = tt
+pub fed_by : (old new : HttpState) (segment : List ℕ) (answer : Result (Unit {0}) AllocError) → OnOk answer (new ≡ record { part = []; rest = old.rest ++ segment; awaited = old.awaited }) → OnOk answer ((stream : List ℕ) (given : List HttpElement) → HasRead stream given old → HasRead (stream ++ segment) given new)
+fed_by old new segment (Ok done) is = λ stream given reaches. subst (λ n. HasRead (stream ++ segment) given n) (sym is) (reaches_fed stream given segment old reaches)
+fed_by old new segment (Err error) is = tt
 
 -- laws of the elements that were given
 
@@ -46,9 +46,9 @@ parses_of reader left coming said (inl over) steps parses =
 parses_of reader left coming said (inr same) steps parses = subst (λ (l : List ℕ). ParsesIn steps reader.awaited (l ++ coming) said) (sym same) parses
 
 pub has_read_rest : (stream coming : List ℕ) (given said : List HttpElement) (reader : HttpState) → HasRead stream given reader → Parses reader.awaited (reader.rest ++ coming) said → Exchanges (stream ++ coming) (given ++ said)
-has_read_rest stream coming given said reader stands parses =
-    let first = leads_more stands.leads.0 Head stream coming given reader.awaited stands.left stands.leads.1 in
-    parses_then stands.leads.0 parses.0 Head (stream ++ coming) given reader.awaited (stands.left ++ coming) said first (parses_of reader stands.left coming said stands.kept parses.0 parses.1)
+has_read_rest stream coming given said reader reaches parses =
+    let first = leads_more reaches.leads.0 Head stream coming given reader.awaited reaches.left reaches.leads.1 in
+    parses_then reaches.leads.0 parses.0 Head (stream ++ coming) given reader.awaited (reaches.left ++ coming) said first (parses_of reader reaches.left coming said reaches.kept parses.0 parses.1)
 
 pub first_stays : (stream more : List ℕ) (first said : List HttpElement) → ParsesFirst stream first → Exchanges (stream ++ more) said → (later : List HttpElement) × (said ≡ first ++ later)
 first_stays stream more first said x y = stays_in x.leads.0 y.0 Head stream more first x.next x.left said x.leads.1 y.1
@@ -68,32 +68,32 @@ drop_whole : (xs : List ℕ) → drop (length xs) xs ≡ []
 drop_whole [] = refl
 drop_whole (x ∷ xs) = drop_whole xs
 
-part_fed : (old : HttpState) (left : ℕ) (next : Following) (stream : List ℕ) (given : List HttpElement) (piece : List ℕ) → old.awaited ≡ Body left next → old.rest ≡ [] → length piece ≤ left → HasRead stream given old → HasRead (stream ++ piece) (given ++ map HasByte piece) (record { part = []; rest = []; awaited = Body (left - length piece) next })
-part_fed old left next stream given piece is none fits stands =
-    let fed : HasRead (stream ++ piece) given (record { part = []; rest = old.rest ++ piece; awaited = old.awaited }) = stands_fed stream given piece old stands in
-    let here : HasRead (stream ++ piece) given (record { part = []; rest = piece; awaited = Body left next }) =
-    subst (λ (a : Awaited). HasRead (stream ++ piece) given (record { part = []; rest = piece; awaited = a })) is
-    (subst (λ (r : List ℕ). HasRead (stream ++ piece) given (record { part = []; rest = r ++ piece; awaited = old.awaited })) none fed) in
-    let lent : HasRead (stream ++ piece) (given ++ map HasByte (take (length piece) piece)) (record { part = take (length piece) piece; rest = drop (length piece) piece; awaited = Body (left - length piece) next }) =
-    lends (record { part = []; rest = piece; awaited = Body left next }) left next (length piece) refl (omega arith) fits (stream ++ piece) given here in
-    let said : HasRead (stream ++ piece) (given ++ map HasByte piece) (record { part = take (length piece) piece; rest = drop (length piece) piece; awaited = Body (left - length piece) next }) =
-    subst (λ (p : List ℕ). HasRead (stream ++ piece) (given ++ map HasByte p) (record { part = take (length piece) piece; rest = drop (length piece) piece; awaited = Body (left - length piece) next })) (take_whole piece) lent in
-    let ended : HasRead (stream ++ piece) (given ++ map HasByte piece) (record { part = take (length piece) piece; rest = []; awaited = Body (left - length piece) next }) =
-    subst (λ (r : List ℕ). HasRead (stream ++ piece) (given ++ map HasByte piece) (record { part = take (length piece) piece; rest = r; awaited = Body (left - length piece) next })) (drop_whole piece) said in
+part_fed : (old : HttpState) (left : ℕ) (next : Following) (stream : List ℕ) (given : List HttpElement) (segment : List ℕ) → old.awaited ≡ Body left next → old.rest ≡ [] → length segment ≤ left → HasRead stream given old → HasRead (stream ++ segment) (given ++ map HasByte segment) (record { part = []; rest = []; awaited = Body (left - length segment) next })
+part_fed old left next stream given segment is none fits reaches =
+    let fed : HasRead (stream ++ segment) given (record { part = []; rest = old.rest ++ segment; awaited = old.awaited }) = reaches_fed stream given segment old reaches in
+    let here : HasRead (stream ++ segment) given (record { part = []; rest = segment; awaited = Body left next }) =
+    subst (λ (a : Awaited). HasRead (stream ++ segment) given (record { part = []; rest = segment; awaited = a })) is
+    (subst (λ (r : List ℕ). HasRead (stream ++ segment) given (record { part = []; rest = r ++ segment; awaited = old.awaited })) none fed) in
+    let lent : HasRead (stream ++ segment) (given ++ map HasByte (take (length segment) segment)) (record { part = take (length segment) segment; rest = drop (length segment) segment; awaited = Body (left - length segment) next }) =
+    lends (record { part = []; rest = segment; awaited = Body left next }) left next (length segment) refl (omega arith) fits (stream ++ segment) given here in
+    let said : HasRead (stream ++ segment) (given ++ map HasByte segment) (record { part = take (length segment) segment; rest = drop (length segment) segment; awaited = Body (left - length segment) next }) =
+    subst (λ (p : List ℕ). HasRead (stream ++ segment) (given ++ map HasByte p) (record { part = take (length segment) segment; rest = drop (length segment) segment; awaited = Body (left - length segment) next })) (take_whole segment) lent in
+    let ended : HasRead (stream ++ segment) (given ++ map HasByte segment) (record { part = take (length segment) segment; rest = []; awaited = Body (left - length segment) next }) =
+    subst (λ (r : List ℕ). HasRead (stream ++ segment) (given ++ map HasByte segment) (record { part = take (length segment) segment; rest = r; awaited = Body (left - length segment) next })) (drop_whole segment) said in
     record { left = ended.left; leads = ended.leads; kept = ended.kept }
 
-has_read_fed : (old : HttpState) (awaited : Awaited) (stream : List ℕ) (given : List HttpElement) (piece : List ℕ) → old.awaited ≡ awaited → old.rest ≡ [] → HasLeft (length piece) awaited → HasRead stream given old → HasRead (stream ++ piece) (given ++ map HasByte piece) (record { part = []; rest = []; awaited = past_body (length piece) awaited })
-has_read_fed old (Body left next) stream given piece is none fits stands = part_fed old left next stream given piece is none fits stands
-has_read_fed old Head stream given piece is none fits stands = absurd fits
-has_read_fed old (Invitation framing closes) stream given piece is none fits stands = absurd fits
-has_read_fed old (Size room closes) stream given piece is none fits stands = absurd fits
-has_read_fed old (Trailer last) stream given piece is none fits stands = absurd fits
-has_read_fed old Nothing stream given piece is none fits stands = absurd fits
+has_read_fed : (old : HttpState) (awaited : Awaited) (stream : List ℕ) (given : List HttpElement) (segment : List ℕ) → old.awaited ≡ awaited → old.rest ≡ [] → HasLeft (length segment) awaited → HasRead stream given old → HasRead (stream ++ segment) (given ++ map HasByte segment) (record { part = []; rest = []; awaited = past_body (length segment) awaited })
+has_read_fed old (Body left next) stream given segment is none fits reaches = part_fed old left next stream given segment is none fits reaches
+has_read_fed old Head stream given segment is none fits reaches = absurd fits
+has_read_fed old (Invitation framing closes) stream given segment is none fits reaches = absurd fits
+has_read_fed old (Size room closes) stream given segment is none fits reaches = absurd fits
+has_read_fed old (Trailer last) stream given segment is none fits reaches = absurd fits
+has_read_fed old Nothing stream given segment is none fits reaches = absurd fits
 
 -- so many bytes of a body were given as they came
-pub body_fed : (old new : HttpState) (count : ℕ) (stream : List ℕ) (given : List HttpElement) (piece : List ℕ) → AwaitsBody count old → new ≡ record { part = []; rest = []; awaited = past_body count old.awaited } → length piece ≡ count → HasRead stream given old → HasRead (stream ++ piece) (given ++ map HasByte piece) new
-body_fed old new count stream given piece awaits is long stands =
-    let fits : HasLeft (length piece) old.awaited = subst (λ (n : ℕ). HasLeft n old.awaited) (sym long) awaits.1 in
-    let has_read : HasRead (stream ++ piece) (given ++ map HasByte piece) (record { part = []; rest = []; awaited = past_body (length piece) old.awaited }) = has_read_fed old old.awaited stream given piece refl awaits.0 fits stands in
-    subst (λ (n : HttpState). HasRead (stream ++ piece) (given ++ map HasByte piece) n) (sym is)
-    (subst (λ (n : ℕ). HasRead (stream ++ piece) (given ++ map HasByte piece) (record { part = []; rest = []; awaited = past_body n old.awaited })) long has_read)
+pub body_fed : (old new : HttpState) (count : ℕ) (stream : List ℕ) (given : List HttpElement) (segment : List ℕ) → AwaitsBody count old → new ≡ record { part = []; rest = []; awaited = past_body count old.awaited } → length segment ≡ count → HasRead stream given old → HasRead (stream ++ segment) (given ++ map HasByte segment) new
+body_fed old new count stream given segment awaits is long reaches =
+    let fits : HasLeft (length segment) old.awaited = subst (λ (n : ℕ). HasLeft n old.awaited) (sym long) awaits.1 in
+    let has_read : HasRead (stream ++ segment) (given ++ map HasByte segment) (record { part = []; rest = []; awaited = past_body (length segment) old.awaited }) = has_read_fed old old.awaited stream given segment refl awaits.0 fits reaches in
+    subst (λ (n : HttpState). HasRead (stream ++ segment) (given ++ map HasByte segment) n) (sym is)
+    (subst (λ (n : ℕ). HasRead (stream ++ segment) (given ++ map HasByte segment) (record { part = []; rest = []; awaited = past_body n old.awaited })) long has_read)

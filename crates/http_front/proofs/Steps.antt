@@ -1,11 +1,11 @@
--- Where a reader stands after a step.
+-- The state of a reader after a step.
 use Rattle.std.specs.Prelude.{ℕ, suc, zero, ◌≡◌, ◌⊎◌, ◌+◌, ◌-◌, ◌<◌, ◌≤◌, ◌==◌, false, List, [], ◌∷◌, ◌++◌, length, map, take, drop}
 use Rattle.std.proofs.Common.{arith, refl, subst, sym, ap, ◌∙◌, zero-add, inl, inr}
 use Rattle.std.proofs.lemmas.List.{append_assoc, append-nil, take-append-drop, length-take-le, length-drop}
 use Rattle.http_front.specs.declared.awaited.Awaited.{Awaited}
 use Rattle.http_front.specs.declared.awaited.Awaited.TheVariants.{Head, Body, Nothing}
 use Rattle.http_front.specs.declared.awaited.Following.{Following}
-use Rattle.http_front.specs.Stream.{HttpElement, HasByte, Goes, Waits, FrontIs, body_front, ParsesIn, Parses, Exchanges, LeadsIn, Leads, HttpState, IsOver, HasRead, Advances, work}
+use Rattle.http_front.specs.Stream.{HttpElement, HasByte, Goes, Waits, PrefixIs, body_prefix, ParsesIn, Parses, Exchanges, LeadsIn, Leads, HttpState, IsOver, HasRead, Advances, work}
 
 -- one after the other
 
@@ -25,8 +25,8 @@ parses_then (suc n) m a bytes first b mid later x y =
     let r = parses_then n m x.2 x.1 x.3 b mid later x.6 y in
     (suc r.0, (x.0, x.1, x.2, x.3 ++ later, x.4, ap (λ s. s ++ later) x.5 ∙ append_assoc x.0 x.3 later, r.1))
 
-leads_one : (a : Awaited) (bytes : List ℕ) (said : List HttpElement) (b : Awaited) (left : List ℕ) → FrontIs a bytes (Goes said left b) → Leads a bytes said b left
-leads_one a bytes said b left front = (suc zero, (said, left, b, [], front, sym (append-nil said), (refl, refl, refl)))
+leads_one : (a : Awaited) (bytes : List ℕ) (said : List HttpElement) (b : Awaited) (left : List ℕ) → PrefixIs a bytes (Goes said left b) → Leads a bytes said b left
+leads_one a bytes said b left prefix = (suc zero, (said, left, b, [], prefix, sym (append-nil said), (refl, refl, refl)))
 
 -- a reader for which something counts goes on
 on_from : (stream : List ℕ) (given : List HttpElement) (old : HttpState) (left : List ℕ) (said : List HttpElement) (new : HttpState) → (IsOver old → ⊥) → Leads old.awaited old.rest said new.awaited new.rest → Leads Head stream given old.awaited left → (IsOver old ⊎ (left ≡ old.rest)) → HasRead stream (given ++ said) new
@@ -36,39 +36,39 @@ on_from stream given old left said new counts on leads (inr same) =
     record { left = new.rest; leads = leads_then leads.0 on.0 Head stream given old.awaited old.rest said new.awaited new.rest here on.1; kept = inr refl }
 
 advance_by : (old : HttpState) (said : List HttpElement) (new : HttpState) → (IsOver old → ⊥) → Leads old.awaited old.rest said new.awaited new.rest → Advances old said new
-advance_by old said new counts on stream given stands = on_from stream given old stands.left said new counts on stands.leads stands.kept
+advance_by old said new counts on stream given reaches = on_from stream given old reaches.left said new counts on reaches.leads reaches.kept
 
-not_over : (old : HttpState) (said : List HttpElement) (rest : List ℕ) (next : Awaited) → FrontIs old.awaited old.rest (Goes said rest next) → IsOver old → ⊥
-not_over old said rest next front over =
-    let no : Goes said rest next ≡ Waits = subst (λ (a : Awaited). FrontIs a old.rest (Goes said rest next)) over front in
+not_over : (old : HttpState) (said : List HttpElement) (rest : List ℕ) (next : Awaited) → PrefixIs old.awaited old.rest (Goes said rest next) → IsOver old → ⊥
+not_over old said rest next prefix over =
+    let no : Goes said rest next ≡ Waits = subst (λ (a : Awaited). PrefixIs a old.rest (Goes said rest next)) over prefix in
     (cc)
 
-pub advance : (old : HttpState) (said : List HttpElement) (new : HttpState) → FrontIs old.awaited old.rest (Goes said new.rest new.awaited) → Advances old said new
-advance old said new front = advance_by old said new (not_over old said new.rest new.awaited front) (leads_one old.awaited old.rest said new.awaited new.rest front)
+pub advance : (old : HttpState) (said : List HttpElement) (new : HttpState) → PrefixIs old.awaited old.rest (Goes said new.rest new.awaited) → Advances old said new
+advance old said new prefix = advance_by old said new (not_over old said new.rest new.awaited prefix) (leads_one old.awaited old.rest said new.awaited new.rest prefix)
 
 pub advances_nothing : (old : HttpState) → Advances old [] old
-advances_nothing old stream given stands = subst (λ g. HasRead stream g old) (sym (append-nil given)) stands
+advances_nothing old stream given reaches = subst (λ g. HasRead stream g old) (sym (append-nil given)) reaches
 
 pub advances_then : (old mid new : HttpState) (said : List HttpElement) → Advances old [] mid → Advances mid said new → Advances old said new
-advances_then old mid new said first second stream given stands =
-    second stream given (subst (λ g. HasRead stream g mid) (append-nil given) (first stream given stands))
+advances_then old mid new said first second stream given reaches =
+    second stream given (subst (λ g. HasRead stream g mid) (append-nil given) (first stream given reaches))
 
--- the front is not known yet
+-- the prefix is not known yet
 
-waits_in : (old : HttpState) (left : List ℕ) → FrontIs old.awaited old.rest Waits → (IsOver old ⊎ (left ≡ old.rest)) → FrontIs old.awaited left Waits
-waits_in old left waits (inl over) = subst (λ (a : Awaited). FrontIs a left Waits) (sym over) refl
-waits_in old left waits (inr same) = subst (λ (bytes : List ℕ). FrontIs old.awaited bytes Waits) (sym same) waits
+waits_in : (old : HttpState) (left : List ℕ) → PrefixIs old.awaited old.rest Waits → (IsOver old ⊎ (left ≡ old.rest)) → PrefixIs old.awaited left Waits
+waits_in old left waits (inl over) = subst (λ (a : Awaited). PrefixIs a left Waits) (sym over) refl
+waits_in old left waits (inr same) = subst (λ (bytes : List ℕ). PrefixIs old.awaited bytes Waits) (sym same) waits
 
-pub tells_all : (old : HttpState) → FrontIs old.awaited old.rest Waits → (stream : List ℕ) (given : List HttpElement) → HasRead stream given old → Exchanges stream given
-tells_all old waits stream given stands =
-    let here : FrontIs old.awaited stands.left Waits = waits_in old stands.left waits stands.kept in
-    let parses : Parses Head stream (given ++ []) = parses_then stands.leads.0 zero Head stream given old.awaited stands.left [] stands.leads.1 (refl, here) in
+pub tells_all : (old : HttpState) → PrefixIs old.awaited old.rest Waits → (stream : List ℕ) (given : List HttpElement) → HasRead stream given old → Exchanges stream given
+tells_all old waits stream given reaches =
+    let here : PrefixIs old.awaited reaches.left Waits = waits_in old reaches.left waits reaches.kept in
+    let parses : Parses Head stream (given ++ []) = parses_then reaches.leads.0 zero Head stream given old.awaited reaches.left [] reaches.leads.1 (refl, here) in
     subst (λ said. Parses Head stream said) (append-nil given) parses
 
 -- a part of a body, byte by byte
 
-byte_front : (byte : ℕ) (bytes : List ℕ) (next : Following) (count more : ℕ) → count ≡ more + 1 → Goes (HasByte byte ∷ []) bytes (Body more next) ≡ body_front count next (byte ∷ bytes)
-byte_front byte bytes next count more is =
+byte_prefix : (byte : ℕ) (bytes : List ℕ) (next : Following) (count more : ℕ) → count ≡ more + 1 → Goes (HasByte byte ∷ []) bytes (Body more next) ≡ body_prefix count next (byte ∷ bytes)
+byte_prefix byte bytes next count more is =
     let some : (count == 0) ≡ false = grind (arith, is) in
     let one : count - 1 ≡ more = omega (arith, is) in
     rw (some, one) refl
@@ -77,7 +77,7 @@ pub leads_part : (part more : List ℕ) (count : ℕ) (next : Following) → Lea
 leads_part [] more count next = (zero, (refl, ap (λ n. Body n next) (sym (zero-add count)), refl))
 leads_part (byte ∷ part) more count next =
     let tail = leads_part part more count next in
-    (suc tail.0, (HasByte byte ∷ [], part ++ more, Body (length part + count) next, map HasByte part, byte_front byte (part ++ more) next _ _ (omega arith), refl, tail.1))
+    (suc tail.0, (HasByte byte ∷ [], part ++ more, Body (length part + count) next, map HasByte part, byte_prefix byte (part ++ more) next _ _ (omega arith), refl, tail.1))
 
 body_counts : (old : HttpState) (count : ℕ) (next : Following) → old.awaited ≡ Body count next → IsOver old → ⊥
 body_counts old count next is over = let no : Body count next ≡ Nothing = sym is ∙ over in (cc)

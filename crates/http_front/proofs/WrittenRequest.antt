@@ -17,12 +17,12 @@ use Rattle.http_front.specs.declared.awaited.Awaited.TheVariants.{Head, Invitati
 use Rattle.http_front.specs.Chunk.{IsSizeOf}
 use Rattle.http_front.specs.Head.{Asks}
 use Rattle.http_front.specs.Section.{empty_line, empty_line_end, section_of, section_in}
-use Rattle.http_front.specs.Stream.{HttpElement, HasHead, Invites, HasByte, EndsBody, Front, Goes, refused, is_last, body_by, after_head, after_body, HeadIn, is_line_end, following, byte_of, sized, SizeIn, trailer_front, FrontIs, Parses}
-use Rattle.http_front.specs.Written.{IsHead, IsSizeLine, Piece, piece_bytes, ArePieces, octets_of, IsTrailer, LengthParses, ChunksParse}
+use Rattle.http_front.specs.Stream.{HttpElement, HasHead, Invites, HasByte, EndsBody, Prefix, Goes, refused, is_last, body_by, after_head, after_body, HeadIn, is_line_end, following, byte_of, sized, SizeIn, trailer_prefix, PrefixIs, Parses}
+use Rattle.http_front.specs.Written.{IsHead, IsSizeLine, WrittenChunk, chunk_bytes, AreChunks, octets_of, IsTrailer, LengthParses, ChunksParse}
 
 -- one step
-parses_step : (awaited : Awaited) (bytes : List ℕ) (first : List HttpElement) (rest : List ℕ) (next : Awaited) (later : List HttpElement) → FrontIs awaited bytes (Goes first rest next) → Parses next rest later → Parses awaited bytes (first ++ later)
-parses_step awaited bytes first rest next later front (steps, it) = (suc steps, (first, rest, next, later, front, refl, it))
+parses_step : (awaited : Awaited) (bytes : List ℕ) (first : List HttpElement) (rest : List ℕ) (next : Awaited) (later : List HttpElement) → PrefixIs awaited bytes (Goes first rest next) → Parses next rest later → Parses awaited bytes (first ++ later)
+parses_step awaited bytes first rest next later prefix (steps, it) = (suc steps, (first, rest, next, later, prefix, refl, it))
 
 -- ---- sections and lines stay where more comes
 
@@ -30,7 +30,7 @@ more_than_none : (t : Bool) → t ≡ true → t ≡ false → ⊥
 more_than_none true p q = cc
 more_than_none false p q = cc
 
--- an empty line at the front stays one
+-- an empty line at the beginning stays one
 empty_more : (xs ys : List ℕ) → nat_lt 0 (empty_line xs) ≡ true → empty_line (xs ++ ys) ≡ empty_line xs
 empty_more [] ys is = cc
 empty_more (first ∷ []) [] is = refl
@@ -107,7 +107,7 @@ drop_all (x ∷ xs) ys = drop_all xs ys
 
 -- ---- a head
 
-at_head : (head more : List ℕ) (request : Request) → IsHead head request → FrontIs Head (head ++ more) (Goes (HasHead request.closes ∷ []) more (after_head request))
+at_head : (head more : List ℕ) (request : Request) → IsHead head request → PrefixIs Head (head ++ more) (Goes (HasHead request.closes ∷ []) more (after_head request))
 at_head [] more request is = absurd (more_than_none false is.begins refl)
 at_head (byte ∷ head) more request is =
     subst (λ (t : Bool). MatchBool t (Goes (HasHead request.closes ∷ []) more (after_head request) ≡ Goes [] (head ++ more) Head) (HeadIn (byte ∷ (head ++ more)) (section_in HTTP_HEAD_BYTES (byte ∷ (head ++ more))) (Goes (HasHead request.closes ∷ []) more (after_head request)))) (sym (negated (is_line_end byte) is.begins))
@@ -207,14 +207,14 @@ take_line line more place ends = ap (λ (n : ℕ). take n (line ++ more)) (sym e
 drop_line : (line more : List ℕ) (place : ℕ) → length line ≡ place + 1 → drop (place + 1) (line ++ more) ≡ more
 drop_line line more place ends = ap (λ (n : ℕ). drop n (line ++ more)) (sym ends) ∙ drop_all line more
 
-at_size : (line more : List ℕ) (size room : ℕ) (closes : Bool) → IsSizeLine line size → FrontIs (Size room closes) (line ++ more) (sized (Some size) room closes more)
+at_size : (line more : List ℕ) (size room : ℕ) (closes : Bool) → IsSizeLine line size → PrefixIs (Size room closes) (line ++ more) (sized (Some size) room closes more)
 at_size line more size room closes is =
     subst (λ (l : FirstLine). SizeIn (line ++ more) room closes l (sized (Some size) room closes more)) (sym (line_more HTTP_CHUNK_LINE_BYTES is.place line more is.whole))
     (Some size, subst (λ (bytes : List ℕ). IsSizeOf bytes (Some size)) (sym (take_line line more is.place is.ends)) is.is, ap (sized (Some size) room closes) (sym (drop_line line more is.place is.ends)))
 
--- the size line of a piece leads to a body of its size
-at_piece : (size room : ℕ) (closes : Bool) (more : List ℕ) → 0 < size → size ≤ room → sized (Some size) room closes more ≡ Goes [] more (Body size (Chunk (room - size) closes))
-at_piece size room closes more some fits =
+-- the size line of a chunk leads to a body of its size
+at_chunk : (size room : ℕ) (closes : Bool) (more : List ℕ) → 0 < size → size ≤ room → sized (Some size) room closes more ≡ Goes [] more (Body size (Chunk (room - size) closes))
+at_chunk size room closes more some fits =
     ap (λ (t : Bool). if t then Goes [] more (Trailer (is_last closes (HTTP_BODY_BYTES - room))) else if nat_le size room then Goes [] more (Body size (Chunk (room - size) closes)) else refused ContentTooLarge more) (is_some size some)
     ∙ ap (λ (t : Bool). if t then Goes [] more (Body size (Chunk (room - size) closes)) else refused ContentTooLarge more) (is_within size room fits)
   where
@@ -224,29 +224,29 @@ at_piece size room closes more some fits =
     is_within : (n m : ℕ) → n ≤ m → nat_le n m ≡ true
     is_within n m less = grind (arith, nat_tests, less)
 
--- a piece with its size line and the end of its chunk
-parses_piece : (line octets more : List ℕ) (room : ℕ) (closes : Bool) (later : List HttpElement) → IsSizeLine line (length octets) → 0 < length octets → length octets ≤ room → Parses (Size (room - length octets) closes) more later
+-- a chunk with its size line and the end of its chunk
+parses_chunk : (line octets more : List ℕ) (room : ℕ) (closes : Bool) (later : List HttpElement) → IsSizeLine line (length octets) → 0 < length octets → length octets ≤ room → Parses (Size (room - length octets) closes) more later
     → Parses (Size room closes) (line ++ (octets ++ 13 ∷ 10 ∷ more)) (map HasByte octets ++ later)
-parses_piece line octets more room closes later is some fits it =
+parses_chunk line octets more room closes later is some fits it =
     parses_step (Size room closes) (line ++ (octets ++ 13 ∷ 10 ∷ more)) [] (octets ++ 13 ∷ 10 ∷ more) (Body (length octets) (Chunk (room - length octets) closes)) (map HasByte octets ++ later)
-    (subst (λ (front : Front). FrontIs (Size room closes) (line ++ (octets ++ 13 ∷ 10 ∷ more)) front) (at_piece (length octets) room closes (octets ++ 13 ∷ 10 ∷ more) some fits) (at_size line (octets ++ 13 ∷ 10 ∷ more) (length octets) room closes is))
+    (subst (λ (prefix : Prefix). PrefixIs (Size room closes) (line ++ (octets ++ 13 ∷ 10 ∷ more)) prefix) (at_chunk (length octets) room closes (octets ++ 13 ∷ 10 ∷ more) some fits) (at_size line (octets ++ 13 ∷ 10 ∷ more) (length octets) room closes is))
     (parses_bytes octets (13 ∷ 10 ∷ more) (Chunk (room - length octets) closes) later (parses_step (Body 0 (Chunk (room - length octets) closes)) (13 ∷ 10 ∷ more) [] more (Size (room - length octets) closes) later refl it))
 
-piece_joined : (piece : Piece) (rest : List ℕ) → piece_bytes piece ++ rest ≡ piece.line ++ (piece.octets ++ 13 ∷ 10 ∷ rest)
-piece_joined piece rest = append_assoc piece.line (piece.octets ++ 13 ∷ 10 ∷ []) rest ∙ ap (λ (bytes : List ℕ). piece.line ++ bytes) (append_assoc piece.octets (13 ∷ 10 ∷ []) rest)
+chunk_joined : (chunk : WrittenChunk) (rest : List ℕ) → chunk_bytes chunk ++ rest ≡ chunk.line ++ (chunk.octets ++ 13 ∷ 10 ∷ rest)
+chunk_joined chunk rest = append_assoc chunk.line (chunk.octets ++ 13 ∷ 10 ∷ []) rest ∙ ap (λ (bytes : List ℕ). chunk.line ++ bytes) (append_assoc chunk.octets (13 ∷ 10 ∷ []) rest)
 
--- all pieces, and then the part that is awaited with the room that is left
-parses_pieces : (pieces : List Piece) (rest : List ℕ) (room : ℕ) (closes : Bool) (later : List HttpElement) → ArePieces room pieces → Parses (Size (room - length (octets_of pieces)) closes) rest later → Parses (Size room closes) (flat_map piece_bytes pieces ++ rest) (map HasByte (octets_of pieces) ++ later)
-parses_pieces [] rest room closes later are it = subst (λ (n : ℕ). Parses (Size n closes) rest later) (none room) it
+-- all chunks, and then the part that is awaited with the room that is left
+parses_chunks : (chunks : List WrittenChunk) (rest : List ℕ) (room : ℕ) (closes : Bool) (later : List HttpElement) → AreChunks room chunks → Parses (Size (room - length (octets_of chunks)) closes) rest later → Parses (Size room closes) (flat_map chunk_bytes chunks ++ rest) (map HasByte (octets_of chunks) ++ later)
+parses_chunks [] rest room closes later are it = subst (λ (n : ℕ). Parses (Size n closes) rest later) (none room) it
   where
     none : (n : ℕ) → n - 0 ≡ n
     none n = omega arith
-parses_pieces (piece ∷ pieces) rest room closes later (line, some, fits, are) it =
-    let left : room - length (octets_of (piece ∷ pieces)) ≡ room - length piece.octets - length (octets_of pieces) = less room (length piece.octets) (length (octets_of pieces)) (length (octets_of (piece ∷ pieces))) (length-append piece.octets (octets_of pieces)) in
-    let more = parses_pieces pieces rest (room - length piece.octets) closes later are (subst (λ (n : ℕ). Parses (Size n closes) rest later) left it) in
-    subst (λ (bytes : List ℕ). Parses (Size room closes) bytes (map HasByte (octets_of (piece ∷ pieces)) ++ later)) (sym (append_assoc (piece_bytes piece) (flat_map piece_bytes pieces) rest ∙ piece_joined piece (flat_map piece_bytes pieces ++ rest)))
-    (subst (λ (said : List HttpElement). Parses (Size room closes) (piece.line ++ (piece.octets ++ 13 ∷ 10 ∷ (flat_map piece_bytes pieces ++ rest))) said) (both piece.octets (octets_of pieces))
-    (parses_piece piece.line piece.octets (flat_map piece_bytes pieces ++ rest) room closes (map HasByte (octets_of pieces) ++ later) line some fits more))
+parses_chunks (chunk ∷ chunks) rest room closes later (line, some, fits, are) it =
+    let left : room - length (octets_of (chunk ∷ chunks)) ≡ room - length chunk.octets - length (octets_of chunks) = less room (length chunk.octets) (length (octets_of chunks)) (length (octets_of (chunk ∷ chunks))) (length-append chunk.octets (octets_of chunks)) in
+    let more = parses_chunks chunks rest (room - length chunk.octets) closes later are (subst (λ (n : ℕ). Parses (Size n closes) rest later) left it) in
+    subst (λ (bytes : List ℕ). Parses (Size room closes) bytes (map HasByte (octets_of (chunk ∷ chunks)) ++ later)) (sym (append_assoc (chunk_bytes chunk) (flat_map chunk_bytes chunks) rest ∙ chunk_joined chunk (flat_map chunk_bytes chunks ++ rest)))
+    (subst (λ (said : List HttpElement). Parses (Size room closes) (chunk.line ++ (chunk.octets ++ 13 ∷ 10 ∷ (flat_map chunk_bytes chunks ++ rest))) said) (both chunk.octets (octets_of chunks))
+    (parses_chunk chunk.line chunk.octets (flat_map chunk_bytes chunks ++ rest) room closes (map HasByte (octets_of chunks) ++ later) line some fits more))
   where
     less : (n m k all : ℕ) → all ≡ m + k → n - all ≡ n - m - k
     less n m k all is = omega (arith, is)
@@ -260,23 +260,23 @@ parses_last : (last trailer more : List ℕ) (room : ℕ) (closes : Bool) (later
 parses_last last trailer more room closes later is whole it =
     parses_step (Size room closes) (last ++ (trailer ++ more)) [] (trailer ++ more) (Trailer (is_last closes (HTTP_BODY_BYTES - room))) (EndsBody ∷ later) (at_size last (trailer ++ more) 0 room closes is)
     (parses_step (Trailer (is_last closes (HTTP_BODY_BYTES - room))) (trailer ++ more) (EndsBody ∷ []) more (after_body (is_last closes (HTTP_BODY_BYTES - room))) later
-    (subst (λ (line : FirstLine). Goes (EndsBody ∷ []) more (after_body (is_last closes (HTTP_BODY_BYTES - room))) ≡ trailer_front (is_last closes (HTTP_BODY_BYTES - room)) (trailer ++ more) line) (sym (section_more HTTP_TRAILER_BYTES (length trailer) trailer more whole))
+    (subst (λ (line : FirstLine). Goes (EndsBody ∷ []) more (after_body (is_last closes (HTTP_BODY_BYTES - room))) ≡ trailer_prefix (is_last closes (HTTP_BODY_BYTES - room)) (trailer ++ more) line) (sym (section_more HTTP_TRAILER_BYTES (length trailer) trailer more whole))
     (ap (λ (bytes : List ℕ). Goes (EndsBody ∷ []) bytes (after_body (is_last closes (HTTP_BODY_BYTES - room)))) (sym (drop_all trailer more)))) it)
 
--- pieces have no more bytes than there is room
-all_fit : (room : ℕ) (pieces : List Piece) → ArePieces room pieces → length (octets_of pieces) ≤ room
+-- chunks have no more bytes than there is room
+all_fit : (room : ℕ) (chunks : List WrittenChunk) → AreChunks room chunks → length (octets_of chunks) ≤ room
 all_fit room [] are = omega arith
-all_fit room (piece ∷ pieces) (line, some, fits, are) = omega (arith, fits, all_fit (room - length piece.octets) pieces are, length-append piece.octets (octets_of pieces))
+all_fit room (chunk ∷ chunks) (line, some, fits, are) = omega (arith, fits, all_fit (room - length chunk.octets) chunks are, length-append chunk.octets (octets_of chunks))
 
 left_over : (most n : ℕ) → n ≤ most → most - (most - n) ≡ n
 left_over most n fits = omega (arith, fits)
 
 pub chunks_say : ChunksParse
-chunks_say head pieces last trailer more request later is framing are ends whole it =
-    let count : HTTP_BODY_BYTES - (HTTP_BODY_BYTES - length (octets_of pieces)) ≡ length (octets_of pieces) = left_over HTTP_BODY_BYTES (length (octets_of pieces)) (all_fit HTTP_BODY_BYTES pieces are) in
-    let end = parses_last last trailer more (HTTP_BODY_BYTES - length (octets_of pieces)) request.closes later ends whole (subst (λ (n : ℕ). Parses (after_body (is_last request.closes n)) more later) (sym count) it) in
-    let body_parses : Parses (body_by request.framing request.closes) (flat_map piece_bytes pieces ++ (last ++ (trailer ++ more))) (map HasByte (octets_of pieces) ++ EndsBody ∷ later) =
-    subst (λ (f : Framing). Parses (body_by f request.closes) (flat_map piece_bytes pieces ++ (last ++ (trailer ++ more))) (map HasByte (octets_of pieces) ++ EndsBody ∷ later)) (sym framing)
-    (parses_pieces pieces (last ++ (trailer ++ more)) HTTP_BODY_BYTES request.closes (EndsBody ∷ later) are end) in
-    subst (λ (said : List HttpElement). Parses Head (head ++ (flat_map piece_bytes pieces ++ (last ++ (trailer ++ more)))) said) (joined request.invites request.closes (octets_of pieces) later)
-    (parses_head head (flat_map piece_bytes pieces ++ (last ++ (trailer ++ more))) request (map HasByte (octets_of pieces) ++ EndsBody ∷ later) is body_parses)
+chunks_say head chunks last trailer more request later is framing are ends whole it =
+    let count : HTTP_BODY_BYTES - (HTTP_BODY_BYTES - length (octets_of chunks)) ≡ length (octets_of chunks) = left_over HTTP_BODY_BYTES (length (octets_of chunks)) (all_fit HTTP_BODY_BYTES chunks are) in
+    let end = parses_last last trailer more (HTTP_BODY_BYTES - length (octets_of chunks)) request.closes later ends whole (subst (λ (n : ℕ). Parses (after_body (is_last request.closes n)) more later) (sym count) it) in
+    let body_parses : Parses (body_by request.framing request.closes) (flat_map chunk_bytes chunks ++ (last ++ (trailer ++ more))) (map HasByte (octets_of chunks) ++ EndsBody ∷ later) =
+    subst (λ (f : Framing). Parses (body_by f request.closes) (flat_map chunk_bytes chunks ++ (last ++ (trailer ++ more))) (map HasByte (octets_of chunks) ++ EndsBody ∷ later)) (sym framing)
+    (parses_chunks chunks (last ++ (trailer ++ more)) HTTP_BODY_BYTES request.closes (EndsBody ∷ later) are end) in
+    subst (λ (said : List HttpElement). Parses Head (head ++ (flat_map chunk_bytes chunks ++ (last ++ (trailer ++ more)))) said) (joined request.invites request.closes (octets_of chunks) later)
+    (parses_head head (flat_map chunk_bytes chunks ++ (last ++ (trailer ++ more))) request (map HasByte (octets_of chunks) ++ EndsBody ∷ later) is body_parses)

@@ -42,11 +42,11 @@ elements_of item.BodyEnd part = EndsBody ∷ []
 elements_of (item.Refuse refusal) part = IsRefused refusal ∷ []
 
 -- a step at the beginning of the bytes: its elements, the bytes after it, and the part that is awaited next; or a wait for more bytes
-pub data Front : Type 0 where
-  Goes : (said : List HttpElement) (rest : List ℕ) (next : Awaited) → Front
-  Waits : Front
+pub data Prefix : Type 0 where
+  Goes : (said : List HttpElement) (rest : List ℕ) (next : Awaited) → Prefix
+  Waits : Prefix
 
-abbrev pub refused : HttpRejection → List ℕ → Front
+abbrev pub refused : HttpRejection → List ℕ → Prefix
 refused refusal rest = Goes (IsRefused refusal ∷ []) rest Nothing
 
 -- the exchange closes the connection, or its body is too short for an IPP message: bytes after it are dropped
@@ -78,7 +78,7 @@ past_body count Nothing = Nothing
 abbrev pub after_head : Request → Awaited
 after_head request = if request.invites then Invitation request.framing request.closes else body_by request.framing request.closes
 
-abbrev pub begun : Result Request HttpRejection → List ℕ → Front
+abbrev pub begun : Result Request HttpRejection → List ℕ → Prefix
 begun (Ok request) rest = Goes (HasHead request.closes ∷ []) rest (after_head request)
 begun (Err refusal) rest = refused refusal rest
 
@@ -87,10 +87,10 @@ abbrev pub after_body : Bool → Awaited
 after_body last = if last then Nothing else Head
 
 -- the step for a head whose lines end at `count`, or don't end within the limit
-abbrev pub HeadIn : List ℕ → FirstLine → Front → Type 0
-HeadIn bytes (Whole count) front = (asked : Result Request HttpRejection) × Asks (take count bytes) asked × (front ≡ begun asked (drop count bytes))
-HeadIn bytes TooLong front = front ≡ refused HeadTooLarge bytes
-HeadIn bytes Unfinished front = front ≡ Waits
+abbrev pub HeadIn : List ℕ → FirstLine → Prefix → Type 0
+HeadIn bytes (Whole count) prefix = (asked : Result Request HttpRejection) × Asks (take count bytes) asked × (prefix ≡ begun asked (drop count bytes))
+HeadIn bytes TooLong prefix = prefix ≡ refused HeadTooLarge bytes
+HeadIn bytes Unfinished prefix = prefix ≡ Waits
 
 -- a byte of a line end; line ends before a head are dropped (RFC 9112, section 2.2)
 abbrev pub is_line_end : ℕ → Bool
@@ -101,62 +101,62 @@ abbrev pub begins_head : List ℕ → Bool
 begins_head [] = false
 begins_head (byte ∷ bytes) = not (is_line_end byte)
 
-abbrev pub AtHead : List ℕ → Front → Type 0
-AtHead [] front = front ≡ Waits
-AtHead (byte ∷ bytes) front =
-    MatchBool (is_line_end byte) (front ≡ Goes [] bytes Head) (HeadIn (byte ∷ bytes) (section_in HTTP_HEAD_BYTES (byte ∷ bytes)) front)
+abbrev pub AtHead : List ℕ → Prefix → Type 0
+AtHead [] prefix = prefix ≡ Waits
+AtHead (byte ∷ bytes) prefix =
+    MatchBool (is_line_end byte) (prefix ≡ Goes [] bytes Head) (HeadIn (byte ∷ bytes) (section_in HTTP_HEAD_BYTES (byte ∷ bytes)) prefix)
 
-abbrev pub chunk_front : ℕ → Bool → List ℕ → ChunkEnd → Front
-chunk_front room closes bytes end.Whole = Goes [] (drop 2 bytes) (Size room closes)
-chunk_front room closes bytes end.Broken = refused BadRequest bytes
-chunk_front room closes bytes end.Unfinished = Waits
+abbrev pub chunk_prefix : ℕ → Bool → List ℕ → ChunkEnd → Prefix
+chunk_prefix room closes bytes end.Whole = Goes [] (drop 2 bytes) (Size room closes)
+chunk_prefix room closes bytes end.Broken = refused BadRequest bytes
+chunk_prefix room closes bytes end.Unfinished = Waits
 
-abbrev pub following : Following → List ℕ → Front
+abbrev pub following : Following → List ℕ → Prefix
 following (Close last) bytes = Goes (EndsBody ∷ []) bytes (after_body last)
-following (Chunk room closes) bytes = chunk_front room closes bytes (chunk_end bytes)
+following (Chunk room closes) bytes = chunk_prefix room closes bytes (chunk_end bytes)
 
-abbrev pub byte_of : ℕ → Following → List ℕ → Front
+abbrev pub byte_of : ℕ → Following → List ℕ → Prefix
 byte_of count next [] = Waits
 byte_of count next (byte ∷ bytes) = Goes (HasByte byte ∷ []) bytes (Body (count - 1) next)
 
 -- the step at `count` bytes of a body, with what follows the body
-abbrev pub body_front : ℕ → Following → List ℕ → Front
-body_front count next bytes = if count == 0 then following next bytes else byte_of count next bytes
+abbrev pub body_prefix : ℕ → Following → List ℕ → Prefix
+body_prefix count next bytes = if count == 0 then following next bytes else byte_of count next bytes
 
 -- the step after the size of a chunk: the last chunk has size 0; the chunks together have at most `room` bytes
-abbrev pub sized : Option ℕ → ℕ → Bool → List ℕ → Front
+abbrev pub sized : Option ℕ → ℕ → Bool → List ℕ → Prefix
 sized None room closes rest = refused BadRequest rest
 sized (Some size) room closes rest =
     if size == 0 then Goes [] rest (Trailer (is_last closes (HTTP_BODY_BYTES - room)))
     else if nat_le size room then Goes [] rest (Body size (Chunk (room - size) closes))
     else refused ContentTooLarge rest
 
-abbrev pub SizeIn : List ℕ → ℕ → Bool → FirstLine → Front → Type 0
-SizeIn bytes room closes (Whole count) front = (size : Option ℕ) × IsSizeOf (take (count + 1) bytes) size × (front ≡ sized size room closes (drop (count + 1) bytes))
-SizeIn bytes room closes TooLong front = front ≡ refused BadRequest bytes
-SizeIn bytes room closes Unfinished front = front ≡ Waits
+abbrev pub SizeIn : List ℕ → ℕ → Bool → FirstLine → Prefix → Type 0
+SizeIn bytes room closes (Whole count) prefix = (size : Option ℕ) × IsSizeOf (take (count + 1) bytes) size × (prefix ≡ sized size room closes (drop (count + 1) bytes))
+SizeIn bytes room closes TooLong prefix = prefix ≡ refused BadRequest bytes
+SizeIn bytes room closes Unfinished prefix = prefix ≡ Waits
 
 -- the step at a trailer section, whose fields are dropped (RFC 9112, section 7.1.2)
-abbrev pub trailer_front : Bool → List ℕ → FirstLine → Front
-trailer_front last bytes (Whole count) = Goes (EndsBody ∷ []) (drop count bytes) (after_body last)
-trailer_front last bytes TooLong = refused BadRequest bytes
-trailer_front last bytes Unfinished = Waits
+abbrev pub trailer_prefix : Bool → List ℕ → FirstLine → Prefix
+trailer_prefix last bytes (Whole count) = Goes (EndsBody ∷ []) (drop count bytes) (after_body last)
+trailer_prefix last bytes TooLong = refused BadRequest bytes
+trailer_prefix last bytes Unfinished = Waits
 
 -- the step at the beginning of the bytes, by the part that is awaited
-abbrev pub FrontIs : Awaited → List ℕ → Front → Type 0
-FrontIs Head bytes front = AtHead bytes front
-FrontIs (Invitation framing closes) bytes front = front ≡ Goes (Invites ∷ []) bytes (body_by framing closes)
-FrontIs (Body count next) bytes front = front ≡ body_front count next bytes
-FrontIs (Size room closes) bytes front = SizeIn bytes room closes (first_line_of HTTP_CHUNK_LINE_BYTES bytes) front
-FrontIs (Trailer last) bytes front = front ≡ trailer_front last bytes (section_in HTTP_TRAILER_BYTES bytes)
-FrontIs Nothing bytes front = front ≡ Waits
+abbrev pub PrefixIs : Awaited → List ℕ → Prefix → Type 0
+PrefixIs Head bytes prefix = AtHead bytes prefix
+PrefixIs (Invitation framing closes) bytes prefix = prefix ≡ Goes (Invites ∷ []) bytes (body_by framing closes)
+PrefixIs (Body count next) bytes prefix = prefix ≡ body_prefix count next bytes
+PrefixIs (Size room closes) bytes prefix = SizeIn bytes room closes (first_line_of HTTP_CHUNK_LINE_BYTES bytes) prefix
+PrefixIs (Trailer last) bytes prefix = prefix ≡ trailer_prefix last bytes (section_in HTTP_TRAILER_BYTES bytes)
+PrefixIs Nothing bytes prefix = prefix ≡ Waits
 
 -- the bytes parse as these elements in `steps` steps, and then more bytes are awaited
 abbrev pub ParsesIn : ℕ → Awaited → List ℕ → List HttpElement → Type 0
-ParsesIn zero awaited bytes said = (said ≡ []) × FrontIs awaited bytes Waits
+ParsesIn zero awaited bytes said = (said ≡ []) × PrefixIs awaited bytes Waits
 ParsesIn (suc steps) awaited bytes said =
     (first : List HttpElement) × (rest : List ℕ) × (next : Awaited) × (later : List HttpElement)
-    × FrontIs awaited bytes (Goes first rest next) × (said ≡ first ++ later) × ParsesIn steps next rest later
+    × PrefixIs awaited bytes (Goes first rest next) × (said ≡ first ++ later) × ParsesIn steps next rest later
 
 abbrev pub Parses : Awaited → List ℕ → List HttpElement → Type 0
 Parses awaited bytes said = (steps : ℕ) × ParsesIn steps awaited bytes said
@@ -174,15 +174,15 @@ abbrev pub SomeParse : Type 0
 SomeParse = (stream : List ℕ) → (said : List HttpElement) × Exchanges stream said
 
 -- the elements of a stream are a prefix of the elements of the stream with more bytes after it
-abbrev pub StaysInFront : Type 0
-StaysInFront = (stream more : List ℕ) (given said : List HttpElement) → Exchanges stream given → Exchanges (stream ++ more) said → (later : List HttpElement) × (said ≡ given ++ later)
+abbrev pub StaysInPrefix : Type 0
+StaysInPrefix = (stream more : List ℕ) (given said : List HttpElement) → Exchanges stream given → Exchanges (stream ++ more) said → (later : List HttpElement) × (said ≡ given ++ later)
 
 -- the bytes parse as these elements in `steps` steps, and lead to this awaited part with these bytes left
 abbrev pub LeadsIn : ℕ → Awaited → List ℕ → List HttpElement → Awaited → List ℕ → Type 0
 LeadsIn zero awaited bytes said next left = (said ≡ []) × (next ≡ awaited) × (left ≡ bytes)
 LeadsIn (suc steps) awaited bytes said next left =
     (first : List HttpElement) × (rest : List ℕ) × (after : Awaited) × (later : List HttpElement)
-    × FrontIs awaited bytes (Goes first rest after) × (said ≡ first ++ later) × LeadsIn steps after rest later next left
+    × PrefixIs awaited bytes (Goes first rest after) × (said ≡ first ++ later) × LeadsIn steps after rest later next left
 
 abbrev pub Leads : Awaited → List ℕ → List HttpElement → Awaited → List ℕ → Type 0
 Leads awaited bytes said next left = (steps : ℕ) × LeadsIn steps awaited bytes said next left
@@ -231,8 +231,8 @@ pub record HasRead (stream : List ℕ) (given : List HttpElement) (reader : Http
   pub kept : IsOver reader ⊎ (left ≡ reader.rest)
 
 -- the elements that a reader has given are a prefix of the elements of its stream
-abbrev pub GivesTheFront : Type 0
-GivesTheFront = (stream : List ℕ) (given : List HttpElement) (reader : HttpState) → HasRead stream given reader → (later : List HttpElement) × Exchanges stream (given ++ later)
+abbrev pub GivesThePrefix : Type 0
+GivesThePrefix = (stream : List ℕ) (given : List HttpElement) (reader : HttpState) → HasRead stream given reader → (later : List HttpElement) × Exchanges stream (given ++ later)
 
 -- the elements of a whole stream are those that a reader has given, and then those that the reader's state parses from its bytes and the bytes that follow
 abbrev pub ParsesTheRest : Type 0
@@ -266,7 +266,7 @@ work reader = 4 * length reader.rest + rank reader.awaited
 abbrev pub Steps : HttpState → Step → HttpState → Type 0
 Steps old (step.Gives said) new = Advances old (elements_of said new.part) new × Stops said new × (work new < work old)
 Steps old step.Passes new = Advances old [] new × (length new.rest < length old.rest)
-Steps old step.Waits new = (new ≡ old) × FrontIs old.awaited old.rest Waits
+Steps old step.Waits new = (new ≡ old) × PrefixIs old.awaited old.rest Waits
 
 -- the answer of a reader, and its state then: the next item of the stream; or no item, and then the stream contains no more
 abbrev pub Answers : HttpState → Option HttpItem → HttpState → Type 0

@@ -29,20 +29,20 @@ pub record IsSizeLine (line : List ℕ) (size : ℕ) : Type 0 where
   pub is : IsSizeOf line (Some size)
 
 -- bytes of a body, after a line with their count
-pub record Piece : Type 0 where
+pub record WrittenChunk : Type 0 where
   pub line : List ℕ
   pub octets : List ℕ
 
-abbrev pub piece_bytes : Piece → List ℕ
-piece_bytes piece = piece.line ++ (piece.octets ++ 13 ∷ 10 ∷ [])
+abbrev pub chunk_bytes : WrittenChunk → List ℕ
+chunk_bytes chunk = chunk.line ++ (chunk.octets ++ 13 ∷ 10 ∷ [])
 
--- pieces that aren't empty and have at most `room` bytes together
-abbrev pub ArePieces : ℕ → List Piece → Type 0
-ArePieces room [] = Unit {0}
-ArePieces room (piece ∷ pieces) = IsSizeLine piece.line (length piece.octets) × (0 < length piece.octets) × (length piece.octets ≤ room) × ArePieces (room - length piece.octets) pieces
+-- chunks that aren't empty and have at most `room` bytes together
+abbrev pub AreChunks : ℕ → List WrittenChunk → Type 0
+AreChunks room [] = Unit {0}
+AreChunks room (chunk ∷ chunks) = IsSizeLine chunk.line (length chunk.octets) × (0 < length chunk.octets) × (length chunk.octets ≤ room) × AreChunks (room - length chunk.octets) chunks
 
-abbrev pub octets_of : List Piece → List ℕ
-octets_of pieces = flat_map (λ (piece : Piece). piece.octets) pieces
+abbrev pub octets_of : List WrittenChunk → List ℕ
+octets_of chunks = flat_map (λ (chunk : WrittenChunk). chunk.octets) chunks
 
 -- the lines after the last chunk, up to and with the first empty line
 abbrev pub IsTrailer : List ℕ → Type 0
@@ -57,6 +57,6 @@ LengthParses =
 -- a stream that begins with a body in chunks has the elements of the same request for every division into chunks, with extensions and a trailer
 abbrev pub ChunksParse : Type 0
 ChunksParse =
-    (head : List ℕ) (pieces : List Piece) (last trailer more : List ℕ) (request : Request) (later : List HttpElement) → IsHead head request → request.framing ≡ Chunked → ArePieces HTTP_BODY_BYTES pieces
-    → IsSizeLine last 0 → IsTrailer trailer → Parses (after_body (is_last request.closes (length (octets_of pieces)))) more later
-    → Exchanges (head ++ (flat_map piece_bytes pieces ++ (last ++ (trailer ++ more)))) (elements_of_request request (octets_of pieces) ++ later)
+    (head : List ℕ) (chunks : List WrittenChunk) (last trailer more : List ℕ) (request : Request) (later : List HttpElement) → IsHead head request → request.framing ≡ Chunked → AreChunks HTTP_BODY_BYTES chunks
+    → IsSizeLine last 0 → IsTrailer trailer → Parses (after_body (is_last request.closes (length (octets_of chunks)))) more later
+    → Exchanges (head ++ (flat_map chunk_bytes chunks ++ (last ++ (trailer ++ more)))) (elements_of_request request (octets_of chunks) ++ later)

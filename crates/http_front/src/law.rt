@@ -1,24 +1,24 @@
 //! Laws of the exchanges, as contracts of functions that do nothing.
-ghost use Rattle.http_front.specs.Stream.{OneParse, SomeParse, StaysInFront, FirstIsOne, FirstStays, GivesTheFront, ParsesTheRest};
+ghost use Rattle.http_front.specs.Stream.{OneParse, SomeParse, StaysInPrefix, FirstIsOne, FirstStays, GivesThePrefix, ParsesTheRest};
 ghost use Rattle.http_front.specs.Order.{ElementsInOrder};
 ghost use Rattle.http_front.specs.Written.{LengthParses, ChunksParse};
 
 /// Two readings of one stream give the same elements, and these are a prefix of the elements of the stream
 /// with more bytes after it.
-pub fn one_saying()
+pub fn one_parse()
     ensures one { OneParse }
-    ensures front { StaysInFront }
+    ensures prefix { StaysInPrefix }
 {}
 
 /// Each stream has a reading. The elements that a reader has given are a prefix of that reading, for every
 /// segmentation of the stream.
-pub fn some_saying()
+pub fn some_parse()
     ensures some { SomeParse }
-    ensures front { GivesTheFront }
+    ensures prefix { GivesThePrefix }
 {}
 
 /// Two prefixes of the elements of a stream are equal if their lengths are equal.
-pub fn one_front()
+pub fn one_prefix()
     ensures { FirstIsOne }
 {}
 
@@ -37,7 +37,7 @@ pub fn given_first()
 
 /// The stream of a written request reads as that request: of a head with a length and as many bytes, and of a
 /// head with a body in chunks, for every division into chunks, with extensions and a trailer.
-pub fn written_is_said()
+pub fn written_is_parsed()
     ensures length { LengthParses }
     ensures chunks { ChunksParse }
 {}

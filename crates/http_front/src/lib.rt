@@ -24,7 +24,7 @@ mod words;
 
 pub use item::HttpItem;
 pub use law::{
-    exchanges_in_order, given_first, one_front, one_saying, some_saying, written_is_said,
+    exchanges_in_order, given_first, one_parse, one_prefix, some_parse, written_is_parsed,
 };
 pub use reader::HttpReader;
 pub use refusal::HttpRejection;

@@ -18,7 +18,7 @@ use std::marker::Model;
 use std::mem;
 use text::{FirstLine, Unread, first_line};
 
-/// A reader of an HTTP client's stream, which is fed in pieces of any length. In clauses it is a record of
+/// A reader of an HTTP client's stream, which is fed in segments of any length. In clauses it is a record of
 /// the part of a body that it lends, the bytes that aren't read, and the part that it awaits.
 ///
 /// After a request that is refused, one whose connection closes, and one whose body is too short for an IPP
@@ -26,7 +26,7 @@ use text::{FirstLine, Unread, first_line};
 #[derive(Drop)]
 pub struct HttpReader {
     unread: Unread,
-    /// Spare room for a piece that is fed when all bytes are read. Its content is not part of the model.
+    /// Spare room for a segment that is fed when all bytes are read. Its content is not part of the model.
     spare: Unread,
     /// The number of bytes at the beginning of `unread` that are read and lent as a part.
     lent: usize,
@@ -70,15 +70,15 @@ impl HttpReader {
     /// Feeds the next bytes of the connection. The part that was lent is given back.
     ///
     /// The only error is out of memory: then none of the bytes is taken, and the part stays lent.
-    pub fn feed(&mut self, piece: &[u8]) -> Result<(), AllocError>
-        ensures fed { OnOk result ((stream : List ℕ) (given : List HttpElement) → HasRead stream given self.old → HasRead (stream ++ piece.now) given self.new) }
+    pub fn feed(&mut self, segment: &[u8]) -> Result<(), AllocError>
+        ensures fed { OnOk result ((stream : List ℕ) (given : List HttpElement) → HasRead stream given self.old → HasRead (stream ++ segment.now) given self.new) }
         ensures err { OnErr result (self.new ≡ self.old) }
         ensures over { IsOver self.old → IsOk result × (self.new ≡ self.old) }
     {
         if let Awaited::Nothing = self.awaited() {
             return Ok(());
         }
-        self.append(piece)
+        self.append(segment)
     }
 
     /// Returns the next item, if it is whole. For a part of a body, [`HttpReader::part`] has the bytes.
@@ -161,7 +161,7 @@ impl HttpReader {
     /// Counts the next `count` bytes, which are bytes of a body, as fed and as given. The caller has them.
     pub fn hear_body(&mut self, count: u32)
         requires { AwaitsBody count self.old }
-        ensures { (stream : List ℕ) (given : List HttpElement) (piece : List ℕ) → length_of piece ≡ count → HasRead stream given self.old → HasRead (stream ++ piece) (given ++ map HasByte piece) self.new }
+        ensures { (stream : List ℕ) (given : List HttpElement) (segment : List ℕ) → length_of segment ≡ count → HasRead stream given self.old → HasRead (stream ++ segment) (given ++ map HasByte segment) self.new }
     {
         self.pass(0, past_body(count, self.awaited()));
     }
@@ -376,14 +376,14 @@ impl HttpReader {
 
     /// Appends bytes to those that aren't read. The only error is out of memory, and leaves the reader as it
     /// was.
-    fn append(&mut self, piece: &[u8]) -> Result<(), AllocError>
-        ensures ok { OnOk result (self.new ≡ record { part = []; rest = self.old.rest ++ piece.now; awaited = self.old.awaited }) }
+    fn append(&mut self, segment: &[u8]) -> Result<(), AllocError>
+        ensures ok { OnOk result (self.new ≡ record { part = []; rest = self.old.rest ++ segment.now; awaited = self.old.awaited }) }
         ensures err { OnErr result (self.new ≡ self.old) }
     {
         if self.rest().is_empty() {
-            return self.begin(piece);
+            return self.begin(segment);
         }
-        self.unread.append(piece)?;
+        self.unread.append(segment)?;
         self.unread.pass(self.lent);
         self.lent = 0;
         Ok(())
@@ -391,13 +391,13 @@ impl HttpReader {
 
     /// Takes bytes where all earlier bytes are read, without moving the part that was lent. The only error is
     /// out of memory, and leaves the reader as it was.
-    fn begin(&mut self, piece: &[u8]) -> Result<(), AllocError>
+    fn begin(&mut self, segment: &[u8]) -> Result<(), AllocError>
         requires { self.old.rest ≡ [] }
-        ensures ok { OnOk result (self.new ≡ record { part = []; rest = piece.now; awaited = self.old.awaited }) }
+        ensures ok { OnOk result (self.new ≡ record { part = []; rest = segment.now; awaited = self.old.awaited }) }
         ensures err { OnErr result (self.new ≡ self.old) }
     {
         self.spare.pass(self.spare.bytes().len());
-        self.spare.append(piece)?;
+        self.spare.append(segment)?;
         mem::swap(&mut self.unread, &mut self.spare);
         self.lent = 0;
         Ok(())

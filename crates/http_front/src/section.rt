@@ -8,8 +8,8 @@ use text::FirstLine;
 pub(crate) fn section_in(bytes: &[u8], most: usize) -> FirstLine
     ensures { result ≡ section_in most bytes.now }
 {
-    let front = &bytes[..most.min(bytes.len())];
-    match empty_line_end(front) {
+    let prefix = &bytes[..most.min(bytes.len())];
+    match empty_line_end(prefix) {
         Some(end) => FirstLine::Whole(end),
         None if bytes.len() < most => FirstLine::Unfinished,
         None => FirstLine::TooLong,

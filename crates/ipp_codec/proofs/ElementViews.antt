@@ -22,9 +22,9 @@ both : (bytes : List ℕ) (n k : ℕ) → IsBytes bytes → length bytes ≤ suc
     → ((rest : List ℕ) → IsBytes rest → length rest ≤ n → length rest ≤ k → elements_in n rest ≡ elements_in k rest)
     → listed r (λ x. x.0 ∷ elements_in n x.1) ≡ listed r (λ x. x.0 ∷ elements_in k x.1)
 both bytes n k fits a b (Some x) is again =
-    let front = element_takes bytes x.0 x.1 fits is in
+    let prefix = element_takes bytes x.0 x.1 fits is in
     let less = shorter bytes x.0 x.1 fits is in
-    ap (λ (es : List Element). x.0 ∷ es) (again x.1 front.rest_fits (omega (arith, less, a)) (omega (arith, less, b)))
+    ap (λ (es : List Element). x.0 ∷ es) (again x.1 prefix.rest_fits (omega (arith, less, a)) (omega (arith, less, b)))
 both bytes n k fits a b None is again = refl
 
 -- any number from the length on will do
@@ -45,9 +45,9 @@ pub shown-next : (bytes : List ℕ) (e : Element) (rest : List ℕ) → IsBytes 
 unfolding levels_of element_at
 shown-next [] e rest fits is = absurd cc
 shown-next (b ∷ bytes) e rest fits is =
-    let front = element_takes (b ∷ bytes) e rest fits is in
+    let prefix = element_takes (b ∷ bytes) e rest fits is in
     let less = shorter (b ∷ bytes) e rest fits is in
-    shown_by b bytes (Some (e, rest)) is ∙ ap (λ (es : List Element). before e (levels_of es)) (enough (length bytes) (length rest) rest front.rest_fits (omega (arith, less)) (omega arith))
+    shown_by b bytes (Some (e, rest)) is ∙ ap (λ (es : List Element). before e (levels_of es)) (enough (length bytes) (length rest) rest prefix.rest_fits (omega (arith, less)) (omega arith))
 
 pub shown-end : (bytes : List ℕ) → element_at bytes ≡ None → shown bytes ≡ []
 unfolding levels_of elements_in
@@ -72,8 +72,8 @@ sorted_in bytes finish rest is own = tt
 pub first_shown : (bytes : List ℕ) (o : Option (ElementView × Bor (List ℕ))) → IsBytes bytes → element_at bytes ≡ option_map seen_of o → FirstShown bytes o
 first_shown bytes None fits is = shown-end bytes is
 first_shown bytes (Some x) fits is =
-    let front = element_takes bytes (seen x.0) x.1.now fits is in
-    (shown-next bytes (seen x.0) x.1.now fits is, shorter bytes (seen x.0) x.1.now fits is, sorted_in bytes (seen x.0) x.1.now front.joined front.sorted)
+    let prefix = element_takes bytes (seen x.0) x.1.now fits is in
+    (shown-next bytes (seen x.0) x.1.now fits is, shorter bytes (seen x.0) x.1.now fits is, sorted_in bytes (seen x.0) x.1.now prefix.joined prefix.sorted)
 
 pub elements_in-bytes_of : (place : Place) (es : List Element) (n : ℕ) → Follows place es → length (bytes_of es) ≤ n → elements_in n (bytes_of es) ≡ es
 unfolding elements_in element_at
@@ -85,18 +85,18 @@ elements_in-bytes_of place (e ∷ es) (suc n) follows long =
     (ap (λ (x : List Element). e ∷ x) (elements_in-bytes_of (after place e) es n follows.1 (omega (arith, long, some_long e, length-append (element_bytes e) (bytes_of es)))))
 
 -- after the end of all bytes nothing is left
-pub nothing_behind : (n : ℕ) (rest bytes : List ℕ) → drop n (shown rest) ≡ below (shown bytes) → shown rest ≡ [] → shown [] ≡ below (shown bytes)
-nothing_behind n rest bytes is none = shown-nil ∙ sym (drop_all n [] (omega arith)) ∙ ap (λ (ls : List Level). drop n ls) (sym none) ∙ is
+pub nothing_after : (n : ℕ) (rest bytes : List ℕ) → drop n (shown rest) ≡ below (shown bytes) → shown rest ≡ [] → shown [] ≡ below (shown bytes)
+nothing_after n rest bytes is none = shown-nil ∙ sym (drop_all n [] (omega arith)) ∙ ap (λ (ls : List Level). drop n ls) (sym none) ∙ is
 
 -- a member: its name, a first value, and the other values at the beginning of the bytes that are left
 abbrev pub member_at : List ℕ → IppValue → List ℕ → IppMember
 member_at name first rest = record { name = name; first = first; others = (level rest).values }
 
-pub member_shown_next : (bytes rest after behind name : List ℕ) (first : IppValue) → (level bytes).members ≡ (level rest).members → level rest ≡ name_member name (level after) → level after ≡ add [] first (level behind)
-    → members_in (level bytes).members ≡ member_at name first behind ∷ members_in (level behind).members
-member_shown_next bytes rest after behind name first same is value =
+pub member_shown_next : (bytes rest after tail name : List ℕ) (first : IppValue) → (level bytes).members ≡ (level rest).members → level rest ≡ name_member name (level after) → level after ≡ add [] first (level tail)
+    → members_in (level bytes).members ≡ member_at name first tail ∷ members_in (level tail).members
+member_shown_next bytes rest after tail name first same is value =
     ap members_in (same ∙ ap (λ (l : Level). l.members) (is ∙ ap (λ (l : Level). name_member name l) value))
-    ∙ ap (λ (vs : List IppValue). let m : IppMember = record { name = name; first = first; others = vs } in m ∷ members_in (level behind).members) (values_back (level behind).values)
+    ∙ ap (λ (vs : List IppValue). let m : IppMember = record { name = name; first = first; others = vs } in m ∷ members_in (level tail).members) (values_back (level tail).values)
 
 -- a value that is no collection has no members
 pub no_members : (v : ValueView) → v.tag ≢ 0x34 → members_in (level []).members ≡ members_within (value_shown v)

@@ -19,7 +19,7 @@ field_stays place part more at = record {
   tag = at.tag;
   field = at.field ++ more;
   admitted = at.admitted;
-  behind = elim at.behind [
+  tail = elim at.tail [
     | inl first ↦ inl (ap (λ (l : List ℕ). l ++ more) first)
     | inr named ↦ inr (named.0, named.1, ap (λ (l : List ℕ). l ++ more) named.2 ∙ ap (λ (l : List ℕ). at.tag ∷ l) (append_assoc (counted named.0) at.field more))
   ];
@@ -54,7 +54,7 @@ bytes_stay bytes more fault other (inl short) = absurd (other short.1)
 bytes_stay bytes more fault other (inr at) = inr (record {
   message = at.message;
   before = at.before;
-  behind = at.behind;
+  tail = at.tail;
   part = at.part ++ more;
   is_message = at.is_message;
   split = at.split;

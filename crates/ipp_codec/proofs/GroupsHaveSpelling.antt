@@ -9,7 +9,7 @@ use Rattle.ipp_codec.specs.Spelling.{Element, opening, plainly, begin, named, fi
 use Rattle.ipp_codec.specs.Grammar.{IsName, IsValue, AreValues, AreMembers, IsAttribute, IsGroup, HasShape, IsPlain, IsCollectionTag}
 use Rattle.ipp_codec.specs.Place.{depth, after_value, after, place_from, Follows}
 use Rattle.ipp_codec.specs.Shown.{Level, add, add_member, top, below, before, levels_of}
-use Rattle.ipp_codec.proofs.Tree.{spelled, Closed, spelled_again, top_is, inner_nameless, depth-after_value, member_depth, behind_members}
+use Rattle.ipp_codec.proofs.Tree.{spelled, Closed, spelled_again, top_is, inner_nameless, depth-after_value, member_depth, after_members}
 
 -- The levels have a spelling, where this number of them lie inside collections.
 pub Fit : ℕ → List Level → Type 0
@@ -66,13 +66,13 @@ fits_again place (begin name ∷ es) follows closed =
     Fit-begin (depth place) name (levels_of es) follows.0.1.0 follows.0.1.1 (inner_nameless place name follows.0.0) (fits_again (Begun (depth place)) es follows.1 closed)
 fits_again place (named name ∷ es) follows closed =
     let around = member_depth place follows.0.0 in
-    let next = (behind_members place around.0 follows.0.0 around.1).0 in
+    let next = (after_members place around.0 follows.0.0 around.1).0 in
     let rest : Follows (Naming around.0) es = subst (λ (p : Place). Follows p es) next follows.1 in
     let end : Closed (Naming around.0) es = subst (λ (p : Place). Closed p es) next closed in
     subst (λ (n : ℕ). Fit n (before (named name) (levels_of es))) (sym around.1) (Fit-named around.0 name (levels_of es) follows.0.1 (fits_again (Naming around.0) es rest end))
 fits_again place (finish ∷ es) follows closed =
     let around = member_depth place follows.0.0 in
-    let next = (behind_members place around.0 follows.0.0 around.1).1 in
+    let next = (after_members place around.0 follows.0.0 around.1).1 in
     let rest : Follows (after_value around.0) es = subst (λ (p : Place). Follows p es) next follows.1 in
     let end : Closed (after_value around.0) es = subst (λ (p : Place). Closed p es) next closed in
     subst (λ (n : ℕ). Fit n (before finish (levels_of es))) (sym around.1)
@@ -112,7 +112,7 @@ end_begun : (d : ℕ) → Ends (Begun d)
 end_begun zero = (finish ∷ [], ((tt, tt), tt), refl)
 end_begun (suc d) = let rest = end_within d in (finish ∷ rest.0, ((tt, tt), rest.1), rest.2)
 
--- a value without bytes that may stand anywhere
+-- a value without bytes that may be anywhere
 no_shape : HasShape 0x13 []
 no_shape = record { integer = λ h. absurd (omega (arith, h)); boolean = λ h. absurd (omega (arith, h)); enumeration = λ h. absurd (omega (arith, h)); date = λ h. absurd (omega (arith, h)); resolution = λ h. absurd (omega (arith, h)); range = λ h. absurd (omega (arith, h)); text = λ h. absurd (omega (arith, h)); name = λ h. absurd (omega (arith, h)) }
 
@@ -140,12 +140,12 @@ pub place_from-append : (place : Place) (es fs : List Element) → place_from pl
 place_from-append place [] fs = refl
 place_from-append place (e ∷ es) fs = place_from-append (after place e) es fs
 
-pub Follows-front : (place : Place) (es fs : List Element) → Follows place (es ++ fs) → Follows place es
-Follows-front place [] fs follows = tt
-Follows-front place (e ∷ es) fs follows = (follows.0, Follows-front (after place e) es fs follows.1)
+pub Follows-prefix : (place : Place) (es fs : List Element) → Follows place (es ++ fs) → Follows place es
+Follows-prefix place [] fs follows = tt
+Follows-prefix place (e ∷ es) fs follows = (follows.0, Follows-prefix (after place e) es fs follows.1)
 
 -- Elements that may follow one another from the start are a prefix of the elements of groups.
-pub can_end : (es : List Element) → Follows Outside es → (behind : List Element) × Follows Outside (es ++ behind) × Closed Outside (es ++ behind)
+pub can_end : (es : List Element) → Follows Outside es → (tail : List Element) × Follows Outside (es ++ tail) × Closed Outside (es ++ tail)
 can_end es follows =
     let rest = end_of (place_from Outside es) in
     (rest.0, Follows-append Outside es rest.0 follows rest.1, ap depth (place_from-append Outside es rest.0) ∙ rest.2)

@@ -12,4 +12,4 @@ pub mod Once
 pub mod FaultStays
 pub mod ViewedMessage
 pub mod WrittenSpelling
-pub mod Pieces
+pub mod Segments

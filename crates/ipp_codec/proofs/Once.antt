@@ -19,7 +19,7 @@ use Rattle.ipp_codec.specs.FirstFault.{First, FirstFault, HeadFault, AtPart, AtF
 use Rattle.ipp_codec.specs.Shown.{Level, levels_of, top}
 use Rattle.ipp_codec.specs.Decoding.{Lengths, fault_within}
 use Rattle.ipp_codec.proofs.Tree.{Closed, read_groups, groups_follow, groups_closed}
-use Rattle.ipp_codec.proofs.GroupsHaveSpelling.{Follows-front}
+use Rattle.ipp_codec.proofs.GroupsHaveSpelling.{Follows-prefix}
 use Rattle.ipp_codec.proofs.Unique.{unique, end_stops, first_stops}
 use Rattle.ipp_codec.proofs.OneFault.{one_first}
 
@@ -72,7 +72,7 @@ starts part tag rest y p q = ap (λ (l : List ℕ). get_or l 0 0) (sym p ∙ q)
 
 no_field : (place : Place) (part : List ℕ) (P : List ℕ → Type 0) (y : List ℕ) → AtField place part P → part ≡ 3 ∷ y → ⊥
 no_field place part P y at is =
-    elim at.behind [
+    elim at.tail [
       | inl h ↦ omega (arith, starts part at.tag _ y h is, at.admitted.0)
       | inr h ↦ omega (arith, starts part at.tag _ y h.2 is, at.admitted.0)
     ]
@@ -96,7 +96,7 @@ not_end place part TooLarge y d at is = at
 
 -- the elements before a fault may follow one another
 before_follows : (bytes : List ℕ) (f : CodecFault) → (at : AtPart bytes f) → Follows Outside at.before
-before_follows bytes f at = Follows-front Outside at.before at.behind (subst (λ (es : List Element). Follows Outside es) at.split (groups_follow at.message.groups Outside refl at.is_message.groups))
+before_follows bytes f at = Follows-prefix Outside at.before at.tail (subst (λ (es : List Element). Follows Outside es) at.split (groups_follow at.message.groups Outside refl at.is_message.groups))
 
 pub fault_excludes : (bytes : List ℕ) (f : CodecFault) (m : IppMessage) (y : List ℕ) → FirstFault bytes f → IsMessage m → bytes ≡ spelling m ++ y → ⊥
 fault_excludes bytes f m y (inl short) p is = omega (arith, short.0, ap length is, length-append (bytes_of (elements m.groups) ++ 3 ∷ []) y)

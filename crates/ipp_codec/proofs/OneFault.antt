@@ -103,7 +103,7 @@ err_is r f g p q = cc
 ok_is : (r : Result Fields CodecFault) (x y : Fields) → r ≡ Ok x → r ≡ Ok y → x ≡ y
 ok_is r x y p q = cc
 
--- a value's tag that stands inside is no bad one, and no group's
+-- a value's tag that is inside is no bad one, and no group's
 no_bad_tag : (place : Place) (part : List ℕ) (tag : ℕ) (bytes : List ℕ) → AtTag part (IsBadTag place) → Admits place tag → part ≡ tag ∷ bytes → ⊥
 no_bad_tag place part tag bytes at admitted is =
     let same = one_tag part at.0 tag at.1 bytes at.2 is in

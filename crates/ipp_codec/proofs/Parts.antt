@@ -239,7 +239,7 @@ element_again around e rest s =
       | formed tag name bytes f ↦ ap (λ (t : List ℕ). element_at (t ++ rest)) f.spelled ∙ value_again tag name bytes e rest f
     ]
 
-pub record IsFront (bytes : List ℕ) (e : Element) (rest : List ℕ) : Type 0 where
+pub record IsPrefix (bytes : List ℕ) (e : Element) (rest : List ℕ) : Type 0 where
   pub joined : bytes ≡ element_bytes e ++ rest
   pub rest_fits : IsBytes rest
   pub sorted : HasOwnTag e
@@ -257,24 +257,24 @@ pub from_some : (tag : ℕ) (r : Result Fields CodecFault) (e : Element) (rest :
 from_some tag (Ok x) e rest is = let both = map_some (kind_of tag x.0 x.1) x.2 e rest is in (x, refl, both.0, both.1)
 from_some tag (Err f) e rest is = absurd cc
 
-value_takes : (tag : ℕ) (bytes : List ℕ) (e : Element) (rest : List ℕ) → IsBytes bytes → element_from tag (fields_at bytes) ≡ Some (e, rest) → IsFront (tag ∷ bytes) e rest
+value_takes : (tag : ℕ) (bytes : List ℕ) (e : Element) (rest : List ℕ) → IsBytes bytes → element_from tag (fields_at bytes) ≡ Some (e, rest) → IsPrefix (tag ∷ bytes) e rest
 value_takes tag bytes e rest fits is =
     let x = from_some tag (fields_at bytes) e rest is in
     let a = fields_take bytes x.0 fits x.1 in
-    let front : IsFront (tag ∷ bytes) e x.0.2 = record {
+    let prefix : IsPrefix (tag ∷ bytes) e x.0.2 = record {
       joined = ap (λ (t : List ℕ). tag ∷ t) a.joined ∙ ap (λ (t : List ℕ). t ++ x.0.2) (sym (kind_spelled tag x.0.0 x.0.1 e x.2));
       rest_fits = a.rest_fits;
       sorted = kind_sorted tag x.0.0 x.0.1 e x.2;
     } in
-    subst (λ (r : List ℕ). IsFront (tag ∷ bytes) e r) x.3 front
+    subst (λ (r : List ℕ). IsPrefix (tag ∷ bytes) e r) x.3 prefix
 
-opening_takes : (tag : ℕ) (bytes : List ℕ) (e : Element) (rest : List ℕ) → IsBytes bytes → found (opening tag) bytes ≡ found e rest → IsFront (tag ∷ bytes) e rest
+opening_takes : (tag : ℕ) (bytes : List ℕ) (e : Element) (rest : List ℕ) → IsBytes bytes → found (opening tag) bytes ≡ found e rest → IsPrefix (tag ∷ bytes) e rest
 opening_takes tag bytes e rest fits is =
-    let front : IsFront (tag ∷ bytes) (opening tag) bytes = record { joined = refl; rest_fits = fits; sorted = tt } in
+    let prefix : IsPrefix (tag ∷ bytes) (opening tag) bytes = record { joined = refl; rest_fits = fits; sorted = tt } in
     let same : (opening tag, bytes) ≡ (e, rest) = cc in
-    subst (λ (x : Element × List ℕ). IsFront (tag ∷ bytes) x.0 x.1) same front
+    subst (λ (x : Element × List ℕ). IsPrefix (tag ∷ bytes) x.0 x.1) same prefix
 
-pub element_takes : (bytes : List ℕ) (e : Element) (rest : List ℕ) → IsBytes bytes → element_at bytes ≡ Some (e, rest) → IsFront bytes e rest
+pub element_takes : (bytes : List ℕ) (e : Element) (rest : List ℕ) → IsBytes bytes → element_at bytes ≡ Some (e, rest) → IsPrefix bytes e rest
 unfolding element_at
 element_takes [] e rest fits is = absurd cc
 element_takes (tag ∷ bytes) e rest fits is =
@@ -298,5 +298,5 @@ some_long finish = omega arith
 
 pub shorter : (bytes : List ℕ) (e : Element) (rest : List ℕ) → IsBytes bytes → element_at bytes ≡ Some (e, rest) → length rest < length bytes
 shorter bytes e rest fits is =
-    let front = element_takes bytes e rest fits is in
-    omega (arith, ap length front.joined, length-append (element_bytes e) rest, some_long e)
+    let prefix = element_takes bytes e rest fits is in
+    omega (arith, ap length prefix.joined, length-append (element_bytes e) rest, some_long e)

@@ -21,10 +21,10 @@ field_fault : (place : Place) (tag : ℕ) (part field : List ℕ) (f : CodecFaul
     → ((f ≡ Short) × IsCut field) ⊎ ((f ≡ BadLength) × IsTooLong field)
     → ((part ≡ tag ∷ field) ⊎ ((name : List ℕ) × (length name < 0x8000) × (part ≡ tag ∷ (counted name ++ field))))
     → First place part f
-field_fault place tag part field f admitted (inl h) behind =
-    subst (λ (g : CodecFault). First place part g) (sym h.0) (inr (record { tag = tag; field = field; admitted = admitted; behind = behind; so = h.1 }))
-field_fault place tag part field f admitted (inr h) behind =
-    subst (λ (g : CodecFault). First place part g) (sym h.0) (record { tag = tag; field = field; admitted = admitted; behind = behind; so = h.1 })
+field_fault place tag part field f admitted (inl h) tail =
+    subst (λ (g : CodecFault). First place part g) (sym h.0) (inr (record { tag = tag; field = field; admitted = admitted; tail = tail; so = h.1 }))
+field_fault place tag part field f admitted (inr h) tail =
+    subst (λ (g : CodecFault). First place part g) (sym h.0) (record { tag = tag; field = field; admitted = admitted; tail = tail; so = h.1 })
 
 -- a fault of a name's or a value's length
 pub field_first : (place : Place) (tag : ℕ) (bytes : List ℕ) (f : CodecFault) → Admits place tag → IsBytes bytes → fields_at bytes ≡ Err f → First place (tag ∷ bytes) f
@@ -86,14 +86,14 @@ spellable place tag name bytes e low high short fits is keeps =
           subst (λ (x : Element). IsSpellable (depth place) x) k (short, plain)
     ]
 
-pub stands_steps : (place : Place) (tag : ℕ) (bytes : List ℕ) (x : Fields) (next : Place) → Admits place tag → IsBytes bytes → fields_at bytes ≡ Ok x → LeadsOn place tag x.0 x.1 next
+pub reaches_steps : (place : Place) (tag : ℕ) (bytes : List ℕ) (x : Fields) (next : Place) → Admits place tag → IsBytes bytes → fields_at bytes ≡ Ok x → LeadsOn place tag x.0 x.1 next
     → (e : Element) × IsAllowed place e × (next ≡ after place e) × (tag ∷ bytes ≡ element_bytes e ++ x.2)
-stands_steps place tag bytes x next admitted fits is stands =
+reaches_steps place tag bytes x next admitted fits is reaches =
     let a = fields_take bytes x fits is in (
-      stands.0,
-      (stands.2, spellable place tag x.0 x.1 stands.0 admitted.0 admitted.1 a.name_length a.length stands.1 stands.3),
-      stands.4,
-      ap (λ (t : List ℕ). tag ∷ t) a.joined ∙ ap (λ (t : List ℕ). t ++ x.2) (sym (kind_spelled tag x.0 x.1 stands.0 stands.1)),
+      reaches.0,
+      (reaches.2, spellable place tag x.0 x.1 reaches.0 admitted.0 admitted.1 a.name_length a.length reaches.1 reaches.3),
+      reaches.4,
+      ap (λ (t : List ℕ). tag ∷ t) a.joined ∙ ap (λ (t : List ℕ). t ++ x.2) (sym (kind_spelled tag x.0 x.1 reaches.0 reaches.1)),
     )
 
 -- ---- the loop
@@ -123,18 +123,18 @@ goes_on start bytes rest place next_place e others walked allowed is joined =
 
 -- ---- a slice's first byte and the others
 
-abbrev pub behind_tag : List ℕ → List ℕ
-behind_tag bytes = take (length bytes - 1) (drop 1 bytes)
+abbrev pub after_tag : List ℕ → List ℕ
+after_tag bytes = take (length bytes - 1) (drop 1 bytes)
 
-cons_is : (bytes : List ℕ) → 1 ≤ length bytes → bytes ≡ get_or bytes 0 0 ∷ behind_tag bytes
+cons_is : (bytes : List ℕ) → 1 ≤ length bytes → bytes ≡ get_or bytes 0 0 ∷ after_tag bytes
 cons_is [] some = absurd (omega (arith, some))
 cons_is (b ∷ bytes) some = ap (λ (l : List ℕ). b ∷ l) (sym (take_rest (b ∷ bytes) 1))
 
-tail_bytes : (bytes : List ℕ) → IsBytes bytes → IsBytes (behind_tag bytes)
+tail_bytes : (bytes : List ℕ) → IsBytes bytes → IsBytes (after_tag bytes)
 tail_bytes bytes fits = IsBytes-take (length bytes - 1) (drop 1 bytes) (IsBytes-drop 1 bytes fits)
 
 pub opened_steps : (place : Place) (bytes : List ℕ) → 1 ≤ length bytes → get_or bytes 0 0 ≢ 0 → get_or bytes 0 0 < 16 → get_or bytes 0 0 ≢ 3 → depth place ≡ 0
-    → (e : Element) × IsAllowed place e × (Opened ≡ after place e) × (bytes ≡ element_bytes e ++ behind_tag bytes)
+    → (e : Element) × IsAllowed place e × (Opened ≡ after place e) × (bytes ≡ element_bytes e ++ after_tag bytes)
 opened_steps place bytes some zeroth low end deep =
     (opening (get_or bytes 0 0), (deep, (omega (arith, zeroth), low, end)), refl, cons_is bytes some)
 
@@ -145,16 +145,16 @@ AtTagOf place bytes = (1 ≤ length bytes) × (16 ≤ get_or bytes 0 0) × (plac
 admits : (place : Place) (bytes : List ℕ) → AtTagOf place bytes → Admits place (get_or bytes 0 0)
 admits place bytes at = (at.1, at.3 0, at.2)
 
-pub field_fails : (place : Place) (bytes : List ℕ) (f : CodecFault) → AtTagOf place bytes → fields_at (behind_tag bytes) ≡ Err f → First place bytes f
+pub field_fails : (place : Place) (bytes : List ℕ) (f : CodecFault) → AtTagOf place bytes → fields_at (after_tag bytes) ≡ Err f → First place bytes f
 field_fails place bytes f at fails =
-    subst (λ (l : List ℕ). First place l f) (sym (cons_is bytes at.0)) (field_first place (get_or bytes 0 0) (behind_tag bytes) f (admits place bytes at) (tail_bytes bytes at.3) fails)
+    subst (λ (l : List ℕ). First place l f) (sym (cons_is bytes at.0)) (field_first place (get_or bytes 0 0) (after_tag bytes) f (admits place bytes at) (tail_bytes bytes at.3) fails)
 
-pub value_breaks : (place : Place) (bytes : List ℕ) (x : Fields) (f : CodecFault) → AtTagOf place bytes → fields_at (behind_tag bytes) ≡ Ok x → Breaks place (get_or bytes 0 0) x.0 x.1 f → First place bytes f
+pub value_breaks : (place : Place) (bytes : List ℕ) (x : Fields) (f : CodecFault) → AtTagOf place bytes → fields_at (after_tag bytes) ≡ Ok x → Breaks place (get_or bytes 0 0) x.0 x.1 f → First place bytes f
 value_breaks place bytes x f at reads breaks =
-    subst (λ (l : List ℕ). First place l f) (sym (cons_is bytes at.0)) (breaks_first place (get_or bytes 0 0) (behind_tag bytes) x f (admits place bytes at) (tail_bytes bytes at.3) reads breaks)
+    subst (λ (l : List ℕ). First place l f) (sym (cons_is bytes at.0)) (breaks_first place (get_or bytes 0 0) (after_tag bytes) x f (admits place bytes at) (tail_bytes bytes at.3) reads breaks)
 
-pub value_stands : (place : Place) (bytes : List ℕ) (x : Fields) (next : Place) → AtTagOf place bytes → fields_at (behind_tag bytes) ≡ Ok x → LeadsOn place (get_or bytes 0 0) x.0 x.1 next
+pub value_reaches : (place : Place) (bytes : List ℕ) (x : Fields) (next : Place) → AtTagOf place bytes → fields_at (after_tag bytes) ≡ Ok x → LeadsOn place (get_or bytes 0 0) x.0 x.1 next
     → (e : Element) × IsAllowed place e × (next ≡ after place e) × (bytes ≡ element_bytes e ++ x.2)
-value_stands place bytes x next at reads stands =
-    let step = stands_steps place (get_or bytes 0 0) (behind_tag bytes) x next (admits place bytes at) (tail_bytes bytes at.3) reads stands in
+value_reaches place bytes x next at reads reaches =
+    let step = reaches_steps place (get_or bytes 0 0) (after_tag bytes) x next (admits place bytes at) (tail_bytes bytes at.3) reads reaches in
     (step.0, step.1, step.2, cons_is bytes at.0 ∙ step.3)

@@ -96,16 +96,16 @@ begins : (limit d : ℕ) → limit + d ≡ COLLECTION_DEPTH → 0 < limit → (d
 begins limit d is some = (omega (arith, is, some), omega (arith, is, some))
 
 -- a place that takes a member
-pub behind_members : (place : Place) (around : ℕ) → TakesMember place → depth place ≡ suc around → (after_named place ≡ Naming around) × (after_finish place ≡ after_value around)
-behind_members (Begun d) around takes deep = let same : d ≡ around = omega (arith, deep) in (ap Naming same, ap after_value same)
-behind_members (Within d) around takes deep = let same : d ≡ around = omega (arith, deep) in (ap Naming same, ap after_value same)
-behind_members Outside around takes deep = absurd takes
-behind_members Opened around takes deep = absurd takes
-behind_members Valued around takes deep = absurd takes
-behind_members (Naming d) around takes deep = absurd takes
+pub after_members : (place : Place) (around : ℕ) → TakesMember place → depth place ≡ suc around → (after_named place ≡ Naming around) × (after_finish place ≡ after_value around)
+after_members (Begun d) around takes deep = let same : d ≡ around = omega (arith, deep) in (ap Naming same, ap after_value same)
+after_members (Within d) around takes deep = let same : d ≡ around = omega (arith, deep) in (ap Naming same, ap after_value same)
+after_members Outside around takes deep = absurd takes
+after_members Opened around takes deep = absurd takes
+after_members Valued around takes deep = absurd takes
+after_members (Naming d) around takes deep = absurd takes
 
 mutual
-  -- Collections of depth limit at most stand where limit more may be opened.
+  -- Collections of depth limit at most are where limit more may be opened.
   value_follows : (limit : ℕ) (place : Place) (name : List ℕ) (v : IppValue) (es : List Element) → limit + depth place ≡ COLLECTION_DEPTH → IsValue limit v → TakesValue place name → length name < 0x8000 → Follows (after_value (depth place)) es → Follows place (value_then name v es)
   value_follows limit place name (plain tag bytes) es is fits takes short rest = ((takes, (short, fits)), rest)
   value_follows limit place name (collection ms) es is fits takes short rest =
@@ -121,12 +121,12 @@ mutual
 
   -- members from a place inside a collection on
   members_follow : (limit : ℕ) (around : ℕ) (place : Place) (ms : IppMembers) (es : List Element) → limit + suc around ≡ COLLECTION_DEPTH → AreMembers limit ms → TakesMember place → depth place ≡ suc around → Follows (after_value around) es → Follows place (members_then ms (finish ∷ es))
-  members_follow limit around place no_member es is fits takes deep rest = ((takes, tt), subst (λ (p : Place). Follows p es) (sym (behind_members place around takes deep).1) rest)
+  members_follow limit around place no_member es is fits takes deep rest = ((takes, tt), subst (λ (p : Place). Follows p es) (sym (after_members place around takes deep).1) rest)
   members_follow limit around place (member_and name v vs ms) es is fits takes deep rest =
       let values = value_follows limit (Naming around) [] v (values_then vs (members_then ms (finish ∷ es))) is fits.0.1 refl (omega arith)
       (values_follow limit (suc around) vs (members_then ms (finish ∷ es)) is fits.0.2
       (members_follow limit around (Within around) ms es is fits.1 tt refl rest)) in
-      ((takes, fits.0.0), subst (λ (p : Place). Follows p (value_then [] v (values_then vs (members_then ms (finish ∷ es))))) (sym (behind_members place around takes deep).0) values)
+      ((takes, fits.0.0), subst (λ (p : Place). Follows p (value_then [] v (values_then vs (members_then ms (finish ∷ es))))) (sym (after_members place around takes deep).0) values)
 
 takes_named : (place : Place) (name : List ℕ) → depth place ≡ 0 → place ≢ Outside → name ≢ [] → TakesValue place name
 takes_named Outside name d o n = absurd (o refl)
@@ -294,7 +294,7 @@ spelled_again place (begin name ∷ es) follows closed =
 spelled_again place (named name ∷ es) follows closed =
     let ls = levels_of es in
     let around = member_depth place follows.0.0 in
-    let next = (behind_members place around.0 follows.0.0 around.1).0 in
+    let next = (after_members place around.0 follows.0.0 around.1).0 in
     let rest : Follows (Naming around.0) es = subst (λ (p : Place). Follows p es) next follows.1 in
     let end : Closed (Naming around.0) es = subst (λ (p : Place). Closed p es) next closed in
     let first = top_is (Naming around.0) es rest end in
@@ -303,7 +303,7 @@ spelled_again place (named name ∷ es) follows closed =
 spelled_again place (finish ∷ es) follows closed =
     let ls = levels_of es in
     let around = member_depth place follows.0.0 in
-    let next = (behind_members place around.0 follows.0.0 around.1).1 in
+    let next = (after_members place around.0 follows.0.0 around.1).1 in
     let rest : Follows (after_value around.0) es = subst (λ (p : Place). Follows p es) next follows.1 in
     let end : Closed (after_value around.0) es = subst (λ (p : Place). Closed p es) next closed in
     at_depth (depth place) (suc around.0) (before finish ls) (finish ∷ es) around.1
@@ -322,9 +322,9 @@ mutual
       place_value (after_value d) [] v (values_then vs es) ∙ ap (λ (n : ℕ). place_from (after_value n) (values_then vs es)) (depth-after_value d) ∙ place_values d vs es
 
   place_members : (around : ℕ) (place : Place) (ms : IppMembers) (es : List Element) → TakesMember place → depth place ≡ suc around → place_from place (members_then ms (finish ∷ es)) ≡ place_from (after_value around) es
-  place_members around place no_member es takes deep = ap (λ (p : Place). place_from p es) (behind_members place around takes deep).1
+  place_members around place no_member es takes deep = ap (λ (p : Place). place_from p es) (after_members place around takes deep).1
   place_members around place (member_and name v vs ms) es takes deep =
-      ap (λ (p : Place). place_from p (value_then [] v (values_then vs (members_then ms (finish ∷ es))))) (behind_members place around takes deep).0
+      ap (λ (p : Place). place_from p (value_then [] v (values_then vs (members_then ms (finish ∷ es))))) (after_members place around takes deep).0
       ∙ place_value (Naming around) [] v (values_then vs (members_then ms (finish ∷ es)))
       ∙ place_values (suc around) vs (members_then ms (finish ∷ es))
       ∙ place_members around (Within around) ms es tt refl

@@ -15,13 +15,13 @@ use Rattle.ipp_codec.specs.Reading.{counted_at, fields_at, element_from, element
 use Rattle.ipp_codec.proofs.Fields.{counted_again}
 use Rattle.ipp_codec.proofs.Parts.{Fields, fields_again, element_again, some_long, is_begin, is_named, is_finish, is_plain, kind_is, from_some}
 
--- No element that is allowed at the place stands at the front.
+-- No element that is allowed at the place is at the beginning.
 abbrev pub Stops : Place → List ℕ → Type 0
 Stops place part = (e : Element) (rest : List ℕ) → IsAllowed place e → part ≡ element_bytes e ++ rest → ⊥
 
--- the element that is read at the front
-front : (place : Place) (part : List ℕ) (e : Element) (rest : List ℕ) → IsAllowed place e → part ≡ element_bytes e ++ rest → element_at part ≡ Some (e, rest)
-front place part e rest allowed is = ap element_at is ∙ element_again (depth place) e rest allowed.1
+-- the element that is read at the beginning
+prefix : (place : Place) (part : List ℕ) (e : Element) (rest : List ℕ) → IsAllowed place e → part ≡ element_bytes e ++ rest → element_at part ≡ Some (e, rest)
+prefix place part e rest allowed is = ap element_at is ∙ element_again (depth place) e rest allowed.1
 
 -- two readings are of one element
 same_read : (r : Option (Element × List ℕ)) (e f : Element) (x y : List ℕ) → r ≡ Some (e, x) → r ≡ Some (f, y) → (e ≡ f) × (x ≡ y)
@@ -31,7 +31,7 @@ same_read r e f x y p q =
 
 pub end_stops : (place : Place) (tail : List ℕ) → Stops place (3 ∷ tail)
 unfolding element_at
-end_stops place tail e rest allowed is = let h = front place (3 ∷ tail) e rest allowed is in absurd cc
+end_stops place tail e rest allowed is = let h = prefix place (3 ∷ tail) e rest allowed is in absurd cc
 
 -- ---- faults of fields
 
@@ -70,7 +70,7 @@ second_fails name field f short bad = rw (counted_again name field short, bad) r
 pub field_faults : (place : Place) (part : List ℕ) (P : List ℕ → Type 0) (f : CodecFault) → AtField place part P → ((field : List ℕ) → P field → counted_at field ≡ Err f) → Unread place part f
 field_faults place part P f at reads =
     let bad = reads at.field at.so in
-    elim at.behind [
+    elim at.tail [
       | inl h ↦ record { tag = at.tag; bytes = at.field; admitted = at.admitted; joined = h; fails = first_fails at.field f bad }
       | inr h ↦ record { tag = at.tag; bytes = counted h.0 ++ at.field; admitted = at.admitted; joined = h.2; fails = second_fails h.0 at.field f h.1 bad }
     ]
@@ -85,7 +85,7 @@ read_from tag bytes r low is =
 
 unread_stops : (place : Place) (part : List ℕ) (f : CodecFault) → Unread place part f → Stops place part
 unread_stops place part f u e rest allowed is =
-    let read = front place part e rest allowed is in
+    let read = prefix place part e rest allowed is in
     let none : element_at part ≡ None = ap element_at u.joined ∙ read_from u.tag u.bytes (Err f) u.admitted.0 u.fails in
     absurd cc
 
@@ -105,10 +105,10 @@ from_is tag x e rest is = let k = from_some tag (Ok x) e rest is in same_kind ta
 whole_kind : (place : Place) (part : List ℕ) (tag : ℕ) (name bytes : List ℕ) (e : Element) (rest : List ℕ) → IsWhole place part tag name bytes → IsAllowed place e → part ≡ element_bytes e ++ rest → kind_of tag name bytes ≡ Some e
 whole_kind place part tag name bytes e rest w allowed is =
     let read : element_from tag (Ok (name, bytes, w.rest)) ≡ Some (e, rest) =
-    sym (ap element_at w.joined ∙ read_from tag ((counted name ++ counted bytes) ++ w.rest) (Ok (name, bytes, w.rest)) w.admitted.0 (whole_fields place part tag name bytes w)) ∙ front place part e rest allowed is in
+    sym (ap element_at w.joined ∙ read_from tag ((counted name ++ counted bytes) ++ w.rest) (Ok (name, bytes, w.rest)) w.admitted.0 (whole_fields place part tag name bytes w)) ∙ prefix place part e rest allowed is in
     from_is tag (name, bytes, w.rest) e rest read
 
--- a loose value is no element that may stand there
+-- a loose value is no element that may be there
 pub loose_not : (place : Place) (tag : ℕ) (name bytes : List ℕ) (e : Element) → IsLoose place name → kind_of tag name bytes ≡ Some e → ¬ (Takes place e)
 loose_not place tag name bytes e loose is takes =
     let t : Takes Opened e = subst (λ (p : Place). Takes p e) loose.0 takes in
@@ -226,8 +226,8 @@ unique place [] [] x y p q is stops stops' = (refl, is)
 unique place [] (f ∷ fs) x y p q is stops stops' = absurd (stops f (bytes_of fs ++ y) q.0 (is ∙ append_assoc (element_bytes f) (bytes_of fs) y))
 unique place (e ∷ es) [] x y p q is stops stops' = absurd (stops' e (bytes_of es ++ x) p.0 (sym is ∙ append_assoc (element_bytes e) (bytes_of es) x))
 unique place (e ∷ es) (f ∷ fs) x y p q is stops stops' =
-    let a : element_at (bytes_of (e ∷ es) ++ x) ≡ Some (e, bytes_of es ++ x) = front place _ e (bytes_of es ++ x) p.0 (append_assoc (element_bytes e) (bytes_of es) x) in
-    let b : element_at (bytes_of (e ∷ es) ++ x) ≡ Some (f, bytes_of fs ++ y) = front place _ f (bytes_of fs ++ y) q.0 (is ∙ append_assoc (element_bytes f) (bytes_of fs) y) in
+    let a : element_at (bytes_of (e ∷ es) ++ x) ≡ Some (e, bytes_of es ++ x) = prefix place _ e (bytes_of es ++ x) p.0 (append_assoc (element_bytes e) (bytes_of es) x) in
+    let b : element_at (bytes_of (e ∷ es) ++ x) ≡ Some (f, bytes_of fs ++ y) = prefix place _ f (bytes_of fs ++ y) q.0 (is ∙ append_assoc (element_bytes f) (bytes_of fs) y) in
     let both = same_read _ e f _ _ a b in
     let others = unique (after place e) es fs x y p.1 (subst (λ (g : Element). Follows (after place g) fs) (sym both.0) q.1) both.1 stops (subst (λ (g : Element). Stops (place_from (after place g) fs) y) (sym both.0) stops') in
     let h : es ≡ fs = others.0 in

@@ -22,7 +22,7 @@ groups_shown m is =
     ap (λ (xs : List Element). (top (levels_of xs)).groups) (elements_in-bytes_of Outside (elements m.groups) (length (bytes_of (elements m.groups))) follows (omega arith))
     ∙ ap (λ (l : Level). l.groups) (read_groups m.groups is.groups)
 
--- the body of a head stands between its eight bytes and the last
+-- the body of a head is between its eight bytes and the last
 body_is : (m : IppMessage) → take (length (spelling m) - 9) (drop 8 (spelling m)) ≡ bytes_of (elements m.groups)
 body_is m =
     let long : length (spelling m) - 9 ≡ length (bytes_of (elements m.groups)) = omega (arith, length-append (bytes_of (elements m.groups)) (3 ∷ [])) in
@@ -46,8 +46,8 @@ view_shown bytes code id body code_is id_is body_is' m spells =
     rw (major, minor, code', id', groups) refl
 
 -- two messages that begin the same bytes are one
-one_front : (bytes : List ℕ) (n k : ℕ) (m p : IppMessage) → Spells (take n bytes) m → Spells (take k bytes) p → m ≡ p
-one_front bytes n k m p a b =
+one_prefix : (bytes : List ℕ) (n k : ℕ) (m p : IppMessage) → Spells (take n bytes) m → Spells (take k bytes) p → m ≡ p
+one_prefix bytes n k m p a b =
     let first : bytes ≡ spelling m ++ drop n bytes = sym (take-append-drop n bytes) ∙ ap (λ (l : List ℕ). l ++ drop n bytes) a.1 in
     let second : bytes ≡ spelling p ++ drop k bytes = sym (take-append-drop k bytes) ∙ ap (λ (l : List ℕ). l ++ drop k bytes) b.1 in
     (one_spelling m p (drop n bytes) (drop k bytes) a.0 b.0 (sym first ∙ second)).0
@@ -63,4 +63,4 @@ pub decoded_found : (bytes : List ℕ) (n : ℕ) (shown : IppMessage) → IsFoun
 decoded_found bytes n shown (short, fits, (m, spells)) shows = (short, fits, subst (λ (k : IppMessage). Spells (take n bytes) k) (sym (shows m spells)) spells)
 
 pub decoded_only : (bytes : List ℕ) (n : ℕ) (shown : IppMessage) → IsFound bytes n → ((m : IppMessage) → Spells (take n bytes) m → shown ≡ m) → (k : ℕ) (m : IppMessage) → n ≡ length (spelling m) → Spells (take k bytes) m → (n ≡ length (spelling m)) × (shown ≡ m)
-decoded_only bytes n shown (short, fits, (p, spelled)) shows k m long spells = (long, shows p spelled ∙ one_front bytes n k p m spelled spells)
+decoded_only bytes n shown (short, fits, (p, spelled)) shows k m long spells = (long, shows p spelled ∙ one_prefix bytes n k p m spelled spells)

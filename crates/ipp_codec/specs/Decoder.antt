@@ -1,4 +1,4 @@
--- The state of a decoder that was fed bytes, in pieces of any length.
+-- The state of a decoder that was fed bytes, in segments of any length.
 use Rattle.std.specs.Prelude.{◌≡◌, ◌≢◌, ◌<◌, ◌≤◌, ℕ, ◌+◌, max, nat_le, ◌==◌, List, ◌++◌, length, take, drop, get_or, if◌then◌else◌, Option, Some, None, Result, Ok, Err}
 use Rattle.base_types.specs.declared.limits.TheConstants.Limits.{IPP_HEAD_BYTES}
 use Rattle.ipp_codec.specs.declared.fault.CodecFault.{CodecFault}
@@ -48,20 +48,20 @@ IsAtStage (Faulty fault) fed d = (fault ≢ Short) × HeadFault fed fault × (8 
 -- The decoder was fed these bytes. It keeps a prefix of them, with at least as much of the header as was fed.
 pub record HasDecoded (fed : List ℕ) (d : DecoderState) : Type 0 where
   pub bytes : IsBytes fed
-  pub front : (rest : List ℕ) × (fed ≡ d.head ++ rest)
+  pub prefix : (rest : List ℕ) × (fed ≡ d.head ++ rest)
   pub header : take 8 d.head ≡ take 8 fed
   pub known : IsAtStage d.stage fed d
 
--- a piece is taken in
+-- a segment is taken in
 abbrev pub TakesIn : DecoderState → List ℕ → DecoderState → Type 0
-TakesIn old piece new = (fed : List ℕ) → HasDecoded fed old → HasDecoded (fed ++ piece) new
+TakesIn old segment new = (fed : List ℕ) → HasDecoded fed old → HasDecoded (fed ++ segment) new
 
--- the result of feeding a piece
+-- the result of feeding a segment
 abbrev pub Feeds : DecoderState → List ℕ → Result Fed DecodeError → DecoderState → Type 0
-Feeds old piece (Ok More) new = TakesIn old piece new × (new.stage ≡ Awaiting)
-Feeds old piece (Ok (Head count)) new = TakesIn old piece new × (new.stage ≡ Whole) × (length new.head ≡ length old.head + count) × (count ≤ length piece)
-Feeds old piece (Err (Fault fault)) new = TakesIn old piece new × (new.stage ≡ Faulty fault)
-Feeds old piece (Err OutOfMemory) new = new ≡ old
+Feeds old segment (Ok More) new = TakesIn old segment new × (new.stage ≡ Awaiting)
+Feeds old segment (Ok (Head count)) new = TakesIn old segment new × (new.stage ≡ Whole) × (length new.head ≡ length old.head + count) × (count ≤ length segment)
+Feeds old segment (Err (Fault fault)) new = TakesIn old segment new × (new.stage ≡ Faulty fault)
+Feeds old segment (Err OutOfMemory) new = new ≡ old
 
 -- ---- steps
 
@@ -83,7 +83,7 @@ pub record CanReach (reached : Reached) : Type 0 where
 abbrev pub MayCome : DecoderState → Type 0
 MayCome d = (d.stage ≡ Awaiting) × (length d.head < IPP_HEAD_BYTES)
 
--- the result of feeding a piece of which `count` bytes were kept
+-- the result of feeding a segment of which `count` bytes were kept
 abbrev pub answer_at : Stage → ℕ → Result Fed DecodeError
 answer_at Awaiting count = Ok More
 answer_at Whole count = Ok (Head count)
@@ -91,7 +91,7 @@ answer_at (Faulty fault) count = Err (Fault fault)
 
 -- bytes of the header are kept; it is read once it is whole
 abbrev pub with_header : DecoderState → List ℕ → DecoderState
-with_header d front = record d { head = d.head ++ front; walked = if length (d.head ++ front) == 8 then 8 else d.walked }
+with_header d prefix = record d { head = d.head ++ prefix; walked = if length (d.head ++ prefix) == 8 then 8 else d.walked }
 
 -- the stage of a fault: for `Short`, more bytes are awaited
 abbrev pub stage_of : CodecFault → Stage
@@ -115,8 +115,8 @@ ended None kept length head = take (max kept (length + 1)) head
 ended (Some fault) kept length head = head
 
 -- the decoder after a walk over the bytes after those that were read
-abbrev pub settled : DecoderState → Walk → ℕ → DecoderState
-settled d walk kept = record {
+abbrev pub advanced : DecoderState → Walk → ℕ → DecoderState
+advanced d walk kept = record {
   head = ended walk.fault kept (d.walked + walk.length) d.head;
   walked = d.walked + walk.length;
   place = walk.place;

@@ -10,7 +10,7 @@ use Rattle.ipp_codec.specs.Grammar.{IsMessage, Spells}
 use Rattle.ipp_codec.specs.FirstFault.{FirstFault, HeadFault}
 use Rattle.ipp_codec.specs.Views.{message_shown}
 
--- the length of the spelling at the front, or the first fault
+-- the length of the spelling at the beginning, or the first fault
 abbrev pub Lengths : List ℕ → Result ℕ CodecFault → Type 0
 Lengths bytes (Ok n) = (m : IppMessage) × (tail : List ℕ) × IsMessage m × (bytes ≡ spelling m ++ tail) × (n ≡ length (spelling m))
 Lengths bytes (Err f) = FirstFault bytes f
@@ -20,7 +20,7 @@ abbrev pub fault_within : CodecFault → Bool → CodecFault
 fault_within Short true = TooLarge
 fault_within f _ = f
 
--- the message that a prefix of the bytes spells, with the front's length, or the first fault
+-- the message that a prefix of the bytes spells, with the prefix's length, or the first fault
 abbrev pub Decodes : List ℕ → Result (MessageView × ℕ) CodecFault → Type 0
 Decodes bytes (Ok x) = (x.1 ≤ IPP_HEAD_BYTES) × (x.1 ≤ length bytes) × Spells (take x.1 bytes) (message_shown x.0)
 Decodes bytes (Err f) = HeadFault bytes f

@@ -32,7 +32,7 @@ pub record AtField (place : Place) (part : List ℕ) (P : List ℕ → Type 0) :
   pub tag : ℕ
   pub field : List ℕ
   pub admitted : Admits place tag
-  pub behind : (part ≡ tag ∷ field) ⊎ ((name : List ℕ) × (length name < 0x8000) × (part ≡ tag ∷ (counted name ++ field)))
+  pub tail : (part ≡ tag ∷ field) ⊎ ((name : List ℕ) × (length name < 0x8000) × (part ≡ tag ∷ (counted name ++ field)))
   pub so : P field
 
 -- The part begins with a whole value.
@@ -92,10 +92,10 @@ First place part fault = AtValue place part fault
 pub record AtPart (bytes : List ℕ) (fault : CodecFault) : Type 0 where
   pub message : IppMessage
   pub before : List Element
-  pub behind : List Element
+  pub tail : List Element
   pub part : List ℕ
   pub is_message : IsMessage message
-  pub split : elements message.groups ≡ before ++ behind
+  pub split : elements message.groups ≡ before ++ tail
   pub joined : bytes ≡ header message ++ (bytes_of before ++ part)
   pub first : First (place_from Outside before) part fault
 

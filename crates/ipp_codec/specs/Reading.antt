@@ -55,7 +55,7 @@ abbrev pub element_from : ℕ → Result (List ℕ × List ℕ × List ℕ) Code
 element_from tag (Ok x) = option_map (λ e. (e, x.2)) (kind_of tag x.0 x.1)
 element_from tag (Err f) = None
 
--- the element at the front, if there is one, and the bytes after it
+-- the element at the beginning, if there is one, and the bytes after it
 unfoldable pub element_at : List ℕ → Option (Element × List ℕ)
 element_at [] = None
 element_at (tag ∷ rest) =

@@ -15,7 +15,7 @@ pub record Level : Type 0 where
 abbrev pub nothing : Level
 nothing = record { values = []; members = no_member; attributes = []; groups = [] }
 
--- the content with a value of this name at its front
+-- the content with a value of this name at its beginning
 abbrev pub add : List ℕ → IppValue → Level → Level
 add [] v l = record { values = v ∷ l.values; members = l.members; attributes = l.attributes; groups = l.groups }
 add (c ∷ name) v l = record { values = []; members = l.members; attributes = record { name = c ∷ name; first = v; others = l.values } ∷ l.attributes; groups = l.groups }
@@ -25,11 +25,11 @@ abbrev pub add_member : List ℕ → List IppValue → IppMembers → IppMembers
 add_member name [] ms = ms
 add_member name (v ∷ vs) ms = member_and name v (values_of vs) ms
 
--- the content with the name of a member at its front, which takes the values
+-- the content with the name of a member at its beginning, which takes the values
 abbrev pub name_member : List ℕ → Level → Level
 name_member name l = record { values = []; members = add_member name l.values l.members; attributes = l.attributes; groups = l.groups }
 
--- the content with the tag of a group at its front, which takes the attributes
+-- the content with the tag of a group at its beginning, which takes the attributes
 abbrev pub open_group : ℕ → Level → Level
 open_group tag l = record { values = []; members = no_member; attributes = []; groups = record { tag = tag; attributes = l.attributes } ∷ l.groups }
 
@@ -43,7 +43,7 @@ abbrev pub below : List Level → List Level
 below [] = []
 below (l ∷ ls) = ls
 
--- the levels with an element at their front
+-- the levels with an element at their beginning
 abbrev pub before : Element → List Level → List Level
 before (opening tag) ls = open_group tag (top ls) ∷ below ls
 before (plainly tag name bytes) ls = add name (plain tag bytes) (top ls) ∷ below ls

@@ -29,12 +29,12 @@ element_bytes (named name) = value_bytes 0x4A [] name
 element_bytes finish = value_bytes 0x37 [] []
 
 abbrev mutual
-  -- the elements of a value with this name, in front of others
+  -- the elements of a value with this name, before others
   pub value_then : List ℕ → IppValue → List Element → List Element
   value_then name (plain tag bytes) es = plainly tag name bytes ∷ es
   value_then name (collection ms) es = begin name ∷ members_then ms (finish ∷ es)
 
-  -- the elements of further values, which have no names, in front of others
+  -- the elements of further values, which have no names, before others
   pub values_then : IppValues → List Element → List Element
   values_then no_value es = es
   values_then (value_and v vs) es = value_then [] v (values_then vs es)
@@ -43,7 +43,7 @@ abbrev mutual
   members_then no_member es = es
   members_then (member_and name v vs ms) es = named name ∷ value_then [] v (values_then vs (members_then ms es))
 
--- the elements of attributes, in front of others
+-- the elements of attributes, before others
 abbrev pub attributes_then : List IppAttribute → List Element → List Element
 attributes_then [] es = es
 attributes_then (a ∷ xs) es = value_then a.name a.first (values_then (values_of a.others) (attributes_then xs es))

@@ -56,7 +56,7 @@ attributes_left it = (level it.rest.now).attributes
 abbrev pub members_left : Members → List IppMember
 members_left it = members_in (level it.rest.now).members
 
--- the values with a value at their front, if there is one
+-- the values with a value at their beginning, if there is one
 abbrev pub with_first : Option ValueView → List IppValue → List IppValue
 with_first None vs = vs
 with_first (Some v) vs = value_shown v ∷ vs
@@ -81,7 +81,7 @@ abbrev pub FirstShown : List ℕ → Option (ElementView × Bor (List ℕ)) → 
 FirstShown bytes None = shown bytes ≡ []
 FirstShown bytes (Some x) = (shown bytes ≡ before (seen x.0) (shown x.1.now)) × (length x.1.now < length bytes) × IsSorted bytes (seen x.0)
 
--- the level with an entry at its front
+-- the level with an entry at its beginning
 abbrev pub entry_before : Entry → Level → Level
 entry_before (entry.Group tag) l = open_group tag l
 entry_before (entry.Value name v) l = add name.now (value_shown v) l

@@ -1,9 +1,9 @@
-//! The decoder of heads whose bytes come in pieces.
+//! The decoder of heads whose bytes come in segments.
 ghost use Rattle.std.specs.Prelude.{◌≡◌, ◌<◌, ◌≤◌, ◌+◌, ◌++◌, ◌↔◌, ℕ, [], List, IfOk, IfSome, IsSome, IsTrue, None, OnOk, OnErr, ◌-◌, ◌^◌, length, take, drop};
 ghost use Rattle.ipp_codec.specs.Message.{IppMessage};
 ghost use Rattle.ipp_codec.specs.Grammar.{Spells};
 ghost use Rattle.ipp_codec.specs.Decoding.{Decodes};
-ghost use Rattle.ipp_codec.specs.Decoder.{DecoderState, HasDecoded, TakesIn, Feeds, CanReach, MayCome, reached_of, returned, answer_at, with_header, settled, stage_at, kept_of};
+ghost use Rattle.ipp_codec.specs.Decoder.{DecoderState, HasDecoded, TakesIn, Feeds, CanReach, MayCome, reached_of, returned, answer_at, with_header, advanced, stage_at, kept_of};
 ghost use Rattle.ipp_codec.specs.Views.{message_shown};
 
 use crate::fault::{CodecFault, DecodeError};
@@ -18,7 +18,7 @@ use std::marker::Model;
 /// The bytes of a header (RFC 8010, section 3.1.1).
 const HEADER_BYTES: usize = Limits::IPP_HEADER_BYTES;
 
-/// A decoder of a head whose bytes come in pieces of any length. In clauses it is a record of the bytes of
+/// A decoder of a head whose bytes come in segments of any length. In clauses it is a record of the bytes of
 /// the head that it keeps, the number of those that are read, the place after them, and its stage.
 ///
 /// Its result is that of [`crate::decode`] on the joined bytes, for each segmentation. It keeps only
@@ -59,9 +59,9 @@ impl Decoder {
 
     /// Feeds the next bytes of the body. After the head, and after a fault, they are dropped.
     ///
-    /// If memory for bytes of the head is refused, none of the piece is taken.
-    pub fn feed(&mut self, piece: &[u8]) -> Result<Fed, DecodeError>
-        ensures fed { Feeds self.old piece.now result self.new }
+    /// If memory for bytes of the head is refused, none of the segment is taken.
+    pub fn feed(&mut self, segment: &[u8]) -> Result<Fed, DecodeError>
+        ensures fed { Feeds self.old segment.now result self.new }
         ensures grows { take (length self.old.head) self.new.head ≡ self.old.head }
         ensures over { ¬ (self.old.stage ≡ Stage.Awaiting) → self.new ≡ self.old }
     {
@@ -69,7 +69,7 @@ impl Decoder {
         if self.stage() != Stage::Awaiting {
             return self.answer(reached.length);
         }
-        if self.take(piece).is_err() {
+        if self.take(segment).is_err() {
             self.back_to(reached);
             return Err(DecodeError::OutOfMemory);
         }
@@ -95,7 +95,7 @@ impl Decoder {
         requires sound { CanReach reached }
         requires grown { reached.length ≤ length self.old.head }
         ensures back { self.new ≡ returned self.old reached }
-        ensures stands { (fed : List ℕ) (before : DecoderState) → HasDecoded fed before → reached ≡ reached_of before → take (length before.head) self.old.head ≡ before.head → HasDecoded fed self.new }
+        ensures reaches { (fed : List ℕ) (before : DecoderState) → HasDecoded fed before → reached ≡ reached_of before → take (length before.head) self.old.head ≡ before.head → HasDecoded fed self.new }
     {
         self.head.truncate(reached.length);
         self.walked = reached.walked;
@@ -143,7 +143,7 @@ impl Decoder {
         }
     }
 
-    /// The result of a piece, where `kept` bytes were kept before it.
+    /// The result of a segment, where `kept` bytes were kept before it.
     fn answer(&self, kept: usize) -> Result<Fed, DecodeError>
         requires { kept ≤ length self.now.head }
         ensures { result ≡ answer_at self.now.stage (length self.now.head - kept) }
@@ -155,13 +155,13 @@ impl Decoder {
         }
     }
 
-    /// Takes the bytes of a piece, until no more are awaited.
-    fn take(&mut self, piece: &[u8]) -> Result<(), AllocError>
-        ensures taken { OnOk result (TakesIn self.old piece.now self.new) }
+    /// Takes the bytes of a segment, until no more are awaited.
+    fn take(&mut self, segment: &[u8]) -> Result<(), AllocError>
+        ensures taken { OnOk result (TakesIn self.old segment.now self.new) }
         ensures grows { take (length self.old.head) self.new.head ≡ self.old.head }
-        ensures bounded { length self.new.head ≤ length self.old.head + length piece.now }
+        ensures bounded { length self.new.head ≤ length self.old.head + length segment.now }
     {
-        let mut rest = piece;
+        let mut rest = segment;
         while !rest.is_empty() && self.awaits() {
             let count = self.take_some(rest)?;
             rest = &rest[count..];
@@ -176,37 +176,37 @@ impl Decoder {
         self.stage == Stage::Awaiting && self.head.len() < Limits::IPP_HEAD_BYTES
     }
 
-    /// Takes some bytes of a piece. They are bytes of the header, or bytes that the current element lacks, or
-    /// the elements of the piece, which are read in place. Returns their number.
-    fn take_some(&mut self, piece: &[u8]) -> Result<usize, AllocError>
+    /// Takes some bytes of a segment. They are bytes of the header, or bytes that the current element lacks, or
+    /// the elements of the segment, which are read in place. Returns their number.
+    fn take_some(&mut self, segment: &[u8]) -> Result<usize, AllocError>
         requires awaits { MayCome self.old }
-        requires some { 0 < length piece.now }
-        ensures count { IfOk result (λ count. (0 < count) × (count ≤ length piece.now)) }
-        ensures taken { IfOk result (λ count. TakesIn self.old (take count piece.now) self.new) }
+        requires some { 0 < length segment.now }
+        ensures count { IfOk result (λ count. (0 < count) × (count ≤ length segment.now)) }
+        ensures taken { IfOk result (λ count. TakesIn self.old (take count segment.now) self.new) }
         ensures grows { take (length self.old.head) self.new.head ≡ self.old.head }
         ensures bounded { IfOk result (λ count. length self.new.head ≤ length self.old.head + count) }
         ensures err { OnErr result (self.new ≡ self.old) }
     {
         if self.walked() < HEADER_BYTES {
-            self.take_header(piece)
+            self.take_header(segment)
         } else if self.walked() < self.head().len() {
-            self.take_lacking(piece)
+            self.take_lacking(segment)
         } else {
-            self.take_elements(piece)
+            self.take_elements(segment)
         }
     }
 
     /// Takes bytes of the header. Returns their number.
-    fn take_header(&mut self, piece: &[u8]) -> Result<usize, AllocError>
+    fn take_header(&mut self, segment: &[u8]) -> Result<usize, AllocError>
         requires awaits { MayCome self.old }
-        requires some { 0 < length piece.now }
+        requires some { 0 < length segment.now }
         requires header { self.old.walked < HEADER_BYTES }
-        ensures count { IfOk result (λ count. (0 < count) × (count ≤ length piece.now)) }
-        ensures taken { IfOk result (λ count. (length self.old.head + count ≤ 8) × (self.new ≡ with_header self.old (take count piece.now))) }
+        ensures count { IfOk result (λ count. (0 < count) × (count ≤ length segment.now)) }
+        ensures taken { IfOk result (λ count. (length self.old.head + count ≤ 8) × (self.new ≡ with_header self.old (take count segment.now))) }
         ensures err { OnErr result (self.new ≡ self.old) }
     {
-        let count = piece.len().min(HEADER_BYTES - self.head.len());
-        self.head.extend_from_slice(&piece[..count])?;
+        let count = segment.len().min(HEADER_BYTES - self.head.len());
+        self.head.extend_from_slice(&segment[..count])?;
         if self.head.len() == HEADER_BYTES {
             self.walked = HEADER_BYTES;
         }
@@ -214,43 +214,43 @@ impl Decoder {
     }
 
     /// Takes bytes that the current element lacks. Returns their number.
-    fn take_lacking(&mut self, piece: &[u8]) -> Result<usize, AllocError>
+    fn take_lacking(&mut self, segment: &[u8]) -> Result<usize, AllocError>
         requires awaits { MayCome self.old }
-        requires some { 0 < length piece.now }
+        requires some { 0 < length segment.now }
         requires read { HEADER_BYTES ≤ self.old.walked }
         requires begun { self.old.walked < length self.old.head }
-        ensures count { IfOk result (λ count. (0 < count) × (count ≤ length piece.now)) }
-        ensures taken { IfOk result (λ count. TakesIn self.old (take count piece.now) self.new) }
+        ensures count { IfOk result (λ count. (0 < count) × (count ≤ length segment.now)) }
+        ensures taken { IfOk result (λ count. TakesIn self.old (take count segment.now) self.new) }
         ensures grows { take (length self.old.head) self.new.head ≡ self.old.head }
         ensures bounded { IfOk result (λ count. length self.new.head ≤ length self.old.head + count) }
         ensures err { OnErr result (self.new ≡ self.old) }
     {
         let kept = self.head().len();
-        let count = self.lacking().min(self.room()).min(piece.len());
-        self.append(&piece[..count])?;
+        let count = self.lacking().min(self.room()).min(segment.len());
+        self.append(&segment[..count])?;
         let walk = walk_from(self.place(), self.unread());
-        self.settle(walk, kept);
+        self.advance(walk, kept);
         Ok(count)
     }
 
-    /// Takes the elements of a piece, and the beginning of an element that goes on in the next piece. Returns the
+    /// Takes the elements of a segment, and the beginning of an element that goes on in the next segment. Returns the
     /// number of bytes.
-    fn take_elements(&mut self, piece: &[u8]) -> Result<usize, AllocError>
+    fn take_elements(&mut self, segment: &[u8]) -> Result<usize, AllocError>
         requires awaits { MayCome self.old }
-        requires some { 0 < length piece.now }
+        requires some { 0 < length segment.now }
         requires read { HEADER_BYTES ≤ self.old.walked }
         requires between { self.old.walked ≡ length self.old.head }
-        ensures count { IfOk result (λ count. (0 < count) × (count ≤ length piece.now)) }
-        ensures taken { IfOk result (λ count. TakesIn self.old (take count piece.now) self.new) }
+        ensures count { IfOk result (λ count. (0 < count) × (count ≤ length segment.now)) }
+        ensures taken { IfOk result (λ count. TakesIn self.old (take count segment.now) self.new) }
         ensures grows { take (length self.old.head) self.new.head ≡ self.old.head }
         ensures bounded { IfOk result (λ count. length self.new.head ≤ length self.old.head + count) }
         ensures err { OnErr result (self.new ≡ self.old) }
     {
-        let limited = &piece[..piece.len().min(self.room())];
+        let limited = &segment[..segment.len().min(self.room())];
         let walk = walk_from(self.place(), limited);
         let kept = self.head().len();
         self.append(&limited[..kept_of(walk, limited.len())])?;
-        self.settle(walk, kept);
+        self.advance(walk, kept);
         Ok(limited.len())
     }
 
@@ -291,21 +291,21 @@ impl Decoder {
     }
 
     /// Appends bytes of the head after its header.
-    fn append(&mut self, front: &[u8]) -> Result<(), AllocError>
+    fn append(&mut self, prefix: &[u8]) -> Result<(), AllocError>
         requires { HEADER_BYTES ≤ self.old.walked }
-        ensures ok { OnOk result (self.new ≡ record self.old { head = self.old.head ++ front.now }) }
+        ensures ok { OnOk result (self.new ≡ record self.old { head = self.old.head ++ prefix.now }) }
         ensures err { OnErr result (self.new ≡ self.old) }
     {
-        self.head.extend_from_slice(front)
+        self.head.extend_from_slice(prefix)
     }
 
     /// Passes over the elements of a walk through the bytes that weren't read. The bytes after the end byte,
     /// which is after the `kept` bytes that were kept before, aren't kept.
-    fn settle(&mut self, walk: Walk, kept: usize)
+    fn advance(&mut self, walk: Walk, kept: usize)
         requires read { HEADER_BYTES ≤ self.old.walked }
         requires within { self.old.walked + walk.length ≤ length self.old.head }
         requires end { walk.fault ≡ None → self.old.walked + walk.length < length self.old.head }
-        ensures { self.new ≡ settled self.old walk kept }
+        ensures { self.new ≡ advanced self.old walk kept }
     {
         self.walked = self.walked + walk.length;
         self.place = walk.place;

@@ -26,7 +26,7 @@ pub enum ElementView<'a> {
     Finish,
 }
 
-/// The counted bytes at the front, and the bytes after them.
+/// The counted bytes at the beginning, and the bytes after them.
 #[tactic(auto, unfolding(crate::specs::Reading::counted_at))]
 pub(crate) fn counted_of(bytes: &[u8]) -> Result<(&[u8], &[u8]), CodecFault>
     ensures { Gives (λ x. (x.0.now, x.1.now)) result (counted_at bytes.now) }
@@ -78,7 +78,7 @@ pub(crate) fn kind_of<'a>(tag: u8, name: &'a [u8], bytes: &'a [u8]) -> Option<El
     }
 }
 
-/// The element of a value with this tag at the front, and the bytes after it.
+/// The element of a value with this tag at the beginning, and the bytes after it.
 fn value_of(tag: u8, bytes: &[u8]) -> Option<(ElementView<'_>, &[u8])>
     ensures { element_from tag (fields_at bytes.now) ≡ option_map (λ x. (seen x.0, x.1.now)) result }
 {
@@ -87,7 +87,7 @@ fn value_of(tag: u8, bytes: &[u8]) -> Option<(ElementView<'_>, &[u8])>
     Some((element, rest))
 }
 
-/// The element at the front, if there is one, and the bytes after it.
+/// The element at the beginning, if there is one, and the bytes after it.
 #[tactic(auto, unfolding(crate::specs::Reading::element_at))]
 pub(crate) fn element_of(bytes: &[u8]) -> Option<(ElementView<'_>, &[u8])>
     ensures { element_at bytes.now ≡ option_map (λ x. (seen x.0, x.1.now)) result }

@@ -32,7 +32,7 @@ pub use head::{decode, head_length, view_of};
 pub use law::{fault_stays, one_first_fault, one_spelling};
 pub use member_view::{MemberView, Members};
 pub use message::{Attribute, Group, Message};
-pub use spelling::{encode, encode_behind};
+pub use spelling::{encode, encode_after};
 pub use stage::{Fed, Reached, Stage};
 pub use tag::{GroupTag, ValueTag};
 pub use value::{Member, Value};

@@ -31,8 +31,8 @@ fn own_values(alloc: Global, bytes: &[u8]) -> Result<Vec<Value>, AllocError>
 {
     let mut owned = Vec::new(alloc);
     let mut rest = bytes;
-    while let Some((value, behind)) = next_value(rest) {
-        rest = behind;
+    while let Some((value, tail)) = next_value(rest) {
+        rest = tail;
         let value = own_value(alloc, value)?;
         owned.push(value)?;
     }

@@ -184,9 +184,9 @@ pub(crate) fn walk_from(place: Place, bytes: &[u8]) -> Walk
     let mut reached = place;
     loop {
         match next_of(reached, rest) {
-            Ok(Some((next_place, behind))) => {
+            Ok(Some((next_place, tail))) => {
                 reached = next_place;
-                rest = behind;
+                rest = tail;
             }
             Ok(None) => {
                 return Walk {

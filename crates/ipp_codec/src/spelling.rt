@@ -30,7 +30,7 @@ pub fn encode(message: &Message, out: &mut Vec<u8>) -> Result<(), EncodeFault>
     if !are_groups(&message.groups) {
         return Err(EncodeFault::Unspellable);
     }
-    let Ok(bytes) = encode_behind(*out.allocator(), &header, &message.groups) else {
+    let Ok(bytes) = encode_after(*out.allocator(), &header, &message.groups) else {
         return Err(EncodeFault::OutOfMemory);
     };
     if out.extend_from_slice(&bytes).is_err() {
@@ -39,15 +39,15 @@ pub fn encode(message: &Message, out: &mut Vec<u8>) -> Result<(), EncodeFault>
     Ok(())
 }
 
-/// The bytes of a message whose front is spelt already: the front, then the groups, then the end byte. The front
+/// The bytes of a message whose prefix is spelt already: the prefix, then the groups, then the end byte. The prefix
 /// is the header, or the header and groups before these. The only error is out of memory.
 #[tactic(auto, using(crate::proofs::WrittenSpelling::groups_is))]
-pub fn encode_behind(alloc: Global, front: &[u8], groups: &[Group]) -> Result<Vec<u8>, AllocError>
+pub fn encode_after(alloc: Global, prefix: &[u8], groups: &[Group]) -> Result<Vec<u8>, AllocError>
     requires { AllByRecursion IsGroup groups.now }
-    ensures { IfOk result (λ bytes. bytes.items ≡ front.now ++ (bytes_of (elements groups.now) ++ 3 ∷ [])) }
+    ensures { IfOk result (λ bytes. bytes.items ≡ prefix.now ++ (bytes_of (elements groups.now) ++ 3 ∷ [])) }
 {
     let mut bytes = Vec::with_capacity(alloc, FIRST_BYTES)?;
-    put_message(&mut bytes, front, groups)?;
+    put_message(&mut bytes, prefix, groups)?;
     Ok(bytes)
 }
 
@@ -69,11 +69,11 @@ fn header_of(version: Version, code: u16, request_id: u32) -> [u8; 8]
     ]
 }
 
-fn put_message(out: &mut Vec<u8>, front: &[u8], groups: &[Group]) -> Result<(), AllocError>
+fn put_message(out: &mut Vec<u8>, prefix: &[u8], groups: &[Group]) -> Result<(), AllocError>
     requires { AllByRecursion IsGroup groups.now }
-    ensures { OnOk result (out.new.items ≡ out.old.items ++ (front.now ++ (groups_written groups.now ++ 3 ∷ []))) }
+    ensures { OnOk result (out.new.items ≡ out.old.items ++ (prefix.now ++ (groups_written groups.now ++ 3 ∷ []))) }
 {
-    out.extend_from_slice(front)?;
+    out.extend_from_slice(prefix)?;
     put_groups(out, groups)?;
     out.push(END)?;
     Ok(())

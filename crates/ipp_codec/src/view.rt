@@ -226,11 +226,11 @@ impl<'a> Iterator for Values<'a> {
         if let Some(first) = self.first.take() {
             return Some(first);
         }
-        let Some((value, behind)) = next_value(self.rest) else {
+        let Some((value, tail)) = next_value(self.rest) else {
             self.rest = &[];
             return None;
         };
-        self.rest = behind;
+        self.rest = tail;
         Some(value)
     }
 }

@@ -16,7 +16,7 @@ pub enum Entry<'a> {
     End,
 }
 
-/// The element at the front, and the bytes after it.
+/// The element at the beginning, and the bytes after it.
 fn first_of(bytes: &[u8]) -> Option<(ElementView<'_>, &[u8])>
     ensures { FirstShown bytes.now result }
 {
@@ -24,7 +24,7 @@ fn first_of(bytes: &[u8]) -> Option<(ElementView<'_>, &[u8])>
 }
 
 /// The bytes after the end of the collection in which the bytes begin.
-fn behind(bytes: &[u8]) -> &[u8]
+fn tail(bytes: &[u8]) -> &[u8]
     ensures levels { shown result.now ≡ below (shown bytes.now) }
     ensures shorter { length result.now ≤ length bytes.now }
 {
@@ -42,7 +42,7 @@ fn behind(bytes: &[u8]) -> &[u8]
     &[]
 }
 
-/// The entry at the front, and the bytes after it.
+/// The entry at the beginning, and the bytes after it.
 fn next_entry(bytes: &[u8]) -> Option<(Entry<'_>, &[u8])>
     ensures { NextEntry bytes.now result }
 {
@@ -61,7 +61,7 @@ fn next_entry(bytes: &[u8]) -> Option<(Entry<'_>, &[u8])>
                 tag: BEGIN_COLLECTION,
                 content: after,
             };
-            Some((Entry::Value(name, value), behind(after)))
+            Some((Entry::Value(name, value), tail(after)))
         }
         ElementView::Named(name) => Some((Entry::Member(name), after)),
         ElementView::Finish => Some((Entry::End, after)),
@@ -100,7 +100,7 @@ pub(crate) fn next_attribute(bytes: &[u8]) -> Option<AttributeView<'_>>
                 }
             }
             ElementView::Begin(name) => {
-                rest = behind(after);
+                rest = tail(after);
                 if !name.is_empty() {
                     let first = ValueView {
                         tag: BEGIN_COLLECTION,
@@ -126,11 +126,11 @@ pub(crate) fn next_member(bytes: &[u8]) -> Option<MemberView<'_>>
             Entry::Group(_) | Entry::End => return None,
             Entry::Value(..) => {}
             Entry::Member(name) => {
-                if let Some((first, behind)) = next_value(rest) {
+                if let Some((first, tail)) = next_value(rest) {
                     return Some(MemberView {
                         name,
                         first,
-                        rest: behind,
+                        rest: tail,
                     });
                 }
             }
@@ -139,7 +139,7 @@ pub(crate) fn next_member(bytes: &[u8]) -> Option<MemberView<'_>>
     None
 }
 
-/// The value without a name at the front, and the bytes after it.
+/// The value without a name at the beginning, and the bytes after it.
 pub(crate) fn next_value(bytes: &[u8]) -> Option<(ValueView<'_>, &[u8])>
     ensures { NextValue bytes.now result }
 {
@@ -153,7 +153,7 @@ pub(crate) fn next_value(bytes: &[u8]) -> Option<(ValueView<'_>, &[u8])>
                 tag: BEGIN_COLLECTION,
                 content: after,
             };
-            Some((value, behind(after)))
+            Some((value, tail(after)))
         }
         _ => None,
     }

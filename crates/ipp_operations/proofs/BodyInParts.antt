@@ -1,4 +1,4 @@
--- A body that comes in pieces: the bytes that its reader was fed, and the event that the body asks for.
+-- A body that comes in segments: the bytes that its reader was fed, and the event that the body asks for.
 use Rattle.std.proofs.Common.{◌≡◌, ℕ, ◌+◌, ◌≤◌, Bool, true, false, cond, List, [], ◌∷◌, ◌++◌, length, take, drop, Option, Some, None, option_map, Result, Ok, Err, MatchOption, MatchResult, refl, sym, ap, subst, ◌∙◌, inl, inr, arith}
 use Rattle.std.specs.Option.{option_map_or}
 use Rattle.std.proofs.lemmas.List.{length-append, drop-append-le, drop_at, drop-drop, drop_all}
@@ -23,20 +23,20 @@ use Rattle.ipp_operations.specs.Reader.{ReaderState, has_document, reads_documen
 
 -- ---- the header
 
-header_front : (bytes : List ℕ) → header_of bytes ≡ header_of (take 8 bytes)
-header_front [] = refl
-header_front (a ∷ []) = refl
-header_front (a ∷ b ∷ []) = refl
-header_front (a ∷ b ∷ c ∷ []) = refl
-header_front (a ∷ b ∷ c ∷ d ∷ []) = refl
-header_front (a ∷ b ∷ c ∷ d ∷ e ∷ []) = refl
-header_front (a ∷ b ∷ c ∷ d ∷ e ∷ f ∷ []) = refl
-header_front (a ∷ b ∷ c ∷ d ∷ e ∷ f ∷ g ∷ []) = refl
-header_front (a ∷ b ∷ c ∷ d ∷ e ∷ f ∷ g ∷ h ∷ rest) = refl
+header_prefix : (bytes : List ℕ) → header_of bytes ≡ header_of (take 8 bytes)
+header_prefix [] = refl
+header_prefix (a ∷ []) = refl
+header_prefix (a ∷ b ∷ []) = refl
+header_prefix (a ∷ b ∷ c ∷ []) = refl
+header_prefix (a ∷ b ∷ c ∷ d ∷ []) = refl
+header_prefix (a ∷ b ∷ c ∷ d ∷ e ∷ []) = refl
+header_prefix (a ∷ b ∷ c ∷ d ∷ e ∷ f ∷ []) = refl
+header_prefix (a ∷ b ∷ c ∷ d ∷ e ∷ f ∷ g ∷ []) = refl
+header_prefix (a ∷ b ∷ c ∷ d ∷ e ∷ f ∷ g ∷ h ∷ rest) = refl
 
 -- the header of the kept bytes is the header of all bytes
 pub header_kept : (bytes : List ℕ) (decoder : DecoderState) → HasDecoded bytes decoder → header_of decoder.head ≡ header_of bytes
-header_kept bytes decoder stands = header_front decoder.head ∙ ap header_of stands.header ∙ sym (header_front bytes)
+header_kept bytes decoder reaches = header_prefix decoder.head ∙ ap header_of reaches.header ∙ sym (header_prefix bytes)
 
 -- ---- the request of a body
 
@@ -75,7 +75,7 @@ fault_requests asked fault bytes is = inl (fault, is, refl)
 
 -- the request-id of the kept bytes is the request-id of all bytes
 pub id_kept : (bytes : List ℕ) (decoder : DecoderState) → HasDecoded bytes decoder → request_id_of decoder.head ≡ request_id_of bytes
-id_kept bytes decoder stands = ap (λ (o : Option Header). option_map (λ (h : Header). h.request_id) o) (header_kept bytes decoder stands)
+id_kept bytes decoder reaches = ap (λ (o : Option Header). option_map (λ (h : Header). h.request_id) o) (header_kept bytes decoder reaches)
 
 -- ---- a reader
 
@@ -85,7 +85,7 @@ holds bytes reader has_read reads whole =
     let kept : KeptAt Whole bytes reader = subst (λ (s : Stage). KeptAt s bytes reader) whole has_read.kept in
     kept ∙ ap (λ (b : Bool). cond b (drop (length reader.decoder.head) bytes) []) reads
 
--- ---- a piece
+-- ---- a segment
 
 abbrev reader_of : DecoderState → List ℕ → ReaderState
 reader_of decoder document = record { decoder = decoder; document = document }
@@ -106,49 +106,49 @@ no_document_at bytes document new Awaiting is head none = none
 no_document_at bytes document new (Faulty fault) is head none = none
 no_document_at bytes document new Whole is head none = absurd (head is)
 
--- a piece after which the head isn't whole
-pub read_no_head : (bytes piece document : List ℕ) (old new : DecoderState) → TakesIn old piece new → StaysOver old new → ¬ (new.stage ≡ Whole) → HasRead bytes (reader_of old document) → HasRead (bytes ++ piece) (reader_of new document)
-read_no_head bytes piece document old new takes over head has_read = record {
-  stands = takes bytes has_read.stands;
-  kept = no_document_at (bytes ++ piece) document new new.stage refl head (none_yet bytes document old new old.stage refl has_read.kept over head);
+-- a segment after which the head isn't whole
+pub read_no_head : (bytes segment document : List ℕ) (old new : DecoderState) → TakesIn old segment new → StaysOver old new → ¬ (new.stage ≡ Whole) → HasRead bytes (reader_of old document) → HasRead (bytes ++ segment) (reader_of new document)
+read_no_head bytes segment document old new takes over head has_read = record {
+  reaches = takes bytes has_read.reaches;
+  kept = no_document_at (bytes ++ segment) document new new.stage refl head (none_yet bytes document old new old.stage refl has_read.kept over head);
 }
 
-went_on : (reads : Bool) (document before part piece all : List ℕ) → document ≡ cond reads before [] → part ≡ piece → all ≡ before ++ piece → cond reads (document ++ part) document ≡ cond reads all []
-went_on true document before part piece all was more behind = ap (λ (l : List ℕ). l ++ part) was ∙ ap (λ (l : List ℕ). before ++ l) more ∙ sym behind
-went_on false document before part piece all was more behind = was
+went_on : (reads : Bool) (document before part segment all : List ℕ) → document ≡ cond reads before [] → part ≡ segment → all ≡ before ++ segment → cond reads (document ++ part) document ≡ cond reads all []
+went_on true document before part segment all was more tail = ap (λ (l : List ℕ). l ++ part) was ∙ ap (λ (l : List ℕ). before ++ l) more ∙ sym tail
+went_on false document before part segment all was more tail = was
 
--- the document after a piece in which the head becomes whole
-headed : (bytes piece document : List ℕ) (old new : DecoderState) (count : ℕ) (stage : Stage) (reads : Bool) → old.stage ≡ stage → HasDecoded bytes old → IsAtStage stage bytes old → KeptAt stage bytes (reader_of old document)
+-- the document after a segment in which the head becomes whole
+headed : (bytes segment document : List ℕ) (old new : DecoderState) (count : ℕ) (stage : Stage) (reads : Bool) → old.stage ≡ stage → HasDecoded bytes old → IsAtStage stage bytes old → KeptAt stage bytes (reader_of old document)
     → StaysOver old new → new.stage ≡ Whole → length new.head ≡ length old.head + count → reads_document new.head ≡ reads
-    → cond reads (document ++ drop count piece) document ≡ cond reads (drop (length new.head) (bytes ++ piece)) []
-headed bytes piece document old new count Awaiting false is stands known kept over whole long reads = kept
-headed bytes piece document old new count Awaiting true is stands known kept over whole long reads =
+    → cond reads (document ++ drop count segment) document ≡ cond reads (drop (length new.head) (bytes ++ segment)) []
+headed bytes segment document old new count Awaiting false is reaches known kept over whole long reads = kept
+headed bytes segment document old new count Awaiting true is reaches known kept over whole long reads =
     let all : length bytes ≡ length old.head = ap length (sym known.0) in
     let far : length new.head ≡ length bytes + count = omega (arith, long, all) in
-    ap (λ (l : List ℕ). l ++ drop count piece) kept
-    ∙ sym (ap (λ (n : ℕ). drop n (bytes ++ piece)) far ∙ sym (drop-drop count (length bytes) (bytes ++ piece)) ∙ ap (λ (l : List ℕ). drop count l) (drop_at bytes piece (length bytes) refl))
-headed bytes piece document old new count (Faulty fault) reads is stands known kept over whole long read =
+    ap (λ (l : List ℕ). l ++ drop count segment) kept
+    ∙ sym (ap (λ (n : ℕ). drop n (bytes ++ segment)) far ∙ sym (drop-drop count (length bytes) (bytes ++ segment)) ∙ ap (λ (l : List ℕ). drop count l) (drop_at bytes segment (length bytes) refl))
+headed bytes segment document old new count (Faulty fault) reads is reaches known kept over whole long read =
     let same : new ≡ old = over (λ h. let e : Faulty fault ≡ Awaiting = sym is ∙ h in absurd cc) in
     let e : Whole ≡ Faulty fault = sym whole ∙ ap (λ (d : DecoderState). d.stage) same ∙ is in
     absurd cc
-headed bytes piece document old new count Whole reads is stands known kept over whole long read =
+headed bytes segment document old new count Whole reads is reaches known kept over whole long read =
     let same : new ≡ old = over (λ h. let e : Whole ≡ Awaiting = sym is ∙ h in absurd cc) in
     let heads : new.head ≡ old.head = ap (λ (d : DecoderState). d.head) same in
     let none : count ≡ 0 = omega (arith, long, ap length heads) in
     let was : document ≡ cond reads (drop (length old.head) bytes) [] = kept ∙ ap (λ (b : Bool). cond b (drop (length old.head) bytes) []) (ap reads_document (sym heads) ∙ read) in
-    let within : length old.head ≤ length bytes = omega (arith, ap length stands.front.1, length-append old.head stands.front.0) in
-    let behind : drop (length new.head) (bytes ++ piece) ≡ drop (length old.head) bytes ++ piece = ap (λ (l : List ℕ). drop (length l) (bytes ++ piece)) heads ∙ drop-append-le (length old.head) bytes piece within in
-    let more : drop count piece ≡ piece = ap (λ (n : ℕ). drop n piece) none in
-    went_on reads document (drop (length old.head) bytes) (drop count piece) piece (drop (length new.head) (bytes ++ piece)) was more behind
+    let within : length old.head ≤ length bytes = omega (arith, ap length reaches.prefix.1, length-append old.head reaches.prefix.0) in
+    let tail : drop (length new.head) (bytes ++ segment) ≡ drop (length old.head) bytes ++ segment = ap (λ (l : List ℕ). drop (length l) (bytes ++ segment)) heads ∙ drop-append-le (length old.head) bytes segment within in
+    let more : drop count segment ≡ segment = ap (λ (n : ℕ). drop n segment) none in
+    went_on reads document (drop (length old.head) bytes) (drop count segment) segment (drop (length new.head) (bytes ++ segment)) was more tail
 
--- a piece in which the head is whole
-pub read_head : (bytes piece document later : List ℕ) (old new : DecoderState) (count : ℕ) → TakesIn old piece new → StaysOver old new → new.stage ≡ Whole → length new.head ≡ length old.head + count
-    → later ≡ cond (reads_document new.head) (document ++ drop count piece) document → HasRead bytes (reader_of old document) → HasRead (bytes ++ piece) (reader_of new later)
-read_head bytes piece document later old new count takes over whole long is has_read =
-    let kept : KeptAt Whole (bytes ++ piece) (reader_of new later) = is ∙ headed bytes piece document old new count old.stage (reads_document new.head) refl has_read.stands has_read.stands.known has_read.kept over whole long refl in
+-- a segment in which the head is whole
+pub read_head : (bytes segment document later : List ℕ) (old new : DecoderState) (count : ℕ) → TakesIn old segment new → StaysOver old new → new.stage ≡ Whole → length new.head ≡ length old.head + count
+    → later ≡ cond (reads_document new.head) (document ++ drop count segment) document → HasRead bytes (reader_of old document) → HasRead (bytes ++ segment) (reader_of new later)
+read_head bytes segment document later old new count takes over whole long is has_read =
+    let kept : KeptAt Whole (bytes ++ segment) (reader_of new later) = is ∙ headed bytes segment document old new count old.stage (reads_document new.head) refl has_read.reaches has_read.reaches.known has_read.kept over whole long refl in
     record {
-      stands = takes bytes has_read.stands;
-      kept = subst (λ (s : Stage). KeptAt s (bytes ++ piece) (reader_of new later)) (sym whole) kept;
+      reaches = takes bytes has_read.reaches;
+      kept = subst (λ (s : Stage). KeptAt s (bytes ++ segment) (reader_of new later)) (sym whole) kept;
     }
 
 -- ---- nothing yet
@@ -164,33 +164,33 @@ none_kept decoder document Whole none = none ∙ sym (either (reads_document dec
 
 -- a reader of a new body
 pub read_nothing : (decoder : DecoderState) (document : List ℕ) → HasDecoded [] decoder → document ≡ [] → HasRead [] (reader_of decoder document)
-read_nothing decoder document stands none = record { stands = stands; kept = none_kept decoder document decoder.stage none }
+read_nothing decoder document reaches none = record { reaches = reaches; kept = none_kept decoder document decoder.stage none }
 
 -- ---- from a decoder to the request
 
 -- the header is there
 pub asks_under : (decoder : DecoderState) (document : List ℕ) (header : Header) (said : ParsedRequest) → header_of decoder.head ≡ Some header → AsksUnderOf header decoder document said → AsksOf decoder document said
-asks_under decoder document header said is under bytes stands holds =
-    let all : header_of bytes ≡ Some header = sym (header_kept bytes decoder stands) ∙ is in
+asks_under decoder document header said is under bytes reaches holds =
+    let all : header_of bytes ≡ Some header = sym (header_kept bytes decoder reaches) ∙ is in
     let reads : reads_document decoder.head ≡ sends_document (operation_of header) = ap (λ (o : Option Header). option_map_or (λ (h : Header). sends_document (operation_of h)) o false) is in
-    subst (λ (o : Option Header). MatchOption o (said ≡ TooShort) (λ (h : Header). AsksUnder h bytes said)) (sym all) (under bytes stands (λ so. holds (reads ∙ so)))
+    subst (λ (o : Option Header). MatchOption o (said ≡ TooShort) (λ (h : Header). AsksUnder h bytes said)) (sym all) (under bytes reaches (λ so. holds (reads ∙ so)))
 
 -- the header isn't whole
 pub asks_short : (decoder : DecoderState) (document : List ℕ) → header_of decoder.head ≡ None → AsksOf decoder document TooShort
-asks_short decoder document is bytes stands holds =
-    subst (λ (o : Option Header). MatchOption o (TooShort ≡ TooShort) (λ (h : Header). AsksUnder h bytes TooShort)) (sym (sym (header_kept bytes decoder stands) ∙ is)) refl
+asks_short decoder document is bytes reaches holds =
+    subst (λ (o : Option Header). MatchOption o (TooShort ≡ TooShort) (λ (h : Header). AsksUnder h bytes TooShort)) (sym (sym (header_kept bytes decoder reaches) ∙ is)) refl
 
 -- the header gives an operation
 pub asks_by : (decoder : DecoderState) (document : List ℕ) (header : Header) (asked : Operation) (said : ParsedRequest) → operation_of header ≡ Ok asked → AsksByOf asked header.request_id decoder document said → AsksUnderOf header decoder document said
-asks_by decoder document header asked said is by bytes stands holds =
+asks_by decoder document header asked said is by bytes reaches holds =
     subst (λ (r : Result Operation Status). MatchResult r (λ (o : Operation). AsksBy o header.request_id bytes said) (λ (s : Status). said ≡ Refused s header.request_id)) (sym is)
-    (by bytes stands (λ so. holds (ap sends_document is ∙ so)))
+    (by bytes reaches (λ so. holds (ap sends_document is ∙ so)))
 
 -- the header gives a status instead of an operation
 pub asks_none : (decoder : DecoderState) (document : List ℕ) (header : Header) (status : Status) → operation_of header ≡ Err status → AsksUnderOf header decoder document (Refused status header.request_id)
-asks_none decoder document header status is bytes stands holds =
+asks_none decoder document header status is bytes reaches holds =
     let said = Refused status header.request_id in
     subst (λ (r : Result Operation Status). MatchResult r (λ (o : Operation). AsksBy o header.request_id bytes said) (λ (s : Status). said ≡ Refused s header.request_id)) (sym is) refl
 
 pub asks_event : (decoder : DecoderState) (document : List ℕ) (asked : Operation) (id : ℕ) (event : Result Event Status) → RequestsOf asked decoder document event → AsksByOf asked id decoder document (answered id event)
-asks_event decoder document asked id event requests bytes stands holds = (event, requests bytes stands holds, refl)
+asks_event decoder document asked id event requests bytes reaches holds = (event, requests bytes reaches holds, refl)

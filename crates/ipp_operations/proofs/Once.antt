@@ -73,9 +73,9 @@ same_fault laws bytes f g h k =
 no_message : Laws → (bytes : List ℕ) (f : CodecFault) (n : ℕ) (m : IppMessage) → HeadFault bytes f → n ≤ IPP_HEAD_BYTES → Spells (take n bytes) m → ⊥
 no_message laws bytes f n m h le s =
     let a = within bytes f h in
-    let front = take IPP_HEAD_BYTES bytes in
-    laws.no_fault front a.first m (drop n front) a.found s.0
-    (sym (take-append-drop n front) ∙ ap (λ xs. xs ++ drop n front) (take_within n IPP_HEAD_BYTES bytes le ∙ s.1))
+    let prefix = take IPP_HEAD_BYTES bytes in
+    laws.no_fault prefix a.first m (drop n prefix) a.found s.0
+    (sym (take-append-drop n prefix) ∙ ap (λ xs. xs ++ drop n prefix) (take_within n IPP_HEAD_BYTES bytes le ∙ s.1))
 
 spelt : (bytes : List ℕ) (n : ℕ) (m : IppMessage) → Spells (take n bytes) m → spelling m ++ drop n bytes ≡ bytes
 spelt bytes n m s = ap (λ xs. xs ++ drop n bytes) (sym s.1) ∙ take-append-drop n bytes

@@ -39,13 +39,13 @@ first_of_each [] = []
 first_of_each (attribute ∷ later) = attribute ∷ filter (λ other. not (bytes_eq other.name attribute.name)) (first_of_each later)
 
 -- the bytes after a counted string and the length of the next
-abbrev pub behind_language : List ℕ → List ℕ
-behind_language (high ∷ low ∷ bytes) = drop (256 * high + low + 2) bytes
-behind_language _ = []
+abbrev pub after_language : List ℕ → List ℕ
+after_language (high ∷ low ∷ bytes) = drop (256 * high + low + 2) bytes
+after_language _ = []
 
 -- the text of a name, without its language (RFC 8010, section 3.9)
 abbrev pub name_in : IppValue → List ℕ
-name_in value = if tag_of value == tags.name_with_language then behind_language (bytes_in value) else bytes_in value
+name_in value = if tag_of value == tags.name_with_language then after_language (bytes_in value) else bytes_in value
 
 -- the attribute's name, or a default if the group doesn't have it
 abbrev pub name_or : OperationAttribute → List ℕ → IppGroup → List ℕ

@@ -20,7 +20,7 @@ use Rattle.ipp_operations.specs.Event.{event_of}
 
 -- version, operation and request-id: the first eight bytes (RFC 8010, section 3.1.1)
 abbrev pub header_of : List ℕ → Option Header
-header_of (major ∷ minor ∷ high ∷ low ∷ id_3 ∷ id_2 ∷ id_1 ∷ id_0 ∷ behind) = Some (record {
+header_of (major ∷ minor ∷ high ∷ low ∷ id_3 ∷ id_2 ∷ id_1 ∷ id_0 ∷ tail) = Some (record {
   major = major;
   operation = from_be_bytes w16 (high ∷ low ∷ []);
   request_id = from_be_bytes w32 (id_3 ∷ id_2 ∷ id_1 ∷ id_0 ∷ []);

@@ -1,4 +1,4 @@
--- The state of a parser that was fed a body, in pieces of any length.
+-- The state of a parser that was fed a body, in segments of any length.
 use Rattle.std.specs.Prelude.{◌≡◌, ℕ, Bool, true, false, if◌then◌else◌, List, [], length, drop, Result, Ok, Err}
 use Rattle.std.specs.Option.{option_map_or}
 use Rattle.ipp_codec.specs.declared.stage.Stage.{Stage}
@@ -38,7 +38,7 @@ KeptAt _ bytes reader = reader.document ≡ []
 
 -- The reader was fed these bytes.
 pub record HasRead (bytes : List ℕ) (reader : ReaderState) : Type 0 where
-  pub stands : HasDecoded bytes reader.decoder
+  pub reaches : HasDecoded bytes reader.decoder
   pub kept : KeptAt reader.decoder.stage bytes reader
 
 -- a decoder that was fed some bytes

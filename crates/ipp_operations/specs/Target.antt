@@ -26,8 +26,8 @@ abbrev pub path_of : List ℕ → List ℕ
 path_of rest = option_map_or (λ start. drop start rest) (position (λ byte. byte == 47) rest) []
 
 -- the bytes after a prefix of a path
-abbrev pub behind : List ℕ → List ℕ → Option (List ℕ)
-behind front path = if bytes_eq (take (length front) path) front then Some (drop (length front) path) else None
+abbrev pub tail : List ℕ → List ℕ → Option (List ℕ)
+tail prefix path = if bytes_eq (take (length prefix) path) prefix then Some (drop (length prefix) path) else None
 
 -- ---- printers
 
@@ -37,7 +37,7 @@ names_first path = bytes_eq path [] || bytes_eq path (codes "/") || bytes_eq pat
 
 -- the printer of a path; the name is compared byte by byte, and nothing is percent-decoded
 abbrev pub printer_at : List ℕ → Target
-printer_at path = if names_first path then First else option_map_or Named (behind (codes "/printers/") path) Unknown
+printer_at path = if names_first path then First else option_map_or Named (tail (codes "/printers/") path) Unknown
 
 -- the printer of a URI; the authority is ignored
 abbrev pub printer_of : List ℕ → Target
@@ -59,7 +59,7 @@ job_in word = if is_number word then option_and_then job_numbered (number_up_to 
 
 -- the job of a path: `/jobs/` and the job's number
 abbrev pub job_at : List ℕ → JobTarget
-job_at path = option_map_or job.Numbered (option_and_then job_in (behind (codes "/jobs/") path)) job.Unknown
+job_at path = option_map_or job.Numbered (option_and_then job_in (tail (codes "/jobs/") path)) job.Unknown
 
 -- the job of a URI; the authority is ignored
 abbrev pub job_of : List ℕ → JobTarget

@@ -2,7 +2,7 @@
 ghost use Rattle.std.specs.Prelude.{◌≡◌, option_map, IfOk};
 ghost use Rattle.std.specs.List.{list_all};
 ghost use Rattle.ipp_codec.specs.Views.{attribute_shown, value_shown, group_shown};
-ghost use Rattle.ipp_operations.specs.Attributes.{first_named, attribute_of, has, value_of, is_tagged, behind_language, name_in, name_or, bytes_of, number_of, truth_of};
+ghost use Rattle.ipp_operations.specs.Attributes.{first_named, attribute_of, has, value_of, is_tagged, after_language, name_in, name_or, bytes_of, number_of, truth_of};
 ghost use Rattle.ipp_operations.specs.OperationAttribute.{values_in_order};
 ghost use Rattle.ipp_operations.specs.Syntax.{has_syntax};
 
@@ -92,8 +92,8 @@ pub(crate) fn are_tagged(group: &GroupView<'_>, read: &[OperationAttribute]) -> 
 }
 
 /// The bytes after a counted language and the length of the text.
-fn behind_language(bytes: &[u8]) -> &[u8]
-    ensures { result.now ≡ behind_language bytes.now }
+fn after_language(bytes: &[u8]) -> &[u8]
+    ensures { result.now ≡ after_language bytes.now }
 {
     let [high, low, rest @ ..] = bytes else {
         return &[];
@@ -107,7 +107,7 @@ fn name_in<'a>(value: &ValueView<'a>) -> &'a [u8]
     ensures { result.now ≡ name_in (value_shown value.now) }
 {
     if value.tag() == ValueTag::NAME_WITH_LANGUAGE {
-        behind_language(value.bytes())
+        after_language(value.bytes())
     } else {
         value.bytes()
     }

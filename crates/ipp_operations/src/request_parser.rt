@@ -1,4 +1,4 @@
-//! The parser of bodies that come in pieces.
+//! The parser of bodies that come in segments.
 ghost use Rattle.std.specs.Prelude.{◌≡◌, ◌++◌, ℕ, [], List, IfOk, OnOk, OnErr};
 ghost use Rattle.ipp_operations.specs.ParsedRequest.{Asks, request_id_of};
 ghost use Rattle.ipp_operations.specs.Reader.{HasRead, has_document, sends_document, reads_document};
@@ -12,7 +12,7 @@ use printer_objects::Operation;
 use std::alloc::{AllocError, Global};
 use std::marker::Model;
 
-/// A parser of an IPP body that comes in pieces of any length. In clauses it is a record of its decoder and
+/// A parser of an IPP body that comes in segments of any length. In clauses it is a record of its decoder and
 /// of the octets that it keeps of the document.
 ///
 /// It holds one copy of the head, and one of the document if the operation has a document.
@@ -47,12 +47,12 @@ impl RequestParser {
 
     /// Feeds the next bytes of the body. The only error is out of memory, and none of the bytes is taken
     /// then.
-    pub fn feed(&mut self, piece: &[u8]) -> Result<(), AllocError>
-        ensures fed { OnOk result ((bytes : List ℕ) → HasRead bytes self.old → HasRead (bytes ++ piece.now) self.new) }
+    pub fn feed(&mut self, segment: &[u8]) -> Result<(), AllocError>
+        ensures fed { OnOk result ((bytes : List ℕ) → HasRead bytes self.old → HasRead (bytes ++ segment.now) self.new) }
         ensures err { OnErr result (self.new ≡ self.old) }
     {
         let reached = self.decoder.reached();
-        let count = match self.decoder.feed(piece) {
+        let count = match self.decoder.feed(segment) {
             Ok(Fed::Head(count)) => count,
             Ok(Fed::More) => return Ok(()),
             Err(DecodeError::Fault(_)) => return Ok(()),
@@ -61,7 +61,7 @@ impl RequestParser {
         if !reads_document(self.decoder.head()) {
             return Ok(());
         }
-        let kept = self.document.push(&piece[count..]);
+        let kept = self.document.push(&segment[count..]);
         if kept.is_err() {
             self.decoder.back_to(reached);
         }

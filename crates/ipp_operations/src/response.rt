@@ -6,16 +6,16 @@ ghost use Rattle.ipp_operations.specs.Reply.{tells_unsupported, unsupported_of, 
 
 use crate::refusal::ipp_refusal;
 use events::{IppResponse, ResponseGroups, Status};
-use ipp_codec::{Group, GroupTag, encode_behind};
+use ipp_codec::{Group, GroupTag, encode_after};
 use job_template::RequestAttributes;
 use std::alloc::{AllocError, Global};
 
 /// The number of bytes of a refusal before its end byte.
-const REFUSAL_FRONT: usize = 71;
+const REFUSAL_PREFIX: usize = 71;
 
 /// The bytes of the reply to a request-id (RFC 8011, section 4.1.4.2). They begin as a refusal of the status
 /// does. The only error is out of memory.
-#[tactic(auto, using(crate::proofs::ReplyPrefix::behind_front))]
+#[tactic(auto, using(crate::proofs::ReplyPrefix::after_prefix))]
 pub fn ipp_response(
     alloc: Global,
     answer: IppResponse,
@@ -30,7 +30,7 @@ pub fn ipp_response(
     } = answer;
     let groups = groups_of(alloc, status, unsupported, groups)?;
     let refusal = ipp_refusal(status, request_id);
-    encode_behind(alloc, &refusal[..REFUSAL_FRONT], &groups)
+    encode_after(alloc, &refusal[..REFUSAL_PREFIX], &groups)
 }
 
 /// The groups after the operation group of a reply: that of the unsupported attributes, if the status reports

@@ -2,7 +2,7 @@
 ghost use Rattle.std.specs.Prelude.{◌≡◌, IfOk};
 ghost use Rattle.std.specs.Option.{option_copied};
 ghost use Rattle.ipp_codec.specs.Views.{group_shown};
-ghost use Rattle.ipp_operations.specs.Target.{after_scheme, after_known_scheme, path_of, behind, names_first, printer_at, printer_of, printer_target, job_numbered, job_in, job_at, job_of, job_id, job_of_printer, job_target, names_job};
+ghost use Rattle.ipp_operations.specs.Target.{after_scheme, after_known_scheme, path_of, tail, names_first, printer_at, printer_of, printer_target, job_numbered, job_in, job_at, job_of, job_id, job_of_printer, job_target, names_job};
 
 use crate::attributes::{has, number_of, value_of};
 use crate::operation_attribute::OperationAttribute;
@@ -16,8 +16,8 @@ use text::{find_byte, is_number, number_up_to};
 fn after_scheme<'a>(uri: &'a [u8], scheme: &[u8]) -> Option<&'a [u8]>
     ensures { option_copied result ≡ after_scheme scheme.now uri.now }
 {
-    let (front, rest) = uri.split_at_checked(scheme.len())?;
-    if front.eq_ignore_ascii_case(scheme) {
+    let (prefix, rest) = uri.split_at_checked(scheme.len())?;
+    if prefix.eq_ignore_ascii_case(scheme) {
         Some(rest)
     } else {
         None
@@ -45,10 +45,10 @@ fn path_of(rest: &[u8]) -> &[u8]
 }
 
 /// The bytes after a prefix of a path.
-fn behind<'a>(path: &'a [u8], front: &[u8]) -> Option<&'a [u8]>
-    ensures { option_copied result ≡ behind front.now path.now }
+fn tail<'a>(path: &'a [u8], prefix: &[u8]) -> Option<&'a [u8]>
+    ensures { option_copied result ≡ tail prefix.now path.now }
 {
-    path.strip_prefix(front)
+    path.strip_prefix(prefix)
 }
 
 /// Returns whether a path names the first printer: the empty path, `/` and `/ipp/print` do.
@@ -65,7 +65,7 @@ fn printer_at(alloc: Global, path: &[u8]) -> Result<Target, AllocError>
     if names_first(path) {
         return Ok(Target::First);
     }
-    match behind(path, b"/printers/") {
+    match tail(path, b"/printers/") {
         Some(name) => Ok(Target::Named(Text::copy_of(alloc, name)?)),
         None => Ok(Target::Unknown),
     }
@@ -113,7 +113,7 @@ fn job_in(word: &[u8]) -> Option<JobId>
 fn job_at(path: &[u8]) -> JobTarget
     ensures { result ≡ job_at path.now }
 {
-    let Some(word) = behind(path, b"/jobs/") else {
+    let Some(word) = tail(path, b"/jobs/") else {
         return JobTarget::Unknown;
     };
     match job_in(word) {

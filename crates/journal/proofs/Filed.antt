@@ -13,7 +13,7 @@ use Rattle.journal.specs.Passing.{calls_in}
 use Rattle.journal.specs.File.{IsTurnText, KeepsPlayed}
 use Rattle.journal.specs.Resuming.{Turns}
 use Rattle.journal.proofs.RecordingWire.{added_line, turns_as}
-use Rattle.journal.proofs.Played.{filed_behind}
+use Rattle.journal.proofs.Played.{filed_after}
 
 -- the lines, where lines are kept
 pub kept_lines : (noted : Option (List ℕ)) → is_some noted ≡ true → (lines : List ℕ) × (noted ≡ Some lines)
@@ -41,6 +41,6 @@ keeps_turn moves moment u a v b turn notes polls notifies none empty ended ends 
     } in
     record {
       trace = played.trace ++ Turned moment turns.happenings ∷ [];
-      stands = turns.stands opening played.trace played.stands;
-      is_file = filed_behind moment turns.happenings text is_text played.trace before played.is_file;
+      reaches = turns.reaches opening played.trace played.reaches;
+      is_file = filed_after moment turns.happenings text is_text played.trace before played.is_file;
     }

@@ -57,11 +57,11 @@ loses (Notified note ∷ hs) lost none = (none note (0, omega arith, refl), lose
 loses (Chosen choice ∷ hs) lost none = loses hs lost none
 
 -- two lists of happenings, one after the other
-loses_apart : (front back : List Happening) → Loses (front ++ back) → Loses front × Loses back
+loses_apart : (prefix back : List Happening) → Loses (prefix ++ back) → Loses prefix × Loses back
 loses_apart [] back lost = (tt, lost)
-loses_apart (Polled poll ∷ front) back (is, rest) = let parts = loses_apart front back rest in ((is, parts.0), parts.1)
-loses_apart (Notified note ∷ front) back (is, rest) = let parts = loses_apart front back rest in ((is, parts.0), parts.1)
-loses_apart (Chosen choice ∷ front) back rest = loses_apart front back rest
+loses_apart (Polled poll ∷ prefix) back (is, rest) = let parts = loses_apart prefix back rest in ((is, parts.0), parts.1)
+loses_apart (Notified note ∷ prefix) back (is, rest) = let parts = loses_apart prefix back rest in ((is, parts.0), parts.1)
+loses_apart (Chosen choice ∷ prefix) back rest = loses_apart prefix back rest
 
 -- ---- the parts of such a turn
 
@@ -87,8 +87,8 @@ sets_in key e l hs l' it lost = same_core l (with_entry key e l) l' refl it.1
 
 then_in : {R S : Rel} → Within R → Within S → Within (Then R S)
 then_in f g l hs l' it lost =
-    let parts = loses_apart it.front it.back (subst Loses it.whole lost) in
-    stay_then l.core it.mid.core l'.core (f l it.front it.mid it.first parts.0) (g it.mid it.back l' it.second parts.1)
+    let parts = loses_apart it.prefix it.back (subst Loses it.whole lost) in
+    stay_then l.core it.mid.core l'.core (f l it.prefix it.mid it.first parts.0) (g it.mid it.back l' it.second parts.1)
 
 or_in : {R S : Rel} → Within R → Within S → Within (Or R S)
 or_in f g l hs l' (inl it) = f l hs l' it
@@ -210,17 +210,17 @@ leaves_in fate key e l hs l' it lost = same_core l (without key e fate l) l' ref
 closes_in : (moment : ℕ) (fate : Fate) (key : ℕ) (e : Entry) → Within (ClosesAs moment fate key e)
 closes_in moment fate key e = then_in (leaves_in fate key e) (gone_in moment (device_of e.progress))
 
-settles_in : (moment : ℕ) → Within (ClosesBroken moment)
-settles_in moment l hs l' it = times_in it.0.0 (ClosesFirst moment) (λ a ks b first. closes_in moment Broken first.key first.entry a ks b first.closes) l hs l' it.0.1
+closes_broken_in : (moment : ℕ) → Within (ClosesBroken moment)
+closes_broken_in moment l hs l' it = times_in it.0.0 (ClosesFirst moment) (λ a ks b first. closes_in moment Broken first.key first.entry a ks b first.closes) l hs l' it.0.1
 
 fails_in : (moment key : ℕ) → Within (Fails moment key)
-fails_in moment key = then_in (breaks_in key) (settles_in moment)
+fails_in moment key = then_in (breaks_in key) (closes_broken_in moment)
 
 -- where no connection is broken, none is closed
 none_closes : (moment n : ℕ) (l : Ledger) (hs : List Happening) (l' : Ledger) → NoneBroken l → Times n (ClosesFirst moment) l hs l' → l' ≡ l
 none_closes moment zero l hs l' none it = it.1
 none_closes moment (suc n) l hs l' none it =
-    let same : it.mid ≡ l = none_closes moment n l it.front it.mid none it.first in
+    let same : it.mid ≡ l = none_closes moment n l it.prefix it.mid none it.first in
     let there : l.entries it.second.key ≡ Some it.second.entry = ap (λ (x : Ledger). x.entries it.second.key) (sym same) ∙ it.second.there in
     absurd (none it.second.key (subst IsBroken (sym there) it.second.is_broken))
 
@@ -229,7 +229,7 @@ none_closes moment (suc n) l hs l' none it =
 -- a read fails: it brings no bytes
 reads_as_in : (moment key : ℕ) (e : Entry) (answer : Progress (List ℕ)) → Within (ReadsAs moment key e answer)
 reads_as_in moment key e (wire.Done bytes) l hs l' it lost =
-    let parts = loses_apart it.front it.back (subst Loses it.whole lost) in
+    let parts = loses_apart it.prefix it.back (subst Loses it.whole lost) in
     let never : wire.Done bytes ≡ wire.Fault = (subst Loses it.first.0 parts.0).0 in
     absurd (cc)
 reads_as_in moment key e wire.Waiting l hs l' it lost = polls_in (Reads e.id wire.Waiting) l hs l' it lost
@@ -259,7 +259,7 @@ writes_one_in moment key l hs l' it = writes_at_in moment key (l.entries key) l 
 ends_at_in : (moment key : ℕ) (o : Option Entry) → Within (EndsAt moment key o)
 ends_at_in moment key None = nothing_in
 ends_at_in moment key (Some e) =
-    if_in (is_done e) (Then (ClosesAs moment Drained key e) (ClosesBroken moment)) Nothing (then_in (closes_in moment Drained key e) (settles_in moment)) nothing_in
+    if_in (is_done e) (Then (ClosesAs moment Drained key e) (ClosesBroken moment)) Nothing (then_in (closes_in moment Drained key e) (closes_broken_in moment)) nothing_in
 
 ends_one_in : (moment key : ℕ) → Within (EndsOne moment key)
 ends_one_in moment key l hs l' it = ends_at_in moment key (l.entries key) l hs l' it
@@ -275,7 +275,7 @@ round_in moment l hs l' (n, it) =
 -- an accept would have to wait: it brings no connection
 accepts_as_in : (door : Door) (answer : Progress ℕ) → Within (AcceptsAs door answer)
 accepts_as_in door (wire.Done id) l hs l' it lost =
-    let parts = loses_apart it.front it.back (subst Loses it.whole lost) in
+    let parts = loses_apart it.prefix it.back (subst Loses it.whole lost) in
     let never : wire.Done id ≡ wire.Waiting = (subst Loses it.first.0 parts.0).0 in
     absurd (cc)
 accepts_as_in door wire.Waiting l hs l' it lost = polls_in (Accepts door wire.Waiting) l hs l' it lost
@@ -302,9 +302,9 @@ waiting_stay moment old new hs turn whole lost none =
     let is : seen all ≡ hs = turn.turns.1 in
     let it : Turn moment old all new = turn.turns.2 in
     let losing : Loses all = loses all (subst (λ (ks : List Happening). AreLost (calls_in ks)) (sym is) lost) (subst NoneBegins (sym is) none) in
-    let settled : it.mid ≡ old = none_closes moment it.first.0.0 old it.front it.mid whole it.first.0.1 in
+    let settled : it.mid ≡ old = none_closes moment it.first.0.0 old it.prefix it.mid whole it.first.0.1 in
     let rest = it.second in
     let not_due : is_tick_due moment it.mid ≡ false = ap (λ (l : Ledger). is_tick_due moment l) settled ∙ turn.unticked in
-    let after = loses_apart rest.front rest.back (subst Loses rest.whole (loses_apart it.front it.back (subst Loses it.whole losing)).1) in
+    let after = loses_apart rest.prefix rest.back (subst Loses rest.whole (loses_apart it.prefix it.back (subst Loses it.whole losing)).1) in
     stay_then old.core it.mid.core new.core (same_core old old it.mid refl settled)
-    (stay_then it.mid.core rest.mid.core new.core (no_tick_in moment it.mid rest.front rest.mid not_due rest.first) (after_tick_in moment rest.mid rest.back new rest.second after.1))
+    (stay_then it.mid.core rest.mid.core new.core (no_tick_in moment it.mid rest.prefix rest.mid not_due rest.first) (after_tick_in moment rest.mid rest.back new rest.second after.1))

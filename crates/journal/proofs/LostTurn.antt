@@ -11,7 +11,7 @@ use Rattle.server.specs.Polls.{Choice, Happening, Polled, Notified, Chosen, Lead
 use Rattle.server.specs.Ledger.{Ledger}
 use Rattle.server.specs.State.{EngineState}
 use Rattle.server.specs.Turn.{Trace, Turned, is_due, is_tick_due}
-use Rattle.server.specs.Refinement.{Represents, StandsAt, RefinesTurn}
+use Rattle.server.specs.Refinement.{Represents, IsAt, RefinesTurn}
 use Rattle.server.proofs.ClosedConnections.{not_broken}
 use Rattle.journal.specs.Passing.{calls_in, IsLost, AreLost}
 use Rattle.journal.specs.Laws.{WaitingStay, BeginsNone, NoneBegins}
@@ -22,7 +22,7 @@ use Rattle.journal.specs.declared.restarting.Restarted.{Restarted}
 use Rattle.journal.proofs.WaitingJobs.{stay_is}
 use Rattle.journal.proofs.Lost.{waiting_stay}
 use Rattle.journal.proofs.RecordingWire.{Adds, are_added, first_lines, lost_text}
-use Rattle.journal.proofs.Played.{filed_behind}
+use Rattle.journal.proofs.Played.{filed_after}
 
 -- ---- the happenings of such a turn
 
@@ -102,17 +102,17 @@ loses_all moves moment u a v b turn Good lose begin notes polls notifies none em
       are_lost = lost.1;
       unconnected = eqb-true (count_by is_some b.slots) 0 out;
       is_text = lost_text moment (calls_in turn.happenings) (notes v).lines c d are restarts ends text is;
-      stands = turn.stands;
+      reaches = turn.reaches;
       waiting = λ l fits. lost_stay moves moment u a v b turn lost.1 lost.2 not_due whole l fits;
     }
 
 -- ---- the start
 
--- no connection is open: the engine stands at the trace of the file
+-- no connection is open: the engine is at the trace of the file
 pub restarts_so : (r : Resumption) (restarted : Restarted) → restarted.engine ≡ r.engine → restarted.text.items ≡ [] → restarted.stored.lines ≡ r.stored.lines → (count_by is_some r.engine.slots == 0) ≡ true → RestartsAs r restarted
 restarts_so r restarted engine none same out opening file resumed =
     let played = resumed.played in
-    let stands = played.stands in (
+    let reaches = played.reaches in (
       resumed.is,
       record {
         trace = played.trace;
@@ -121,12 +121,12 @@ restarts_so r restarted engine none same out opening file resumed =
         is_longer =
             subst (λ (t : Trace). IsFile t (r.stored.lines ++ restarted.text.items)) (sym (append-nil played.trace))
             (subst (λ (t : List ℕ). IsFile played.trace t) (sym (ap (λ (t : List ℕ). r.stored.lines ++ t) none ∙ append-nil r.stored.lines)) played.is_file);
-        stands = subst (λ (t : Trace). StandsAt opening t restarted.engine) (sym (append-nil played.trace)) (subst (λ (e : EngineState). StandsAt opening played.trace e) (sym engine) stands);
+        reaches = subst (λ (t : Trace). IsAt opening t restarted.engine) (sym (append-nil played.trace)) (subst (λ (e : EngineState). IsAt opening played.trace e) (sym engine) reaches);
         are_lost = tt;
         unconnected = ap (λ (e : EngineState). count_by is_some e.slots) engine ∙ eqb-true (count_by is_some r.engine.slots) 0 out;
-        before = stands.0;
-        stood = stands.1;
-        waiting = stay_is stands.0.core restarted.engine.core (ap (λ (e : EngineState). e.core) engine ∙ sym stands.2.core);
+        before = reaches.0;
+        stood = reaches.1;
+        waiting = stay_is reaches.0.core restarted.engine.core (ap (λ (e : EngineState). e.core) engine ∙ sym reaches.2.core);
       },
       same ∙ (sym (append-nil r.stored.lines) ∙ ap (λ (t : List ℕ). r.stored.lines ++ t) (sym none)),
     )
@@ -135,20 +135,20 @@ restarts_so r restarted engine none same out opening file resumed =
 pub restarts_lost : (r : Resumption) (restarted : Restarted) → LosesAll r.engine restarted.text.items restarted.engine → restarted.stored.lines ≡ r.stored.lines ++ restarted.text.items → RestartsAs r restarted
 restarts_lost r restarted loses pushed opening file resumed =
     let played = resumed.played in
-    let stands = played.stands in
+    let reaches = played.reaches in
     let lost : Trace = Turned loses.moment loses.happenings ∷ [] in (
       resumed.is,
       record {
         trace = played.trace;
         lost = lost;
         is_file = played.is_file;
-        is_longer = filed_behind loses.moment loses.happenings restarted.text.items loses.is_text played.trace r.stored.lines played.is_file;
-        stands = loses.stands opening played.trace stands;
+        is_longer = filed_after loses.moment loses.happenings restarted.text.items loses.is_text played.trace r.stored.lines played.is_file;
+        reaches = loses.reaches opening played.trace reaches;
         are_lost = subst (λ (hs : List Happening). AreLost (calls_in hs)) (sym (append-nil loses.happenings)) loses.are_lost;
         unconnected = loses.unconnected;
-        before = stands.0;
-        stood = stands.1;
-        waiting = subst (λ (s : State). WaitingStay s restarted.engine.core) (sym stands.2.core) (loses.waiting stands.0 stands.2);
+        before = reaches.0;
+        stood = reaches.1;
+        waiting = subst (λ (s : State). WaitingStay s restarted.engine.core) (sym reaches.2.core) (loses.waiting reaches.0 reaches.2);
       },
       pushed,
     )

@@ -6,7 +6,7 @@ use Rattle.recordings.specs.Noting.{NoteState, are_comments}
 use Rattle.print_room.specs.State.{State}
 use Rattle.server.specs.Polls.{Happening}
 use Rattle.server.specs.State.{EngineState}
-use Rattle.server.specs.Refinement.{StandsAt}
+use Rattle.server.specs.Refinement.{IsAt}
 use Rattle.server.specs.Turn.{Trace, Turned, Served_body, Reported, Ticked}
 use Rattle.journal.specs.Passing.{calls_in}
 use Rattle.journal.specs.File.{restart_line, IsTurnText, IsFile, HasPlayed}
@@ -16,13 +16,13 @@ use Rattle.journal.specs.declared.resumption.Resumption.{Resumption}
 -- ---- files
 
 -- the file of a trace, and one more turn after it
-pub filed_behind : (moment : ℕ) (hs : List Happening) (text : List ℕ) → IsTurnText moment (calls_in hs) text → (trace : Trace) (file : List ℕ) → IsFile trace file → IsFile (trace ++ Turned moment hs ∷ []) (file ++ text)
-filed_behind moment hs text turn [] file none = (text, [], turn, ap (λ (t : List ℕ). t ++ text) none ∙ sym (append-nil text), refl)
-filed_behind moment hs text turn (Turned at those ∷ trace) file (first, rest, is_text, is, later) =
-    (first, rest ++ text, is_text, ap (λ (t : List ℕ). t ++ text) is ∙ append_assoc first rest text, filed_behind moment hs text turn trace rest later)
-filed_behind moment hs text turn (Served_body at body answer those ∷ trace) file never = absurd never
-filed_behind moment hs text turn (Reported at device said those ∷ trace) file never = absurd never
-filed_behind moment hs text turn (Ticked at those ∷ trace) file never = absurd never
+pub filed_after : (moment : ℕ) (hs : List Happening) (text : List ℕ) → IsTurnText moment (calls_in hs) text → (trace : Trace) (file : List ℕ) → IsFile trace file → IsFile (trace ++ Turned moment hs ∷ []) (file ++ text)
+filed_after moment hs text turn [] file none = (text, [], turn, ap (λ (t : List ℕ). t ++ text) none ∙ sym (append-nil text), refl)
+filed_after moment hs text turn (Turned at those ∷ trace) file (first, rest, is_text, is, later) =
+    (first, rest ++ text, is_text, ap (λ (t : List ℕ). t ++ text) is ∙ append_assoc first rest text, filed_after moment hs text turn trace rest later)
+filed_after moment hs text turn (Served_body at body answer those ∷ trace) file never = absurd never
+filed_after moment hs text turn (Reported at device said those ∷ trace) file never = absurd never
+filed_after moment hs text turn (Ticked at those ∷ trace) file never = absurd never
 
 -- ---- the end of a turn
 
@@ -34,9 +34,9 @@ no_notes notes lines kept whole =
     ap emptied kept ∙ ap headed whole
 
 -- no line was played
-pub begins : (opening : State) (r : Resumption) → StandsAt opening [] r.engine → r.stored.lines ≡ [] → pending r ≡ [] → r.wire.notes ≡ record { lines = Some []; heads = false } → Resumes opening [] r
-begins opening r stands stored none notes = record {
-  played = record { trace = []; stands = stands; is_file = stored };
+pub begins : (opening : State) (r : Resumption) → IsAt opening [] r.engine → r.stored.lines ≡ [] → pending r ≡ [] → r.wire.notes ≡ record { lines = Some []; heads = false } → Resumes opening [] r
+begins opening r reaches stored none notes = record {
+  played = record { trace = []; reaches = reaches; is_file = stored };
   is = sym (ap (λ (t : List ℕ). t ++ pending r) stored ∙ none);
   noted = notes;
 }
@@ -66,8 +66,8 @@ extends_turn moment line a b d ends turn lines comments starts opening file resu
     let trace : Trace = resumed.played.trace ++ Turned moment turn.turns.happenings ∷ [] in
     let played : HasPlayed opening (a.stored.lines ++ text) b.engine = record {
       trace = trace;
-      stands = turn.turns.stands opening resumed.played.trace resumed.played.stands;
-      is_file = filed_behind moment turn.turns.happenings text is_text resumed.played.trace a.stored.lines resumed.played.is_file;
+      reaches = turn.turns.reaches opening resumed.played.trace resumed.played.reaches;
+      is_file = filed_after moment turn.turns.happenings text is_text resumed.played.trace a.stored.lines resumed.played.is_file;
     } in
     let stored_of : Resumption → List ℕ = λ r. ((((r.stored.lines ++ r.lines.items) ++ r.comments.items) ++ restart_line r.restarted) ++ line) ++ codes "\n" in
     let stored : d.stored.lines ≡ a.stored.lines ++ text =

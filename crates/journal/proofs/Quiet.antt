@@ -35,13 +35,13 @@ still_loud r = record { still = λ l hs l' quiet it. absurd (r.loud l hs l' quie
 still_then : {R S : Rel} → Still R → Still S → Still (Then R S)
 still_then {R} {S} r s = record {
   still = λ l hs l' quiet it.
-      let parts = quiet_parts it.front it.back (subst IsQuiet it.whole quiet) in
-      s.still it.mid it.back l' parts.1 it.second ∙ r.still l it.front it.mid parts.0 it.first;
+      let parts = quiet_parts it.prefix it.back (subst IsQuiet it.whole quiet) in
+      s.still it.mid it.back l' parts.1 it.second ∙ r.still l it.prefix it.mid parts.0 it.first;
 }
 
 loud_then : (R S : Rel) → Loud R → Loud (Then R S)
 loud_then R S r = record {
-  loud = λ l hs l' quiet it. let parts = quiet_parts it.front it.back (subst IsQuiet it.whole quiet) in r.loud l it.front it.mid parts.0 it.first;
+  loud = λ l hs l' quiet it. let parts = quiet_parts it.prefix it.back (subst IsQuiet it.whole quiet) in r.loud l it.prefix it.mid parts.0 it.first;
 }
 
 still_nothing : Still Nothing
@@ -84,12 +84,12 @@ loud_closes moment fate key e = loud_then (Leaves fate key e) (IsGone moment (de
 still_first : (moment : ℕ) → Still (ClosesFirst moment)
 still_first moment = still_loud (record { loud = λ l hs l' quiet it. (loud_closes moment Broken it.key it.entry).loud l hs l' quiet it.closes })
 
-still_settles : (moment : ℕ) → Still (ClosesBroken moment)
-still_settles moment = record { still = λ l hs l' quiet it. (still_times it.0.0 (ClosesFirst moment) (still_first moment)).still l hs l' quiet it.0.1 }
+still_closes_broken : (moment : ℕ) → Still (ClosesBroken moment)
+still_closes_broken moment = record { still = λ l hs l' quiet it. (still_times it.0.0 (ClosesFirst moment) (still_first moment)).still l hs l' quiet it.0.1 }
 
 ends_at : (moment key : ℕ) (o : Option Entry) → Still (EndsAt moment key o)
 ends_at moment key None = still_nothing
-ends_at moment key (Some e) = still_if (is_done e) (still_then (still_loud (loud_closes moment Drained key e)) (still_settles moment)) still_nothing
+ends_at moment key (Some e) = still_if (is_done e) (still_then (still_loud (loud_closes moment Drained key e)) (still_closes_broken moment)) still_nothing
 
 still_ends : (moment key : ℕ) → Still (EndsOne moment key)
 still_ends moment key = record { still = λ l hs l' quiet it. (ends_at moment key (l.entries key)).still l hs l' quiet it }
@@ -168,11 +168,11 @@ unticked moment l hs l' none it = let nothing : Nothing l hs l' = subst (λ (t :
 
 still_turn : (moment : ℕ) (l : Ledger) (hs : List Happening) (l' : Ledger) → is_tick_due moment l ≡ false → IsQuiet hs → Turn moment l hs l' → l' ≡ l
 still_turn moment l hs l' none quiet it =
-    let parts = quiet_parts it.front it.back (subst IsQuiet it.whole quiet) in
-    let settled : it.mid ≡ l = (still_settles moment).still l it.front it.mid parts.0 it.first in
+    let parts = quiet_parts it.prefix it.back (subst IsQuiet it.whole quiet) in
+    let settled : it.mid ≡ l = (still_closes_broken moment).still l it.prefix it.mid parts.0 it.first in
     let rest : Then (TicksIfDue moment) (Polling moment) l it.back l' = subst (λ (x : Ledger). Then (TicksIfDue moment) (Polling moment) x it.back l') settled it.second in
-    let later = quiet_parts rest.front rest.back (subst IsQuiet rest.whole parts.1) in
-    (still_polling moment).still rest.mid rest.back l' later.1 rest.second ∙ unticked moment l rest.front rest.mid none rest.first
+    let later = quiet_parts rest.prefix rest.back (subst IsQuiet rest.whole parts.1) in
+    (still_polling moment).still rest.mid rest.back l' later.1 rest.second ∙ unticked moment l rest.prefix rest.mid none rest.first
 
 -- a turn without a tick leaves the ledger unchanged if a wire and an observer see only quiet happenings
 pub unchanged : (moment : ℕ) (old new : Ledger) (hs : List Happening) → TurnsUnticked moment old hs new → IsQuiet hs → new ≡ old

@@ -81,7 +81,7 @@ pub turns_as : {S : Type 0} (moves : S → Happening → S → Type 0) (moment :
     → Turns moment a (notes u) b (notes v)
 turns_as moves moment u a v b turn notes polls notifies none = record {
   happenings = turn.happenings;
-  stands = turn.stands;
+  reaches = turn.reaches;
   noted = λ empty.
       let added : Adds (AreLines (calls_in turn.happenings)) (notes u) (notes v) = are_added moves notes polls notifies none turn.happenings u v turn.leads in
       (added.0 ∙ ap (λ (n : NoteState). n.heads) empty, λ lines is. first_lines (calls_in turn.happenings) (notes u) (notes v) added empty lines is);

@@ -1,10 +1,10 @@
--- A job that is the one that was saved, and octets that are the same piece by piece.
+-- A job that is the one that was saved, and octets that are the same segment by segment.
 use Rattle.std.proofs.Common.{◌≡◌, ◌≤◌, ◌+◌, ℕ, List, length, take, drop, ap, sym, ◌∙◌, refl}
 use Rattle.std.proofs.lemmas.List.{take-append-le}
 use Rattle.std.proofs.Math.Seq.{take-add}
 use Rattle.settings_file.specs.Settings.{ServerSettings}
 use Rattle.spool.specs.Spooled.{SpooledRecord}
-use Rattle.octets.specs.Document.{IsFrontOf}
+use Rattle.octets.specs.Document.{IsPrefixOf}
 use Rattle.journal.specs.Saved.{SavedRecord, saved_of}
 use Rattle.journal.specs.Alike.{IsSentAlike, IsPrintedAlike}
 
@@ -24,13 +24,13 @@ same_job settings spooled saved sent printed documents =
     let media = printed.media in
     cc
 
--- the beginning of a piece is a prefix of the octets from its place on
-front_of : (piece octets : List ℕ) (count : ℕ) → IsFrontOf piece octets → count ≤ length piece → take count octets ≡ take count piece
-front_of piece octets count front within =
-    ap (take count) front.front.1 ∙ take-append-le count piece front.front.0 within
+-- the beginning of a segment is a prefix of the octets from its place on
+prefix_of : (segment octets : List ℕ) (count : ℕ) → IsPrefixOf segment octets → count ≤ length segment → take count octets ≡ take count segment
+prefix_of segment octets count prefix within =
+    ap (take count) prefix.prefix.1 ∙ take-append-le count segment prefix.prefix.0 within
 
--- octets that are the same up to a place, and in pieces from there on
-pub same_further : (first second : List ℕ) (start count : ℕ) (piece other : List ℕ) → IsFrontOf piece (drop start first) → IsFrontOf other (drop start second) → count ≤ length piece → count ≤ length other → take count piece ≡ take count other → take start first ≡ take start second → take (start + count) first ≡ take (start + count) second
-same_further first second start count piece other one two within_piece within_other same before =
-    let here : take count (drop start first) ≡ take count (drop start second) = front_of piece _ count one within_piece ∙ same ∙ sym (front_of other _ count two within_other) in
+-- octets that are the same up to a place, and in segments from there on
+pub same_further : (first second : List ℕ) (start count : ℕ) (segment other : List ℕ) → IsPrefixOf segment (drop start first) → IsPrefixOf other (drop start second) → count ≤ length segment → count ≤ length other → take count segment ≡ take count other → take start first ≡ take start second → take (start + count) first ≡ take (start + count) second
+same_further first second start count segment other one two within_segment within_other same before =
+    let here : take count (drop start first) ≡ take count (drop start second) = prefix_of segment _ count one within_segment ∙ same ∙ sym (prefix_of other _ count two within_other) in
     rw (take-add start count first, take-add start count second, before, here) refl

@@ -8,7 +8,7 @@ use Rattle.wires.specs.declared.wire.Door.{Door}
 use Rattle.wires.specs.declared.wire.Door.TheVariants.{Ipp, Lpd, Devices}
 use Rattle.wires.specs.declared.wire.Progress.{Progress}
 use Rattle.wires.specs.declared.wire.Progress.TheVariants.{Done, Waiting, End, Fault}
-use Rattle.send_queues.specs.SendQueue.{IsFront}
+use Rattle.send_queues.specs.SendQueue.{IsPrefix}
 use Rattle.connections.specs.Entry.{Entry, waiting}
 use Rattle.server.specs.Polls.{Happening, Polled, Chosen, Looked}
 use Rattle.server.specs.Ledger.{Ledger, Fate, Broken, Drained}
@@ -89,11 +89,11 @@ both_due old ps qs due (inr (cut, wait)) next = (due_append old ps qs due (due_w
 sends_then : {old : Ledger} {P M Q : Ledger → Type 0} {R S : Rel} → Sends old P R M → Sends old M S Q → Sends old P (Then R S) Q
 sends_then {old} {P} {M} {Q} {R} {S} r s = record {
   sends = λ l hs l' p outward it.
-      let calls : calls_in hs ≡ calls_in it.front ++ calls_in it.back = ap calls_in it.whole ∙ calls_append it.front it.back in
-      let parts = outward_parts (calls_in it.front) (calls_in it.back) (subst AreOutward calls outward) in
-      let first = r.sends l it.front it.mid p parts.0 it.first in
+      let calls : calls_in hs ≡ calls_in it.prefix ++ calls_in it.back = ap calls_in it.whole ∙ calls_append it.prefix it.back in
+      let parts = outward_parts (calls_in it.prefix) (calls_in it.back) (subst AreOutward calls outward) in
+      let first = r.sends l it.prefix it.mid p parts.0 it.first in
       subst (λ (polls : List Poll). WereDue old polls × (IsUncut polls → Q l')) (sym calls)
-      (both_due old (calls_in it.front) (calls_in it.back) first.0 parts.1 (λ uncut behind. s.sends it.mid it.back l' (first.1 uncut) behind it.second));
+      (both_due old (calls_in it.prefix) (calls_in it.back) first.0 parts.1 (λ uncut tail. s.sends it.mid it.back l' (first.1 uncut) tail it.second));
 }
 
 -- these happenings, in which nothing is sent that wasn't due, and the ledger is unchanged
@@ -147,12 +147,12 @@ sends_closes old P Q moment fate key e = sends_then (sends_leaves old P fate key
 closes_first : (old : Ledger) (P : Ledger → Type 0) (moment : ℕ) → Sends old P (ClosesFirst moment) P
 closes_first old P moment = record { sends = λ l hs l' p outward it. (sends_closes old P P moment Broken it.key it.entry).sends l hs l' p outward it.closes }
 
-sends_settles : (old : Ledger) (P : Ledger → Type 0) (moment : ℕ) → Sends old P (ClosesBroken moment) P
-sends_settles old P moment = record { sends = λ l hs l' p outward it. (sends_times old P it.0.0 (ClosesFirst moment) (closes_first old P moment)).sends l hs l' p outward it.0.1 }
+sends_closes_broken : (old : Ledger) (P : Ledger → Type 0) (moment : ℕ) → Sends old P (ClosesBroken moment) P
+sends_closes_broken old P moment = record { sends = λ l hs l' p outward it. (sends_times old P it.0.0 (ClosesFirst moment) (closes_first old P moment)).sends l hs l' p outward it.0.1 }
 
 ends_at : (old : Ledger) (P : Ledger → Type 0) (moment key : ℕ) (o : Option Entry) → Sends old P (EndsAt moment key o) P
 ends_at old P moment key None = sends_nothing old P
-ends_at old P moment key (Some e) = sends_if (is_done e) (sends_then (sends_closes old P P moment Drained key e) (sends_settles old P moment)) (sends_nothing old P)
+ends_at old P moment key (Some e) = sends_if (is_done e) (sends_then (sends_closes old P P moment Drained key e) (sends_closes_broken old P moment)) (sends_nothing old P)
 
 sends_ends : (old : Ledger) (P : Ledger → Type 0) (moment key : ℕ) → Sends old P (EndsOne moment key) P
 sends_ends old P moment key = record { sends = λ l hs l' p outward it. (ends_at old P moment key (l.entries key)).sends l hs l' p outward it }
@@ -213,11 +213,11 @@ sends_sets old key d = record {
 }
 
 -- one write under the lowest key that is kept: what is offered is a prefix of the bytes that waited, and the greater keys are kept
-writes_as : (old : Ledger) (moment key : ℕ) (e : Entry) (offered : List ℕ) (answer : Progress ℕ) → old.entries key ≡ Some e → IsFront offered (waiting e) → Sends old (Keeps old key) (WritesAs moment key e offered answer) (Keeps old (suc key))
-writes_as old moment key e offered (Done count) there front = sends_then (sends_polls old (Keeps old key) (Writes e.id offered (Done count)) (key, e, there, refl, front)) (sends_sets old key _)
-writes_as old moment key e offered Waiting there front = sends_as (λ l keeps. keeps) (keeps_next old key) (sends_polls old (Keeps old key) (Writes e.id offered Waiting) tt)
-writes_as old moment key e offered End there front = sends_then (sends_cut old (Keeps old key) (Writes e.id offered End) tt (λ uncut. uncut)) sends_never
-writes_as old moment key e offered Fault there front = sends_then (sends_cut old (Keeps old key) (Writes e.id offered Fault) tt (λ uncut. uncut)) sends_never
+writes_as : (old : Ledger) (moment key : ℕ) (e : Entry) (offered : List ℕ) (answer : Progress ℕ) → old.entries key ≡ Some e → IsPrefix offered (waiting e) → Sends old (Keeps old key) (WritesAs moment key e offered answer) (Keeps old (suc key))
+writes_as old moment key e offered (Done count) there prefix = sends_then (sends_polls old (Keeps old key) (Writes e.id offered (Done count)) (key, e, there, refl, prefix)) (sends_sets old key _)
+writes_as old moment key e offered Waiting there prefix = sends_as (λ l keeps. keeps) (keeps_next old key) (sends_polls old (Keeps old key) (Writes e.id offered Waiting) tt)
+writes_as old moment key e offered End there prefix = sends_then (sends_cut old (Keeps old key) (Writes e.id offered End) tt (λ uncut. uncut)) sends_never
+writes_as old moment key e offered Fault there prefix = sends_then (sends_cut old (Keeps old key) (Writes e.id offered Fault) tt (λ uncut. uncut)) sends_never
 
 writes_open : (old : Ledger) (moment key : ℕ) (e : Entry) → old.entries key ≡ Some e → Sends old (Keeps old key) (WritesOpen moment key e) (Keeps old (suc key))
 writes_open old moment key e there = record { sends = λ l hs l' keeps outward it. (writes_as old moment key e it.0 it.2 there it.1).sends l hs l' keeps outward it.3 }
@@ -263,7 +263,7 @@ sends_round old moment = record { sends = λ l hs l' same outward it. let sent =
 
 sends_turn : (old : Ledger) (moment : ℕ) → is_tick_due moment old ≡ false → Sends old (IsOld old) (Turn moment) (λ l. Unit {0})
 sends_turn old moment none =
-    sends_then (sends_settles old (IsOld old) moment)
+    sends_then (sends_closes_broken old (IsOld old) moment)
     (sends_then (sends_unticked old moment none)
     (sends_then (sends_accepts old (IsOld old) Ipp) (sends_then (sends_accepts old (IsOld old) Lpd) (sends_then (sends_accepts old (IsOld old) Devices) (sends_round old moment)))))
 

@@ -6,7 +6,7 @@ use Rattle.recordings.specs.Lines.{turn_line}
 use Rattle.recordings.specs.Noting.{note_of, are_comments, restarted_line}
 use Rattle.server.specs.State.{EngineState}
 use Rattle.server.specs.Turn.{Trace, Turned, Served_body, Reported, Ticked}
-use Rattle.server.specs.Refinement.{StandsAt}
+use Rattle.server.specs.Refinement.{IsAt}
 use Rattle.journal.specs.Passing.{calls_in}
 
 -- these lines are the notes of these calls, in order
@@ -38,7 +38,7 @@ IsFile (Ticked moment hs ∷ trace) file = ⊥
 -- the engine is at a trace that began with this core, and the trace has this file
 pub record HasPlayed (opening : State) (file : List ℕ) (engine : EngineState) : Type 0 where
   pub trace : Trace
-  pub stands : StandsAt opening trace engine
+  pub reaches : IsAt opening trace engine
   pub is_file : IsFile trace file
 
 -- wherever the engine was at the trace of a file of these lines, it is at the trace of one of those

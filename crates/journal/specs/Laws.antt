@@ -9,7 +9,7 @@ use Rattle.print_room.specs.Activity.{job_on}
 use Rattle.dispatcher.specs.Notes.{Note, Planned}
 use Rattle.wires.specs.declared.wire.Progress.TheVariants.{Done}
 use Rattle.wires.specs.Poll.{Poll, Writes}
-use Rattle.send_queues.specs.SendQueue.{IsFront}
+use Rattle.send_queues.specs.SendQueue.{IsPrefix}
 use Rattle.connections.specs.Entry.{Entry, waiting}
 use Rattle.server.specs.Polls.{Happening, Notified}
 use Rattle.server.specs.Ledger.{Ledger}
@@ -25,7 +25,7 @@ pub record TurnsUnticked (moment : ℕ) (old : Ledger) (hs : List Happening) (ne
 
 -- these bytes are a prefix of the bytes that wait on the open connection of this number
 abbrev pub IsDue : Ledger → ℕ → List ℕ → Type 0
-IsDue l id offered = (key : ℕ) × (e : Entry) × (l.entries key ≡ Some e) × (e.id ≡ id) × IsFront offered (waiting e)
+IsDue l id offered = (key : ℕ) × (e : Entry) × (l.entries key ≡ Some e) × (e.id ≡ id) × IsPrefix offered (waiting e)
 
 -- whatever was offered to a write that took bytes was due in this ledger
 abbrev pub AreDue : Ledger → List Poll → Type 0

@@ -7,7 +7,7 @@ use Rattle.server.specs.Ledger.{Ledger, opening_ledger}
 use Rattle.server.specs.Law.{happenings_in}
 use Rattle.server.specs.State.{EngineState}
 use Rattle.server.specs.Turn.{Trace, Turned, Allows}
-use Rattle.server.specs.Refinement.{Represents, StandsAt}
+use Rattle.server.specs.Refinement.{Represents, IsAt}
 use Rattle.journal.specs.Passing.{calls_in, AreLost}
 use Rattle.journal.specs.Laws.{WaitingStay}
 use Rattle.journal.specs.File.{AreLines, restart_line, IsTurnText, IsFile, HasPlayed}
@@ -33,7 +33,7 @@ Extends more old new = (opening : State) (file : List ℕ) → Resumes opening f
 -- a turn leads the engine on; where no lines were noted and lines are noted afterwards, these are the notes of its calls
 pub record Turns (moment : ℕ) (old : EngineState) (before : NoteState) (new : EngineState) (after : NoteState) : Type 0 where
   pub happenings : List Happening
-  pub stands : (opening : State) (trace : Trace) → StandsAt opening trace old → StandsAt opening (trace ++ Turned moment happenings ∷ []) new
+  pub reaches : (opening : State) (trace : Trace) → IsAt opening trace old → IsAt opening (trace ++ Turned moment happenings ∷ []) new
   pub noted : before ≡ record { lines = Some []; heads = false } → (after.heads ≡ false) × ((lines : List ℕ) → after.lines ≡ Some lines → AreLines (calls_in happenings) lines)
 
 -- the engine takes a turn, and the lines of the turn stay
@@ -56,7 +56,7 @@ pub record HasRestarted (opening : State) (file text : List ℕ) (engine : Engin
   pub lost : Trace
   pub is_file : IsFile trace file
   pub is_longer : IsFile (trace ++ lost) (file ++ text)
-  pub stands : StandsAt opening (trace ++ lost) engine
+  pub reaches : IsAt opening (trace ++ lost) engine
   pub are_lost : AreLost (calls_in (happenings_in lost))
   pub unconnected : count_by is_some engine.slots ≡ 0
   pub before : Ledger
@@ -70,7 +70,7 @@ pub record LosesAll (old : EngineState) (text : List ℕ) (new : EngineState) : 
   pub are_lost : AreLost (calls_in happenings)
   pub is_text : IsTurnText moment (calls_in happenings) text
   pub unconnected : count_by is_some new.slots ≡ 0
-  pub stands : (opening : State) (trace : Trace) → StandsAt opening trace old → StandsAt opening (trace ++ Turned moment happenings ∷ []) new
+  pub reaches : (opening : State) (trace : Trace) → IsAt opening trace old → IsAt opening (trace ++ Turned moment happenings ∷ []) new
   pub waiting : (l : Ledger) → Represents l old → WaitingStay old.core new.core
 
 -- whatever the lines so far are: without those of the turn that hasn't ended they are a file from which the engine was restarted

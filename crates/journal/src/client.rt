@@ -34,7 +34,7 @@ impl Part {
     fn rest(&self, start: usize) -> &[u8] {
         match self {
             Part::Bytes(bytes) => bytes.get(start..).unwrap_or(&[]),
-            Part::Document(octets) if start <= octets.len() => octets.piece(start),
+            Part::Document(octets) if start <= octets.len() => octets.segment(start),
             Part::Document(_) => &[],
         }
     }

@@ -73,24 +73,24 @@ fn same_octets(first: &Octets, second: &Octets) -> bool
 
 /// A place up to which the octets are the same if they are so up to `start`; `None` if there is none after `start`.
 fn same_to(first: &Octets, second: &Octets, start: usize) -> Option<usize>
-    ensures behind { IfSome result (λ end. (start < end) × (end ≤ length first.now)) }
+    ensures tail { IfSome result (λ end. (start < end) × (end ≤ length first.now)) }
     ensures same { IfSome result (λ end. take start first.now ≡ take start second.now → take end first.now ≡ take end second.now) }
 {
     if start > first.len() || start > second.len() {
         return None;
     }
-    let (piece, other) = (first.piece(start), second.piece(start));
-    let count = same_front(piece, other)?;
+    let (segment, other) = (first.segment(start), second.segment(start));
+    let count = same_prefix(segment, other)?;
     Some(start + count)
 }
 
-/// The length of the shorter of two pieces, if it is a prefix of the longer and isn't empty.
-fn same_front(piece: &[u8], other: &[u8]) -> Option<usize>
-    ensures within { IfSome result (λ count. (0 < count) × (count ≤ length piece.now) × (count ≤ length other.now)) }
-    ensures same { IfSome result (λ count. take count piece.now ≡ take count other.now) }
+/// The length of the shorter of two segments, if it is a prefix of the longer and isn't empty.
+fn same_prefix(segment: &[u8], other: &[u8]) -> Option<usize>
+    ensures within { IfSome result (λ count. (0 < count) × (count ≤ length segment.now) × (count ≤ length other.now)) }
+    ensures same { IfSome result (λ count. take count segment.now ≡ take count other.now) }
 {
-    let count = min(piece.len(), other.len());
-    if count > 0 && piece[..count] == other[..count] {
+    let count = min(segment.len(), other.len());
+    if count > 0 && segment[..count] == other[..count] {
         return Some(count);
     }
     None

@@ -21,7 +21,7 @@ use Rattle.spool.specs.declared.refusal.SpoolRefusal.TheVariants as Why
 use Rattle.spool.specs.Jobs.{spooled_at, with_job}
 use Rattle.spool.specs.Kept.{is_kept, later_jobs}
 use Rattle.spool.specs.Spool.{IsSpool}
-use Rattle.spool.specs.Spooled.{SpooledRecord, changed, is_settled, settled}
+use Rattle.spool.specs.Spooled.{SpooledRecord, changed, is_retired, retired}
 use Rattle.print_room.specs.Jobs.{cancel_by, canceling}
 use Rattle.print_room.specs.State.{State}
 use Rattle.events.specs.declared.queue.RemoveJobs.{RemoveJobs}
@@ -63,7 +63,7 @@ none_found {X} test (x ∷ xs) is = step (test x) is (none_found test xs)
     step true here rest = absurd (cc)
     step false there rest = rest there
 
--- a filter by `kept` in front of a filter by `test` makes no difference, if each element that passes `test` passes `kept`
+-- a filter by `kept` before a filter by `test` makes no difference, if each element that passes `test` passes `kept`
 filter_within : {X : Type 0} (test kept : X → Bool) → ((x : X) → test x ≡ true → kept x ≡ true) → (xs : List X) → filter test (filter kept xs) ≡ filter test xs
 filter_within test kept both [] = refl
 filter_within {X} test kept both (x ∷ xs) = step (test x) refl (kept x) refl (filter_within test kept both xs)
@@ -116,8 +116,8 @@ taken test change (x ∷ xs) s rising is gone = step (test x) refl is (taken tes
 
 -- ---- a cancel
 
-settled_job : (s : SpooledRecord) → (settled s).job ≡ s.job
-settled_job s = at (is_settled s)
+retired_job : (s : SpooledRecord) → (retired s).job ≡ s.job
+retired_job s = at (is_retired s)
   where
     at : (b : Bool) → (cond b (record s { documents = [] }) s).job ≡ s.job
     at true = refl
@@ -127,14 +127,14 @@ settled_job s = at (is_settled s)
 abbrev canceled : Canceler → ℕ → SpooledRecord → SpooledRecord
 canceled by now s = record s { job = record (ended Canceled now s.job) { canceled_by = Some by } }
 
-ended_so : (by : Canceler) (now : ℕ) (s : SpooledRecord) → is_finished (settled (canceled by now s)).job.state ≡ true
-ended_so by now s = ap (λ (j : JobRecord). is_finished j.state) (settled_job (canceled by now s))
+ended_so : (by : Canceler) (now : ℕ) (s : SpooledRecord) → is_finished (retired (canceled by now s)).job.state ≡ true
+ended_so by now s = ap (λ (j : JobRecord). is_finished j.state) (retired_job (canceled by now s))
 
 -- a cancel finishes an unfinished job
 canceled_ends : (by : Canceler) (now : ℕ) (s : SpooledRecord) → is_finished s.job.state ≡ false → is_finished (changed (Cancel by) now s).job.state ≡ true
 canceled_ends by now s unfinished = at s.job.state unfinished
   where
-    at : (state : JobState) → is_finished state ≡ false → is_finished (option_map_or (λ job. settled (record s { job = job })) (changed_from (Cancel by) state now s.job) s).job.state ≡ true
+    at : (state : JobState) → is_finished state ≡ false → is_finished (option_map_or (λ job. retired (record s { job = job })) (changed_from (Cancel by) state now s.job) s).job.state ≡ true
     at Pending goes = ended_so by now s
     at PendingHeld goes = ended_so by now s
     at Processing goes = ended_so by now s

@@ -14,18 +14,18 @@ use Rattle.lpd.specs.declared.reader.Awaited.{Awaited}
 use Rattle.lpd.specs.declared.reader.Awaited.TheVariants.{Command, Subcommand, File, Nothing}
 use Rattle.lpd.specs.Items.{ItemRecord, HasFile, awaited_after}
 use Rattle.lpd.specs.Command.{command_line, subcommand_line}
-use Rattle.lpd.specs.Stream.{Front, Gives, Fails, Waits, line_parses, by_line, by_file, front_of, Ending, Open, Faulty, EndsAs, Parses, Leads}
+use Rattle.lpd.specs.Stream.{Prefix, Gives, Fails, Waits, line_parses, by_line, by_file, prefix_of, Ending, Open, Faulty, EndsAs, Parses, Leads}
 
--- ---- a front
+-- ---- a prefix
 
--- a line at the front stands within the bytes
+-- a line at the beginning is within the bytes
 pub line_within : (bytes : List ℕ) (count : ℕ) → first_line_of LPD_LINE_BYTES bytes ≡ line.Whole count → count < length bytes
 line_within bytes count whole =
     let at = whole_line LPD_LINE_BYTES bytes count whole in
     search (rules, position-Some (λ byte. byte == 10) bytes count 0 at.0)
 
--- a front with more after it
-abbrev grow : List ℕ → Front → Front
+-- a prefix with more after it
+abbrev grow : List ℕ → Prefix → Prefix
 grow more (Gives said rest) = Gives said (rest ++ more)
 grow more (Fails fault) = Fails fault
 grow more Waits = Waits
@@ -34,8 +34,8 @@ parses_grow : (said : Result ItemRecord LpdFault) (rest more : List ℕ) → lin
 parses_grow (Ok said) rest more = refl
 parses_grow (Err fault) rest more = refl
 
-line_grows : (meaning : List ℕ → Result ItemRecord LpdFault) (bytes more : List ℕ) (front : FirstLine) → first_line_of LPD_LINE_BYTES bytes ≡ front
-    → (by_line meaning bytes front ≡ Waits) ⊎ (by_line meaning (bytes ++ more) (first_line_of LPD_LINE_BYTES (bytes ++ more)) ≡ grow more (by_line meaning bytes front))
+line_grows : (meaning : List ℕ → Result ItemRecord LpdFault) (bytes more : List ℕ) (prefix : FirstLine) → first_line_of LPD_LINE_BYTES bytes ≡ prefix
+    → (by_line meaning bytes prefix ≡ Waits) ⊎ (by_line meaning (bytes ++ more) (first_line_of LPD_LINE_BYTES (bytes ++ more)) ≡ grow more (by_line meaning bytes prefix))
 line_grows meaning bytes more (line.Whole count) is =
     let within = line_within bytes count is in
     let first : take count (bytes ++ more) ≡ take count bytes = take-append-le count bytes more (omega (arith, within)) in
@@ -71,27 +71,27 @@ file_by count bytes more false is =
     let rest : drop (count + 1) (bytes ++ more) ≡ drop (count + 1) bytes ++ more = drop-append-le (count + 1) bytes more (omega (arith, within)) in
     let grown : by_file count (bytes ++ more) ≡ (if slice_index_or bytes count 0 == 0 then Gives (HasFile (take count bytes)) (drop (count + 1) bytes ++ more) else Fails MissingZero) =
     file_is count (bytes ++ more) long ∙ rw (byte, first, rest) refl in
-    inr (grown ∙ if_grow (slice_index_or bytes count 0 == 0) (HasFile (take count bytes)) (drop (count + 1) bytes) more MissingZero ∙ ap (λ front. grow more front) (sym here))
+    inr (grown ∙ if_grow (slice_index_or bytes count 0 == 0) (HasFile (take count bytes)) (drop (count + 1) bytes) more MissingZero ∙ ap (λ prefix. grow more prefix) (sym here))
 
-grows : (awaited : Awaited) (bytes more : List ℕ) → (front_of awaited bytes ≡ Waits) ⊎ (front_of awaited (bytes ++ more) ≡ grow more (front_of awaited bytes))
+grows : (awaited : Awaited) (bytes more : List ℕ) → (prefix_of awaited bytes ≡ Waits) ⊎ (prefix_of awaited (bytes ++ more) ≡ grow more (prefix_of awaited bytes))
 grows Command bytes more = line_grows command_line bytes more (first_line_of LPD_LINE_BYTES bytes) refl
 grows Subcommand bytes more = line_grows subcommand_line bytes more (first_line_of LPD_LINE_BYTES bytes) refl
 grows (File count) bytes more = file_by count bytes more (nat_le (length bytes) count) refl
 grows Nothing bytes more = inl refl
 
-gives_by : (front grown : Front) (more : List ℕ) (said : ItemRecord) (rest : List ℕ) → (front ≡ Waits) ⊎ (grown ≡ grow more front) → front ≡ Gives said rest → grown ≡ Gives said (rest ++ more)
-gives_by front grown more said rest (inl waits) is = absurd (let no : Waits ≡ Gives said rest = sym waits ∙ is in (cc))
-gives_by front grown more said rest (inr grows) is = grows ∙ ap (λ front. grow more front) is
+gives_by : (prefix grown : Prefix) (more : List ℕ) (said : ItemRecord) (rest : List ℕ) → (prefix ≡ Waits) ⊎ (grown ≡ grow more prefix) → prefix ≡ Gives said rest → grown ≡ Gives said (rest ++ more)
+gives_by prefix grown more said rest (inl waits) is = absurd (let no : Waits ≡ Gives said rest = sym waits ∙ is in (cc))
+gives_by prefix grown more said rest (inr grows) is = grows ∙ ap (λ prefix. grow more prefix) is
 
-fails_by : (front grown : Front) (more : List ℕ) (fault : LpdFault) → (front ≡ Waits) ⊎ (grown ≡ grow more front) → front ≡ Fails fault → grown ≡ Fails fault
-fails_by front grown more fault (inl waits) is = absurd (let no : Waits ≡ Fails fault = sym waits ∙ is in (cc))
-fails_by front grown more fault (inr grows) is = grows ∙ ap (λ front. grow more front) is
+fails_by : (prefix grown : Prefix) (more : List ℕ) (fault : LpdFault) → (prefix ≡ Waits) ⊎ (grown ≡ grow more prefix) → prefix ≡ Fails fault → grown ≡ Fails fault
+fails_by prefix grown more fault (inl waits) is = absurd (let no : Waits ≡ Fails fault = sym waits ∙ is in (cc))
+fails_by prefix grown more fault (inr grows) is = grows ∙ ap (λ prefix. grow more prefix) is
 
-gives_more : (awaited : Awaited) (bytes more : List ℕ) (said : ItemRecord) (rest : List ℕ) → front_of awaited bytes ≡ Gives said rest → front_of awaited (bytes ++ more) ≡ Gives said (rest ++ more)
-gives_more awaited bytes more said rest is = gives_by (front_of awaited bytes) (front_of awaited (bytes ++ more)) more said rest (grows awaited bytes more) is
+gives_more : (awaited : Awaited) (bytes more : List ℕ) (said : ItemRecord) (rest : List ℕ) → prefix_of awaited bytes ≡ Gives said rest → prefix_of awaited (bytes ++ more) ≡ Gives said (rest ++ more)
+gives_more awaited bytes more said rest is = gives_by (prefix_of awaited bytes) (prefix_of awaited (bytes ++ more)) more said rest (grows awaited bytes more) is
 
-pub fails_more : (awaited : Awaited) (bytes more : List ℕ) (fault : LpdFault) → front_of awaited bytes ≡ Fails fault → front_of awaited (bytes ++ more) ≡ Fails fault
-fails_more awaited bytes more fault is = fails_by (front_of awaited bytes) (front_of awaited (bytes ++ more)) more fault (grows awaited bytes more) is
+pub fails_more : (awaited : Awaited) (bytes more : List ℕ) (fault : LpdFault) → prefix_of awaited bytes ≡ Fails fault → prefix_of awaited (bytes ++ more) ≡ Fails fault
+fails_more awaited bytes more fault is = fails_by (prefix_of awaited bytes) (prefix_of awaited (bytes ++ more)) more fault (grows awaited bytes more) is
 
 -- ---- an item takes a byte at least
 
@@ -105,7 +105,7 @@ parses_rest (Err fault) left said rest is = absurd (let no : Fails fault ≡ Giv
 shorter : (bytes rest : List ℕ) (count : ℕ) → count < length bytes → drop (count + 1) bytes ≡ rest → length rest < length bytes
 shorter bytes rest count within is = rw (sym is) (omega (arith, within, length-drop (count + 1) bytes))
 
-line_shorter : (meaning : List ℕ → Result ItemRecord LpdFault) (bytes : List ℕ) (front : FirstLine) (said : ItemRecord) (rest : List ℕ) → first_line_of LPD_LINE_BYTES bytes ≡ front → by_line meaning bytes front ≡ Gives said rest → length rest < length bytes
+line_shorter : (meaning : List ℕ → Result ItemRecord LpdFault) (bytes : List ℕ) (prefix : FirstLine) (said : ItemRecord) (rest : List ℕ) → first_line_of LPD_LINE_BYTES bytes ≡ prefix → by_line meaning bytes prefix ≡ Gives said rest → length rest < length bytes
 line_shorter meaning bytes (line.Whole count) said rest line is =
     shorter bytes rest count (line_within bytes count line) (parses_rest (meaning (take count bytes)) (drop (count + 1) bytes) said rest is)
 line_shorter meaning bytes line.TooLong said rest line is = absurd (cc is)
@@ -123,7 +123,7 @@ file_shorter count bytes said rest false test is =
     let within : count < length bytes = grind (arith, test) in
     shorter bytes rest count within (if_rest (slice_index_or bytes count 0 == 0) (HasFile (take count bytes)) said (drop (count + 1) bytes) rest MissingZero (sym (file_is count bytes within) ∙ is))
 
-pub less : (awaited : Awaited) (bytes : List ℕ) (said : ItemRecord) (rest : List ℕ) → front_of awaited bytes ≡ Gives said rest → length rest < length bytes
+pub less : (awaited : Awaited) (bytes : List ℕ) (said : ItemRecord) (rest : List ℕ) → prefix_of awaited bytes ≡ Gives said rest → length rest < length bytes
 less Command bytes said rest is = line_shorter command_line bytes (first_line_of LPD_LINE_BYTES bytes) said rest refl is
 less Subcommand bytes said rest is = line_shorter subcommand_line bytes (first_line_of LPD_LINE_BYTES bytes) said rest refl is
 less (File count) bytes said rest is = file_shorter count bytes said rest (nat_le (length bytes) count) refl is
@@ -144,30 +144,30 @@ leads_more a bytes more [] b left x = (x.0, ap (λ l. l ++ more) x.1)
 leads_more a bytes more (said ∷ items) b left x = (x.0 ++ more, gives_more a bytes more said x.0 x.1, leads_more (awaited_after said) x.0 more items b left x.2)
 
 -- the items that all of the bytes say are said first
-pub reads_first : (a : Awaited) (bytes : List ℕ) (items : List ItemRecord) (ending : Ending) → Parses a bytes items ending → (next : Awaited) × (left : List ℕ) × Leads a bytes items next left × EndsAs (front_of next left) ending
+pub reads_first : (a : Awaited) (bytes : List ℕ) (items : List ItemRecord) (ending : Ending) → Parses a bytes items ending → (next : Awaited) × (left : List ℕ) × Leads a bytes items next left × EndsAs (prefix_of next left) ending
 reads_first a bytes [] ending x = (a, bytes, (refl, refl), x)
 reads_first a bytes (said ∷ items) ending x =
     let tail = reads_first (awaited_after said) x.0 items ending x.2 in
     (tail.0, tail.1, (x.0, x.1, tail.2), tail.3)
 
--- bytes that end have no item at the front
-ends_no : (front : Front) (ending : Ending) (said : ItemRecord) (rest : List ℕ) → EndsAs front ending → front ≡ Gives said rest → ⊥
-ends_no front Open said rest x is = let no : Waits ≡ Gives said rest = sym x ∙ is in (cc)
-ends_no front (Faulty fault) said rest x is = let no : Fails fault ≡ Gives said rest = sym x ∙ is in (cc)
+-- bytes that end have no item at the beginning
+ends_no : (prefix : Prefix) (ending : Ending) (said : ItemRecord) (rest : List ℕ) → EndsAs prefix ending → prefix ≡ Gives said rest → ⊥
+ends_no prefix Open said rest x is = let no : Waits ≡ Gives said rest = sym x ∙ is in (cc)
+ends_no prefix (Faulty fault) said rest x is = let no : Fails fault ≡ Gives said rest = sym x ∙ is in (cc)
 
-ends_one : (front : Front) (end ending : Ending) → EndsAs front end → EndsAs front ending → end ≡ ending
-ends_one front Open Open x y = refl
-ends_one front Open (Faulty fault) x y = absurd (let no : Waits ≡ Fails fault = sym x ∙ y in (cc))
-ends_one front (Faulty fault) Open x y = absurd (let no : Fails fault ≡ Waits = sym x ∙ y in (cc))
-ends_one front (Faulty fault) (Faulty other) x y =
+ends_one : (prefix : Prefix) (end ending : Ending) → EndsAs prefix end → EndsAs prefix ending → end ≡ ending
+ends_one prefix Open Open x y = refl
+ends_one prefix Open (Faulty fault) x y = absurd (let no : Waits ≡ Fails fault = sym x ∙ y in (cc))
+ends_one prefix (Faulty fault) Open x y = absurd (let no : Fails fault ≡ Waits = sym x ∙ y in (cc))
+ends_one prefix (Faulty fault) (Faulty other) x y =
     let same : Fails fault ≡ Fails other = sym x ∙ y in
     let faults : fault ≡ other = (cc) in
     ap (λ (f : LpdFault). Faulty f) faults
 
 pub parses_one : (a : Awaited) (bytes : List ℕ) (given items : List ItemRecord) (end ending : Ending) → Parses a bytes given end → Parses a bytes items ending → (given ≡ items) × (end ≡ ending)
-parses_one a bytes [] [] end ending x y = (refl, ends_one (front_of a bytes) end ending x y)
-parses_one a bytes [] (said ∷ items) end ending x y = absurd (ends_no (front_of a bytes) end said y.0 x y.1)
-parses_one a bytes (said ∷ given) [] end ending x y = absurd (ends_no (front_of a bytes) ending said x.0 y x.1)
+parses_one a bytes [] [] end ending x y = (refl, ends_one (prefix_of a bytes) end ending x y)
+parses_one a bytes [] (said ∷ items) end ending x y = absurd (ends_no (prefix_of a bytes) end said y.0 x y.1)
+parses_one a bytes (said ∷ given) [] end ending x y = absurd (ends_no (prefix_of a bytes) ending said x.0 y x.1)
 parses_one a bytes (said ∷ given) (parsed ∷ items) end ending x y =
     let same = gives_rest parsed said y.0 x.0 (sym y.1 ∙ x.1) in
     let tail : Parses (awaited_after said) x.0 items ending = subst (λ (s : ItemRecord). Parses (awaited_after s) x.0 items ending) same.0 (subst (λ (r : List ℕ). Parses (awaited_after parsed) r items ending) same.1 y.2) in
@@ -176,7 +176,7 @@ parses_one a bytes (said ∷ given) (parsed ∷ items) end ending x y =
 
 pub stays_in : (a : Awaited) (bytes more : List ℕ) (first : List ItemRecord) (b : Awaited) (left : List ℕ) (items : List ItemRecord) (ending : Ending) → Leads a bytes first b left → Parses a (bytes ++ more) items ending → (later : List ItemRecord) × (items ≡ first ++ later)
 stays_in a bytes more [] b left items ending x y = (items, refl)
-stays_in a bytes more (said ∷ first) b left [] ending x y = absurd (ends_no (front_of a (bytes ++ more)) ending said (x.0 ++ more) y (gives_more a bytes more said x.0 x.1))
+stays_in a bytes more (said ∷ first) b left [] ending x y = absurd (ends_no (prefix_of a (bytes ++ more)) ending said (x.0 ++ more) y (gives_more a bytes more said x.0 x.1))
 stays_in a bytes more (said ∷ first) b left (parsed ∷ items) ending x y =
     let same = gives_rest parsed said y.0 (x.0 ++ more) (sym y.1 ∙ gives_more a bytes more said x.0 x.1) in
     let tail : Parses (awaited_after said) (x.0 ++ more) items ending = subst (λ (s : ItemRecord). Parses (awaited_after s) (x.0 ++ more) items ending) same.0 (subst (λ (r : List ℕ). Parses (awaited_after parsed) r items ending) same.1 y.2) in
@@ -184,19 +184,19 @@ stays_in a bytes more (said ∷ first) b left (parsed ∷ items) ending x y =
     (later.0, ap (λ s. s ∷ items) same.0 ∙ ap (λ i. said ∷ i) later.1)
 
 -- of one length bytes say one list of items first
-pub leads_one : (a : Awaited) (bytes : List ℕ) (one other : List ItemRecord) (b c : Awaited) (left behind : List ℕ) → Leads a bytes one b left → Leads a bytes other c behind → length one ≡ length other → one ≡ other
-leads_one a bytes [] [] b c left behind x y long = refl
-leads_one a bytes [] (parsed ∷ other) b c left behind x y long = absurd (omega (arith, long))
-leads_one a bytes (said ∷ one) [] b c left behind x y long = absurd (omega (arith, long))
-leads_one a bytes (said ∷ one) (parsed ∷ other) b c left behind x y long =
+pub leads_one : (a : Awaited) (bytes : List ℕ) (one other : List ItemRecord) (b c : Awaited) (left remainder : List ℕ) → Leads a bytes one b left → Leads a bytes other c remainder → length one ≡ length other → one ≡ other
+leads_one a bytes [] [] b c left remainder x y long = refl
+leads_one a bytes [] (parsed ∷ other) b c left remainder x y long = absurd (omega (arith, long))
+leads_one a bytes (said ∷ one) [] b c left remainder x y long = absurd (omega (arith, long))
+leads_one a bytes (said ∷ one) (parsed ∷ other) b c left remainder x y long =
     let same = gives_rest parsed said y.0 x.0 (sym y.1 ∙ x.1) in
-    let tail : Leads (awaited_after said) x.0 other c behind = subst (λ (s : ItemRecord). Leads (awaited_after s) x.0 other c behind) same.0 (subst (λ (r : List ℕ). Leads (awaited_after parsed) r other c behind) same.1 y.2) in
-    let later = leads_one (awaited_after said) x.0 one other b c left behind x.2 tail (omega (arith, long)) in
+    let tail : Leads (awaited_after said) x.0 other c remainder = subst (λ (s : ItemRecord). Leads (awaited_after s) x.0 other c remainder) same.0 (subst (λ (r : List ℕ). Leads (awaited_after parsed) r other c remainder) same.1 y.2) in
+    let later = leads_one (awaited_after said) x.0 one other b c left remainder x.2 tail (omega (arith, long)) in
     ap (λ s. s ∷ one) (sym same.0) ∙ ap (λ i. parsed ∷ i) later
 
 -- no item is after all items of a stream
 pub none_follows : (a : Awaited) (bytes : List ℕ) (items : List ItemRecord) (said : ItemRecord) (b : Awaited) (left : List ℕ) (ending : Ending) → Leads a bytes (items ++ said ∷ []) b left → Parses a bytes items ending → ⊥
-none_follows a bytes [] said b left ending x y = ends_no (front_of a bytes) ending said x.0 y x.1
+none_follows a bytes [] said b left ending x y = ends_no (prefix_of a bytes) ending said x.0 y x.1
 none_follows a bytes (parsed ∷ items) said b left ending x y =
     let same = gives_rest parsed parsed y.0 x.0 (sym y.1 ∙ x.1) in
     none_follows (awaited_after parsed) x.0 items said b left ending x.2 (subst (λ (r : List ℕ). Parses (awaited_after parsed) r items ending) same.1 y.2)
@@ -206,7 +206,7 @@ none_follows a bytes (parsed ∷ items) said b left ending x y =
 abbrev HasItems : Awaited → List ℕ → Type 0
 HasItems a bytes = (items : List ItemRecord) × (ending : Ending) × Parses a bytes items ending
 
-some_by : (a : Awaited) (bytes : List ℕ) (front : Front) → front_of a bytes ≡ front → ((b : Awaited) (rest : List ℕ) → length rest < length bytes → HasItems b rest) → HasItems a bytes
+some_by : (a : Awaited) (bytes : List ℕ) (prefix : Prefix) → prefix_of a bytes ≡ prefix → ((b : Awaited) (rest : List ℕ) → length rest < length bytes → HasItems b rest) → HasItems a bytes
 some_by a bytes (Gives said rest) is later =
     let tail = later (awaited_after said) rest (less a bytes said rest is) in
     (said ∷ tail.0, tail.1, (rest, is, tail.2))
@@ -215,7 +215,7 @@ some_by a bytes Waits is later = ([], Open, is)
 
 some_in : (most : ℕ) (a : Awaited) (bytes : List ℕ) → length bytes < most → HasItems a bytes
 some_in zero a bytes fits = absurd (omega (arith, fits))
-some_in (suc most) a bytes fits = some_by a bytes (front_of a bytes) refl (λ b rest short. some_in most b rest (omega (arith, fits, short)))
+some_in (suc most) a bytes fits = some_by a bytes (prefix_of a bytes) refl (λ b rest short. some_in most b rest (omega (arith, fits, short)))
 
 pub parses_some : (a : Awaited) (bytes : List ℕ) → HasItems a bytes
 parses_some a bytes = some_in (length bytes + 1) a bytes (omega arith)

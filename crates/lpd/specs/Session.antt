@@ -31,8 +31,8 @@ abbrev pub announced : FileHead → SessionState → SessionState
 announced head session = record session { coming = Some head }
 
 -- the session without an announced file
-abbrev pub settled : SessionState → SessionState
-settled session = record session { coming = None }
+abbrev pub unannounced : SessionState → SessionState
+unannounced session = record session { coming = None }
 
 -- ---- keeping a file
 
@@ -45,12 +45,12 @@ abbrev pub file_kept : FileKind → List ℕ → List ℕ → PendingRecord → 
 file_kept Kind.Control name contents pending = control_kept name pending (control_in contents)
 file_kept Kind.Data name contents pending = record pending { files = with_file (record { name = name; contents = contents }) pending.files }
 
-abbrev pub is_job_file : Result ControlRecord ControlFault → Bool
-is_job_file (Ok control) = true
-is_job_file (Err fault) = false
+abbrev pub is_valid_control : Result ControlRecord ControlFault → Bool
+is_valid_control (Ok control) = true
+is_valid_control (Err fault) = false
 
 abbrev pub is_kept : FileKind → List ℕ → Bool
-is_kept Kind.Control contents = is_job_file (control_in contents)
+is_kept Kind.Control contents = is_valid_control (control_in contents)
 is_kept Kind.Data contents = true
 
 -- whether the announced file is kept

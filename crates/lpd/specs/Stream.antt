@@ -15,47 +15,47 @@ use Rattle.lpd.specs.Items.{ItemRecord, HasFile, item_record, awaited_after}
 use Rattle.lpd.specs.Command.{command_line, subcommand_line, awaits_line}
 
 -- the beginning of the bytes: an item and the bytes after it, a fault, or a wait for more bytes
-pub data Front : Type 0 where
-  Gives : (said : ItemRecord) (rest : List ℕ) → Front
-  Fails : LpdFault → Front
-  Waits : Front
+pub data Prefix : Type 0 where
+  Gives : (said : ItemRecord) (rest : List ℕ) → Prefix
+  Fails : LpdFault → Prefix
+  Waits : Prefix
 
-abbrev pub line_parses : Result ItemRecord LpdFault → List ℕ → Front
+abbrev pub line_parses : Result ItemRecord LpdFault → List ℕ → Prefix
 line_parses (Ok said) rest = Gives said rest
 line_parses (Err fault) rest = Fails fault
 
--- the front at a line whose content is known
-abbrev pub by_line : (List ℕ → Result ItemRecord LpdFault) → List ℕ → FirstLine → Front
+-- the prefix at a line whose content is known
+abbrev pub by_line : (List ℕ → Result ItemRecord LpdFault) → List ℕ → FirstLine → Prefix
 by_line meaning bytes (Whole count) = line_parses (meaning (take count bytes)) (drop (count + 1) bytes)
 by_line meaning bytes TooLong = Fails LineTooLong
 by_line meaning bytes Unfinished = Waits
 
--- the front at a file of `count` bytes and its zero byte (RFC 1179, sections 6.2 and 6.3)
-abbrev pub by_file : ℕ → List ℕ → Front
+-- the prefix at a file of `count` bytes and its zero byte (RFC 1179, sections 6.2 and 6.3)
+abbrev pub by_file : ℕ → List ℕ → Prefix
 by_file count bytes =
     if nat_le (length bytes) count then Waits
     else if slice_index_or bytes count 0 == 0 then Gives (HasFile (take count bytes)) (drop (count + 1) bytes)
     else Fails MissingZero
 
-abbrev pub front_of : Awaited → List ℕ → Front
-front_of Command bytes = by_line command_line bytes (first_line_of LPD_LINE_BYTES bytes)
-front_of Subcommand bytes = by_line subcommand_line bytes (first_line_of LPD_LINE_BYTES bytes)
-front_of (File count) bytes = by_file count bytes
-front_of Nothing bytes = Waits
+abbrev pub prefix_of : Awaited → List ℕ → Prefix
+prefix_of Command bytes = by_line command_line bytes (first_line_of LPD_LINE_BYTES bytes)
+prefix_of Subcommand bytes = by_line subcommand_line bytes (first_line_of LPD_LINE_BYTES bytes)
+prefix_of (File count) bytes = by_file count bytes
+prefix_of Nothing bytes = Waits
 
 -- the end of a stream
 pub data Ending : Type 0 where
   Open : Ending
   Faulty : LpdFault → Ending
 
-abbrev pub EndsAs : Front → Ending → Type 0
-EndsAs front Open = front ≡ Waits
-EndsAs front (Faulty fault) = front ≡ Fails fault
+abbrev pub EndsAs : Prefix → Ending → Type 0
+EndsAs prefix Open = prefix ≡ Waits
+EndsAs prefix (Faulty fault) = prefix ≡ Fails fault
 
 -- the bytes parse as these items, one after the other, and then end with `ending`
 abbrev pub Parses : Awaited → List ℕ → List ItemRecord → Ending → Type 0
-Parses awaited bytes [] ending = EndsAs (front_of awaited bytes) ending
-Parses awaited bytes (said ∷ items) ending = (rest : List ℕ) × (front_of awaited bytes ≡ Gives said rest) × Parses (awaited_after said) rest items ending
+Parses awaited bytes [] ending = EndsAs (prefix_of awaited bytes) ending
+Parses awaited bytes (said ∷ items) ending = (rest : List ℕ) × (prefix_of awaited bytes ≡ Gives said rest) × Parses (awaited_after said) rest items ending
 
 -- the items of a whole stream of bytes, and its end
 abbrev pub LpdItems : List ℕ → List ItemRecord → Ending → Type 0
@@ -64,7 +64,7 @@ LpdItems stream items ending = Parses Command stream items ending
 -- the bytes parse as these items, and lead to this state with these bytes left
 abbrev pub Leads : Awaited → List ℕ → List ItemRecord → Awaited → List ℕ → Type 0
 Leads awaited bytes [] next left = (next ≡ awaited) × (left ≡ bytes)
-Leads awaited bytes (said ∷ items) next left = (rest : List ℕ) × (front_of awaited bytes ≡ Gives said rest) × Leads (awaited_after said) rest items next left
+Leads awaited bytes (said ∷ items) next left = (rest : List ℕ) × (prefix_of awaited bytes ≡ Gives said rest) × Leads (awaited_after said) rest items next left
 
 -- these are the first items of the stream, whatever bytes follow
 pub record ParsesFirst (stream : List ℕ) (items : List ItemRecord) : Type 0 where
@@ -91,7 +91,7 @@ is_over reader = is_some reader.fault || is_nothing reader.awaited
 
 -- the bytes that are left of a stream: those that the reader hasn't read. After a fault they begin with that fault; a reader that awaits nothing may have dropped them
 abbrev pub IsLeft : Option LpdFault → Awaited → List ℕ → List ℕ → Type 0
-IsLeft (Some fault) awaited rest left = front_of awaited left ≡ Fails fault
+IsLeft (Some fault) awaited rest left = prefix_of awaited left ≡ Fails fault
 IsLeft None awaited rest left = (awaited ≡ Nothing) ⊎ (left ≡ rest)
 
 -- The reader was fed this stream and has given these items. They are the first of the stream, and lead to the part that the reader awaits, with the bytes that are left.
@@ -131,8 +131,8 @@ abbrev pub SomeParse : Type 0
 SomeParse = (stream : List ℕ) → (items : List ItemRecord) × (ending : Ending) × LpdItems stream items ending
 
 -- the items of a stream are a prefix of the items of the stream with more bytes after it; a fault stays the last
-abbrev pub StaysInFront : Type 0
-StaysInFront = (stream more : List ℕ) (given items : List ItemRecord) (end ending : Ending) → LpdItems stream given end → LpdItems (stream ++ more) items ending → (later : List ItemRecord) × (items ≡ given ++ later)
+abbrev pub StaysInPrefix : Type 0
+StaysInPrefix = (stream more : List ℕ) (given items : List ItemRecord) (end ending : Ending) → LpdItems stream given end → LpdItems (stream ++ more) items ending → (later : List ItemRecord) × (items ≡ given ++ later)
 
 abbrev pub FaultStays : Type 0
 FaultStays = (stream more : List ℕ) (given : List ItemRecord) (fault : LpdFault) → LpdItems stream given (Faulty fault) → LpdItems (stream ++ more) given (Faulty fault)

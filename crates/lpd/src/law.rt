@@ -1,15 +1,15 @@
 //! Laws of an LPD client's stream, as contracts of functions that do nothing.
-ghost use Rattle.lpd.specs.Stream.{OneParse, SomeParse, StaysInFront, FaultStays, FirstIsOne, NoneFollows, FirstStays, ParsesTheRest};
+ghost use Rattle.lpd.specs.Stream.{OneParse, SomeParse, StaysInPrefix, FaultStays, FirstIsOne, NoneFollows, FirstStays, ParsesTheRest};
 
 /// Each stream has a reading, and two readings of one stream give the same items and the same end.
-pub fn one_saying()
+pub fn one_parse()
     ensures some { SomeParse }
     ensures one { OneParse }
 {}
 
 /// Two prefixes of the items of a stream are equal if their lengths are equal, and a stream contains no item after
 /// all of its items.
-pub fn one_front()
+pub fn one_prefix()
     ensures one { FirstIsOne }
     ensures last { NoneFollows }
 {}
@@ -17,7 +17,7 @@ pub fn one_front()
 /// The items of a stream are a prefix of the items of the stream with more bytes after it, and a fault stays
 /// the last.
 pub fn said_stays()
-    ensures front { StaysInFront }
+    ensures prefix { StaysInPrefix }
     ensures fault { FaultStays }
 {}
 

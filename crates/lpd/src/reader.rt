@@ -25,7 +25,7 @@ enum Awaited {
     Nothing,
 }
 
-/// A reader of an LPD client's stream, which is fed in pieces of any length. In clauses it is a record of the
+/// A reader of an LPD client's stream, which is fed in segments of any length. In clauses it is a record of the
 /// file that it lends, the bytes that aren't read, the part that it awaits, and its fault.
 ///
 /// After a fault, and after a command other than that to receive a job, the reader gives no more items, and
@@ -72,15 +72,15 @@ impl LpdReader {
     /// Feeds the next bytes of the connection. The file that was lent is given back.
     ///
     /// The only error is out of memory: then none of the bytes is taken, and the file stays lent.
-    pub fn feed(&mut self, piece: &[u8]) -> Result<(), AllocError>
-        ensures fed { OnOk result ((stream : List ℕ) (given : List ItemRecord) → HasRead stream given self.old → HasRead (stream ++ piece.now) given self.new) }
+    pub fn feed(&mut self, segment: &[u8]) -> Result<(), AllocError>
+        ensures fed { OnOk result ((stream : List ℕ) (given : List ItemRecord) → HasRead stream given self.old → HasRead (stream ++ segment.now) given self.new) }
         ensures err { OnErr result (self.new ≡ self.old) }
         ensures over { is_over self.old ≡ true → IsOk result × (self.new ≡ self.old) }
     {
         if self.is_over() {
             return Ok(());
         }
-        self.append(piece)
+        self.append(segment)
     }
 
     /// Returns the next item, if it is whole. For a file, [`LpdReader::file`] has the bytes.
@@ -132,7 +132,7 @@ impl LpdReader {
         ensures answer { Answers self.old result self.new }
         ensures falls { IfOk result (λ said. IsSome said → work self.new < work self.old) }
     {
-        match self.read_front(length)? {
+        match self.read_prefix(length)? {
             Err(fault) => Err(self.fail(fault)),
             Ok(item) => {
                 self.pass_line(length, after(&item));
@@ -189,7 +189,7 @@ impl LpdReader {
     }
 
     /// The content of the line of `length` bytes at the beginning.
-    fn read_front(&self, length: usize) -> Result<Result<LpdItem, LpdFault>, AllocError>
+    fn read_prefix(&self, length: usize) -> Result<Result<LpdItem, LpdFault>, AllocError>
         requires { length < length_of self.now.rest }
         ensures { IfOk result (λ said. line_record said ≡ meaning_of self.now.awaited (take length self.now.rest)) }
     {
@@ -237,11 +237,11 @@ impl LpdReader {
 
     /// Appends bytes to those that aren't read. The only error is out of memory, and leaves the reader as it
     /// was.
-    fn append(&mut self, piece: &[u8]) -> Result<(), AllocError>
-        ensures ok { OnOk result (self.new ≡ record self.old { file = []; rest = self.old.rest ++ piece.now }) }
+    fn append(&mut self, segment: &[u8]) -> Result<(), AllocError>
+        ensures ok { OnOk result (self.new ≡ record self.old { file = []; rest = self.old.rest ++ segment.now }) }
         ensures err { OnErr result (self.new ≡ self.old) }
     {
-        self.unread.append(piece)?;
+        self.unread.append(segment)?;
         self.unread.pass(self.read);
         self.read = 0;
         self.lent = 0;

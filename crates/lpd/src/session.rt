@@ -2,7 +2,7 @@
 ghost use Rattle.std.specs.Prelude.{◌≡◌, IfOk, OnErr, IsSome, true};
 ghost use Rattle.lpd.specs.Control.{control_in};
 ghost use Rattle.lpd.specs.Pending.{first_complete, with_file};
-ghost use Rattle.lpd.specs.Session.{opened, aborted, admits, announced, settled, keeps, kept, is_kept, file_kept, is_job_file, control_kept, sent_by, sent_at, without_job};
+ghost use Rattle.lpd.specs.Session.{opened, aborted, admits, announced, unannounced, keeps, kept, is_kept, file_kept, is_valid_control, control_kept, sent_by, sent_at, without_job};
 
 use crate::control::{ControlError, read_control};
 use crate::file::{DataFile, JobFile};
@@ -76,7 +76,7 @@ impl Session {
     pub fn take_file(&mut self, contents: &[u8]) -> Result<bool, AllocError>
         ensures answer { IfOk result (λ answer. answer ≡ keeps contents.now self.old) }
         ensures ok { IfOk result (λ answer. self.new ≡ kept contents.now self.old) }
-        ensures err { OnErr result (self.new ≡ settled self.old) }
+        ensures err { OnErr result (self.new ≡ unannounced self.old) }
     {
         match self.coming.take() {
             Some(head) => self.keep(head, contents),
@@ -147,7 +147,7 @@ impl Session {
 
     /// Keeps a control file, if it describes a job. Returns whether it does.
     fn keep_control(&mut self, name: Text, contents: &[u8]) -> Result<bool, AllocError>
-        ensures answer { IfOk result (λ answer. answer ≡ is_job_file (control_in contents.now)) }
+        ensures answer { IfOk result (λ answer. answer ≡ is_valid_control (control_in contents.now)) }
         ensures ok { IfOk result (λ answer. self.new ≡ record self.old { pending = control_kept name self.old.pending (control_in contents.now) }) }
         ensures err { OnErr result (self.new ≡ self.old) }
     {

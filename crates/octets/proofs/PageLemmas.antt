@@ -3,7 +3,7 @@ use Rattle.std.proofs.Common.{◌≡◌, ℕ, zero, suc, ◌+◌, ◌*◌, ◌/�
 use Rattle.std.specs.List.{AllByRecursion}
 use Rattle.std.proofs.lemmas.List.{append-nil, length-append, length-drop, drop-append-le, drop_at, drop-drop}
 use Rattle.octets.specs.declared.page.TheConstants.{PAGE_BYTES}
-use Rattle.octets.specs.Document.{IsFrontOf}
+use Rattle.octets.specs.Document.{IsPrefixOf}
 use Rattle.octets.specs.Pages.{joined, IsFull}
 
 joined-append : (pages more : List (List ℕ)) → joined (pages ++ more) ≡ joined pages ++ joined more
@@ -15,26 +15,26 @@ full-append [] more a b = b
 full-append (page ∷ pages) more a b = (a.0, full-append pages more a.1 b)
 
 -- one page more
-pub one_more : (octets : List ℕ) (pages : List (List ℕ)) (page rest behind : List ℕ) → octets ≡ joined pages ++ rest → rest ≡ page ++ behind → octets ≡ joined (pages ++ page ∷ []) ++ behind
-one_more octets pages page rest behind is cut =
-    is ∙ ap (λ (l : List ℕ). joined pages ++ l) cut ∙ sym (append_assoc (joined pages) page behind)
-    ∙ ap (λ (l : List ℕ). l ++ behind) (sym (joined-append pages (page ∷ []) ∙ ap (λ (l : List ℕ). joined pages ++ l) (append-nil page)))
+pub one_more : (octets : List ℕ) (pages : List (List ℕ)) (page rest tail : List ℕ) → octets ≡ joined pages ++ rest → rest ≡ page ++ tail → octets ≡ joined (pages ++ page ∷ []) ++ tail
+one_more octets pages page rest tail is cut =
+    is ∙ ap (λ (l : List ℕ). joined pages ++ l) cut ∙ sym (append_assoc (joined pages) page tail)
+    ∙ ap (λ (l : List ℕ). l ++ tail) (sym (joined-append pages (page ∷ []) ∙ ap (λ (l : List ℕ). joined pages ++ l) (append-nil page)))
 
 -- a last page that is filled, and pages after it
-pub gone_on : (pages later : List (List ℕ)) (last front behind end piece : List ℕ) → behind ≡ joined later ++ end → piece ≡ front ++ behind → joined (pages ++ (last ++ front) ∷ later) ++ end ≡ (joined pages ++ last) ++ piece
-gone_on pages later last front behind end piece is cut =
-    ap (λ (l : List ℕ). l ++ end) (joined-append pages ((last ++ front) ∷ later))
-    ∙ append_assoc (joined pages) ((last ++ front) ++ joined later) end
-    ∙ ap (λ (l : List ℕ). joined pages ++ l) (append_assoc (last ++ front) (joined later) end ∙ ap (λ (l : List ℕ). (last ++ front) ++ l) (sym is) ∙ append_assoc last front behind ∙ ap (λ (l : List ℕ). last ++ l) (sym cut))
-    ∙ sym (append_assoc (joined pages) last piece)
+pub gone_on : (pages later : List (List ℕ)) (last prefix tail end segment : List ℕ) → tail ≡ joined later ++ end → segment ≡ prefix ++ tail → joined (pages ++ (last ++ prefix) ∷ later) ++ end ≡ (joined pages ++ last) ++ segment
+gone_on pages later last prefix tail end segment is cut =
+    ap (λ (l : List ℕ). l ++ end) (joined-append pages ((last ++ prefix) ∷ later))
+    ∙ append_assoc (joined pages) ((last ++ prefix) ++ joined later) end
+    ∙ ap (λ (l : List ℕ). joined pages ++ l) (append_assoc (last ++ prefix) (joined later) end ∙ ap (λ (l : List ℕ). (last ++ prefix) ++ l) (sym is) ∙ append_assoc last prefix tail ∙ ap (λ (l : List ℕ). last ++ l) (sym cut))
+    ∙ sym (append_assoc (joined pages) last segment)
 
 pub length-joined : (pages : List (List ℕ)) → AllByRecursion IsFull pages → length (joined pages) ≡ length pages * PAGE_BYTES
 length-joined [] full = refl
 length-joined (page ∷ pages) full = omega (arith, length-append page (joined pages), full.0, length-joined pages full.1)
 
--- from a place of a page on its octets are the front
+-- from a place of a page on its octets are the prefix
 abbrev IsAt : ℕ → List ℕ → List ℕ → Type 0
-IsAt place page octets = (place ≤ length page) × IsFrontOf (drop place page) octets
+IsAt place page octets = (place ≤ length page) × IsPrefixOf (drop place page) octets
 
 -- the octets from a place of a page on
 page_at : (pages : List (List ℕ)) (end : List ℕ) (i r : ℕ) (d : List ℕ) → AllByRecursion IsFull pages → i < length pages → r < PAGE_BYTES → IsAt r (get_or pages i d) (drop (i * PAGE_BYTES + r) (joined pages ++ end))
@@ -45,7 +45,7 @@ page_at (page ∷ pages) end zero r d full low fits =
     ap (λ (l : List ℕ). drop r l) (append_assoc page (joined pages) end) ∙ drop-append-le r page (joined pages ++ end) (omega (arith, full.0, fits)) in (
       omega (arith, full.0, fits),
       record {
-        front = (joined pages ++ end, ap (λ (n : ℕ). drop n ((page ++ joined pages) ++ end)) place ∙ cut);
+        prefix = (joined pages ++ end, ap (λ (n : ℕ). drop n ((page ++ joined pages) ++ end)) place ∙ cut);
         some = λ h. omega (arith, length-drop r page, full.0, fits);
       },
     )
@@ -75,7 +75,7 @@ in_last pages end start full room within high =
     ∙ ap (λ (l : List ℕ). drop (start % PAGE_BYTES) l) (drop_at (joined pages) end (length (joined pages)) refl) in (
       omega (arith, place, within, length-append (joined pages) end),
       record {
-        front = ([], passed ∙ sym (append-nil (drop (start % PAGE_BYTES) end)));
+        prefix = ([], passed ∙ sym (append-nil (drop (start % PAGE_BYTES) end)));
         some = λ h. omega (arith, h, ap length passed);
       },
     )

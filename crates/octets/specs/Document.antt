@@ -8,7 +8,7 @@ pub record DocumentRecord : Type 0 where
 abbrev pub octets_of : List DocumentRecord → ℕ
 octets_of documents = sum_by (λ d. length d.contents) documents
 
--- the piece is a prefix of the octets, and isn't empty unless the octets are
-pub record IsFrontOf (piece octets : List ℕ) : Type 0 where
-  pub front : (rest : List ℕ) × (octets ≡ piece ++ rest)
-  pub some : 0 < length octets → 0 < length piece
+-- the segment is a prefix of the octets, and isn't empty unless the octets are
+pub record IsPrefixOf (segment octets : List ℕ) : Type 0 where
+  pub prefix : (rest : List ℕ) × (octets ≡ segment ++ rest)
+  pub some : 0 < length octets → 0 < length segment

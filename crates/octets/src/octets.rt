@@ -1,6 +1,6 @@
 //! The octets of a document.
 ghost use Rattle.std.specs.Prelude.{◌≡◌, ◌≤◌, ◌<◌, ◌↔◌, [], IsTrue, IfOk, OnErr, length, drop};
-ghost use Rattle.octets.specs.Document.{IsFrontOf};
+ghost use Rattle.octets.specs.Document.{IsPrefixOf};
 
 use crate::pages::Pages;
 use std::alloc::{AllocError, Global};
@@ -10,7 +10,7 @@ use std::rc::Rc;
 
 /// The octets of a document, which may have several owners. In clauses they are their list.
 ///
-/// The pages are private: a sender reads one piece after the other, and may keep the octets for as long as it
+/// The pages are private: a sender reads one segment after the other, and may keep the octets for as long as it
 /// needs them.
 #[derive(Drop)]
 pub struct Octets {
@@ -74,10 +74,10 @@ impl Octets {
     }
 
     /// Returns the octets from `start` on that lie together in memory. They are empty only at the end.
-    pub fn piece(&self, start: usize) -> &[u8]
+    pub fn segment(&self, start: usize) -> &[u8]
         requires { start ≤ length self.now }
-        ensures { IsFrontOf result.now (drop start self.now) }
+        ensures { IsPrefixOf result.now (drop start self.now) }
     {
-        self.shared.piece(start)
+        self.shared.segment(start)
     }
 }

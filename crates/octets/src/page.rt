@@ -79,17 +79,17 @@ impl Page {
 
     /// Appends octets that fit in the page. The first call takes memory for `first` octets, if they are
     /// enough. The only error is out of memory, and nothing is appended then.
-    pub fn append(&mut self, piece: &[u8], first: usize) -> Result<(), AllocError>
-        requires fits { length self.old + length piece.now ≤ PAGE_BYTES }
+    pub fn append(&mut self, segment: &[u8], first: usize) -> Result<(), AllocError>
+        requires fits { length self.old + length segment.now ≤ PAGE_BYTES }
         requires first { first ≤ PAGE_BYTES }
-        ensures ok { OnOk result (self.new ≡ self.old ++ piece.now) }
+        ensures ok { OnOk result (self.new ≡ self.old ++ segment.now) }
         ensures err { OnErr result (self.new ≡ self.old) }
     {
-        if piece.is_empty() {
+        if segment.is_empty() {
             return Ok(());
         }
-        let room = room_for(self.bytes.len() + piece.len(), first);
+        let room = room_for(self.bytes.len() + segment.len(), first);
         self.bytes.reserve_exact(room - self.bytes.len())?;
-        self.bytes.extend_from_slice(piece)
+        self.bytes.extend_from_slice(segment)
     }
 }

@@ -1,6 +1,6 @@
 //! Octets cut into pages.
 ghost use Rattle.std.specs.Prelude.{◌≡◌, ◌+◌, ◌%◌, ◌≤◌, ◌++◌, ◌∷◌, [], IfOk, OnOk, OnErr, length, drop};
-ghost use Rattle.octets.specs.Document.{IsFrontOf};
+ghost use Rattle.octets.specs.Document.{IsPrefixOf};
 ghost use Rattle.octets.specs.Pages.{octets_in, IsPaged};
 
 use crate::page::{PAGE_BYTES, Page};
@@ -34,9 +34,9 @@ pub(crate) fn in_pages(alloc: Global, octets: &[u8], first: usize) -> Result<Pag
     let mut pages = Vec::new(alloc);
     let mut rest = octets;
     while PAGE_BYTES <= rest.len() {
-        let (front, behind) = rest.split_at(PAGE_BYTES);
-        pages.push(page_of(alloc, front, first)?)?;
-        rest = behind;
+        let (prefix, tail) = rest.split_at(PAGE_BYTES);
+        pages.push(page_of(alloc, prefix, first)?)?;
+        rest = tail;
     }
     Ok(Paged {
         pages,
@@ -45,18 +45,18 @@ pub(crate) fn in_pages(alloc: Global, octets: &[u8], first: usize) -> Result<Pag
 }
 
 impl Paged {
-    /// Fills the last page with `front`, and appends the pages of `later`. The only error is out of memory,
+    /// Fills the last page with `prefix`, and appends the pages of `later`. The only error is out of memory,
     /// and nothing is changed then.
-    pub fn go_on(&mut self, front: &[u8], later: Paged) -> Result<(), AllocError>
-        requires { length self.old.last + length front.now ≡ PAGE_BYTES }
-        ensures pages { OnOk result (self.new.pages.items ≡ self.old.pages.items ++ (self.old.last ++ front.now) ∷ later.pages.items) }
+    pub fn go_on(&mut self, prefix: &[u8], later: Paged) -> Result<(), AllocError>
+        requires { length self.old.last + length prefix.now ≡ PAGE_BYTES }
+        ensures pages { OnOk result (self.new.pages.items ≡ self.old.pages.items ++ (self.old.last ++ prefix.now) ∷ later.pages.items) }
         ensures last { OnOk result (self.new.last ≡ later.last) }
         ensures pages_kept { OnErr result (self.new.pages.items ≡ self.old.pages.items) }
         ensures last_kept { OnErr result (self.new.last ≡ self.old.last) }
     {
         let Paged { mut pages, last } = later;
         self.pages.reserve(pages.len() + 1)?;
-        self.last.append(front, PAGE_BYTES)?;
+        self.last.append(prefix, PAGE_BYTES)?;
         let full = mem::replace(&mut self.last, last);
         self.pages.push_reserved(full);
         self.pages.append(&mut pages)
@@ -66,7 +66,7 @@ impl Paged {
         requires paged { IsPaged self.now }
         requires start { start ≤ length (octets_in self.now) }
         ensures within { start % PAGE_BYTES ≤ length result.now }
-        ensures front { IsFrontOf (drop (start % PAGE_BYTES) result.now) (drop start (octets_in self.now)) }
+        ensures prefix { IsPrefixOf (drop (start % PAGE_BYTES) result.now) (drop start (octets_in self.now)) }
     {
         let page = start / PAGE_BYTES;
         if page < self.pages.len() {

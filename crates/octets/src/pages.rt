@@ -1,13 +1,13 @@
 //! Octets in pages.
 ghost use Rattle.std.specs.Prelude.{◌≡◌, ◌≤◌, ◌<◌, ◌↔◌, ◌++◌, [], IsTrue, OnOk, OnErr, length, drop};
-ghost use Rattle.octets.specs.Document.{IsFrontOf};
+ghost use Rattle.octets.specs.Document.{IsPrefixOf};
 
 use crate::page::{PAGE_BYTES, Page, first_room};
 use crate::paged::{Paged, in_pages};
 use std::alloc::{AllocError, Global};
 use std::marker::Model;
 
-/// The octets of a document that comes in pieces. In clauses they are their list.
+/// The octets of a document that comes in segments. In clauses they are their list.
 ///
 /// Octets aren't moved when more of them come, since they lie in pages.
 #[derive(Drop)]
@@ -44,23 +44,23 @@ impl Pages {
     }
 
     /// Appends octets. The only error is out of memory, and nothing is appended then.
-    pub fn push(&mut self, piece: &[u8]) -> Result<(), AllocError>
-        ensures ok { OnOk result (self.new ≡ self.old ++ piece.now) }
+    pub fn push(&mut self, segment: &[u8]) -> Result<(), AllocError>
+        ensures ok { OnOk result (self.new ≡ self.old ++ segment.now) }
         ensures err { OnErr result (self.new ≡ self.old) }
     {
-        let Some(len) = self.len.checked_add(piece.len()) else {
+        let Some(len) = self.len.checked_add(segment.len()) else {
             return Err(AllocError);
         };
         let room = PAGE_BYTES - self.paged.last.octets().len();
-        if piece.len() < room {
+        if segment.len() < room {
             self.paged
                 .last
-                .append(piece, first_room(self.paged.pages.len()))?;
+                .append(segment, first_room(self.paged.pages.len()))?;
         } else {
-            let (front, behind) = piece.split_at(room);
+            let (prefix, tail) = segment.split_at(room);
             let first = first_room(self.paged.pages.len());
             self.paged
-                .go_on(front, in_pages(self.alloc, behind, first)?)?;
+                .go_on(prefix, in_pages(self.alloc, tail, first)?)?;
         }
         self.len = len;
         Ok(())
@@ -81,9 +81,9 @@ impl Pages {
     }
 
     /// Returns the octets from `start` on that lie together in memory. They are empty only at the end.
-    pub fn piece(&self, start: usize) -> &[u8]
+    pub fn segment(&self, start: usize) -> &[u8]
         requires { start ≤ length self.now }
-        ensures { IsFrontOf result.now (drop start self.now) }
+        ensures { IsPrefixOf result.now (drop start self.now) }
     {
         &self.paged.page_at(start).octets()[start % PAGE_BYTES..]
     }

@@ -1,2 +1,2 @@
-mod Fronts
+mod Prefixes
 pub mod Slots

@@ -62,9 +62,9 @@ pub start_line_is : (devices : List (List ℕ)) (c : Class) (job device start en
 unfolding start_line
 start_line_is devices c job device start end' name en ee = rw (en, ee) refl
 
--- each job of the class stands in its way
-pub stands : (c : Class) (way : List (List ℕ)) (job : ℕ) → IsWay c way → Contains c.ids job → (Contains (concat way) job → ⊥) → ⊥
+-- each job of the class is in its way
+pub reaches : (c : Class) (way : List (List ℕ)) (job : ℕ) → IsWay c way → Contains c.ids job → (Contains (concat way) job → ⊥) → ⊥
 unfolding times_named
-stands c way job w known none =
+reaches c way job w known none =
     let once : count_by (λ x. x == job) (concat way) ≡ 1 = subst (λ j. times_named way j ≡ 1) known.2 (w.once known.0 job known.1) in
     of_counted (λ id. id ≡ job → ⊥) (concat way) job 0 once (λ k d l same. none (k, l, get_or_default (concat way) k job d l ∙ same)) refl

@@ -20,8 +20,8 @@ unfoldable pub has_faulty_line : List ℕ → Bool
 has_faulty_line text = is_refused_for_line (plan_at text)
 
 -- the line of the byte after these bytes, counted from 1
-abbrev pub line_behind : List ℕ → ℕ
-line_behind front = 1 + count_by (λ byte. byte == 10) front
+abbrev pub line_after : List ℕ → ℕ
+line_after prefix = 1 + count_by (λ byte. byte == 10) prefix
 
 -- the text before this byte has no faulty line, and the text up to this byte has a faulty line
 pub record Decides (text : List ℕ) (count : ℕ) : Type 0 where
@@ -31,10 +31,10 @@ pub record Decides (text : List ℕ) (count : ℕ) : Type 0 where
 
 -- the line of the byte that decides
 abbrev pub IsFaultyLine : List ℕ → ℕ → Type 0
-IsFaultyLine text line = (count : ℕ) × Decides text count × (line ≡ line_behind (take count text))
+IsFaultyLine text line = (count : ℕ) × Decides text count × (line ≡ line_after (take count text))
 
 -- the line of the fault of a text: the line of the byte that decides; else the line that is missing or has no end
 abbrev pub IsFaultLine : List ℕ → TextFault → ℕ → Type 0
 IsFaultLine text BadLine line = IsFaultyLine text line
 IsFaultLine text OutOfRange line = IsFaultyLine text line
-IsFaultLine text NoEnd line = line ≡ line_behind text
+IsFaultLine text NoEnd line = line ≡ line_after text

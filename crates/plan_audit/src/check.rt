@@ -16,7 +16,7 @@ use base_types::{Limits, Text};
 use plan_checker::{Fault, PlanVerdict, check_plan};
 use plan_prices::PlannedClass;
 use plan_text::{PlanText, ReadError, TextFault, read_plan_text};
-use program::{ExitStatus, InputFault, read_whole, refused_line, write_front};
+use program::{ExitStatus, InputFault, read_whole, refused_line, write_prefix};
 use std::alloc::{AllocError, Global};
 use std::io::{Read, Write};
 use std::marker::Model;
@@ -64,7 +64,7 @@ pub fn run_check<R: Read, W: Write>(
     let Some(answer) = answer_input(alloc, reader, starts) else {
         return failed();
     };
-    if write_front(writer, &answer.text) == answer.text.len() {
+    if write_prefix(writer, &answer.text) == answer.text.len() {
         Audit {
             status: answer.status,
             objection: answer.objection,

@@ -1,7 +1,7 @@
 //! The line of the fault of a text that is no plan.
 ghost use Rattle.std.specs.Prelude.{◌≡◌, Err, IfOk, true};
 ghost use Rattle.plan_text.specs.Whole.{plan_at};
-ghost use Rattle.plan_audit.specs.Place.{is_of_line, has_faulty_line, line_behind, Decides, IsFaultyLine, IsFaultLine};
+ghost use Rattle.plan_audit.specs.Place.{is_of_line, has_faulty_line, line_after, Decides, IsFaultyLine, IsFaultLine};
 
 use plan_text::{ReadError, TextFault, read_plan_text};
 use std::alloc::{AllocError, Global};
@@ -14,7 +14,7 @@ pub fn fault_line(alloc: Global, text: &[u8], fault: TextFault) -> Result<usize,
     ensures { IfOk result (λ line. IsFaultLine text.now fault line) }
 {
     match fault {
-        TextFault::NoEnd => Ok(line_behind(text)),
+        TextFault::NoEnd => Ok(line_after(text)),
         TextFault::BadLine => deciding_line(alloc, text),
         TextFault::OutOfRange => deciding_line(alloc, text),
     }
@@ -26,14 +26,14 @@ fn deciding_line(alloc: Global, text: &[u8]) -> Result<usize, AllocError>
     ensures { IfOk result (IsFaultyLine text.now) }
 {
     let count = deciding_byte(alloc, text)?;
-    Ok(line_behind(&text[..count]))
+    Ok(line_after(&text[..count]))
 }
 
-/// The line of the byte after `front`, counted from 1.
-fn line_behind(front: &[u8]) -> usize
-    ensures { result ≡ line_behind front.now }
+/// The line of the byte after `prefix`, counted from 1.
+fn line_after(prefix: &[u8]) -> usize
+    ensures { result ≡ line_after prefix.now }
 {
-    1 + front.iter().filter(|byte| **byte == b'\n').count()
+    1 + prefix.iter().filter(|byte| **byte == b'\n').count()
 }
 
 /// Returns whether a fault is a fault of a line.
@@ -61,7 +61,7 @@ fn has_faulty_line(alloc: Global, text: &[u8]) -> Result<bool, AllocError>
 /// The place of the byte that decides: the line feed of the faulty line, or the first byte after the end of
 /// the plan. The search halves its range each time, and reads the text as often as the length of the text has
 /// binary digits. The only error is out of memory.
-#[tactic(auto, using(crate::proofs::Fronts::begins))]
+#[tactic(auto, using(crate::proofs::Prefixes::begins))]
 fn deciding_byte(alloc: Global, text: &[u8]) -> Result<usize, AllocError>
     requires faulty { has_faulty_line text.now ≡ true }
     ensures { IfOk result (Decides text.now) }

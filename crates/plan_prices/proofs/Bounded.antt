@@ -16,7 +16,7 @@ use Rattle.plan_prices.specs.Prices.{PriceLists, AreFair, sum_signed, sum_lists,
 use Rattle.plan_prices.proofs.Totals.{list_total, total_from, list_cost_is}
 use Rattle.plan_prices.proofs.Completions.{total_is}
 use Rattle.plan_prices.proofs.Sums.{prices_of, prices_of_all}
-use Rattle.plan_prices.proofs.Duality.{place_bound, some_value, list_bound, list_total_bound, lists_bound, sum_front_more, sum_at_most_front, prices_of-append, sum_devices, sum_devices_all, AbleFrom, able_from}
+use Rattle.plan_prices.proofs.Duality.{place_bound, some_value, list_bound, list_total_bound, lists_bound, sum_prefix_more, sum_at_most_prefix, prices_of-append, sum_devices, sum_devices_all, AbleFrom, able_from}
 use Rattle.plan_prices.proofs.Names.{all_concat, of_counted}
 use Rattle.plan_prices.proofs.Bounds.{wait_small, queue_short}
 
@@ -47,7 +47,7 @@ module _ (c : Class) (way : List (List ℕ)) (p : PriceLists) (f : AreFair c way
       let b : (prices_of c.ids p.jobs js +ℤ sum_signed (take (length js) (places_on p.places d))) ≤ℤ pos (list_cost c d (wait_in c d) js) =
       list_bound c way p f d js (All-tail (λ j'. IsSome (time_in c j' d)) j js h) in
       let s : sum_signed (take (suc (length js)) (places_on p.places d)) ≡ sum_signed (take (length js) (places_on p.places d)) +ℤ place_price p.places d (length js) =
-      sum_front_more (length js) (places_on p.places d) in
+      sum_prefix_more (length js) (places_on p.places d) in
       rw last (omega (arith, ints, b, s))
   list_slack d (j ∷ js) h (suc i) after e =
       let able : IsSome (time_in c j d) = All-head (λ j'. IsSome (time_in c j' d)) j js h in
@@ -56,14 +56,14 @@ module _ (c : Class) (way : List (List ℕ)) (p : PriceLists) (f : AreFair c way
       let b : ((prices_of c.ids p.jobs js +ℤ sum_signed (take (length js) (places_on p.places d))) +ℤ pos (cost_at d js i after)) ≤ℤ (pos (list_cost c d (wait_in c d) js) +ℤ price_at d js i after) =
       list_slack d js (All-tail (λ j'. IsSome (time_in c j' d)) j js h) i after (omega arith) in
       let s : sum_signed (take (suc (length js)) (places_on p.places d)) ≡ sum_signed (take (length js) (places_on p.places d)) +ℤ place_price p.places d (length js) =
-      sum_front_more (length js) (places_on p.places d) in
+      sum_prefix_more (length js) (places_on p.places d) in
       omega (arith, ints, a, b, s)
 
   list_total_slack : (d : ℕ) (jobs : List ℕ) → All (λ j. IsSome (time_in c j d)) jobs → (i after : ℕ) → i + suc after ≡ length jobs
       → ((prices_of c.ids p.jobs jobs +ℤ sum_signed (places_on p.places d)) +ℤ pos (cost_at d jobs i after)) ≤ℤ (pos (list_total c d (wait_in c d) jobs) +ℤ price_at d jobs i after)
   list_total_slack d jobs h i after e =
       let a : ((prices_of c.ids p.jobs jobs +ℤ sum_signed (take (length jobs) (places_on p.places d))) +ℤ pos (cost_at d jobs i after)) ≤ℤ (pos (list_cost c d (wait_in c d) jobs) +ℤ price_at d jobs i after) = list_slack d jobs h i after e in
-      let b : sum_signed (places_on p.places d) ≤ℤ sum_signed (take (length jobs) (places_on p.places d)) = sum_at_most_front (length jobs) (places_on p.places d) (f.not_positive d) in
+      let b : sum_signed (places_on p.places d) ≤ℤ sum_signed (take (length jobs) (places_on p.places d)) = sum_at_most_prefix (length jobs) (places_on p.places d) (f.not_positive d) in
       let t : list_total c d (wait_in c d) jobs ≡ list_cost c d (wait_in c d) jobs = list_cost_is c d (wait_in c d) jobs in
       omega (arith, ints, a, b, t)
 

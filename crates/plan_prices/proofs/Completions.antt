@@ -18,7 +18,7 @@ use Rattle.plan_prices.proofs.Totals.{list_total, total_from, cost_from_is}
 use Rattle.plan_prices.proofs.Sums.{count_of, count_of-yes, count_of-no, prices_of, prices_of_all}
 use Rattle.plan_prices.proofs.Names.{all_left, all_right, of_counted}
 
--- ---- no job stands twice
+-- ---- no job occurs twice
 
 abbrev pub Distinct : List ℕ → Type 0
 Distinct [] = Unit {0}

@@ -28,19 +28,19 @@ module _ where
       omega (arith, ints, a, b)
 
   -- fewer of them add up to no less
-  pub sum_at_most_front : (n : ℕ) (vs : List ℤ) → ((k : ℕ) → get_or vs k (pos 0) ≤ℤ pos 0) → sum_signed vs ≤ℤ sum_signed (take n vs)
-  sum_at_most_front zero vs h = sum_at_most_zero vs h
-  sum_at_most_front (suc n) [] h = h 0
-  sum_at_most_front (suc n) (v ∷ vs) h =
-      let b : sum_signed vs ≤ℤ sum_signed (take n vs) = sum_at_most_front n vs (λ k. h (suc k)) in
+  pub sum_at_most_prefix : (n : ℕ) (vs : List ℤ) → ((k : ℕ) → get_or vs k (pos 0) ≤ℤ pos 0) → sum_signed vs ≤ℤ sum_signed (take n vs)
+  sum_at_most_prefix zero vs h = sum_at_most_zero vs h
+  sum_at_most_prefix (suc n) [] h = h 0
+  sum_at_most_prefix (suc n) (v ∷ vs) h =
+      let b : sum_signed vs ≤ℤ sum_signed (take n vs) = sum_at_most_prefix n vs (λ k. h (suc k)) in
       omega (arith, ints, b)
 
-  pub sum_front_more : (n : ℕ) (vs : List ℤ) → sum_signed (take (suc n) vs) ≡ sum_signed (take n vs) +ℤ get_or vs n (pos 0)
-  sum_front_more zero [] = refl
-  sum_front_more (suc n) [] = refl
-  sum_front_more zero (v ∷ vs) = omega (arith, ints)
-  sum_front_more (suc n) (v ∷ vs) =
-      let b : sum_signed (take (suc n) vs) ≡ sum_signed (take n vs) +ℤ get_or vs n (pos 0) = sum_front_more n vs in
+  pub sum_prefix_more : (n : ℕ) (vs : List ℤ) → sum_signed (take (suc n) vs) ≡ sum_signed (take n vs) +ℤ get_or vs n (pos 0)
+  sum_prefix_more zero [] = refl
+  sum_prefix_more (suc n) [] = refl
+  sum_prefix_more zero (v ∷ vs) = omega (arith, ints)
+  sum_prefix_more (suc n) (v ∷ vs) =
+      let b : sum_signed (take (suc n) vs) ≡ sum_signed (take n vs) +ℤ get_or vs n (pos 0) = sum_prefix_more n vs in
       omega (arith, ints, b)
 
 -- a job at the place that has k places after it costs at least its price and the place's
@@ -68,13 +68,13 @@ list_bound c way p f d (j ∷ js) h =
     let b : (prices_of c.ids p.jobs js +ℤ sum_signed (take (length js) (places_on p.places d))) ≤ℤ pos (list_cost c d (wait_in c d) js) =
     list_bound c way p f d js (All-tail (λ j'. IsSome (time_in c j' d)) j js h) in
     let e : sum_signed (take (suc (length js)) (places_on p.places d)) ≡ sum_signed (take (length js) (places_on p.places d)) +ℤ place_price p.places d (length js) =
-    sum_front_more (length js) (places_on p.places d) in
+    sum_prefix_more (length js) (places_on p.places d) in
     omega (arith, ints, a, b, e)
 
 pub list_total_bound : (c : Class) (way : List (List ℕ)) (p : PriceLists) → AreFair c way p → (d : ℕ) (jobs : List ℕ) → All (λ j. IsSome (time_in c j d)) jobs → (prices_of c.ids p.jobs jobs +ℤ sum_signed (places_on p.places d)) ≤ℤ pos (list_total c d (wait_in c d) jobs)
 list_total_bound c way p f d jobs h =
     let a : (prices_of c.ids p.jobs jobs +ℤ sum_signed (take (length jobs) (places_on p.places d))) ≤ℤ pos (list_cost c d (wait_in c d) jobs) = list_bound c way p f d jobs h in
-    let b : sum_signed (places_on p.places d) ≤ℤ sum_signed (take (length jobs) (places_on p.places d)) = sum_at_most_front (length jobs) (places_on p.places d) (f.not_positive d) in
+    let b : sum_signed (places_on p.places d) ≤ℤ sum_signed (take (length jobs) (places_on p.places d)) = sum_at_most_prefix (length jobs) (places_on p.places d) (f.not_positive d) in
     let e : list_total c d (wait_in c d) jobs ≡ list_cost c d (wait_in c d) jobs = list_cost_is c d (wait_in c d) jobs in
     omega (arith, ints, a, b, e)
 

@@ -35,7 +35,7 @@ each_list_more P w i l here before k d h = elim (cases_lt k i) [
       subst (λ j. All P (get_or w j d)) (sym e) (subst (All P) (get_or_default w i [] d l) here)
 ]
 
--- a job that stands in no list is none of the names
+-- a job that is in no list is none of the names
 pub none_named : (w : List (List ℕ)) (job : ℕ) → All (λ q. All (λ id. ¬ (id ≡ job)) q) w → ¬ Contains (concat w) job
 none_named w job none named = all_concat (λ id. ¬ (id ≡ job)) w none named.0 job named.1 named.2
 
@@ -68,7 +68,7 @@ times_named_end w qs i job n same l e =
 pub contains_from_place : (ids : List ℕ) (j : ℕ) → place_of ids j < length ids → Contains ids j
 contains_from_place ids j l = (place_of ids j, l, get_or_default ids (place_of ids j) j 0 l ∙ at_place ids j l)
 
--- the jobs of a class are those that stand at a place
+-- the jobs of a class are those that are at a place
 pub known_from_places : (ids : List ℕ) (w : List (List ℕ)) → All (λ q. All (λ j. place_of ids j < length ids) q) w → All (Contains ids) (concat w)
 known_from_places ids w h = All-weaker (λ j. place_of ids j < length ids) (Contains ids) (contains_from_place ids) (concat w) (all_concat (λ j. place_of ids j < length ids) w h)
 

@@ -1,4 +1,4 @@
--- Where a job stands in a way's own timetable.
+-- Where a job is in a way's own timetable.
 use Rattle.std.proofs.Common.{◌≡◌, ℕ, zero, suc, ◌+◌, ◌<◌, List, [], ◌∷◌, ◌++◌, length, take, get_or, refl, ap, ◌∙◌, arith, Contains, add-zero, Some, None, All, ◌==◌, ltb, eqb}
 use Rattle.std.specs.List.{position, position_or_len}
 use Rattle.std.proofs.lemmas.Bool.{cond_both, ltb-true, ltb-false, eqb-true, eq-eqb, both_ways}

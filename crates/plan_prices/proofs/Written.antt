@@ -9,7 +9,7 @@ use Rattle.plan_problem.proofs.Places.{place_at, at_place}
 use Rattle.plan_prices.specs.Way.{IsWay, queue_of, times_named}
 use Rattle.plan_prices.specs.Total.{time_on, busy_time, completion_of}
 use Rattle.plan_prices.specs.Timetable.{Slot, end_of}
-use Rattle.plan_prices.specs.Settling.{IsEnd, AreEnds}
+use Rattle.plan_prices.specs.OrderedSoFar.{IsEnd, AreEnds}
 use Rattle.plan_prices.proofs.Names.{all_concat, of_counted, places_from_known}
 use Rattle.plan_prices.proofs.Bounds.{queue_short, busy_fits}
 use Rattle.plan_prices.proofs.Starts.{slot_from}

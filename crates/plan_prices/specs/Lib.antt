@@ -6,5 +6,5 @@ pub mod Prices
 pub mod Plan
 pub mod Able
 pub mod Order
-pub mod Settling
+pub mod OrderedSoFar
 pub mod Rising

@@ -3,7 +3,7 @@ ghost use Rattle.std.specs.Prelude.{◌≡◌, ℕ, ◌<◌, All, IfOk, length};
 ghost use Rattle.std.specs.List.{slice_set};
 ghost use Rattle.plan_problem.specs.Class.{place_of};
 ghost use Rattle.plan_prices.specs.Way.{IsWay, queue_of};
-ghost use Rattle.plan_prices.specs.Settling.{AreEnds, IsEnd};
+ghost use Rattle.plan_prices.specs.OrderedSoFar.{AreEnds, IsEnd};
 
 use crate::way::Way;
 use crate::way_total::time_or_zero;

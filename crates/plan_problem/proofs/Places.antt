@@ -1,4 +1,4 @@
--- Where the jobs of a class stand, and which pairs have a time.
+-- The places of a class's jobs, and which pairs have a time.
 use Rattle.std.proofs.Common.{◌≡◌, ◌==◌, ℕ, ◌<◌, ◌≤◌, List, [], length, get_or, Option, None, Some, Result, Ok, Err, MatchOption, Contains, arith, refl, sym, ◌∙◌, not, eqb, inl, inr}
 use Rattle.std.specs.List.{position_or_len}
 use Rattle.std.specs.List.Sorted.{IsBinarySearchResult, IsStrictlyIncreasing}
@@ -11,14 +11,14 @@ use Rattle.std.proofs.lemmas.List.Kept.{AllPairs-from_increasing}
 use Rattle.std.proofs.lemmas.List.Sorted.{searched}
 use Rattle.plan_problem.specs.Class.{Class, IsClass, place_of, time_in}
 
--- the job at a place stands at that place
+-- the job at a place is at that place
 pub place_at : (ids : List ℕ) → IsStrictlyIncreasing ids → (place : ℕ) → place < length ids → place_of ids (get_or ids place 0) ≡ place
 place_at ids up place below =
     position_or_len_is (λ id. id == get_or ids place 0) ids place 0 (omega arith)
     (λ k before. ne_eqb (get_or ids k 0) (get_or ids place 0) (λ e. let rises : get_or ids k 0 < get_or ids place 0 = AllPairs-from_increasing ids up k place 0 before below in omega arith))
     (λ _. eq-eqb (get_or ids place 0) (get_or ids place 0) refl)
 
--- at the place of a job of the class stands the job
+-- the job at its place in the class
 pub at_place : (ids : List ℕ) (job : ℕ) → place_of ids job < length ids → get_or ids (place_of ids job) 0 ≡ job
 at_place ids job below = eqb-true (get_or ids (place_of ids job) 0) job (passes_at_first (λ id. id == job) ids 0 below)
 
@@ -47,7 +47,7 @@ pub place_found : (ids : List ℕ) (job : ℕ) (r : Result ℕ ℕ) → IsStrict
 place_found ids job (Ok place) up found = let at = searched ids job (Ok place) found (rises ids up) in (found_at ids job place up at.0 at.1, at.0)
 place_found ids job (Err place) up found = let at = searched ids job (Err place) found (rises ids up) in not_found ids job place at.1 at.2
 
--- a job of the class stands at a place below their number
+-- a job of the class is at a place below their number
 pub place_below : (ids : List ℕ) (job : ℕ) → Contains ids job → place_of ids job < length ids
 place_below ids job known = elim (cases_lt (place_of ids job) (length ids)) [
   | inl below ↦ below

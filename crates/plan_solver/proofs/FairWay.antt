@@ -26,7 +26,7 @@ use Rattle.plan_solver.specs.declared.times.Entries.{Entries}
 use Rattle.plan_solver.specs.Costs.{cost_of, nowhere}
 use Rattle.plan_solver.specs.Layout.{taken}
 use Rattle.plan_solver.specs.Answer.{cost_of_columns, of_devices, place_prices_of, price_of_dual, queue_of_columns, duals_of_columns, way_of}
-use Rattle.plan_solver.proofs.Filled.{Solves, cost_timed, devices_len, job_in, sat_at, column_below, column_of_job, columns_len, sum_charged, taken-front, taken-here, taken-other, time_of_some}
+use Rattle.plan_solver.proofs.Filled.{Solves, cost_timed, devices_len, job_in, sat_at, column_below, column_of_job, columns_len, sum_charged, taken-prefix, taken-here, taken-other, time_of_some}
 use Rattle.plan_solver.proofs.Laid.{taken-none}
 use Rattle.plan_solver.proofs.Queues.{queue-here, queue-other}
 use Rattle.plan_solver.proofs.Spread.{Spreads, by_places, of_devices-all, of_devices-at, of_devices-length, shuffled, spread, sum_to}
@@ -61,7 +61,7 @@ duals-length d columns duals (suc m) le = elim (cases_eq (get_or columns m nowhe
   | inr ne ↦ omega (arith, ap (λ (l : List ℕ). length l) (duals-other d columns duals m ne), taken-other d m columns (omega arith) ne, duals-length d columns duals m (omega arith))
 ]
 
--- the dual of a column stands at its place
+-- the dual of a column is at its place
 duals-at : (d : ℕ) (columns : List Place) (duals : List ℕ) (q m : ℕ) → q < m → m ≤ length columns → (get_or columns q nowhere).device ≡ d → get_or (duals_of_columns d columns duals m) (taken d (take q columns)) 0 ≡ get_or duals q 0
 duals-at d columns duals q zero lt le e = absurd (omega arith)
 duals-at d columns duals q (suc m) lt le e = elim (cases_eq q m) [
@@ -73,7 +73,7 @@ duals-at d columns duals q (suc m) lt le e = elim (cases_eq q m) [
       elim (cases_eq (get_or columns m nowhere).device d) [
         | inr ne ↦ rw (duals-other d columns duals m ne) before
         | inl on ↦
-            let in_list : taken d (take q columns) < length (duals_of_columns d columns duals m) = rw (duals-length d columns duals m (omega arith)) (taken-front d q m columns (omega arith) (omega arith) e) in
+            let in_list : taken d (take q columns) < length (duals_of_columns d columns duals m) = rw (duals-length d columns duals m (omega arith)) (taken-prefix d q m columns (omega arith) (omega arith) e) in
             rw (duals-here d columns duals m on, get_or_append_left (duals_of_columns d columns duals m) (get_or duals m 0 ∷ []) 0 (taken d (take q columns)) in_list) before
       ]
 ]

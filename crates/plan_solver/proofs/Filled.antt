@@ -160,5 +160,5 @@ taken-le_more d k (suc m) columns le lm = elim (cases_eq k (suc m)) [
 ]
 
 -- a column of the device has fewer places after it than a later one
-pub taken-front : (d k m : ℕ) (columns : List Place) → k < m → m ≤ length columns → (get_or columns k nowhere).device ≡ d → taken d (take k columns) < taken d (take m columns)
-taken-front d k m columns lt le e = omega (arith, taken-here d k columns (omega arith) e, taken-le_more d (suc k) m columns (omega arith) le)
+pub taken-prefix : (d k m : ℕ) (columns : List Place) → k < m → m ≤ length columns → (get_or columns k nowhere).device ≡ d → taken d (take k columns) < taken d (take m columns)
+taken-prefix d k m columns lt le e = omega (arith, taken-here d k columns (omega arith) e, taken-le_more d (suc k) m columns (omega arith) le)

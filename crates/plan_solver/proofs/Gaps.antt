@@ -81,8 +81,8 @@ laid_next devices columns columns' p h lt ea es =
         | inl e ↦ rw (es, e, new, whole) ea
         | inr ne ↦
             let before : c < length columns = omega (arith, below, ap length es, length_push columns p) in
-            let front : take c (columns ++ p ∷ []) ≡ take c columns = take-append-le c columns (p ∷ []) (omega arith) in
-            rw (es, get_or_append_left columns (p ∷ []) nowhere c before, front) (h.places c before)
+            let prefix : take c (columns ++ p ∷ []) ≡ take c columns = take-append-le c columns (p ∷ []) (omega arith) in
+            rw (es, get_or_append_left columns (p ∷ []) nowhere c before, prefix) (h.places c before)
       ];
     }
 

@@ -57,8 +57,8 @@ laid_now devices f columns free columns' h show lt es =
         | inl e ↦ rw (es, e, new, whole, next) refl
         | inr ne ↦
             let before : c < length columns = omega (arith, below, ap length es, length_push columns x) in
-            let front : take c (columns ++ x ∷ []) ≡ take c columns = take-append-le c columns (x ∷ []) (omega arith) in
-            rw (es, get_or_append_left columns (x ∷ []) nowhere c before, front) (h.places c before)
+            let prefix : take c (columns ++ x ∷ []) ≡ take c columns = take-append-le c columns (x ∷ []) (omega arith) in
+            rw (es, get_or_append_left columns (x ∷ []) nowhere c before, prefix) (h.places c before)
       ];
     }
 

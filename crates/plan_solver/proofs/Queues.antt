@@ -6,7 +6,7 @@ use Rattle.plan_solver.specs.declared.costs.Place.{Place}
 use Rattle.plan_solver.specs.Costs.{cost_of, nowhere}
 use Rattle.plan_solver.specs.Answer.{cost_of_columns, queue_of_columns}
 
--- a column on the device adds its job in front
+-- a column on the device adds its job first
 pub queue-here : (device : ℕ) (ids : List ℕ) (columns : List Place) (jobs : List ℕ) (m : ℕ) → (get_or columns m nowhere).device ≡ device → queue_of_columns device ids columns jobs (suc m) ≡ get_or ids (get_or jobs m 0) 0 ∷ queue_of_columns device ids columns jobs m
 queue-here device ids columns jobs m e = rw (eq-eqb (get_or columns m nowhere).device device e) refl
 

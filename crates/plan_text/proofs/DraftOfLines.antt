@@ -67,8 +67,8 @@ lower m n h = grind (arith, nat_tests)
 -- ---- the lines of the reader's state
 
 -- the devices and the classes
-abbrev front : DraftRecord → List PlanLine
-front draft = HeadLine ∷ (device_lines draft.devices ++ classes_lines draft.devices draft.classes)
+abbrev prefix : DraftRecord → List PlanLine
+prefix draft = HeadLine ∷ (device_lines draft.devices ++ classes_lines draft.devices draft.classes)
 
 -- the parts of the class that is being read
 abbrev job_part : Opened → List PlanLine
@@ -79,13 +79,13 @@ way_part devices o = WaitLine o.waits ∷ way_lines devices o.queues
 
 abbrev drafted_at : Stage → DraftRecord → List PlanLine
 drafted_at stages.Start h = []
-drafted_at stages.Devices h = front h
-drafted_at stages.Jobs h = front h ++ job_part h.opened
-drafted_at stages.Ways h = front h ++ (job_part h.opened ++ way_part h.devices h.opened)
-drafted_at stages.JobPrices h = front h ++ (job_part h.opened ++ (way_part h.devices h.opened ++ (TotalLine h.opened.total ∷ [])))
-drafted_at stages.PlacePrices h = front h ++ (job_part h.opened ++ (way_part h.devices h.opened ++ (TotalLine h.opened.total ∷ JobPricesLine h.opened.job_prices ∷ place_price_lines h.devices h.opened.place_prices)))
-drafted_at stages.Stranded h = front h ++ stranded_lines h.stranded
-drafted_at stages.Ended h = front h ++ (stranded_lines h.stranded ++ (EndLine ∷ []))
+drafted_at stages.Devices h = prefix h
+drafted_at stages.Jobs h = prefix h ++ job_part h.opened
+drafted_at stages.Ways h = prefix h ++ (job_part h.opened ++ way_part h.devices h.opened)
+drafted_at stages.JobPrices h = prefix h ++ (job_part h.opened ++ (way_part h.devices h.opened ++ (TotalLine h.opened.total ∷ [])))
+drafted_at stages.PlacePrices h = prefix h ++ (job_part h.opened ++ (way_part h.devices h.opened ++ (TotalLine h.opened.total ∷ JobPricesLine h.opened.job_prices ∷ place_price_lines h.devices h.opened.place_prices)))
+drafted_at stages.Stranded h = prefix h ++ stranded_lines h.stranded
+drafted_at stages.Ended h = prefix h ++ (stranded_lines h.stranded ++ (EndLine ∷ []))
 
 -- ---- it is in range
 
@@ -99,14 +99,14 @@ abbrev RisesBefore : ℕ → List Stranded → ℕ → Type 0
 RisesBefore above [] id = above < id
 RisesBefore above (s ∷ stranded) id = (above < s.job) × RisesBefore s.job stranded id
 
-record IsFront (h : DraftRecord) : Type 0 where
+record IsPrefix (h : DraftRecord) : Type 0 where
   pub few_devices : length h.devices ≤ DEVICES
   pub names : All (λ name. IsTrue (is_name name)) h.devices
   pub classes : All (IsClassInRange (length h.devices)) h.classes
   pub fall : PrioritiesFall (HIGHEST_PRIORITY + 1) h.classes
 
 record IsWithin (h : DraftRecord) : Type 0 where
-  pub front : IsFront h
+  pub prefix : IsPrefix h
   pub priority : IsPriority h.opened.priority
   pub before : FallsBefore (HIGHEST_PRIORITY + 1) h.classes h.opened.priority
   pub below : h.below ≡ h.opened.priority
@@ -121,7 +121,7 @@ record IsWithin (h : DraftRecord) : Type 0 where
   pub few : h.jobs ≤ UNFINISHED_JOBS
 
 record IsOver (h : DraftRecord) : Type 0 where
-  pub front : IsFront h
+  pub prefix : IsPrefix h
   pub stranded : All (λ s. IsJobId s.job) h.stranded
   pub rise : StrandedRise 0 h.stranded
   pub above : (id : ℕ) → h.last < id → RisesBefore 0 h.stranded id
@@ -248,7 +248,7 @@ device_drafted draft new lines name h named tells =
     let none : draft.classes ≡ [] = ap (λ (x : DraftRecord). x.classes) here.1.0 in
     let is : after ≡ with_devices more = ap (λ (x : DraftRecord). let y : DraftRecord = record x { devices = more } in y) here.1.0 in
     let less : length ds < DEVICES = lower (length ds) DEVICES t.0 in
-    let text : lines ++ DeviceLine name ∷ [] ≡ front after =
+    let text : lines ++ DeviceLine name ∷ [] ≡ prefix after =
     ap (λ l. l ++ DeviceLine name ∷ []) here.0
     ∙ ap (λ cs. HeadLine ∷ ((device_lines ds ++ classes_lines ds cs) ++ DeviceLine name ∷ [])) none
     ∙ ap (λ l. HeadLine ∷ (l ++ DeviceLine name ∷ [])) (append-nil (device_lines ds))
@@ -259,8 +259,8 @@ device_drafted draft new lines name h named tells =
 
 -- the draft has all classes, and nothing after them
 record IsClosed (lines : List PlanLine) (h : DraftRecord) : Type 0 where
-  pub text : lines ≡ front h
-  pub front : IsFront h
+  pub text : lines ≡ prefix h
+  pub prefix : IsPrefix h
   pub under : (p : ℕ) → p < h.below → FallsBefore (HIGHEST_PRIORITY + 1) h.classes p
   pub last : h.last ≡ 0
   pub no_stranded : h.stranded ≡ []
@@ -276,7 +276,7 @@ devices_closed lines draft here =
     let n : ℕ = length draft.devices in
     record {
       text = here.0;
-      front = record {
+      prefix = record {
         few_devices = here.1.1;
         names = here.1.2;
         classes = subst (All (IsClassInRange n)) (sym none) (All-nil (IsClassInRange n));
@@ -310,10 +310,10 @@ class_closed lines draft here places problem =
     } in
     record {
       text = here.0 ∙ append_assoc (HeadLine ∷ device_lines ds) (classes_lines ds draft.classes) (class_lines ds c) ∙ ap (λ l. HeadLine ∷ (device_lines ds ++ l)) (sym (classes_more ds draft.classes c));
-      front = record {
-        few_devices = w.front.few_devices;
-        names = w.front.names;
-        classes = all_more (IsClassInRange n) draft.classes c w.front.classes in_range;
+      prefix = record {
+        few_devices = w.prefix.few_devices;
+        names = w.prefix.names;
+        classes = all_more (IsClassInRange n) draft.classes c w.prefix.classes in_range;
         fall = fall_all (HIGHEST_PRIORITY + 1) draft.classes c w.before;
       };
       under = λ p l. falls_more (HIGHEST_PRIORITY + 1) draft.classes c p w.before (omega (arith, l, w.below));
@@ -347,7 +347,7 @@ class_drafted draft new lines priority h ranged tells =
     let t = taken (nat_lt priority whole.below) (ok after) OutOfRange new w.2 in
     let c : IsClosed lines whole = closed_drafted draft whole lines w.1 tells in
     let within : IsWithin after = record {
-      front = record { few_devices = c.front.few_devices; names = c.front.names; classes = c.front.classes; fall = c.front.fall };
+      prefix = record { few_devices = c.prefix.few_devices; names = c.prefix.names; classes = c.prefix.classes; fall = c.prefix.fall };
       priority = ranged;
       before = c.under priority (lower priority whole.below t.0);
       below = refl;
@@ -377,7 +377,7 @@ job_drafted draft new lines id times h ranged tells =
     let here = tells_at stages.Jobs lines draft b.0 tells in
     let w : IsWithin draft = here.1.0 in
     let within : IsWithin after = record {
-      front = record { few_devices = w.front.few_devices; names = w.front.names; classes = w.front.classes; fall = w.front.fall };
+      prefix = record { few_devices = w.prefix.few_devices; names = w.prefix.names; classes = w.prefix.classes; fall = w.prefix.fall };
       priority = w.priority;
       before = w.before;
       below = w.below;
@@ -393,8 +393,8 @@ job_drafted draft new lines id times h ranged tells =
     } in
     let text : lines ++ JobLine id times ∷ [] ≡ drafted_at stages.Jobs after =
     ap (λ l. l ++ JobLine id times ∷ []) here.0
-    ∙ behind1 (front draft) (job_part o) (JobLine id times)
-    ∙ ap (λ l. front draft ++ (ClassLine o.priority ∷ l)) (sym (jobs_more o.ids o.rows id times w.rows)) in
+    ∙ behind1 (prefix draft) (job_part o) (JobLine id times)
+    ∙ ap (λ l. prefix draft ++ (ClassLine o.priority ∷ l)) (sym (jobs_more o.ids o.rows id times w.rows)) in
     let facts : TellsAt stages.Jobs (lines ++ JobLine id times ∷ []) after = (text, (within, here.1.1, here.1.2)) in
     subst (WouldDraft lines (JobLine id times)) (ok_is after new t.1) (subst (λ s. TellsAt s (lines ++ JobLine id times ∷ []) after) (sym stage) facts)
 
@@ -406,12 +406,12 @@ wait_drafted draft new lines waits h tells =
     let b : (is_at draft stages.Jobs ≡ true) × (one_each draft waits ≡ true) = and_parts (is_at draft stages.Jobs) (one_each draft waits) t.0 in
     let here = tells_at stages.Jobs lines draft b.0 tells in
     let w : IsWithin draft = here.1.0 in
-    let within : IsWithin after = record { front = record { few_devices = w.front.few_devices; names = w.front.names; classes = w.front.classes; fall = w.front.fall }; priority = w.priority; before = w.before; below = w.below; ids = w.ids; rows = w.rows; queues = w.queues; total = w.total; job_prices = w.job_prices; place_prices = w.place_prices; no_stranded = w.no_stranded; count = w.count; few = w.few } in
+    let within : IsWithin after = record { prefix = record { few_devices = w.prefix.few_devices; names = w.prefix.names; classes = w.prefix.classes; fall = w.prefix.fall }; priority = w.priority; before = w.before; below = w.below; ids = w.ids; rows = w.rows; queues = w.queues; total = w.total; job_prices = w.job_prices; place_prices = w.place_prices; no_stranded = w.no_stranded; count = w.count; few = w.few } in
     let no_ways : way_lines draft.devices draft.opened.queues ≡ [] = ap (way_lines draft.devices) here.1.1 ∙ ways_none draft.devices in
     let text : lines ++ WaitLine waits ∷ [] ≡ drafted_at stages.Ways after =
     ap (λ l. l ++ WaitLine waits ∷ []) here.0
-    ∙ behind1 (front draft) (job_part draft.opened) (WaitLine waits)
-    ∙ ap (λ l. front draft ++ (job_part draft.opened ++ (WaitLine waits ∷ l))) (sym no_ways) in
+    ∙ behind1 (prefix draft) (job_part draft.opened) (WaitLine waits)
+    ∙ ap (λ l. prefix draft ++ (job_part draft.opened ++ (WaitLine waits ∷ l))) (sym no_ways) in
     let facts : WouldDraft lines (WaitLine waits) after = (text, (within, eqb-true (length waits) (length draft.devices) b.1, here.1.2)) in
     subst (WouldDraft lines (WaitLine waits)) (ok_is after new t.1) facts
 
@@ -432,12 +432,12 @@ way_drafted draft new lines name jobs h ranged tells =
     let here = tells_at stages.Ways lines draft b.0 tells in
     let w : IsWithin draft = here.1.0 in
     let device = named_at draft.devices (length o.queues) name b.1 in
-    let within : IsWithin after = record { front = record { few_devices = w.front.few_devices; names = w.front.names; classes = w.front.classes; fall = w.front.fall }; priority = w.priority; before = w.before; below = w.below; ids = w.ids; rows = w.rows; queues = all_more (All IsJobId) o.queues jobs w.queues ranged; total = w.total; job_prices = w.job_prices; place_prices = w.place_prices; no_stranded = w.no_stranded; count = w.count; few = w.few } in
+    let within : IsWithin after = record { prefix = record { few_devices = w.prefix.few_devices; names = w.prefix.names; classes = w.prefix.classes; fall = w.prefix.fall }; priority = w.priority; before = w.before; below = w.below; ids = w.ids; rows = w.rows; queues = all_more (All IsJobId) o.queues jobs w.queues ranged; total = w.total; job_prices = w.job_prices; place_prices = w.place_prices; no_stranded = w.no_stranded; count = w.count; few = w.few } in
     let text : lines ++ WayLine name jobs ∷ [] ≡ drafted_at stages.Ways after =
     ap (λ l. l ++ WayLine name jobs ∷ []) here.0
-    ∙ behind2 (front draft) (job_part o) (way_part draft.devices o) (WayLine name jobs)
-    ∙ ap (λ n. front draft ++ (job_part o ++ (WaitLine o.waits ∷ (way_lines draft.devices o.queues ++ WayLine n jobs ∷ [])))) (sym device.1)
-    ∙ ap (λ l. front draft ++ (job_part o ++ (WaitLine o.waits ∷ l))) (sym (ways_more draft.devices o.queues jobs device.0)) in
+    ∙ behind2 (prefix draft) (job_part o) (way_part draft.devices o) (WayLine name jobs)
+    ∙ ap (λ n. prefix draft ++ (job_part o ++ (WaitLine o.waits ∷ (way_lines draft.devices o.queues ++ WayLine n jobs ∷ [])))) (sym device.1)
+    ∙ ap (λ l. prefix draft ++ (job_part o ++ (WaitLine o.waits ∷ l))) (sym (ways_more draft.devices o.queues jobs device.0)) in
     let facts : TellsAt stages.Ways (lines ++ WayLine name jobs ∷ []) after = (text, (within, here.1.1, here.1.2)) in
     subst (WouldDraft lines (WayLine name jobs)) (ok_is after new t.1) (subst (λ s. TellsAt s (lines ++ WayLine name jobs ∷ []) after) (sym stage) facts)
 
@@ -450,8 +450,8 @@ total_drafted draft new lines total h ranged tells =
     let b : (is_at draft stages.Ways ≡ true) × (one_each draft draft.opened.queues ≡ true) = and_parts (is_at draft stages.Ways) (one_each draft draft.opened.queues) t.0 in
     let here = tells_at stages.Ways lines draft b.0 tells in
     let w : IsWithin draft = here.1.0 in
-    let within : IsWithin after = record { front = record { few_devices = w.front.few_devices; names = w.front.names; classes = w.front.classes; fall = w.front.fall }; priority = w.priority; before = w.before; below = w.below; ids = w.ids; rows = w.rows; queues = w.queues; total = ranged; job_prices = w.job_prices; place_prices = w.place_prices; no_stranded = w.no_stranded; count = w.count; few = w.few } in
-    let text : lines ++ TotalLine total ∷ [] ≡ drafted_at stages.JobPrices after = ap (λ l. l ++ TotalLine total ∷ []) here.0 ∙ behind2 (front draft) (job_part o) (way_part draft.devices o) (TotalLine total) in
+    let within : IsWithin after = record { prefix = record { few_devices = w.prefix.few_devices; names = w.prefix.names; classes = w.prefix.classes; fall = w.prefix.fall }; priority = w.priority; before = w.before; below = w.below; ids = w.ids; rows = w.rows; queues = w.queues; total = ranged; job_prices = w.job_prices; place_prices = w.place_prices; no_stranded = w.no_stranded; count = w.count; few = w.few } in
+    let text : lines ++ TotalLine total ∷ [] ≡ drafted_at stages.JobPrices after = ap (λ l. l ++ TotalLine total ∷ []) here.0 ∙ behind2 (prefix draft) (job_part o) (way_part draft.devices o) (TotalLine total) in
     let facts : WouldDraft lines (TotalLine total) after = (text, (within, here.1.1, eqb-true (length o.queues) (length draft.devices) b.1, here.1.2)) in
     subst (WouldDraft lines (TotalLine total)) (ok_is after new t.1) facts
 
@@ -463,12 +463,12 @@ job_prices_drafted draft new lines prices h ranged tells =
     let t = taken (is_at draft stages.JobPrices) (ok after) BadLine new h in
     let here = tells_at stages.JobPrices lines draft t.0 tells in
     let w : IsWithin draft = here.1.0 in
-    let within : IsWithin after = record { front = record { few_devices = w.front.few_devices; names = w.front.names; classes = w.front.classes; fall = w.front.fall }; priority = w.priority; before = w.before; below = w.below; ids = w.ids; rows = w.rows; queues = w.queues; total = w.total; job_prices = ranged; place_prices = w.place_prices; no_stranded = w.no_stranded; count = w.count; few = w.few } in
+    let within : IsWithin after = record { prefix = record { few_devices = w.prefix.few_devices; names = w.prefix.names; classes = w.prefix.classes; fall = w.prefix.fall }; priority = w.priority; before = w.before; below = w.below; ids = w.ids; rows = w.rows; queues = w.queues; total = w.total; job_prices = ranged; place_prices = w.place_prices; no_stranded = w.no_stranded; count = w.count; few = w.few } in
     let no_places : place_price_lines draft.devices o.place_prices ≡ [] = ap (place_price_lines draft.devices) here.1.3 ∙ places_none draft.devices in
     let text : lines ++ JobPricesLine prices ∷ [] ≡ drafted_at stages.PlacePrices after =
     ap (λ l. l ++ JobPricesLine prices ∷ []) here.0
-    ∙ behind3 (front draft) (job_part o) (way_part draft.devices o) (TotalLine o.total ∷ []) (JobPricesLine prices)
-    ∙ ap (λ l. front draft ++ (job_part o ++ (way_part draft.devices o ++ (TotalLine o.total ∷ JobPricesLine prices ∷ l)))) (sym no_places) in
+    ∙ behind3 (prefix draft) (job_part o) (way_part draft.devices o) (TotalLine o.total ∷ []) (JobPricesLine prices)
+    ∙ ap (λ l. prefix draft ++ (job_part o ++ (way_part draft.devices o ++ (TotalLine o.total ∷ JobPricesLine prices ∷ l)))) (sym no_places) in
     let facts : WouldDraft lines (JobPricesLine prices) after = (text, (within, here.1.1, here.1.2)) in
     subst (WouldDraft lines (JobPricesLine prices)) (ok_is after new t.1) facts
 
@@ -483,11 +483,11 @@ place_prices_drafted draft new lines name prices h ranged tells =
     let here = tells_at stages.PlacePrices lines draft b.0 tells in
     let w : IsWithin draft = here.1.0 in
     let device = named_at draft.devices (length o.place_prices) name b.1 in
-    let within : IsWithin after = record { front = record { few_devices = w.front.few_devices; names = w.front.names; classes = w.front.classes; fall = w.front.fall }; priority = w.priority; before = w.before; below = w.below; ids = w.ids; rows = w.rows; queues = w.queues; total = w.total; job_prices = w.job_prices; place_prices = all_more (All IsPrice) o.place_prices prices w.place_prices ranged; no_stranded = w.no_stranded; count = w.count; few = w.few } in
-    let totals : List (PlanLine) → List PlanLine = λ l. front draft ++ (job_part o ++ (way_part draft.devices o ++ (TotalLine o.total ∷ JobPricesLine o.job_prices ∷ l))) in
+    let within : IsWithin after = record { prefix = record { few_devices = w.prefix.few_devices; names = w.prefix.names; classes = w.prefix.classes; fall = w.prefix.fall }; priority = w.priority; before = w.before; below = w.below; ids = w.ids; rows = w.rows; queues = w.queues; total = w.total; job_prices = w.job_prices; place_prices = all_more (All IsPrice) o.place_prices prices w.place_prices ranged; no_stranded = w.no_stranded; count = w.count; few = w.few } in
+    let totals : List (PlanLine) → List PlanLine = λ l. prefix draft ++ (job_part o ++ (way_part draft.devices o ++ (TotalLine o.total ∷ JobPricesLine o.job_prices ∷ l))) in
     let text : lines ++ PlacePricesLine name prices ∷ [] ≡ drafted_at stages.PlacePrices after =
     ap (λ l. l ++ PlacePricesLine name prices ∷ []) here.0
-    ∙ behind3 (front draft) (job_part o) (way_part draft.devices o) (TotalLine o.total ∷ JobPricesLine o.job_prices ∷ place_price_lines draft.devices o.place_prices) (PlacePricesLine name prices)
+    ∙ behind3 (prefix draft) (job_part o) (way_part draft.devices o) (TotalLine o.total ∷ JobPricesLine o.job_prices ∷ place_price_lines draft.devices o.place_prices) (PlacePricesLine name prices)
     ∙ ap (λ n. totals (place_price_lines draft.devices o.place_prices ++ PlacePricesLine n prices ∷ [])) (sym device.1)
     ∙ ap totals (sym (places_more draft.devices o.place_prices prices device.0)) in
     let facts : TellsAt stages.PlacePrices (lines ++ PlacePricesLine name prices ∷ []) after = (text, (within, here.1.1, here.1.2)) in
@@ -496,13 +496,13 @@ place_prices_drafted draft new lines name prices h ranged tells =
 -- ---- the stranded jobs and the end
 
 abbrev OverDrafted : List PlanLine → DraftRecord → Type 0
-OverDrafted lines h = (lines ≡ front h ++ stranded_lines h.stranded) × IsOver h
+OverDrafted lines h = (lines ≡ prefix h ++ stranded_lines h.stranded) × IsOver h
 
 closed_over : (lines : List PlanLine) (h : DraftRecord) → IsClosed lines h → OverDrafted lines h
 closed_over lines h c = (
-  c.text ∙ sym (append-nil (front h)) ∙ ap (λ ss. front h ++ stranded_lines ss) (sym c.no_stranded),
+  c.text ∙ sym (append-nil (prefix h)) ∙ ap (λ ss. prefix h ++ stranded_lines ss) (sym c.no_stranded),
   record {
-    front = c.front;
+    prefix = c.prefix;
     stranded = subst (All (λ s. IsJobId s.job)) (sym c.no_stranded) (All-nil (λ (s : Stranded). IsJobId s.job));
     rise = subst (StrandedRise 0) (sym c.no_stranded) tt;
     above = λ id l. subst (λ ss. RisesBefore 0 ss id) (sym c.no_stranded) (subst (λ n. n < id) c.last l);
@@ -530,7 +530,7 @@ stranded_drafted draft new lines s h ranged tells =
     let o : IsOver whole = over.1 in
     let before : RisesBefore 0 whole.stranded s.job = o.above s.job (lower whole.last s.job m.1) in
     let later : IsOver after = record {
-      front = record { few_devices = o.front.few_devices; names = o.front.names; classes = o.front.classes; fall = o.front.fall };
+      prefix = record { few_devices = o.prefix.few_devices; names = o.prefix.names; classes = o.prefix.classes; fall = o.prefix.fall };
       stranded = all_more (λ (x : Stranded). IsJobId x.job) whole.stranded s o.stranded ranged;
       rise = rise_all 0 whole.stranded s before;
       above = λ id l. rises_more 0 whole.stranded s id before l;
@@ -538,7 +538,7 @@ stranded_drafted draft new lines s h ranged tells =
       few = omega (arith, lower whole.jobs UNFINISHED_JOBS m.0);
     } in
     let text : lines ++ StrandedLine s ∷ [] ≡ drafted_at stages.Stranded after =
-    ap (λ l. l ++ StrandedLine s ∷ []) over.0 ∙ behind1 (front whole) (stranded_lines whole.stranded) (StrandedLine s) ∙ ap (λ l. front whole ++ l) (sym (stranded_more whole.stranded s)) in
+    ap (λ l. l ++ StrandedLine s ∷ []) over.0 ∙ behind1 (prefix whole) (stranded_lines whole.stranded) (StrandedLine s) ∙ ap (λ l. prefix whole ++ l) (sym (stranded_more whole.stranded s)) in
     let facts : WouldDraft lines (StrandedLine s) after = (text, later) in
     subst (WouldDraft lines (StrandedLine s)) (ok_is after new t.1) facts
 
@@ -550,8 +550,8 @@ end_drafted draft new lines h tells =
     let after : DraftRecord = record whole { stage = stages.Ended } in
     let over : OverDrafted lines whole = over_drafted draft whole lines w.1 tells in
     let o : IsOver whole = over.1 in
-    let later : IsOver after = record { front = record { few_devices = o.front.few_devices; names = o.front.names; classes = o.front.classes; fall = o.front.fall }; stranded = o.stranded; rise = o.rise; above = o.above; count = o.count; few = o.few } in
-    let text : lines ++ EndLine ∷ [] ≡ drafted_at stages.Ended after = ap (λ l. l ++ EndLine ∷ []) over.0 ∙ behind1 (front whole) (stranded_lines whole.stranded) EndLine in
+    let later : IsOver after = record { prefix = record { few_devices = o.prefix.few_devices; names = o.prefix.names; classes = o.prefix.classes; fall = o.prefix.fall }; stranded = o.stranded; rise = o.rise; above = o.above; count = o.count; few = o.few } in
+    let text : lines ++ EndLine ∷ [] ≡ drafted_at stages.Ended after = ap (λ l. l ++ EndLine ∷ []) over.0 ∙ behind1 (prefix whole) (stranded_lines whole.stranded) EndLine in
     let facts : WouldDraft lines EndLine after = (text, later) in
     subst (WouldDraft lines EndLine) (ok_is after new w.2) facts
 
@@ -624,10 +624,10 @@ ended_drafted draft said at tells =
     let here = tells_at stages.Ended said draft at tells in
     let o : IsOver draft = here.1 in (
       record {
-        few_devices = o.front.few_devices;
-        names = o.front.names;
-        classes = o.front.classes;
-        fall = o.front.fall;
+        few_devices = o.prefix.few_devices;
+        names = o.prefix.names;
+        classes = o.prefix.classes;
+        fall = o.prefix.fall;
         stranded = o.stranded;
         rise = o.rise;
         few_jobs = omega (arith, o.count, o.few);

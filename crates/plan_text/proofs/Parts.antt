@@ -8,10 +8,10 @@ unfolding plan_in plan_from ended
 no_parts f [] e = refl
 no_parts f (part ∷ parts) e = absurd (omega (arith, e))
 
-front_of : {A : Type 0} (f : A → List ℕ) (n : ℕ) (parts : List A) → take n (map f parts) ≡ map f (take n parts)
-front_of f zero parts = refl
-front_of f (suc n) [] = refl
-front_of f (suc n) (part ∷ parts) = rw (front_of f n parts) refl
+prefix_of : {A : Type 0} (f : A → List ℕ) (n : ℕ) (parts : List A) → take n (map f parts) ≡ map f (take n parts)
+prefix_of f zero parts = refl
+prefix_of f (suc n) [] = refl
+prefix_of f (suc n) (part ∷ parts) = rw (prefix_of f n parts) refl
 
 last_of : {A : Type 0} (f : A → List ℕ) (n : ℕ) (parts : List A) (d : A) → n < length parts → slice_index_or (map f parts) n [] ≡ f (get_or parts n d)
 last_of f n [] d l = absurd (omega (arith, l))
@@ -26,4 +26,4 @@ pub some_parts : {A : Type 0} (f : A → List ℕ) (parts : List A) (d : A) → 
     plan_in (map f parts) ≡ plan_from (map f (take (length parts - 1) parts)) (f (get_or parts (length parts - 1) d))
 unfolding plan_in
 some_parts f parts d l =
-    rw (length_of f parts, front_of f (length parts - 1) parts, last_of f (length parts - 1) parts d (omega (arith, l))) refl
+    rw (length_of f parts, prefix_of f (length parts - 1) parts, last_of f (length parts - 1) parts d (omega (arith, l))) refl

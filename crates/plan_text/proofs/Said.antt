@@ -236,9 +236,9 @@ lines_said draft (said ∷ lines) h =
     ap (λ (r : Result DraftRecord TextFault). r >>= λ then'. lines_next then' (map body_of lines)) (line_said draft said h.0)
     ∙ each_then (plan_line_next draft said) (λ then'. lines_next then' (map body_of lines)) (λ then'. plan_lines_next then' lines) (λ then'. lines_said then' lines h.1)
 
-front_is : (xs ys : List (List ℕ)) → take (length xs) (xs ++ ys) ≡ xs
-front_is [] ys = refl
-front_is (x ∷ xs) ys = ap (λ rest. x ∷ rest) (front_is xs ys)
+prefix_is : (xs ys : List (List ℕ)) → take (length xs) (xs ++ ys) ≡ xs
+prefix_is [] ys = refl
+prefix_is (x ∷ xs) ys = ap (λ rest. x ∷ rest) (prefix_is xs ys)
 
 last_is : (xs : List (List ℕ)) (x : List ℕ) → slice_index_or (xs ++ x ∷ []) (length xs) [] ≡ x
 last_is [] x = refl
@@ -253,6 +253,6 @@ text_said lines h =
     let count : length all - 1 ≡ length whole = omega (arith, length-append whole ([] ∷ [])) in
     ap plan_in (parts_are lines h)
     ∙ ap (λ n. plan_from (take n all) (slice_index_or all n [])) count
-    ∙ ap (λ ls. plan_from ls (slice_index_or all (length whole) [])) (front_is whole ([] ∷ []))
+    ∙ ap (λ ls. plan_from ls (slice_index_or all (length whole) [])) (prefix_is whole ([] ∷ []))
     ∙ ap (λ rest. plan_from whole rest) (last_is whole [])
     ∙ ap (λ (r : Result DraftRecord TextFault). r >>= λ draft. ended draft []) (lines_said (empty_draft DEFAULT_PRIORITY) lines h)

@@ -14,6 +14,6 @@ abbrev pub Gives : {X Y : Type 0} → (X → Y) → Result X ReadError → Resul
 Gives view (Ok x) read = read ≡ Ok (view x)
 Gives view (Err error) read = Fails error read
 
--- the values of the reading, with these in front
-abbrev pub with_front : {X : Type 0} → List X → Result (List X) TextFault → Result (List X) TextFault
-with_front front read = read >>= λ xs. Ok (front ++ xs)
+-- the values of the reading, after these
+abbrev pub with_prefix : {X : Type 0} → List X → Result (List X) TextFault → Result (List X) TextFault
+with_prefix prefix read = read >>= λ xs. Ok (prefix ++ xs)

@@ -1,10 +1,10 @@
-//! Streams that come in two pieces, cut at each byte in turn: what comes of them stays the same.
+//! Streams that come in two segments, cut at each byte in turn: what comes of them stays the same.
 
 use program::ExitStatus;
 use replay::run_replay;
 use std::alloc::{AllocError, Global};
 
-/// An example of one connection, whose peer sends all in one piece.
+/// An example of one connection, whose peer sends all in one segment.
 pub struct CutStream {
     pub input: &'static str,
     pub output: &'static str,
@@ -33,7 +33,7 @@ pub const STREAMS: [CutStream; 5] = [
     },
 ];
 
-/// How the line begins that has all that the peer sends, as that of each of its pieces.
+/// How the line begins that has all that the peer sends, as that of each of its segments.
 const SENT: &[u8] = b"in 1 ";
 
 /// How a line begins that has bytes that the peer gets.
@@ -49,8 +49,8 @@ fn put_line(text: &mut Vec<u8>, line: &[u8]) -> Result<(), AllocError> {
 /// Appends a line, which is cut in two after so many of its characters if it has all that the peer sends.
 fn put_cut(text: &mut Vec<u8>, line: &[u8], place: usize) -> Result<(), AllocError> {
     match line.split_at_checked(place) {
-        Some((front, back)) if line.starts_with(SENT) => {
-            put_line(text, front)?;
+        Some((prefix, back)) if line.starts_with(SENT) => {
+            put_line(text, prefix)?;
             text.extend_from_slice(SENT)?;
             put_line(text, back)
         }
@@ -60,7 +60,7 @@ fn put_cut(text: &mut Vec<u8>, line: &[u8], place: usize) -> Result<(), AllocErr
 
 /// The trace, in which the line that has all that the peer sends is cut in two after so many of its
 /// characters.
-fn in_two_pieces(alloc: Global, trace: &[u8], place: usize) -> Result<Vec<u8>, AllocError> {
+fn in_two_segments(alloc: Global, trace: &[u8], place: usize) -> Result<Vec<u8>, AllocError> {
     let mut text = Vec::new(alloc);
     for line in trace.trim_ascii_end().split(|byte| *byte == b'\n') {
         put_cut(&mut text, line, place)?;
@@ -108,11 +108,15 @@ fn sent_in(trace: &[u8]) -> usize {
 }
 
 /// Whether the output is exactly this, wherever the bytes are split in two.
-pub fn stays_in_two_pieces(alloc: Global, trace: &[u8], wanted: &[u8]) -> Result<bool, AllocError> {
+pub fn stays_in_two_segments(
+    alloc: Global,
+    trace: &[u8],
+    wanted: &[u8],
+) -> Result<bool, AllocError> {
     let wanted = joined(alloc, wanted)?;
     for count in 1..sent_in(trace) {
         let place = count.saturating_mul(2).saturating_add(SENT.len());
-        let cut = in_two_pieces(alloc, trace, place)?;
+        let cut = in_two_segments(alloc, trace, place)?;
         match joined_output(alloc, &cut)? {
             Some(found) if found == wanted => {}
             _ => return Ok(false),

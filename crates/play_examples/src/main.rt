@@ -16,7 +16,7 @@ mod pages;
 mod texts;
 
 use crate::accounts::{ACCOUNTED, is_accounted_so};
-use crate::cuts::{CutStream, STREAMS, stays_in_two_pieces};
+use crate::cuts::{CutStream, STREAMS, stays_in_two_segments};
 use crate::days::{
     COMPARED, COMPARED_DAYS, CROWDED, DAYS, DRAWN, DrawnDay, SETS, SimulatedDay, compared_texts,
     is_compared, is_drawn_so, is_played_so,
@@ -203,10 +203,10 @@ fn compare_sets(rt: &HostRuntime) -> io::Result<bool> {
 fn is_the_same_when_cut(rt: &HostRuntime, stream: &CutStream) -> io::Result<bool> {
     let input = fs::read(rt, stream.input)?;
     let wanted = fs::read(rt, stream.output)?;
-    Ok(stays_in_two_pieces(rt.alloc(), &input, &wanted)?)
+    Ok(stays_in_two_segments(rt.alloc(), &input, &wanted)?)
 }
 
-/// Plays the streams in two pieces, cut at each byte: whether each is as it must be.
+/// Plays the streams in two segments, cut at each byte: whether each is as it must be.
 fn play_cuts(rt: &HostRuntime) -> io::Result<bool> {
     let mut all = true;
     for stream in &STREAMS {

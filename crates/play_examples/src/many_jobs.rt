@@ -44,10 +44,10 @@ plan 50:78717876577200000\n\
 ";
 
 /// How many lines of the output begin so.
-fn lines_with(output: &[u8], front: &[u8]) -> usize {
+fn lines_with(output: &[u8], prefix: &[u8]) -> usize {
     output
         .split(|byte| *byte == b'\n')
-        .filter(|line| line.starts_with(front))
+        .filter(|line| line.starts_with(prefix))
         .count()
 }
 

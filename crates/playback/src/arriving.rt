@@ -1,5 +1,5 @@
 //! The lines of a recording whose bytes arrive in chunks.
-use recordings::octets_behind;
+use recordings::octets_after;
 use std::alloc::{AllocError, Global};
 use text::{Unread, find_byte};
 
@@ -15,7 +15,7 @@ pub(crate) struct Arriving {
 /// arrived. Another byte in the place of the line feed belongs to the line.
 fn length_of(bytes: &[u8]) -> Option<usize> {
     let end = find_byte(bytes, b'\n')?;
-    let Some(count) = octets_behind(bytes.get(..end)?) else {
+    let Some(count) = octets_after(bytes.get(..end)?) else {
         return Some(end);
     };
     let whole = end.saturating_add(1).saturating_add(count);

@@ -11,7 +11,7 @@ use traces::split_settings;
 const MOST: usize = 1_048_576;
 
 /// The number of bytes that one read asks for.
-const PIECE: usize = 65_536;
+const SEGMENT: usize = 65_536;
 
 /// The beginning of the first line after the settings, in a recorded day.
 const START: &[u8] = b"recorded ";
@@ -26,7 +26,7 @@ pub struct Peeked {
 /// A reader of a trace whose first bytes were already read.
 #[derive(Drop)]
 pub struct Whole<'a, R: Read> {
-    front: Vec<u8>,
+    prefix: Vec<u8>,
     /// The number of the first bytes that were given again.
     given: usize,
     rest: &'a mut R,
@@ -48,10 +48,10 @@ fn kind_of(bytes: &[u8]) -> Option<bool> {
 /// or out of memory.
 pub fn peek<R: Read>(alloc: Global, reader: &mut R) -> io::Result<Peeked> {
     let mut bytes = Vec::new(alloc);
-    let mut piece = vec![in alloc; 0; PIECE]?;
+    let mut segment = vec![in alloc; 0; SEGMENT]?;
     for _ in 0..MOST {
-        let count = fill(reader, &mut piece)?;
-        bytes.extend_from_slice(&piece[..count])?;
+        let count = fill(reader, &mut segment)?;
+        bytes.extend_from_slice(&segment[..count])?;
         if let Some(recorded) = kind_of(&bytes) {
             return Ok(Peeked { bytes, recorded });
         }
@@ -67,9 +67,9 @@ pub fn peek<R: Read>(alloc: Global, reader: &mut R) -> io::Result<Peeked> {
 
 impl<'a, R: Read> Whole<'a, R> {
     /// Creates the reader of these first bytes and the bytes that follow.
-    pub fn new(front: Vec<u8>, rest: &'a mut R) -> Whole<'a, R> {
+    pub fn new(prefix: Vec<u8>, rest: &'a mut R) -> Whole<'a, R> {
         Whole {
-            front,
+            prefix,
             given: 0,
             rest,
         }
@@ -78,7 +78,7 @@ impl<'a, R: Read> Whole<'a, R> {
 
 impl<R: Read> Read for Whole<'_, R> {
     fn read(&mut self, buffer: &mut [u8]) -> io::Result<usize> {
-        let left = &self.front[min(self.given, self.front.len())..];
+        let left = &self.prefix[min(self.given, self.prefix.len())..];
         if left.is_empty() {
             return self.rest.read(buffer);
         }

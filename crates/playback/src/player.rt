@@ -105,8 +105,8 @@ fn put_dated(
 ) -> Result<(), AllocError> {
     let millis = moment.millis();
     for line in text.split_inclusive(|byte| *byte == b'\n') {
-        let front = format!(in alloc; "{millis} ")?;
-        output.extend_from_slice(front.as_bytes())?;
+        let prefix = format!(in alloc; "{millis} ")?;
+        output.extend_from_slice(prefix.as_bytes())?;
         output.extend_from_slice(line)?;
     }
     Ok(())

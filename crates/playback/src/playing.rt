@@ -76,7 +76,7 @@ impl From<DayFault> for EarlyEnd {
 
 /// The lines before the turns.
 #[derive(Drop)]
-enum Front {
+enum Preamble {
     /// The text of the settings.
     Settings(Vec<u8>),
     /// The file continues another file.
@@ -86,23 +86,23 @@ enum Front {
 }
 
 /// Reads the lines before the turns.
-fn read_front<R: Read>(alloc: Global, lines: &mut LineReader<'_, R>) -> io::Result<Front> {
+fn read_preamble<R: Read>(alloc: Global, lines: &mut LineReader<'_, R>) -> io::Result<Preamble> {
     let mut settings = Vec::new(alloc);
     let mut line = Vec::new(alloc);
     for number in 1..u64::MAX {
         if settings.len() > Limits::INPUT_BYTES || !lines.read(&mut line)? {
-            return Ok(Front::Neither);
+            return Ok(Preamble::Neither);
         }
         if line.as_slice() == b".".as_slice() {
-            return Ok(Front::Settings(settings));
+            return Ok(Preamble::Settings(settings));
         }
         if number == 1 && line.starts_with(GOES_ON) {
-            return Ok(Front::GoesOn);
+            return Ok(Preamble::GoesOn);
         }
         settings.extend_from_slice(&line)?;
         settings.extend_from_slice(b"\n")?;
     }
-    Ok(Front::Neither)
+    Ok(Preamble::Neither)
 }
 
 /// The id of the first job, if a line is the first of a recording.
@@ -128,16 +128,16 @@ fn read_beginning<R: Read>(
     file: &str,
     lines: &mut LineReader<'_, R>,
 ) -> Result<(Vec<u8>, JobId), EarlyEnd> {
-    let front = read_front(alloc, lines)?;
-    let first = match &front {
-        Front::Settings(_) => read_first(alloc, lines)?,
+    let preamble = read_preamble(alloc, lines)?;
+    let first = match &preamble {
+        Preamble::Settings(_) => read_first(alloc, lines)?,
         _ => None,
     };
-    let fault = match (front, first) {
-        (Front::Settings(text), Some(first)) => return Ok((text, first)),
-        (Front::Settings(_), None) => DayFault::no_start(alloc, file),
-        (Front::GoesOn, _) => DayFault::goes_on(alloc, file),
-        (Front::Neither, _) => DayFault::no_stop(alloc, file),
+    let fault = match (preamble, first) {
+        (Preamble::Settings(text), Some(first)) => return Ok((text, first)),
+        (Preamble::Settings(_), None) => DayFault::no_start(alloc, file),
+        (Preamble::GoesOn, _) => DayFault::goes_on(alloc, file),
+        (Preamble::Neither, _) => DayFault::no_stop(alloc, file),
     };
     Err(EarlyEnd::from(fault))
 }

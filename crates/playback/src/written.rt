@@ -2,7 +2,7 @@
 ghost use Rattle.std.specs.Prelude.{◌<◌, IfSome, length};
 
 use base_types::{JobId, Moment};
-use recordings::{Entry, GOES_ON, octets_behind, read_entry, read_start};
+use recordings::{Entry, GOES_ON, octets_after, read_entry, read_start};
 use std::alloc::{AllocError, Global};
 use traces::{CutLine, next_line, split_settings};
 use wires::{Door, WireId};
@@ -108,8 +108,8 @@ impl TraceWriter {
     /// Ends a turn. A turn without lines is written as a tick.
     fn end_turn(&mut self, moment: Moment) -> Result<(), AllocError> {
         let millis = moment.millis();
-        let front = format!(in self.alloc; "at {millis}\n")?;
-        self.text.extend_from_slice(front.as_bytes())?;
+        let prefix = format!(in self.alloc; "at {millis}\n")?;
+        self.text.extend_from_slice(prefix.as_bytes())?;
         if self.turn.is_empty() {
             self.text.extend_from_slice(b"tick\n")?;
         } else {
@@ -150,7 +150,7 @@ fn next_whole(text: &[u8]) -> Option<CutLine<'_>>
     ensures { IfSome result (λ cut. length cut.later.now < length text.now) }
 {
     let cut = next_line(text)?;
-    let Some(count) = octets_behind(cut.line) else {
+    let Some(count) = octets_after(cut.line) else {
         return Some(cut);
     };
     match cut.later.get(count) {
@@ -189,17 +189,17 @@ pub fn as_written(alloc: Global, trace: &[u8]) -> Result<Written, AllocError> {
     }
     match split_settings(trace) {
         Some(cut) if is_recorded(cut.lines) => {
-            let front = trace.len().saturating_sub(cut.lines.len());
-            write_lines(alloc, &trace[..front], cut.lines, cut.stop as u64)
+            let prefix = trace.len().saturating_sub(cut.lines.len());
+            write_lines(alloc, &trace[..prefix], cut.lines, cut.stop as u64)
         }
         _ => Ok(Written::Already),
     }
 }
 
-/// Writes the lines after the prefix `front`. `before` lines are before them.
+/// Writes the lines after `prefix`. `before` lines are before them.
 fn write_lines(
     alloc: Global,
-    front: &[u8],
+    prefix: &[u8],
     lines: &[u8],
     before: u64,
 ) -> Result<Written, AllocError> {
@@ -210,7 +210,7 @@ fn write_lines(
         peers: Vec::new(alloc),
         came: 0,
     };
-    writer.text.extend_from_slice(front)?;
+    writer.text.extend_from_slice(prefix)?;
     let mut rest = lines;
     let mut passed = before;
     while let Some(cut) = next_whole(rest) {

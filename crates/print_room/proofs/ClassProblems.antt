@@ -78,7 +78,7 @@ pub jobs_able : (s : State) (p : ℕ) (jobs : List JobOfClass) → jobs ≡ map 
 jobs_able s p jobs is = subst (λ (js : List JobOfClass). All (λ job. HasAbleDevice job.needs (printer_of job.needs (sets_of s.settings)) s.devices) js) (sym is) (class_able s p)
 
 module _ (s : State) (spool : IsSpool s.spool) where
-  -- the ready jobs stand by rising id
+  -- the ready jobs are ordered by rising id
   pub ready_rises : RisesFrom 0 (map (λ j. j.id) (ready_of s))
   ready_rises = ready_ids_rise s.spool spool s.paused
 

@@ -77,16 +77,16 @@ module _ (now place : ℕ) (report : Report) (d : Device) (old : State) (found :
       same (Some one) is (Some change) = (others_reported one change now old.spool.jobs id (λ e. differ (agree.apart other place id has (old_here ∙ (is ∙ ap (λ (n : ℕ). Some n) (sym e))))) (agree.in_spool other id has)).documents
 
   -- the device keeps its job with its documents, or it has no job any more and the documents are handed out
-  abbrev Settled : Option JobChange → Option ℕ → Type 0
-  Settled change o =
+  abbrev Done : Option JobChange → Option ℕ → Type 0
+  Done change o =
       ((job_of (with_device place (refitted now report (activity_after now report old.spool.jobs d)) old.devices) place ≡ o) × AllStay old.spool.jobs (jobs_after now o change old.spool.jobs) × (documents_out o change old.spool.jobs ≡ []))
       ⊎ ((id : ℕ) × (o ≡ Some id) × (job_of (with_device place (refitted now report (activity_after now report old.spool.jobs d)) old.devices) place ≡ None) × (documents_out o change old.spool.jobs ≡ documents_at id old.spool.jobs))
 
-  changed_own : (change : JobChange) (ends : Bool) → ends_print change ≡ ends → job_on (refitted now report (activity_after now report old.spool.jobs d) d).activity ≡ cond ends None (job_on d.activity) → (id : ℕ) → job_on d.activity ≡ Some id → Settled (Some change) (Some id)
+  changed_own : (change : JobChange) (ends : Bool) → ends_print change ≡ ends → job_on (refitted now report (activity_after now report old.spool.jobs d) d).activity ≡ cond ends None (job_on d.activity) → (id : ℕ) → job_on d.activity ≡ Some id → Done (Some change) (Some id)
   changed_own change true ends none id is = inr (id, refl, new_here ∙ none, reported_all change ends id old.spool.jobs (agree.in_spool place id (old_here ∙ is)))
   changed_own change false goes_on same id is = inl (new_here ∙ (same ∙ is), stay_reported id change now old.spool.jobs goes_on, reported_nothing change goes_on id old.spool.jobs)
 
-  own : (change : Option JobChange) → Leaves change (job_on d.activity) (job_on (refitted now report (activity_after now report old.spool.jobs d) d).activity) → (o : Option ℕ) → job_on d.activity ≡ o → Settled change o
+  own : (change : Option JobChange) → Leaves change (job_on d.activity) (job_on (refitted now report (activity_after now report old.spool.jobs d) d).activity) → (o : Option ℕ) → job_on d.activity ≡ o → Done change o
   own None leaves None is = inl (new_here ∙ (leaves ∙ is), stay_same old.spool.jobs, refl)
   own None leaves (Some id) is = inl (new_here ∙ (leaves ∙ is), stay_same old.spool.jobs, refl)
   own (Some change) leaves None is = inl (new_here ∙ (leaves ∙ none_still (ends_print change) (job_on d.activity) is), stay_same old.spool.jobs, refl)

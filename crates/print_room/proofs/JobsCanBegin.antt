@@ -20,7 +20,7 @@ use Rattle.print_room.specs.Dispatch.{first_of, first_of_queue, or_next, runs_id
 use Rattle.plan_prices.specs.Plan.{PlanRecord}
 use Rattle.base_types.specs.declared.needs.Stranded.{Stranded}
 use Rattle.job_objects.specs.declared.job_change.JobChange.TheVariants.{Begin}
-use Rattle.spool.specs.Spooled.{SpooledRecord, changed, settled, marked}
+use Rattle.spool.specs.Spooled.{SpooledRecord, changed, retired, marked}
 use Rattle.spool.specs.Jobs.{spooled_at, with_job}
 use Rattle.spool.specs.Calls.{is_ready, paused_at, marked_by}
 use Rattle.spool.specs.Spool.{IsSpool}
@@ -57,13 +57,13 @@ first_counts job rest = omega (arith, sum_by-cons (λ id. cond (id == job) 1 0) 
 counts_queue : (queue names : List ℕ) (job : ℕ) → times (queue ++ names) job ≡ times queue job + times names job
 counts_queue queue names job = sum_by-append (λ id. cond (id == job) 1 0) queue names
 
--- a job that stands first in a queue is named
+-- a job that is first in a queue is named
 named_once : (way : List (List ℕ)) (k job : ℕ) (rest : List ℕ) → queue_of way k ≡ job ∷ rest → 1 ≤ times (concat way) job
 named_once [] k job rest is = absurd (cc)
 named_once (q ∷ qs) zero job rest is = omega (arith, counts_queue q (concat qs) job, subst (λ (names : List ℕ). 1 ≤ times names job) (sym is) (first_counts job rest))
 named_once (q ∷ qs) (suc k) job rest is = omega (arith, counts_queue q (concat qs) job, named_once qs k job rest is)
 
--- a job that stands first in two queues is named twice
+-- a job that is first in two queues is named twice
 named_twice : (way : List (List ℕ)) (k l job : ℕ) (rest more : List ℕ) → k < l → queue_of way k ≡ job ∷ rest → queue_of way l ≡ job ∷ more → 2 ≤ times (concat way) job
 named_twice [] k l job rest more before is too = absurd (cc)
 named_twice (q ∷ qs) k zero job rest more before is too = absurd (omega (arith, before))
@@ -77,10 +77,10 @@ queue_contained [] k job rest is = absurd (cc)
 queue_contained (q ∷ qs) zero job rest is = Contains-append_left q (concat qs) job (subst (λ (names : List ℕ). Contains names job) (sym is) (0, omega arith, refl))
 queue_contained (q ∷ qs) (suc k) job rest is = Contains-append_right q (concat qs) job (queue_contained qs k job rest is)
 
--- the job that a class has for a device stands first in its queue there
-first_stands : (class : PlannedClass) (place : ℕ) (queue : List ℕ) (start : Started) → first_of_queue class place queue ≡ Some start → (rest : List ℕ) × (queue ≡ start.job ∷ rest)
-first_stands class place [] start is = absurd (cc)
-first_stands class place (job ∷ rest) start is = (rest, ap (λ (o : Option Started). option_map_or (λ s. s.job) o job ∷ rest) is)
+-- the job that a class has for a device is first in its queue there
+first_reaches : (class : PlannedClass) (place : ℕ) (queue : List ℕ) (start : Started) → first_of_queue class place queue ≡ Some start → (rest : List ℕ) × (queue ≡ start.job ∷ rest)
+first_reaches class place [] start is = absurd (cc)
+first_reaches class place (job ∷ rest) start is = (rest, ap (λ (o : Option Started). option_map_or (λ s. s.job) o job ∷ rest) is)
 
 -- the ids of a class
 abbrev ids_of : PlannedClass → List ℕ
@@ -88,14 +88,14 @@ ids_of class = class.problem.ids
 
 class_has : (class : PlannedClass) → IsWay class.problem class.priced.way → (place : ℕ) (start : Started) → first_of_queue class place (queue_of class.priced.way place) ≡ Some start → Contains (ids_of class) start.job
 class_has class way place start is =
-    let first = first_stands class place (queue_of class.priced.way place) start is in
+    let first = first_reaches class place (queue_of class.priced.way place) start is in
     All-contains (Contains (ids_of class)) (concat class.priced.way) start.job way.known (queue_contained class.priced.way place start.job first.0 first.1)
 
 once_in : (class : PlannedClass) → IsWay class.problem class.priced.way → (k l : ℕ) (a b : Started) → k < l → first_of_queue class k (queue_of class.priced.way k) ≡ Some a → first_of_queue class l (queue_of class.priced.way l) ≡ Some b → a.job ≡ b.job → ⊥
 unfolding times_named
 once_in class way k l a b before one other same =
-    let first = first_stands class k (queue_of class.priced.way k) a one in
-    let second = first_stands class l (queue_of class.priced.way l) b other in
+    let first = first_reaches class k (queue_of class.priced.way k) a one in
+    let second = first_reaches class l (queue_of class.priced.way l) b other in
     let too : queue_of class.priced.way l ≡ a.job ∷ second.0 = second.1 ∙ ap (λ (job : ℕ). job ∷ second.0) (sym same) in
     let twice : 2 ≤ times (concat class.priced.way) a.job = named_twice class.priced.way k l a.job first.0 second.0 before first.1 too in
     let once : times (concat class.priced.way) a.job ≡ 1 = All-contains (λ job. times (concat class.priced.way) job ≡ 1) (ids_of class) a.job way.once (class_has class way k a one) in
@@ -294,7 +294,7 @@ module _ (s : State) (plan : PlanRecord) (now : ℕ) (good : IsGoodPlan now s pl
 
 -- ---- a job begins
 
-begins_on : (now : ℕ) (s : SpooledRecord) (state : JobState) → is_pending state ≡ true → (option_map_or (λ job. settled (record s { job = job; on_device = true })) (changed_from Begin state now s.job) s).on_device ≡ true
+begins_on : (now : ℕ) (s : SpooledRecord) (state : JobState) → is_pending state ≡ true → (option_map_or (λ job. retired (record s { job = job; on_device = true })) (changed_from Begin state now s.job) s).on_device ≡ true
 begins_on now s Pending is = refl
 begins_on now s PendingHeld is = absurd (true≢false (sym is))
 begins_on now s Processing is = absurd (true≢false (sym is))

@@ -73,5 +73,5 @@ pub starts_step : (now : ℕ) (classes : List PlannedClass) (devices : List Devi
     → place < length devices → device ≡ get_or devices place device → id ≡ place → found ≡ (if is_free now device then first_of classes id else None) → after ≡ before ++ option_to_list found
     → before ++ starts_from now classes place (drop place devices) ≡ all → after ++ starts_from now classes (place + 1) (drop (place + 1) devices) ≡ all
 starts_step now classes devices place id device found before after all inside at same is grown so =
-    let front = drop-cons devices place device inside ∙ ap (λ (x : Device). x ∷ drop (suc place) devices) (sym at) in
-    rw (grown, is, same, add-one) (append_assoc before _ _ ∙ ap (λ (ds : List Device). before ++ starts_from now classes place ds) (sym front) ∙ so)
+    let prefix = drop-cons devices place device inside ∙ ap (λ (x : Device). x ∷ drop (suc place) devices) (sym at) in
+    rw (grown, is, same, add-one) (append_assoc before _ _ ∙ ap (λ (ds : List Device). before ++ starts_from now classes place ds) (sym prefix) ∙ so)

@@ -151,7 +151,7 @@ impl PrintRoom {
         ensures spool { IsSpool self.now.spool }
     {
         let mut ready = Vec::new(self.alloc);
-        for spooled in self.spool.behind_finished() {
+        for spooled in self.spool.after_finished() {
             if spooled.is_ready(&self.printers) {
                 ready.push(self.gathered(spooled.job()))?;
             }

@@ -122,7 +122,7 @@ impl PrintRoom {
         let change = change_by(report, device.activity);
         let next = core.activity_after(report, device, now);
         self.refit(place, report, next);
-        self.settle(job, change, now)
+        self.change_job(job, change, now)
     }
 
     /// Changes the device at a place by a report: it holds the media that the report names, or begins no job
@@ -148,7 +148,7 @@ impl PrintRoom {
     }
 
     /// Changes the job of a device, if there is a job and a change. Returns the documents that are handed out.
-    fn settle(
+    fn change_job(
         &mut self,
         job: Option<JobId>,
         change: Option<JobChange>,

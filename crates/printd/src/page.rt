@@ -16,7 +16,7 @@ use std::io::{Input, Read};
 use std::{fs, io};
 
 /// The number of bytes that one read asks for.
-const PIECE: usize = 65_536;
+const SEGMENT: usize = 65_536;
 
 /// The work of the command, in reports.
 pub(crate) const WRITE: &str = "write the page";
@@ -31,7 +31,7 @@ struct Reading<'a> {
     zone: TimeZone<'a>,
     /// The moment as a moment of the server, once it is known.
     at: Option<Moment>,
-    piece: Vec<u8>,
+    segment: Vec<u8>,
 }
 
 /// Reports the fault of a day, and returns the exit status.
@@ -105,14 +105,14 @@ impl<'a> Reading<'a> {
         when: Option<When>,
         zone: TimeZone<'a>,
     ) -> Result<Reading<'a>, ExitStatus> {
-        let piece = or_no_memory(rt, WRITE, vec![in rt.alloc(); 0; PIECE])?;
+        let segment = or_no_memory(rt, WRITE, vec![in rt.alloc(); 0; SEGMENT])?;
         Ok(Reading {
             rt,
             follower: Follower::new(rt.alloc()),
             when,
             zone,
             at: None,
-            piece,
+            segment,
         })
     }
 
@@ -135,7 +135,7 @@ impl<'a> Reading<'a> {
         let rt = self.rt;
         or_no_memory(rt, WRITE, self.follower.begin_file(name))?;
         for _ in 0..u64::MAX {
-            let count = or_cannot_with(rt, "read", name, fill(reader, &mut self.piece))?;
+            let count = or_cannot_with(rt, "read", name, fill(reader, &mut self.segment))?;
             if count == 0 || self.follower.is_past() {
                 break;
             }
@@ -147,7 +147,11 @@ impl<'a> Reading<'a> {
     /// Takes this number of bytes that were read.
     fn take(&mut self, count: usize) -> Result<(), ExitStatus> {
         let rt = self.rt;
-        or_no_memory(rt, WRITE, add_read(&mut self.follower, &self.piece, count))?;
+        or_no_memory(
+            rt,
+            WRITE,
+            add_read(&mut self.follower, &self.segment, count),
+        )?;
         for _ in 0..u64::MAX {
             self.look();
             match self.follower.turn() {

@@ -54,7 +54,7 @@ pub(crate) fn name_of(rt: &HostRuntime, path: &str, number: u32) -> Result<Strin
         return String::from_str(rt.alloc(), path);
     }
     match path.split_at_checked(point_of(path)) {
-        Some((front, end)) => format!(in rt.alloc(); "{front}.{number}{end}"),
+        Some((prefix, end)) => format!(in rt.alloc(); "{prefix}.{number}{end}"),
         None => format!(in rt.alloc(); "{path}.{number}"),
     }
 }

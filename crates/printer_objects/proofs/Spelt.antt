@@ -49,12 +49,12 @@ texts_tag tag above below (inr (inr h)) = omega (arith, h, below)
 pub text_spelt : (tag : ℕ) (bytes : List ℕ) → 0x40 < tag → tag < 0x4A → length bytes < 0x8000 → IsPlain tag bytes
 text_spelt tag bytes above below fits = record { tag_from = omega (arith, above); tag_below = omega (arith, below); no_collection = texts_tag tag above below; length = fits; shape = texts_shape tag bytes above }
 
-front_fits : (bytes : List ℕ) → length (take VALUE_BYTES bytes) < 0x8000
-front_fits bytes = rw (length-take VALUE_BYTES bytes) (grind arith)
+prefix_fits : (bytes : List ℕ) → length (take VALUE_BYTES bytes) < 0x8000
+prefix_fits bytes = rw (length-take VALUE_BYTES bytes) (grind arith)
 
 text_is : (tag : ℕ) (bytes : List ℕ) → 0x40 < tag → tag < 0x4A → IsValue COLLECTION_DEPTH (text tag bytes)
 unfolding text
-text_is tag bytes above below = text_spelt tag (take VALUE_BYTES bytes) above below (front_fits bytes)
+text_is tag bytes above below = text_spelt tag (take VALUE_BYTES bytes) above below (prefix_fits bytes)
 
 integer_tag : ¬ (IsCollectionTag tags.integer)
 integer_tag (inl h) = omega (arith, h)

@@ -24,7 +24,7 @@ enumerated n = plain tags.enumeration (bytes_of_integer (pos (min n LAST_INTEGER
 abbrev pub no_value : IppValue
 no_value = plain tags.no_value []
 
--- a text with a tag; of a text with more than VALUE_BYTES bytes, its front
+-- a text with a tag; of a text with more than VALUE_BYTES bytes, its prefix
 unfoldable pub text : ℕ → List ℕ → IppValue
 text tag bytes = plain tag (take VALUE_BYTES bytes)
 

@@ -29,7 +29,7 @@ pub(crate) fn bytes(
 }
 
 /// The beginning of a text, of at most as many bytes as a value can have.
-fn front(bytes: &[u8]) -> &[u8]
+fn prefix(bytes: &[u8]) -> &[u8]
     ensures { result.now ≡ take VALUE_BYTES bytes.now }
 {
     if bytes.len() > VALUE_BYTES {
@@ -44,7 +44,7 @@ fn front(bytes: &[u8]) -> &[u8]
 pub(crate) fn text_value(alloc: Global, tag: ValueTag, bytes: &[u8]) -> Result<Value, AllocError>
     ensures { IfOk result (λ value. value_owned value ≡ text tag bytes.now) }
 {
-    Value::copy_of(alloc, tag, front(bytes))
+    Value::copy_of(alloc, tag, prefix(bytes))
 }
 
 /// An attribute of a copy of one text, with a tag. The only error is out of memory.
@@ -65,7 +65,7 @@ pub(crate) fn text(
 fn known_value(tag: ValueTag, bytes: &'static [u8]) -> Value
     ensures { value_owned result ≡ text tag bytes.now }
 {
-    Value::known(tag, front(bytes))
+    Value::known(tag, prefix(bytes))
 }
 
 /// An attribute of one text that the program knows, with a tag. The call takes no memory.

@@ -3,7 +3,7 @@
 /// The text of the settings of a server that is started without settings: an office with one printer and one
 /// device, as a file to begin with.
 pub const BUILT_IN_SETTINGS: &str =
-    r#"# An office: one printer for everybody, and behind it one device. What each line may say is in docs/SETTINGS.md.
+    r#"# An office: one printer for everybody, and tail it one device. What each line may say is in docs/SETTINGS.md.
 version = 1
 
 # What the URIs of printers and jobs begin with: the name of this machine, and the port of IPP clients.

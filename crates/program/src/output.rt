@@ -5,8 +5,8 @@ ghost use Rattle.std.specs.Io.KnownBytes.{Appends};
 use std::io::Write;
 
 /// Writes the bytes until the writer fails. Returns how many bytes it took.
-pub fn write_front<W: Write>(writer: &mut W, bytes: &[u8]) -> usize
-    ensures front { Appends (W.contents writer.old) (W.contents writer.new) (take result bytes.now) }
+pub fn write_prefix<W: Write>(writer: &mut W, bytes: &[u8]) -> usize
+    ensures prefix { Appends (W.contents writer.old) (W.contents writer.new) (take result bytes.now) }
     ensures bound { result ≤ length bytes.now }
 {
     let mut at = 0;

@@ -6,7 +6,7 @@ ghost use Rattle.settings_file.specs.Reading.{settings_of};
 ghost use Rattle.program.specs.RefusedSettings.{settings_refused, Refuses, RefusesAs, WritesLine};
 
 use crate::exit_status::ExitStatus;
-use crate::output::write_front;
+use crate::output::write_prefix;
 use crate::refusal::refused_line;
 use settings_file::{Settings, SettingsFault, read_settings_bytes, write_fault};
 use std::alloc::{AllocError, Global};
@@ -51,7 +51,7 @@ pub fn refusal_line(alloc: Global, fault: &SettingsFault) -> Result<Vec<u8>, All
 fn say<W: Write>(line: &[u8], err: &mut W) -> ExitStatus
     ensures { WritesLine line.now (W.contents err.old) (W.contents err.new) result }
 {
-    if write_front(err, line) < line.len() {
+    if write_prefix(err, line) < line.len() {
         ExitStatus::Failed
     } else {
         ExitStatus::Refused

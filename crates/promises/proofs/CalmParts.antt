@@ -78,8 +78,8 @@ kept_with key d e l l' there grows after = record {
         (λ same. subst (λ (o : Option Entry). Kept (l.entries k) o) (sym (here key (Some e) l.entries k same)) (subst (λ (o : Option Entry). Kept o (Some e)) (sym (ap l.entries same ∙ there)) (e, refl, grows)))
         (λ apart. subst (λ (o : Option Entry). Kept (l.entries k) o) (sym (aside key (Some e) l.entries k apart)) (kept_same (l.entries k)))
 
-pub no_notes : (hs front back : List Happening) → hs ≡ front ++ back → core_notes front ≡ [] → core_notes hs ≡ core_notes back
-no_notes hs front back whole none = ap core_notes whole ∙ (notes_append front back ∙ ap (λ (ns : List Note). ns ++ core_notes back) none)
+pub no_notes : (hs prefix back : List Happening) → hs ≡ prefix ++ back → core_notes prefix ≡ [] → core_notes hs ≡ core_notes back
+no_notes hs prefix back whole none = ap core_notes whole ∙ (notes_append prefix back ∙ ap (λ (ns : List Note). ns ++ core_notes back) none)
 
 pub calm_still : (l : Ledger) (hs : List Happening) (l' : Ledger) → core_notes hs ≡ [] → l' ≡ l → Calm l hs l'
 calm_still l hs l' silent same = record { core = ap (λ (x : Ledger). x.core) same; notes = silent; kept = kept_still l l' (ap (λ (x : Ledger). x.closed) same) (ap (λ (x : Ledger). x.entries) same) }
@@ -87,14 +87,14 @@ calm_still l hs l' silent same = record { core = ap (λ (x : Ledger). x.core) sa
 pub calm_sets : (key : ℕ) (d e : Entry) (l : Ledger) (hs : List Happening) (l' : Ledger) → l.entries key ≡ Some d → Grows d e → core_notes hs ≡ [] → l' ≡ with_entry key e l → Calm l hs l'
 calm_sets key d e l hs l' there grows silent after = record { core = ap (λ (x : Ledger). x.core) after; notes = silent; kept = kept_with key d e l l' there grows after }
 
-pub calm_then : (l : Ledger) (front : List Happening) (m : Ledger) (back : List Happening) (l' : Ledger) (hs : List Happening) → hs ≡ front ++ back → Calm l front m → Calm m back l' → Calm l hs l'
-calm_then l front m back l' hs whole p q = record { core = q.core ∙ p.core; notes = no_notes hs front back whole p.notes ∙ q.notes; kept = kept_next l m l' p.kept q.kept }
+pub calm_then : (l : Ledger) (prefix : List Happening) (m : Ledger) (back : List Happening) (l' : Ledger) (hs : List Happening) → hs ≡ prefix ++ back → Calm l prefix m → Calm m back l' → Calm l hs l'
+calm_then l prefix m back l' hs whole p q = record { core = q.core ∙ p.core; notes = no_notes hs prefix back whole p.notes ∙ q.notes; kept = kept_next l m l' p.kept q.kept }
 
 pub calms_nothing : Calms Nothing
 calms_nothing l hs l' it = calm_still l hs l' (ap core_notes it.0) it.1
 
 pub calms_then : {R S : Rel} → Calms R → Calms S → Calms (Then R S)
-calms_then {R} {S} f g l hs l' it = calm_then l it.front it.mid it.back l' hs it.whole (f l it.front it.mid it.first) (g it.mid it.back l' it.second)
+calms_then {R} {S} f g l hs l' it = calm_then l it.prefix it.mid it.back l' hs it.whole (f l it.prefix it.mid it.first) (g it.mid it.back l' it.second)
 
 pub calms_or : {R S : Rel} → Calms R → Calms S → Calms (Or R S)
 calms_or f g l hs l' (inl it) = f l hs l' it
@@ -129,7 +129,7 @@ calms_breaks key l hs l' it = breaks_at key (l.entries key) l hs l' refl it
 pub enqueues_open : (grows : Bool) (key : ℕ) (bytes : List ℕ) (e : Entry) (l : Ledger) (hs : List Happening) (l' : Ledger) → l.entries key ≡ Some e → EnqueuesOpen grows key bytes e l hs l' → Calm l hs l'
 enqueues_open false key bytes e l hs l' there it = calm_sets key e (owing bytes e) l hs l' there (grows_owing e bytes) (ap core_notes it.0) it.1
 enqueues_open true key bytes e l hs l' there (inl it) =
-    calm_sets key e (owing bytes e) l hs l' there (grows_owing e bytes) (no_notes hs it.front it.back it.whole (ap core_notes it.first.0) ∙ ap core_notes it.second.0) (it.second.1 ∙ ap (λ (x : Ledger). with_entry key (owing bytes e) x) it.first.1)
+    calm_sets key e (owing bytes e) l hs l' there (grows_owing e bytes) (no_notes hs it.prefix it.back it.whole (ap core_notes it.first.0) ∙ ap core_notes it.second.0) (it.second.1 ∙ ap (λ (x : Ledger). with_entry key (owing bytes e) x) it.first.1)
 enqueues_open true key bytes e l hs l' there (inr it) = calm_sets key e (broken e) l hs l' there (grows_broken e) (ap core_notes it.0) it.1
 
 pub enqueues_if : (t grows : Bool) (key : ℕ) (bytes : List ℕ) (e : Entry) (l : Ledger) (hs : List Happening) (l' : Ledger) → l.entries key ≡ Some e → If t Nothing (EnqueuesOpen grows key bytes e) l hs l' → Calm l hs l'
@@ -240,14 +240,14 @@ pub happened : (moment : ℕ) (event : Event) (outcome : Outcome) (l : Ledger) (
 happened moment event outcome l hs l' it =
     let d = it.first in
     let sent = calms_orders outcome it.mid it.back l' it.second in
-    let notified : core_notes it.front ≡ d.notes =
+    let notified : core_notes it.prefix ≡ d.notes =
     ap core_notes d.notified ∙ (notes_append (found_by outcome) (map Notified d.notes) ∙ (ap (λ (ns : List Note). ns ++ core_notes (map Notified d.notes)) (found_silent outcome) ∙ notified_notes moment event l.core outcome d.notes d.state d.handles)) in
-    let all : core_notes hs ≡ d.notes = ap core_notes it.whole ∙ (notes_append it.front it.back ∙ (ap (λ (ns : List Note). core_notes it.front ++ ns) sent.notes ∙ (append-nil (core_notes it.front) ∙ notified))) in
+    let all : core_notes hs ≡ d.notes = ap core_notes it.whole ∙ (notes_append it.prefix it.back ∙ (ap (λ (ns : List Note). core_notes it.prefix ++ ns) sent.notes ∙ (append-nil (core_notes it.prefix) ∙ notified))) in
     record {
       handles = subst (λ (c : State). Handles moment event l.core outcome (core_notes hs) c) (sym (sent.core ∙ ap (λ (x : Ledger). x.core) d.after)) (subst (λ (ns : List Note). Handles moment event l.core outcome ns d.state) (sym all) d.handles);
       kept = kept_next l it.mid l' (kept_still l it.mid (ap (λ (x : Ledger). x.closed) d.after) (ap (λ (x : Ledger). x.entries) d.after)) sent.kept;
     }
 
-pub handles_behind : (moment : ℕ) (event : Event) (outcome : Outcome) (old mid new : State) (notes more : List Note) → mid ≡ old → notes ≡ more → Handles moment event mid outcome more new → Handles moment event old outcome notes new
-handles_behind moment event outcome old mid new notes more same is it =
+pub handles_after : (moment : ℕ) (event : Event) (outcome : Outcome) (old mid new : State) (notes more : List Note) → mid ≡ old → notes ≡ more → Handles moment event mid outcome more new → Handles moment event old outcome notes new
+handles_after moment event outcome old mid new notes more same is it =
     subst (λ (s : State). Handles moment event s outcome notes new) same (subst (λ (ns : List Note). Handles moment event mid outcome ns new) (sym is) it)

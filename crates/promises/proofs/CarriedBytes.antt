@@ -25,7 +25,7 @@ use Rattle.dispatcher.specs.Run.{Outcome, effects_of}
 use Rattle.ipp_operations.specs.declared.parsed_request.ParsedRequest.{ParsedRequest}
 use Rattle.ipp_operations.specs.declared.parsed_request.ParsedRequest.TheVariants as asked
 use Rattle.ipp_operations.specs.QueueText.{ack_of, text_of}
-use Rattle.send_queues.specs.SendQueue.{IsFront}
+use Rattle.send_queues.specs.SendQueue.{IsPrefix}
 use Rattle.send_queues.specs.Reply.{http_reply}
 use Rattle.wires.specs.Poll.{Poll, Accepts, Reads, Writes, Closes}
 use Rattle.wires.specs.declared.wire.Progress.{Progress as WireAnswer}
@@ -161,7 +161,7 @@ record Agrees (c : Carried) (l : Ledger) : Type 0 where
   there : (key : ℕ) (e : Entry) → l.entries key ≡ Some e → c.open_now e.id ≡ true
   one : (key other : ℕ) (e d : Entry) → l.entries key ≡ Some e → l.entries other ≡ Some d → e.id ≡ d.id → key ≡ other
   taken : (key : ℕ) (e : Entry) → l.entries key ≡ Some e → e.taken ≡ c.taken e.id
-  front : (key : ℕ) (e : Entry) → l.entries key ≡ Some e → (rest : List ℕ) × (e.due ≡ e.taken ++ rest)
+  prefix : (key : ℕ) (e : Entry) → l.entries key ≡ Some e → (rest : List ℕ) × (e.due ≡ e.taken ++ rest)
   read : (key : ℕ) (e : Entry) → l.entries key ≡ Some e → e.draining ≡ false → e.broken ≡ false → e.read ≡ c.read e.id
 
 -- each connection is unchanged, or steady
@@ -173,9 +173,9 @@ agrees_steady c l l' a follow = record {
   there = λ key e is. let d = follow key e is in ap c.open_now d.2.id ∙ a.there key d.0 d.1;
   one = λ key other e f is its same. let d = follow key e is in let g = follow other f its in a.one key other d.0 g.0 d.1 g.1 (sym d.2.id ∙ (same ∙ g.2.id));
   taken = λ key e is. let d = follow key e is in d.2.taken ∙ (a.taken key d.0 d.1 ∙ ap c.taken (sym d.2.id));
-  front = λ key e is.
+  prefix = λ key e is.
       let d = follow key e is in
-      let f = a.front key d.0 d.1 in
+      let f = a.prefix key d.0 d.1 in
       (f.0 ++ d.2.more.0, d.2.more.1 ∙ (ap (λ (xs : List ℕ). xs ++ d.2.more.0) f.1 ∙ (append_assoc d.0.taken f.0 d.2.more.0 ∙ ap (λ (xs : List ℕ). xs ++ (f.0 ++ d.2.more.0)) (sym d.2.taken))));
   read = λ key e is draining sound.
       let d = follow key e is in
@@ -227,8 +227,8 @@ Carries R = (c : Carried) (l : Ledger) (hs : List Happening) (l' : Ledger) → A
 
 carries_then : (R S : Rel) → Carries R → Carries S → Carries (Then R S)
 carries_then R S r s c l hs l' a new it =
-    let both = new_append c it.front it.back (subst (AreNew c) it.whole new) in
-    subst (λ (x : Carried). Agrees x l') (sym (ap (carried c) it.whole ∙ carried_append c it.front it.back)) (s (carried c it.front) it.mid it.back l' (r c l it.front it.mid a both.0 it.first) both.1 it.second)
+    let both = new_append c it.prefix it.back (subst (AreNew c) it.whole new) in
+    subst (λ (x : Carried). Agrees x l') (sym (ap (carried c) it.whole ∙ carried_append c it.prefix it.back)) (s (carried c it.prefix) it.mid it.back l' (r c l it.prefix it.mid a both.0 it.first) both.1 it.second)
 
 carries_or : (R S : Rel) → Carries R → Carries S → Carries (Or R S)
 carries_or R S r s c l hs l' a new (inl it) = r c l hs l' a new it
@@ -408,7 +408,7 @@ out_of key e c l l' a there after = record {
   there = λ k d is. let it = was k d is in ap (λ (t : Bool). if t then false else c.open_now d.id) (not_key d.id e.id (λ same. it.0 (a.one k key d e it.1 there same))) ∙ a.there k d it.1;
   one = λ k o d f is its same. let it = was k d is in let other = was o f its in a.one k o d f it.1 other.1 same;
   taken = λ k d is. a.taken k d (was k d is).1;
-  front = λ k d is. a.front k d (was k d is).1;
+  prefix = λ k d is. a.prefix k d (was k d is).1;
   read = λ k d is draining sound. a.read k d (was k d is).1 draining sound;
 }
   where
@@ -431,15 +431,15 @@ carries_gone moment (Some device) = carries_unanswered moment (Is.Report device 
 
 carries_closes : (moment : ℕ) (fate : Fate) (key : ℕ) (e : Entry) (c : Carried) (l : Ledger) (hs : List Happening) (l' : Ledger) → Agrees c l → l.entries key ≡ Some e → AreNew c hs → ClosesAs moment fate key e l hs l' → Agrees (carried c hs) l'
 carries_closes moment fate key e c l hs l' a there new it =
-    let both = new_append c it.front it.back (subst (AreNew c) it.whole new) in
-    subst (λ (x : Carried). Agrees x l') (sym (ap (carried c) it.whole ∙ carried_append c it.front it.back))
-    (carries_gone moment (device_of e.progress) (carried c it.front) it.mid it.back l' (carries_leaves fate key e c l it.front it.mid a there it.first) both.1 it.second)
+    let both = new_append c it.prefix it.back (subst (AreNew c) it.whole new) in
+    subst (λ (x : Carried). Agrees x l') (sym (ap (carried c) it.whole ∙ carried_append c it.prefix it.back))
+    (carries_gone moment (device_of e.progress) (carried c it.prefix) it.mid it.back l' (carries_leaves fate key e c l it.prefix it.mid a there it.first) both.1 it.second)
 
 carries_first : (moment : ℕ) → Carries (ClosesFirst moment)
 carries_first moment c l hs l' a new it = carries_closes moment Broken it.key it.entry c l hs l' a it.there new it.closes
 
-carries_settles : (moment : ℕ) → Carries (ClosesBroken moment)
-carries_settles moment c l hs l' a new it = carries_many (ClosesFirst moment) (carries_first moment) c l hs l' a new it.0
+carries_closes_broken : (moment : ℕ) → Carries (ClosesBroken moment)
+carries_closes_broken moment c l hs l' a new it = carries_many (ClosesFirst moment) (carries_first moment) c l hs l' a new it.0
 
 -- ---- the asks of a connection
 
@@ -482,7 +482,7 @@ carries_asks key id what c l hs l' a new it =
 
 carries_acts : (moment key : ℕ) → Carries (Acts moment key)
 carries_acts moment key =
-    carries_then (ActsNext moment key) (ClosesBroken moment) (λ c l hs l' a new it. carries_then (Asks key it.0 it.1) (ActsOn moment key it.0 it.1) (carries_asks key it.0 it.1) (carries_does moment key it.0 it.1) c l hs l' a new it.2) (carries_settles moment)
+    carries_then (ActsNext moment key) (ClosesBroken moment) (λ c l hs l' a new it. carries_then (Asks key it.0 it.1) (ActsOn moment key it.0 it.1) (carries_asks key it.0 it.1) (carries_does moment key it.0 it.1) c l hs l' a new it.2) (carries_closes_broken moment)
 
 carries_serves : (moment key : ℕ) → Carries (Serves moment key)
 carries_serves moment key c l hs l' a new it = carries_then (Many (Acts moment key)) (Chooses Rested) (carries_many (Acts moment key) (carries_acts moment key)) (carries_chooses Rested) c l hs l' a new it.0
@@ -490,16 +490,16 @@ carries_serves moment key c l hs l' a new it = carries_then (Many (Acts moment k
 -- ---- reads and writes
 
 carries_fails : (moment key : ℕ) → Carries (Fails moment key)
-carries_fails moment key = carries_then (Breaks key) (ClosesBroken moment) (carries_breaks key) (carries_settles moment)
+carries_fails moment key = carries_then (Breaks key) (ClosesBroken moment) (carries_breaks key) (carries_closes_broken moment)
 
 -- another entry of the same connection under a key, with the bytes carried for it: bytes read, or bytes taken
 agrees_with : (key : ℕ) (d e : Entry) (c c' : Carried) (l l' : Ledger) → Agrees c l → l.entries key ≡ Some d → l'.entries ≡ at_key key (Some e) l.entries → e.id ≡ d.id → c'.open_now ≡ c.open_now
     → ((id : ℕ) → id ≢ d.id → (c'.taken id ≡ c.taken id) × (c'.read id ≡ c.read id)) → e.taken ≡ c'.taken d.id → ((rest : List ℕ) × (e.due ≡ e.taken ++ rest)) → (e.draining ≡ false → e.broken ≡ false → e.read ≡ c'.read d.id) → Agrees c' l'
-agrees_with key d e c c' l l' a at after number still others taken front read = record {
+agrees_with key d e c c' l l' a at after number still others taken prefix read = record {
   there = λ k f is. ap (λ (open_now : ℕ → Bool). open_now f.id) still ∙ there_at k f is (at_cases key (Some e) l.entries k);
   one = λ k o f g is its same. one_at k o f g is its same (at_cases key (Some e) l.entries k) (at_cases key (Some e) l.entries o);
   taken = λ k f is. taken_at k f is (at_cases key (Some e) l.entries k);
-  front = λ k f is. front_at k f is (at_cases key (Some e) l.entries k);
+  prefix = λ k f is. prefix_at k f is (at_cases key (Some e) l.entries k);
   read = λ k f is draining sound. read_at k f is draining sound (at_cases key (Some e) l.entries k);
 }
   where
@@ -529,9 +529,9 @@ agrees_with key d e c c' l l' a at after number still others taken front read = 
     taken_at k f is (inl (same, its)) = subst (λ (x : Entry). x.taken ≡ c'.taken x.id) (is_this k f is its) (taken ∙ ap c'.taken (sym number))
     taken_at k f is (inr (apart, its)) = a.taken k f (is_old k f is its) ∙ sym (others f.id (differs k f apart (is_old k f is its))).0
 
-    front_at : (k : ℕ) (f : Entry) → l'.entries k ≡ Some f → Each k → (rest : List ℕ) × (f.due ≡ f.taken ++ rest)
-    front_at k f is (inl (same, its)) = subst (λ (x : Entry). (rest : List ℕ) × (x.due ≡ x.taken ++ rest)) (is_this k f is its) front
-    front_at k f is (inr (apart, its)) = a.front k f (is_old k f is its)
+    prefix_at : (k : ℕ) (f : Entry) → l'.entries k ≡ Some f → Each k → (rest : List ℕ) × (f.due ≡ f.taken ++ rest)
+    prefix_at k f is (inl (same, its)) = subst (λ (x : Entry). (rest : List ℕ) × (x.due ≡ x.taken ++ rest)) (is_this k f is its) prefix
+    prefix_at k f is (inr (apart, its)) = a.prefix k f (is_old k f is its)
 
     read_at : (k : ℕ) (f : Entry) → l'.entries k ≡ Some f → f.draining ≡ false → f.broken ≡ false → Each k → f.read ≡ c'.read f.id
     read_at k f is draining sound (inl (same, its)) =
@@ -550,7 +550,7 @@ agrees_read : (key : ℕ) (d e : Entry) (bytes : List ℕ) (c : Carried) (l l' :
     → (e.draining ≡ false → e.broken ≡ false → (d.draining ≡ false) × (d.broken ≡ false) × (e.read ≡ d.read ++ bytes)) → Agrees (carry c (Reads d.id (wire.Done bytes))) l'
 agrees_read key d e bytes c l l' a at after number taken due read =
     agrees_with key d e c (carry c (Reads d.id (wire.Done bytes))) l l' a at (ap (λ (x : Ledger). x.entries) after) number refl (λ id apart. (refl, at_other d.id (c.read d.id ++ bytes) c.read id apart)) (taken ∙ a.taken key d at)
-    (let f = a.front key d at in (f.0, due ∙ (f.1 ∙ ap (λ (xs : List ℕ). xs ++ f.0) (sym taken))))
+    (let f = a.prefix key d at in (f.0, due ∙ (f.1 ∙ ap (λ (xs : List ℕ). xs ++ f.0) (sym taken))))
     (λ draining sound. let was = read draining sound in was.2 ∙ (ap (λ (xs : List ℕ). xs ++ bytes) (a.read key d at was.0 was.1) ∙ sym (at_this d.id (c.read d.id ++ bytes) c.read)))
 
 -- the parts after a read that brought bytes
@@ -558,19 +558,19 @@ abbrev Fed : ℕ → List ℕ → Rel → Type 0
 Fed key bytes R = (e : Entry) (c : Carried) (l : Ledger) (hs : List Happening) (l' : Ledger) → Agrees c l → l.entries key ≡ Some e → AreNew (carry c (Reads e.id (wire.Done bytes))) hs → R l hs l' → Agrees (carried (carry c (Reads e.id (wire.Done bytes))) hs) l'
 
 -- the connection is set to another, and then more comes
-fed_then : (key : ℕ) (d e : Entry) (bytes : List ℕ) (hs front back : List Happening) (S : Rel) (c : Carried) (l mid l' : Ledger) → Carries S → Agrees c l → l.entries key ≡ Some d → hs ≡ front ++ back → ((k : Carried) → carried k front ≡ k) → mid ≡ with_entry key e l → e.id ≡ d.id → e.taken ≡ d.taken → e.due ≡ d.due
+fed_then : (key : ℕ) (d e : Entry) (bytes : List ℕ) (hs prefix back : List Happening) (S : Rel) (c : Carried) (l mid l' : Ledger) → Carries S → Agrees c l → l.entries key ≡ Some d → hs ≡ prefix ++ back → ((k : Carried) → carried k prefix ≡ k) → mid ≡ with_entry key e l → e.id ≡ d.id → e.taken ≡ d.taken → e.due ≡ d.due
     → (e.draining ≡ false → e.broken ≡ false → (d.draining ≡ false) × (d.broken ≡ false) × (e.read ≡ d.read ++ bytes)) → AreNew (carry c (Reads d.id (wire.Done bytes))) hs → S mid back l' → Agrees (carried (carry c (Reads d.id (wire.Done bytes))) hs) l'
-fed_then key d e bytes hs front back S c l mid l' s a there whole silent after number taken due read new it =
+fed_then key d e bytes hs prefix back S c l mid l' s a there whole silent after number taken due read new it =
     let k = carry c (Reads d.id (wire.Done bytes)) in
-    let first : Agrees (carried k front) mid = subst (λ (x : Carried). Agrees x mid) (sym (silent k)) (agrees_read key d e bytes c l mid a there after number taken due read) in
-    let both = new_append k front back (subst (AreNew k) whole new) in
-    subst (λ (x : Carried). Agrees x l') (sym (ap (carried k) whole ∙ carried_append k front back)) (s (carried k front) mid back l' first both.1 it)
+    let first : Agrees (carried k prefix) mid = subst (λ (x : Carried). Agrees x mid) (sym (silent k)) (agrees_read key d e bytes c l mid a there after number taken due read) in
+    let both = new_append k prefix back (subst (AreNew k) whole new) in
+    subst (λ (x : Carried). Agrees x l') (sym (ap (carried k) whole ∙ carried_append k prefix back)) (s (carried k prefix) mid back l' first both.1 it)
 
 fed_whole : (moment key : ℕ) (e : Entry) (bytes : List ℕ) (c : Carried) (l : Ledger) (hs : List Happening) (l' : Ledger) → Agrees c l → l.entries key ≡ Some e → AreNew (carry c (Reads e.id (wire.Done bytes))) hs → FedWhole moment key e bytes l hs l' → Agrees (carried (carry c (Reads e.id (wire.Done bytes))) hs) l'
 fed_whole moment key e bytes c l hs l' a there new (inl it) =
-    fed_then key e (reading bytes e) bytes hs it.front it.back (Serves moment key) c l it.mid l' (carries_serves moment key) a there it.whole (λ k. ap (carried k) it.first.0) it.first.1 refl refl refl (λ draining sound. (draining, sound, refl)) new it.second
+    fed_then key e (reading bytes e) bytes hs it.prefix it.back (Serves moment key) c l it.mid l' (carries_serves moment key) a there it.whole (λ k. ap (carried k) it.first.0) it.first.1 refl refl refl (λ draining sound. (draining, sound, refl)) new it.second
 fed_whole moment key e bytes c l hs l' a there new (inr it) =
-    fed_then key e (broken e) bytes hs it.front it.back (ClosesBroken moment) c l it.mid l' (carries_settles moment) a there it.whole (λ k. ap (carried k) it.first.0) it.first.1 refl refl refl (λ draining sound. cc) new it.second
+    fed_then key e (broken e) bytes hs it.prefix it.back (ClosesBroken moment) c l it.mid l' (carries_closes_broken moment) a there it.whole (λ k. ap (carried k) it.first.0) it.first.1 refl refl refl (λ draining sound. cc) new it.second
 
 fed_open : (t : Bool) (moment key : ℕ) (e : Entry) (bytes : List ℕ) (c : Carried) (l : Ledger) (hs : List Happening) (l' : Ledger) → e.draining ≡ t → Agrees c l → l.entries key ≡ Some e → AreNew (carry c (Reads e.id (wire.Done bytes))) hs → If t (Sets key e) (FedWhole moment key e bytes) l hs l' → Agrees (carried (carry c (Reads e.id (wire.Done bytes))) hs) l'
 fed_open true moment key e bytes c l hs l' draining a there new it =
@@ -608,7 +608,7 @@ reads_as moment key e wire.End c l hs l' a there new it =
 reads_as moment key e wire.Fault c l hs l' a there new it = polled_then (Reads e.id wire.Fault) (Fails moment key) c l hs l' new it (λ fresh more fails. carries_fails moment key c l it.back l' a more fails)
 
 reads_if : (t : Bool) (moment key : ℕ) (e : Entry) (c : Carried) (l : Ledger) (hs : List Happening) (l' : Ledger) → Agrees c l → l.entries key ≡ Some e → AreNew c hs → If t (ReadsOpen moment key e) Nothing l hs l' → Agrees (carried c hs) l'
-reads_if true moment key e c l hs l' a there new (answer, piece, it) = reads_as moment key e answer c l hs l' a there new it
+reads_if true moment key e c l hs l' a there new (answer, segment, it) = reads_as moment key e answer c l hs l' a there new it
 reads_if false moment key e c l hs l' a there new it = carries_nothing c l hs l' a new it
 
 reads_at : (moment key : ℕ) → CarriesAt key (ReadsAt moment key)
@@ -626,33 +626,33 @@ waits e rest is = ap (λ (due : List ℕ). drop (length e.taken) due) is ∙ pas
     past [] ys = refl
     past (x ∷ xs) ys = past xs ys
 
-taken_front : (n : ℕ) (xs : List ℕ) → xs ≡ take n xs ++ drop n xs
-taken_front zero xs = refl
-taken_front (suc n) [] = refl
-taken_front (suc n) (x ∷ xs) = ap (λ (ys : List ℕ). x ∷ ys) (taken_front n xs)
+taken_prefix : (n : ℕ) (xs : List ℕ) → xs ≡ take n xs ++ drop n xs
+taken_prefix zero xs = refl
+taken_prefix (suc n) [] = refl
+taken_prefix (suc n) (x ∷ xs) = ap (λ (ys : List ℕ). x ∷ ys) (taken_prefix n xs)
 
-writes_done : (key n : ℕ) (e : Entry) (offered : List ℕ) (c : Carried) (l l' : Ledger) → Agrees c l → l.entries key ≡ Some e → IsFront offered (waiting e) → l' ≡ with_entry key (record e { taken = e.taken ++ take n offered }) l → Agrees (carry c (Writes e.id offered (wire.Done n))) l'
-writes_done key n e offered c l l' a there front after =
+writes_done : (key n : ℕ) (e : Entry) (offered : List ℕ) (c : Carried) (l l' : Ledger) → Agrees c l → l.entries key ≡ Some e → IsPrefix offered (waiting e) → l' ≡ with_entry key (record e { taken = e.taken ++ take n offered }) l → Agrees (carry c (Writes e.id offered (wire.Done n))) l'
+writes_done key n e offered c l l' a there prefix after =
     agrees_with key e (record e { taken = e.taken ++ take n offered }) c (carry c (Writes e.id offered (wire.Done n))) l l' a there (ap (λ (x : Ledger). x.entries) after) refl refl
     (λ id apart. (at_other e.id (c.taken e.id ++ take n offered) c.taken id apart, refl)) (ap (λ (xs : List ℕ). xs ++ take n offered) (a.taken key e there) ∙ sym (at_this e.id (c.taken e.id ++ take n offered) c.taken))
-    (drop n offered ++ front.rest, due) (λ draining sound. a.read key e there draining sound)
+    (drop n offered ++ prefix.rest, due) (λ draining sound. a.read key e there draining sound)
   where
-    due : e.due ≡ (e.taken ++ take n offered) ++ (drop n offered ++ front.rest)
+    due : e.due ≡ (e.taken ++ take n offered) ++ (drop n offered ++ prefix.rest)
     due =
-        let f = a.front key e there in
-        let rest : f.0 ≡ offered ++ front.rest = sym (waits e f.0 f.1) ∙ front.whole in
-        f.1 ∙ (ap (λ (xs : List ℕ). e.taken ++ xs) (rest ∙ (ap (λ (xs : List ℕ). xs ++ front.rest) (taken_front n offered) ∙ append_assoc (take n offered) (drop n offered) front.rest)) ∙ sym (append_assoc e.taken (take n offered) (drop n offered ++ front.rest)))
+        let f = a.prefix key e there in
+        let rest : f.0 ≡ offered ++ prefix.rest = sym (waits e f.0 f.1) ∙ prefix.whole in
+        f.1 ∙ (ap (λ (xs : List ℕ). e.taken ++ xs) (rest ∙ (ap (λ (xs : List ℕ). xs ++ prefix.rest) (taken_prefix n offered) ∙ append_assoc (take n offered) (drop n offered) prefix.rest)) ∙ sym (append_assoc e.taken (take n offered) (drop n offered ++ prefix.rest)))
 
-writes_as : (moment key : ℕ) (e : Entry) (offered : List ℕ) (answer : WireAnswer ℕ) (c : Carried) (l : Ledger) (hs : List Happening) (l' : Ledger) → Agrees c l → l.entries key ≡ Some e → IsFront offered (waiting e) → AreNew c hs → WritesAs moment key e offered answer l hs l' → Agrees (carried c hs) l'
-writes_as moment key e offered (wire.Done n) c l hs l' a there front new it =
+writes_as : (moment key : ℕ) (e : Entry) (offered : List ℕ) (answer : WireAnswer ℕ) (c : Carried) (l : Ledger) (hs : List Happening) (l' : Ledger) → Agrees c l → l.entries key ≡ Some e → IsPrefix offered (waiting e) → AreNew c hs → WritesAs moment key e offered answer l hs l' → Agrees (carried c hs) l'
+writes_as moment key e offered (wire.Done n) c l hs l' a there prefix new it =
     polled_then (Writes e.id offered (wire.Done n)) (Sets key (record e { taken = e.taken ++ take n offered })) c l hs l' new it
-    (λ fresh more sets. subst (λ (x : Carried). Agrees x l') (sym (ap (carried (carry c (Writes e.id offered (wire.Done n)))) sets.0)) (writes_done key n e offered c l l' a there front sets.1))
-writes_as moment key e offered wire.Waiting c l hs l' a there front new it = carries_poll (Writes e.id offered wire.Waiting) c l hs l' refl a it
-writes_as moment key e offered wire.End c l hs l' a there front new it = polled_then (Writes e.id offered wire.End) (Fails moment key) c l hs l' new it (λ fresh more fails. carries_fails moment key c l it.back l' a more fails)
-writes_as moment key e offered wire.Fault c l hs l' a there front new it = polled_then (Writes e.id offered wire.Fault) (Fails moment key) c l hs l' new it (λ fresh more fails. carries_fails moment key c l it.back l' a more fails)
+    (λ fresh more sets. subst (λ (x : Carried). Agrees x l') (sym (ap (carried (carry c (Writes e.id offered (wire.Done n)))) sets.0)) (writes_done key n e offered c l l' a there prefix sets.1))
+writes_as moment key e offered wire.Waiting c l hs l' a there prefix new it = carries_poll (Writes e.id offered wire.Waiting) c l hs l' refl a it
+writes_as moment key e offered wire.End c l hs l' a there prefix new it = polled_then (Writes e.id offered wire.End) (Fails moment key) c l hs l' new it (λ fresh more fails. carries_fails moment key c l it.back l' a more fails)
+writes_as moment key e offered wire.Fault c l hs l' a there prefix new it = polled_then (Writes e.id offered wire.Fault) (Fails moment key) c l hs l' new it (λ fresh more fails. carries_fails moment key c l it.back l' a more fails)
 
 writes_if : (t : Bool) (moment key : ℕ) (e : Entry) (c : Carried) (l : Ledger) (hs : List Happening) (l' : Ledger) → Agrees c l → l.entries key ≡ Some e → AreNew c hs → If t (WritesOpen moment key e) Nothing l hs l' → Agrees (carried c hs) l'
-writes_if true moment key e c l hs l' a there new (offered, front, answer, it) = writes_as moment key e offered answer c l hs l' a there front new it
+writes_if true moment key e c l hs l' a there new (offered, prefix, answer, it) = writes_as moment key e offered answer c l hs l' a there prefix new it
 writes_if false moment key e c l hs l' a there new it = carries_nothing c l hs l' a new it
 
 writes_at : (moment key : ℕ) → CarriesAt key (WritesAt moment key)
@@ -666,9 +666,9 @@ carries_writes moment key c l hs l' a new it = writes_at moment key (l.entries k
 
 ends_if : (t : Bool) (moment key : ℕ) (e : Entry) (c : Carried) (l : Ledger) (hs : List Happening) (l' : Ledger) → Agrees c l → l.entries key ≡ Some e → AreNew c hs → If t (Then (ClosesAs moment Drained key e) (ClosesBroken moment)) Nothing l hs l' → Agrees (carried c hs) l'
 ends_if true moment key e c l hs l' a there new it =
-    let both = new_append c it.front it.back (subst (AreNew c) it.whole new) in
-    subst (λ (x : Carried). Agrees x l') (sym (ap (carried c) it.whole ∙ carried_append c it.front it.back))
-    (carries_settles moment (carried c it.front) it.mid it.back l' (carries_closes moment Drained key e c l it.front it.mid a there both.0 it.first) both.1 it.second)
+    let both = new_append c it.prefix it.back (subst (AreNew c) it.whole new) in
+    subst (λ (x : Carried). Agrees x l') (sym (ap (carried c) it.whole ∙ carried_append c it.prefix it.back))
+    (carries_closes_broken moment (carried c it.prefix) it.mid it.back l' (carries_closes moment Drained key e c l it.prefix it.mid a there both.0 it.first) both.1 it.second)
 ends_if false moment key e c l hs l' a there new it = carries_nothing c l hs l' a new it
 
 ends_at : (moment key : ℕ) → CarriesAt key (EndsAt moment key)
@@ -694,7 +694,7 @@ given c l door id a none = record {
   there = λ key e is. at_other id true c.open_now e.id (apart key e is) ∙ a.there key e is;
   one = a.one;
   taken = λ key e is. a.taken key e is ∙ sym (at_other id [] c.taken e.id (apart key e is));
-  front = a.front;
+  prefix = a.prefix;
   read = λ key e is draining sound. a.read key e is draining sound ∙ sym (at_other id [] c.read e.id (apart key e is));
 }
   where
@@ -706,7 +706,7 @@ opened key id door c l l' a none after = record {
   there = λ k e is. there_at k e is (at_cases key (Some (opening_entry door id)) l.entries k);
   one = λ k o e d is its same. one_at k o e d is its same (at_cases key (Some (opening_entry door id)) l.entries k) (at_cases key (Some (opening_entry door id)) l.entries o);
   taken = λ k e is. taken_at k e is (at_cases key (Some (opening_entry door id)) l.entries k);
-  front = λ k e is. front_at k e is (at_cases key (Some (opening_entry door id)) l.entries k);
+  prefix = λ k e is. prefix_at k e is (at_cases key (Some (opening_entry door id)) l.entries k);
   read = λ k e is draining sound. read_at k e is draining sound (at_cases key (Some (opening_entry door id)) l.entries k);
 }
   where
@@ -739,9 +739,9 @@ opened key id door c l l' a none after = record {
     taken_at k e is (inl (same, its)) = subst (λ (x : Entry). x.taken ≡ (carry c (Accepts door (wire.Done id))).taken x.id) (is_new k e is its) (sym (at_this id [] c.taken))
     taken_at k e is (inr (apart, its)) = before.taken k e (is_old k e is its)
 
-    front_at : (k : ℕ) (e : Entry) → l'.entries k ≡ Some e → Each k → (rest : List ℕ) × (e.due ≡ e.taken ++ rest)
-    front_at k e is (inl (same, its)) = subst (λ (x : Entry). (rest : List ℕ) × (x.due ≡ x.taken ++ rest)) (is_new k e is its) ([], refl)
-    front_at k e is (inr (apart, its)) = a.front k e (is_old k e is its)
+    prefix_at : (k : ℕ) (e : Entry) → l'.entries k ≡ Some e → Each k → (rest : List ℕ) × (e.due ≡ e.taken ++ rest)
+    prefix_at k e is (inl (same, its)) = subst (λ (x : Entry). (rest : List ℕ) × (x.due ≡ x.taken ++ rest)) (is_new k e is its) ([], refl)
+    prefix_at k e is (inr (apart, its)) = a.prefix k e (is_old k e is its)
 
     read_at : (k : ℕ) (e : Entry) → l'.entries k ≡ Some e → e.draining ≡ false → e.broken ≡ false → Each k → e.read ≡ (carry c (Accepts door (wire.Done id))).read e.id
     read_at k e is draining sound (inl (same, its)) = subst (λ (x : Entry). x.read ≡ (carry c (Accepts door (wire.Done id))).read x.id) (is_new k e is its) (sym (at_this id [] c.read))
@@ -755,7 +755,7 @@ refused id door c l a none =
       there = λ key e is. at_other id false (carry c (Accepts door (wire.Done id))).open_now e.id (not_new c id e.id (a.there key e is) none) ∙ before.there key e is;
       one = before.one;
       taken = before.taken;
-      front = before.front;
+      prefix = before.prefix;
       read = before.read;
     }
 
@@ -784,7 +784,7 @@ carries_ticks moment c l hs l' a new it = carries_then (Notes (now_at moment l))
 
 carries_tick : (moment : ℕ) → Carries (TicksIfDue moment)
 carries_tick moment c l hs l' a new it =
-    carries_if (is_tick_due moment l) (Then (Ticks moment) (ClosesBroken moment)) Nothing (carries_then (Ticks moment) (ClosesBroken moment) (carries_ticks moment) (carries_settles moment)) carries_nothing c l hs l' a new it
+    carries_if (is_tick_due moment l) (Then (Ticks moment) (ClosesBroken moment)) Nothing (carries_then (Ticks moment) (ClosesBroken moment) (carries_ticks moment) (carries_closes_broken moment)) carries_nothing c l hs l' a new it
 
 carries_covers : (n : ℕ) → Carries (Covers n)
 carries_covers n c l hs l' a new it = carries_chooses (Looked n) c l hs l' a new it.1
@@ -797,7 +797,7 @@ carries_round moment c l hs l' a new (n, it) =
 
 carries_turn : (moment : ℕ) → Carries (Turn moment)
 carries_turn moment =
-    carries_then (ClosesBroken moment) (Then (TicksIfDue moment) (Then (AcceptsAt Ipp) (Then (AcceptsAt Lpd) (Then (AcceptsAt Devices) (Round moment))))) (carries_settles moment)
+    carries_then (ClosesBroken moment) (Then (TicksIfDue moment) (Then (AcceptsAt Ipp) (Then (AcceptsAt Lpd) (Then (AcceptsAt Devices) (Round moment))))) (carries_closes_broken moment)
     (carries_then (TicksIfDue moment) (Then (AcceptsAt Ipp) (Then (AcceptsAt Lpd) (Then (AcceptsAt Devices) (Round moment)))) (carries_tick moment)
     (carries_then (AcceptsAt Ipp) (Then (AcceptsAt Lpd) (Then (AcceptsAt Devices) (Round moment))) (carries_accepts Ipp)
     (carries_then (AcceptsAt Lpd) (Then (AcceptsAt Devices) (Round moment)) (carries_accepts Lpd) (carries_then (AcceptsAt Devices) (Round moment) (carries_accepts Devices) (carries_round moment)))))
@@ -834,12 +834,12 @@ carries_trace (action ∷ actions) c l l' a new (mid, does, runs) =
     (carries_trace actions (carried c (happenings_of action)) mid l' (carries_action action c l mid a both.0 does) both.1 runs)
 
 nothing_agrees : (opening : State) → Agrees nothing_carried (opening_ledger opening)
-nothing_agrees opening = record { there = λ key e is. cc; one = λ key other e d is its same. cc; taken = λ key e is. cc; front = λ key e is. cc; read = λ key e is draining sound. cc }
+nothing_agrees opening = record { there = λ key e is. cc; one = λ key other e d is its same. cc; taken = λ key e is. cc; prefix = λ key e is. cc; read = λ key e is draining sound. cc }
 
 pub is_carried : (opening : State) (trace : Trace) (l : Ledger) → Runs trace (opening_ledger opening) l → NumbersDiffer trace → IsCarried trace l
 is_carried opening trace l runs new =
     let a = carries_trace trace nothing_carried (opening_ledger opening) l (nothing_agrees opening) new runs in
     record {
-      due = λ key e is. let f = a.front key e is in f.1 ∙ (ap (λ (xs : List ℕ). xs ++ f.0) (a.taken key e is) ∙ ap (λ (xs : List ℕ). (carried_in trace).taken e.id ++ xs) (sym (waits e f.0 f.1)));
+      due = λ key e is. let f = a.prefix key e is in f.1 ∙ (ap (λ (xs : List ℕ). xs ++ f.0) (a.taken key e is) ∙ ap (λ (xs : List ℕ). (carried_in trace).taken e.id ++ xs) (sym (waits e f.0 f.1)));
       read = a.read;
     }

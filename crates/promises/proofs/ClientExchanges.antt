@@ -26,51 +26,51 @@ use Rattle.server.specs.Ledger.{Ledger, Fate}
 use Rattle.server.specs.Turn.{Trace}
 use Rattle.promises.specs.Orders.{RunPart}
 use Rattle.promises.specs.Answers.{Act, NextIpp, IsNext, IsOwed, AreActs, IsAnswered, IsLast, IsCutOff, ClientTalk, AreAnswered, WasAnswered, WasCutOff}
-use Rattle.promises.specs.Exchanges.{Exchange, elements_of_begun, elements_of_exchange, IsAnswerTo, IsExchange, invitation, due_in, Front, Nothing, Begun, elements_of_front, due_front, elements_of_refusal, due_refusal, AreExchanges, ActsAreExchanges, ByExchanges, IsOneMore, UntilBroken, IsByExchanges, WasByExchanges, AreByExchanges}
+use Rattle.promises.specs.Exchanges.{Exchange, elements_of_begun, elements_of_exchange, IsAnswerTo, IsExchange, invitation, due_in, Prefix, Nothing, Begun, elements_of_prefix, due_prefix, elements_of_refusal, due_refusal, AreExchanges, ActsAreExchanges, ByExchanges, IsOneMore, UntilBroken, IsByExchanges, WasByExchanges, AreByExchanges}
 
 no_false : false ≡ true → ⊥
 no_false is = cc
 
 -- ---- the order of elements
 
-none_front : (said later : List HttpElement) → is_none (said ++ later) ≡ true → is_none said ≡ true
-none_front [] later is = refl
-none_front (one ∷ said) later is = is
+none_prefix : (said later : List HttpElement) → is_none (said ++ later) ≡ true → is_none said ≡ true
+none_prefix [] later is = refl
+none_prefix (one ∷ said) later is = is
 
-ends_front : (t : Bool) (said later : List HttpElement) → (in_order Between (said ++ later) ≡ true → in_order Between said ≡ true) → (if t then is_none (said ++ later) else in_order Between (said ++ later)) ≡ true → (if t then is_none said else in_order Between said) ≡ true
-ends_front true said later front is = none_front said later is
-ends_front false said later front is = front is
+ends_prefix : (t : Bool) (said later : List HttpElement) → (in_order Between (said ++ later) ≡ true → in_order Between said ≡ true) → (if t then is_none (said ++ later) else in_order Between (said ++ later)) ≡ true → (if t then is_none said else in_order Between said) ≡ true
+ends_prefix true said later prefix is = none_prefix said later is
+ends_prefix false said later prefix is = prefix is
 
 -- a prefix of elements in order is in order
-order_front : (place : Place) (said later : List HttpElement) → in_order place (said ++ later) ≡ true → in_order place said ≡ true
-order_front place [] later is = refl
-order_front Between (HasHead closes ∷ said) later is = order_front (Headed closes) said later is
-order_front Between (Invites ∷ said) later is = is
-order_front Between (HasByte byte ∷ said) later is = is
-order_front Between (EndsBody ∷ said) later is = is
-order_front Between (IsRefused refusal ∷ said) later is = none_front said later is
-order_front (Headed closes) (HasHead other ∷ said) later is = is
-order_front (Headed closes) (Invites ∷ said) later is = order_front (Within closes 0) said later is
-order_front (Headed closes) (HasByte byte ∷ said) later is = order_front (Within closes 1) said later is
-order_front (Headed closes) (EndsBody ∷ said) later is = ends_front (is_last closes 0) said later (order_front Between said later) is
-order_front (Headed closes) (IsRefused refusal ∷ said) later is = none_front said later is
-order_front (Within closes count) (HasHead other ∷ said) later is = is
-order_front (Within closes count) (Invites ∷ said) later is = is
-order_front (Within closes count) (HasByte byte ∷ said) later is = order_front (Within closes (count + 1)) said later is
-order_front (Within closes count) (EndsBody ∷ said) later is = ends_front (is_last closes count) said later (order_front Between said later) is
-order_front (Within closes count) (IsRefused refusal ∷ said) later is = none_front said later is
+order_prefix : (place : Place) (said later : List HttpElement) → in_order place (said ++ later) ≡ true → in_order place said ≡ true
+order_prefix place [] later is = refl
+order_prefix Between (HasHead closes ∷ said) later is = order_prefix (Headed closes) said later is
+order_prefix Between (Invites ∷ said) later is = is
+order_prefix Between (HasByte byte ∷ said) later is = is
+order_prefix Between (EndsBody ∷ said) later is = is
+order_prefix Between (IsRefused refusal ∷ said) later is = none_prefix said later is
+order_prefix (Headed closes) (HasHead other ∷ said) later is = is
+order_prefix (Headed closes) (Invites ∷ said) later is = order_prefix (Within closes 0) said later is
+order_prefix (Headed closes) (HasByte byte ∷ said) later is = order_prefix (Within closes 1) said later is
+order_prefix (Headed closes) (EndsBody ∷ said) later is = ends_prefix (is_last closes 0) said later (order_prefix Between said later) is
+order_prefix (Headed closes) (IsRefused refusal ∷ said) later is = none_prefix said later is
+order_prefix (Within closes count) (HasHead other ∷ said) later is = is
+order_prefix (Within closes count) (Invites ∷ said) later is = is
+order_prefix (Within closes count) (HasByte byte ∷ said) later is = order_prefix (Within closes (count + 1)) said later is
+order_prefix (Within closes count) (EndsBody ∷ said) later is = ends_prefix (is_last closes count) said later (order_prefix Between said later) is
+order_prefix (Within closes count) (IsRefused refusal ∷ said) later is = none_prefix said later is
 
 -- the first elements of a stream are in order
 first_ordered : ElementsInOrder → SomeParse → FirstStays → (stream : List ℕ) (said : List HttpElement) → ParsesFirst stream said → in_order Between said ≡ true
 first_ordered ordered some stays stream said first =
     let all = some stream in
     let it = stays stream [] said all.0 first (subst (λ (bytes : List ℕ). Exchanges bytes all.0) (sym (append-nil stream)) all.1) in
-    order_front Between said it.0 (subst (λ (xs : List HttpElement). in_order Between xs ≡ true) it.1 (ordered stream all.0 all.1))
+    order_prefix Between said it.0 (subst (λ (xs : List HttpElement). in_order Between xs ≡ true) it.1 (ordered stream all.0 all.1))
 
 -- ---- where a client is
 
 -- the place after the beginning of an exchange
-abbrev place_of : Front → Place
+abbrev place_of : Prefix → Place
 place_of Nothing = Between
 place_of (Begun closes true body) = Within closes (length body)
 place_of (Begun closes false []) = Headed closes
@@ -78,32 +78,32 @@ place_of (Begun closes false (byte ∷ body)) = Within closes (length (byte ∷ 
 
 -- something may come yet, or nothing
 data Mode : Type 0 where
-  Goes : (front : Front) → Mode
-  Over : (front : Front) (refusal : Option HttpRejection) → Mode
+  Goes : (prefix : Prefix) → Mode
+  Over : (prefix : Prefix) (refusal : Option HttpRejection) → Mode
 
 abbrev goes : Mode → List HttpElement → Bool
-goes (Goes front) later = in_order (place_of front) later
-goes (Over front refusal) later = is_none later
+goes (Goes prefix) later = in_order (place_of prefix) later
+goes (Over prefix refusal) later = is_none later
 
 abbrev Leads : Mode → List HttpElement → Type 0
 Leads mode said = (later : List HttpElement) → in_order Between (said ++ later) ≡ goes mode later
 
--- the kept part of the front
-abbrev Keeps : Front → Bool → List ℕ → Type 0
+-- the kept part of the prefix
+abbrev Keeps : Prefix → Bool → List ℕ → Type 0
 Keeps Nothing closes body = Unit {0}
 Keeps (Begun also invites octets) closes body = (closes ≡ also) × (body ≡ octets)
 
 abbrev Fits : Mode → Bool → List ℕ → Type 0
-Fits (Goes front) closes body = Keeps front closes body
-Fits (Over front refusal) closes body = Unit {0}
+Fits (Goes prefix) closes body = Keeps prefix closes body
+Fits (Over prefix refusal) closes body = Unit {0}
 
 abbrev elements_of_mode : Mode → List HttpElement
-elements_of_mode (Goes front) = elements_of_front front ++ elements_of_refusal None
-elements_of_mode (Over front refusal) = elements_of_front front ++ elements_of_refusal refusal
+elements_of_mode (Goes prefix) = elements_of_prefix prefix ++ elements_of_refusal None
+elements_of_mode (Over prefix refusal) = elements_of_prefix prefix ++ elements_of_refusal refusal
 
 abbrev due_mode : Mode → List ℕ
-due_mode (Goes front) = due_front front ++ due_refusal None
-due_mode (Over front refusal) = due_front front ++ due_refusal refusal
+due_mode (Goes prefix) = due_prefix prefix ++ due_refusal None
+due_mode (Over prefix refusal) = due_prefix prefix ++ due_refusal refusal
 
 leads_on : (mode now : Mode) (said more : List HttpElement) → Leads mode said → ((later : List HttpElement) → goes mode (more ++ later) ≡ goes now later) → Leads now (said ++ more)
 leads_on mode now said more leads step later = ap (λ (xs : List HttpElement). in_order Between xs) (append_assoc said more later) ∙ (leads (more ++ later) ∙ step later)
@@ -143,14 +143,14 @@ head_comes id (Goes Nothing) said next asked bytes leads ok none quiet = record 
 head_comes id (Goes (Begun closes true body)) said next asked bytes leads ok none quiet = absurd (no_false ok)
 head_comes id (Goes (Begun closes false [])) said next asked bytes leads ok none quiet = absurd (no_false ok)
 head_comes id (Goes (Begun closes false (byte ∷ body))) said next asked bytes leads ok none quiet = absurd (no_false ok)
-head_comes id (Over front refusal) said next asked bytes leads ok none quiet = absurd (no_false ok)
+head_comes id (Over prefix refusal) said next asked bytes leads ok none quiet = absurd (no_false ok)
 
 -- an invitation
 invitation_comes : (id : ℕ) (mode : Mode) (said : List HttpElement) (closes : Bool) (body : List ℕ) (asked : List RunPart) (bytes : List ℕ) → Leads mode said → Fits mode closes body → goes mode (Invites ∷ []) ≡ true → asked ≡ [] → bytes ≡ continue_head → Stepped id mode said (Invites ∷ []) closes body asked bytes
 invitation_comes id (Goes Nothing) said closes body asked bytes leads fits ok none is = absurd (no_false ok)
 invitation_comes id (Goes (Begun also true octets)) said closes body asked bytes leads fits ok none is = absurd (no_false ok)
 invitation_comes id (Goes (Begun also false (byte ∷ octets))) said closes body asked bytes leads fits ok none is = absurd (no_false ok)
-invitation_comes id (Over front refusal) said closes body asked bytes leads fits ok none is = absurd (no_false ok)
+invitation_comes id (Over prefix refusal) said closes body asked bytes leads fits ok none is = absurd (no_false ok)
 invitation_comes id (Goes (Begun also false [])) said closes body asked bytes leads fits ok none is = record {
   now = Goes (Begun also true []);
   leads = leads_on (Goes (Begun also false [])) (Goes (Begun also true [])) said (Invites ∷ []) leads (λ later. refl);
@@ -169,11 +169,11 @@ bytes_on (byte ∷ part) closes invites body later =
     byte_on closes invites body byte (map HasByte part ++ later)
     ∙ (bytes_on part closes invites (body ++ byte ∷ []) later ∙ ap (λ (octets : List ℕ). in_order (place_of (Begun closes invites octets)) later) (append_assoc body (byte ∷ []) part))
 
-more_elements : (closes : Bool) (front : List HttpElement) (body part : List ℕ) → ((HasHead closes ∷ (front ++ map HasByte body)) ++ []) ++ map HasByte part ≡ (HasHead closes ∷ (front ++ map HasByte (body ++ part))) ++ []
-more_elements closes front body part =
-    ap (λ (xs : List HttpElement). xs ++ map HasByte part) (append-nil (HasHead closes ∷ (front ++ map HasByte body)))
-    ∙ (ap (λ (xs : List HttpElement). HasHead closes ∷ xs) (append_assoc front (map HasByte body) (map HasByte part) ∙ ap (λ (xs : List HttpElement). front ++ xs) (sym (map-append HasByte body part)))
-    ∙ sym (append-nil (HasHead closes ∷ (front ++ map HasByte (body ++ part)))))
+more_elements : (closes : Bool) (prefix : List HttpElement) (body part : List ℕ) → ((HasHead closes ∷ (prefix ++ map HasByte body)) ++ []) ++ map HasByte part ≡ (HasHead closes ∷ (prefix ++ map HasByte (body ++ part))) ++ []
+more_elements closes prefix body part =
+    ap (λ (xs : List HttpElement). xs ++ map HasByte part) (append-nil (HasHead closes ∷ (prefix ++ map HasByte body)))
+    ∙ (ap (λ (xs : List HttpElement). HasHead closes ∷ xs) (append_assoc prefix (map HasByte body) (map HasByte part) ∙ ap (λ (xs : List HttpElement). prefix ++ xs) (sym (map-append HasByte body part)))
+    ∙ sym (append-nil (HasHead closes ∷ (prefix ++ map HasByte (body ++ part)))))
 
 -- a part of a body, which may be empty
 part_comes : (id : ℕ) (mode : Mode) (part : List ℕ) (said : List HttpElement) (closes : Bool) (body after : List ℕ) (asked : List RunPart) (bytes : List ℕ) → Leads mode said → Fits mode closes body → goes mode (map HasByte part) ≡ true → after ≡ body ++ part → asked ≡ [] → bytes ≡ [] → Stepped id mode said (map HasByte part) closes after asked bytes
@@ -194,17 +194,17 @@ part_comes id (Goes (Begun also invites octets)) part said closes body after ask
     none = none;
   });
 }
-part_comes id (Over front refusal) [] said closes body after asked bytes leads fits ok grows none quiet = record {
-  now = Over front refusal;
-  leads = leads_on (Over front refusal) (Over front refusal) said [] leads (λ later. refl);
+part_comes id (Over prefix refusal) [] said closes body after asked bytes leads fits ok grows none quiet = record {
+  now = Over prefix refusal;
+  leads = leads_on (Over prefix refusal) (Over prefix refusal) said [] leads (λ later. refl);
   fits = tt;
   comes = inl (record {
-    reads_as = append-nil (elements_of_front front ++ elements_of_refusal refusal);
-    due = ap (λ (xs : List ℕ). (due_front front ++ due_refusal refusal) ++ xs) quiet ∙ append-nil (due_front front ++ due_refusal refusal);
+    reads_as = append-nil (elements_of_prefix prefix ++ elements_of_refusal refusal);
+    due = ap (λ (xs : List ℕ). (due_prefix prefix ++ due_refusal refusal) ++ xs) quiet ∙ append-nil (due_prefix prefix ++ due_refusal refusal);
     none = none;
   });
 }
-part_comes id (Over front refusal) (byte ∷ part) said closes body after asked bytes leads fits ok grows none quiet = absurd (no_false ok)
+part_comes id (Over prefix refusal) (byte ∷ part) said closes body after asked bytes leads fits ok grows none quiet = absurd (no_false ok)
 
 -- the end of a body
 answered_by : (id : ℕ) (closes : Bool) (it : ParsedRequest) (asked : List RunPart) (bytes : List ℕ) → IsOwed id closes (asked_step closes it) asked bytes → IsAnswerTo id closes it asked bytes
@@ -225,10 +225,10 @@ module _ (id : ℕ) (also invites : Bool) (octets : List ℕ) (said : List HttpE
   whole : Exchange
   whole = record { closes = also; invites = invites; body = octets; asked = asked; answer = bytes }
 
-  end_elements : (elements_of_front (Begun also invites octets) ++ elements_of_refusal None) ++ EndsBody ∷ [] ≡ elements_of_exchange (record { closes = also; invites = invites; body = octets; asked = asked; answer = bytes })
+  end_elements : (elements_of_prefix (Begun also invites octets) ++ elements_of_refusal None) ++ EndsBody ∷ [] ≡ elements_of_exchange (record { closes = also; invites = invites; body = octets; asked = asked; answer = bytes })
   end_elements = ap (λ (xs : List HttpElement). xs ++ EndsBody ∷ []) (append-nil (elements_of_begun also invites octets))
 
-  end_due : (due_front (Begun also invites octets) ++ due_refusal None) ++ bytes ≡ invitation invites ++ bytes
+  end_due : (due_prefix (Begun also invites octets) ++ due_refusal None) ++ bytes ≡ invitation invites ++ bytes
   end_due = ap (λ (xs : List ℕ). xs ++ bytes) (append-nil (invitation invites))
 
   end_comes : IsExchange id (record { closes = also; invites = invites; body = octets; asked = asked; answer = bytes }) → Leads (Goes (Begun also invites octets)) said → (t : Bool) → is_last also (length octets) ≡ t → Stepped id (Goes (Begun also invites octets)) said (EndsBody ∷ []) closes body asked bytes
@@ -252,7 +252,7 @@ body_ends id (Goes Nothing) said closes body what asked bytes leads fits ok ends
 body_ends id (Goes (Begun also invites octets)) said closes body what asked bytes leads fits ok ends owed =
     end_comes id also invites octets said closes [] asked bytes
     (is_exchange id also invites octets what asked bytes (subst (λ (xs : List ℕ). Ends also xs what) fits.1 (subst (λ (t : Bool). Ends t body what) fits.0 ends)) (subst (λ (t : Bool). IsOwed id t what asked bytes) fits.0 owed)) leads (is_last also (length octets)) refl
-body_ends id (Over front refusal) said closes body what asked bytes leads fits ok ends owed = absurd (no_false ok)
+body_ends id (Over prefix refusal) said closes body what asked bytes leads fits ok ends owed = absurd (no_false ok)
 
 -- a refusal
 refused_on : (place : Place) (refusal : HttpRejection) (later : List HttpElement) → in_order place (IsRefused refusal ∷ later) ≡ is_none later
@@ -261,17 +261,17 @@ refused_on (Headed closes) refusal later = refl
 refused_on (Within closes count) refusal later = refl
 
 refusal_comes : (id : ℕ) (mode : Mode) (said : List HttpElement) (refusal : HttpRejection) (closes : Bool) (body : List ℕ) (asked : List RunPart) (bytes : List ℕ) → Leads mode said → goes mode (IsRefused refusal ∷ []) ≡ true → asked ≡ [] → bytes ≡ refusal_head refusal → Stepped id mode said (IsRefused refusal ∷ []) closes body asked bytes
-refusal_comes id (Goes front) said refusal closes body asked bytes leads ok none is = record {
-  now = Over front (Some refusal);
-  leads = leads_on (Goes front) (Over front (Some refusal)) said (IsRefused refusal ∷ []) leads (λ later. refused_on (place_of front) refusal later);
+refusal_comes id (Goes prefix) said refusal closes body asked bytes leads ok none is = record {
+  now = Over prefix (Some refusal);
+  leads = leads_on (Goes prefix) (Over prefix (Some refusal)) said (IsRefused refusal ∷ []) leads (λ later. refused_on (place_of prefix) refusal later);
   fits = tt;
   comes = inl (record {
-    reads_as = ap (λ (xs : List HttpElement). xs ++ IsRefused refusal ∷ []) (append-nil (elements_of_front front));
-    due = ap (λ (xs : List ℕ). xs ++ bytes) (append-nil (due_front front)) ∙ ap (λ (xs : List ℕ). due_front front ++ xs) is;
+    reads_as = ap (λ (xs : List HttpElement). xs ++ IsRefused refusal ∷ []) (append-nil (elements_of_prefix prefix));
+    due = ap (λ (xs : List ℕ). xs ++ bytes) (append-nil (due_prefix prefix)) ∙ ap (λ (xs : List ℕ). due_prefix prefix ++ xs) is;
     none = none;
   });
 }
-refusal_comes id (Over front other) said refusal closes body asked bytes leads ok none is = absurd (no_false ok)
+refusal_comes id (Over prefix other) said refusal closes body asked bytes leads ok none is = absurd (no_false ok)
 
 -- any
 stepped : (id : ℕ) (what_item : HttpItem) (part : List ℕ) (mode : Mode) (said : List HttpElement) (closes : Bool) (body : List ℕ) (what : Step) (asked : List RunPart) (bytes : List ℕ) → Leads mode said → Fits mode closes body → goes mode (elements_of what_item part) ≡ true → StepsIpp what_item closes body what
@@ -293,38 +293,38 @@ stepped id (item.Refuse refusal) part mode said closes body what asked bytes lea
 record Walked (id : ℕ) (mode : Mode) (said : List HttpElement) (acts : List Act) (acted_on : List HttpElement) : Type 0 where
   exchanges : List Exchange
   each : All (λ (x : Exchange). IsExchange id x) exchanges
-  front : Front
+  prefix : Prefix
   refusal : Option HttpRejection
   more : List HttpElement
   to : acted_on ≡ said ++ more
-  reads_as : elements_of_mode mode ++ more ≡ flat_map elements_of_exchange exchanges ++ (elements_of_front front ++ elements_of_refusal refusal)
+  reads_as : elements_of_mode mode ++ more ≡ flat_map elements_of_exchange exchanges ++ (elements_of_prefix prefix ++ elements_of_refusal refusal)
   asked : flat_map (λ (a : Act). a.asked) acts ≡ flat_map (λ (x : Exchange). x.asked) exchanges
-  due : due_mode mode ++ flat_map (λ (a : Act). a.bytes) acts ≡ flat_map due_in exchanges ++ (due_front front ++ due_refusal refusal)
+  due : due_mode mode ++ flat_map (λ (a : Act). a.bytes) acts ≡ flat_map due_in exchanges ++ (due_prefix prefix ++ due_refusal refusal)
   ordered : in_order Between acted_on ≡ true
 
 walked_none : (id : ℕ) (mode : Mode) (said acted_on : List HttpElement) → acted_on ≡ said → in_order Between said ≡ true → Walked id mode said [] acted_on
-walked_none id (Goes front) said acted_on same order = record {
+walked_none id (Goes prefix) said acted_on same order = record {
   exchanges = [];
   each = All-nil (λ (x : Exchange). IsExchange id x);
-  front = front;
+  prefix = prefix;
   refusal = None;
   more = [];
   to = same ∙ sym (append-nil said);
-  reads_as = append-nil (elements_of_front front ++ elements_of_refusal None);
+  reads_as = append-nil (elements_of_prefix prefix ++ elements_of_refusal None);
   asked = refl;
-  due = append-nil (due_front front ++ due_refusal None);
+  due = append-nil (due_prefix prefix ++ due_refusal None);
   ordered = ap (λ (xs : List HttpElement). in_order Between xs) same ∙ order;
 }
-walked_none id (Over front refusal) said acted_on same order = record {
+walked_none id (Over prefix refusal) said acted_on same order = record {
   exchanges = [];
   each = All-nil (λ (x : Exchange). IsExchange id x);
-  front = front;
+  prefix = prefix;
   refusal = refusal;
   more = [];
   to = same ∙ sym (append-nil said);
-  reads_as = append-nil (elements_of_front front ++ elements_of_refusal refusal);
+  reads_as = append-nil (elements_of_prefix prefix ++ elements_of_refusal refusal);
   asked = refl;
-  due = append-nil (due_front front ++ due_refusal refusal);
+  due = append-nil (due_prefix prefix ++ due_refusal refusal);
   ordered = ap (λ (xs : List HttpElement). in_order Between xs) same ∙ order;
 }
 
@@ -344,25 +344,25 @@ walked_more id mode said more closes body a acts acted_on s w = by s.comes
     by (inl g) = record {
       exchanges = w.exchanges;
       each = w.each;
-      front = w.front;
+      prefix = w.prefix;
       refusal = w.refusal;
       more = more ++ w.more;
       to = w.to ∙ append_assoc said more w.more;
-      reads_as = joined (elements_of_mode mode) more w.more (elements_of_mode s.now) (flat_map elements_of_exchange w.exchanges ++ (elements_of_front w.front ++ elements_of_refusal w.refusal)) g.reads_as w.reads_as;
+      reads_as = joined (elements_of_mode mode) more w.more (elements_of_mode s.now) (flat_map elements_of_exchange w.exchanges ++ (elements_of_prefix w.prefix ++ elements_of_refusal w.refusal)) g.reads_as w.reads_as;
       asked = ap (λ (its : List RunPart). its ++ flat_map (λ (b : Act). b.asked) acts) g.none ∙ w.asked;
-      due = joined (due_mode mode) a.bytes (flat_map (λ (b : Act). b.bytes) acts) (due_mode s.now) (flat_map due_in w.exchanges ++ (due_front w.front ++ due_refusal w.refusal)) g.due w.due;
+      due = joined (due_mode mode) a.bytes (flat_map (λ (b : Act). b.bytes) acts) (due_mode s.now) (flat_map due_in w.exchanges ++ (due_prefix w.prefix ++ due_refusal w.refusal)) g.due w.due;
       ordered = w.ordered;
     }
     by (inr c) = record {
       exchanges = c.whole ∷ w.exchanges;
       each = All-cons (λ (x : Exchange). IsExchange id x) c.whole w.exchanges c.is w.each;
-      front = w.front;
+      prefix = w.prefix;
       refusal = w.refusal;
       more = more ++ w.more;
       to = w.to ∙ append_assoc said more w.more;
-      reads_as = parted (elements_of_mode mode) more w.more (elements_of_mode s.now) (elements_of_exchange c.whole) (flat_map elements_of_exchange w.exchanges) (elements_of_front w.front ++ elements_of_refusal w.refusal) c.reads_as c.no_elements w.reads_as;
+      reads_as = parted (elements_of_mode mode) more w.more (elements_of_mode s.now) (elements_of_exchange c.whole) (flat_map elements_of_exchange w.exchanges) (elements_of_prefix w.prefix ++ elements_of_refusal w.refusal) c.reads_as c.no_elements w.reads_as;
       asked = ap (λ (its : List RunPart). its ++ flat_map (λ (b : Act). b.asked) acts) c.its ∙ ap (λ (its : List RunPart). c.whole.asked ++ its) w.asked;
-      due = parted (due_mode mode) a.bytes (flat_map (λ (b : Act). b.bytes) acts) (due_mode s.now) (due_in c.whole) (flat_map due_in w.exchanges) (due_front w.front ++ due_refusal w.refusal) c.due c.due_none w.due;
+      due = parted (due_mode mode) a.bytes (flat_map (λ (b : Act). b.bytes) acts) (due_mode s.now) (due_in c.whole) (flat_map due_in w.exchanges) (due_prefix w.prefix ++ due_refusal w.refusal) c.due c.due_none w.due;
       ordered = w.ordered;
     }
 
@@ -390,7 +390,7 @@ module _ (ordered : ElementsInOrder) (some : SomeParse) (stays : FirstStays) whe
         order = w.ordered;
         exchanges = w.exchanges;
         each = w.each;
-        front = w.front;
+        prefix = w.prefix;
         refusal = w.refusal;
         said = w.to ∙ w.reads_as;
         asked = w.asked;
@@ -438,13 +438,13 @@ module _ (ordered : ElementsInOrder) (some : SomeParse) (stays : FirstStays) whe
   -- the result of an IPP client's acts before its connection broke
   last_http : (opening : State) (handled : List RunPart) (whole : List ℕ) (after : PeerRecord) (said : List HttpElement) (closes : Bool) (body : List ℕ) → IsLast opening handled whole after (Http said closes body) → (until : List HttpElement) × (last : Bool) × (left : List ℕ) × (after ≡ Http until last left) × IsOneMore until said
   last_http opening handled whole (Http until last left) said closes body (inl is) = (until, last, left, refl, inl (sym (same_said until said last closes left body is)))
-  last_http opening handled whole (Http until last left) said closes body (inr (state, read, what, of, front, next)) =
+  last_http opening handled whole (Http until last left) said closes body (inr (state, read, what, of, prefix, next)) =
       (until, last, left, refl, inr (next.item, next.part, same_said said (until ++ elements_of next.item next.part) closes (closes_after next.item last) body (body_after next.item what next.part left) next.is))
   last_http opening handled whole (Queue items session) said closes body (inl is) = absurd (no_queue said closes body items session (sym is))
-  last_http opening handled whole (Queue items session) said closes body (inr (state, read, what, of, front, next)) =
+  last_http opening handled whole (Queue items session) said closes body (inr (state, read, what, of, prefix, next)) =
       let it = no_lpd state.settings read items session what (Http said closes body) next in absurd (no_queue said closes body it.0 it.1 it.2)
   last_http opening handled whole (Link reports device) said closes body (inl is) = cc
-  last_http opening handled whole (Link reports device) said closes body (inr (state, read, what, of, front, next)) = absurd next
+  last_http opening handled whole (Link reports device) said closes body (inr (state, read, what, of, prefix, next)) = absurd next
 
   cut_so : (opening : State) (key : ℕ) (handled : List RunPart) (e : Entry) (said : List HttpElement) (closes : Bool) (body : List ℕ) → e.progress ≡ Http said closes body → IsCutOff opening key handled e → UntilBroken key handled said e
   cut_so opening key handled e said closes body is cut =

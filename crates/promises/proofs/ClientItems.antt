@@ -85,7 +85,7 @@ keeps_nothing : Keeps Nothing
 keeps_nothing l hs l' first it = keeps_same l l' (ap (λ (x : Ledger). x.entries) it.1) (ap (λ (x : Ledger). x.closed) it.1) first
 
 keeps_then : (R S : Rel) → Keeps R → Keeps S → Keeps (Then R S)
-keeps_then R S r s l hs l' first it = s it.mid it.back l' (r l it.front it.mid first it.first) it.second
+keeps_then R S r s l hs l' first it = s it.mid it.back l' (r l it.prefix it.mid first it.first) it.second
 
 keeps_if : (t : Bool) (R S : Rel) → Keeps R → Keeps S → Keeps (If t R S)
 keeps_if true R S r s l hs l' first it = r l hs l' first it
@@ -177,7 +177,7 @@ keeps_drop place key e l hs l' first is it = keeps_at key (Some (broken e)) l l'
 
 owing_open : (refusable : Bool) (key : ℕ) (bytes : List ℕ) (e : Entry) (l : Ledger) (hs : List Happening) (l' : Ledger) → AllFirst l → First e → EnqueuesOpen refusable key bytes e l hs l' → AllFirst l'
 owing_open false key bytes e l hs l' first is it = keeps_sets key (owing bytes e) l hs l' first is it
-owing_open true key bytes e l hs l' first is (inl it) = keeps_sets key (owing bytes e) it.mid it.back l' (keeps_chooses Found l it.front it.mid first it.first) is it.second
+owing_open true key bytes e l hs l' first is (inl it) = keeps_sets key (owing bytes e) it.mid it.back l' (keeps_chooses Found l it.prefix it.mid first it.first) is it.second
 owing_open true key bytes e l hs l' first is (inr it) = keeps_drop At.Enqueue key e l hs l' first is it
 
 owing_if : (t refusable : Bool) (key : ℕ) (bytes : List ℕ) (e : Entry) (l : Ledger) (hs : List Happening) (l' : Ledger) → AllFirst l → First e → If t Nothing (EnqueuesOpen refusable key bytes e) l hs l' → AllFirst l'
@@ -240,13 +240,13 @@ keeps_leaves fate key e l hs l' first is it = record {
 }
 
 keeps_closes : (moment : ℕ) (fate : Fate) (key : ℕ) (e : Entry) (l : Ledger) (hs : List Happening) (l' : Ledger) → AllFirst l → First e → ClosesAs moment fate key e l hs l' → AllFirst l'
-keeps_closes moment fate key e l hs l' first is it = keeps_gone moment (device_of e.progress) it.mid it.back l' (keeps_leaves fate key e l it.front it.mid first is it.first) it.second
+keeps_closes moment fate key e l hs l' first is it = keeps_gone moment (device_of e.progress) it.mid it.back l' (keeps_leaves fate key e l it.prefix it.mid first is it.first) it.second
 
 closes_first : (moment : ℕ) → Keeps (ClosesFirst moment)
 closes_first moment l hs l' first it = keeps_closes moment Broken it.key it.entry l hs l' first (there l it.key it.entry first it.there) it.closes
 
-keeps_settles : (moment : ℕ) → Keeps (ClosesBroken moment)
-keeps_settles moment l hs l' first it = keeps_many (ClosesFirst moment) (closes_first moment) l hs l' first it.0
+keeps_closes_broken : (moment : ℕ) → Keeps (ClosesBroken moment)
+keeps_closes_broken moment l hs l' first it = keeps_many (ClosesFirst moment) (closes_first moment) l hs l' first it.0
 
 -- ---- replies
 
@@ -339,18 +339,18 @@ keeps_acts_next moment key l hs l' first (id, what, it) = keeps_then (Asks key i
 
 keeps_serves : (moment key : ℕ) → Keeps (Serves moment key)
 keeps_serves moment key l hs l' first it =
-    keeps_then (Many (Acts moment key)) (Chooses Rested) (keeps_many (Acts moment key) (keeps_then (ActsNext moment key) (ClosesBroken moment) (keeps_acts_next moment key) (keeps_settles moment))) (keeps_chooses Rested) l hs l' first it.0
+    keeps_then (Many (Acts moment key)) (Chooses Rested) (keeps_many (Acts moment key) (keeps_then (ActsNext moment key) (ClosesBroken moment) (keeps_acts_next moment key) (keeps_closes_broken moment))) (keeps_chooses Rested) l hs l' first it.0
 
 -- ---- reads, writes and closings
 
 keeps_fails : (moment key : ℕ) → Keeps (Fails moment key)
-keeps_fails moment key = keeps_then (Breaks key) (ClosesBroken moment) (breaks_all key) (keeps_settles moment)
+keeps_fails moment key = keeps_then (Breaks key) (ClosesBroken moment) (breaks_all key) (keeps_closes_broken moment)
 
 own_fed : (moment key : ℕ) (e : Entry) (bytes : List ℕ) (l : Ledger) (hs : List Happening) (l' : Ledger) → AllFirst l → First e → FedWhole moment key e bytes l hs l' → AllFirst l'
 own_fed moment key e bytes l hs l' first is (inl it) =
-    keeps_serves moment key it.mid it.back l' (keeps_sets key (reading bytes e) l it.front it.mid first (first_more e.read bytes e.progress is) it.first) it.second
+    keeps_serves moment key it.mid it.back l' (keeps_sets key (reading bytes e) l it.prefix it.mid first (first_more e.read bytes e.progress is) it.first) it.second
 own_fed moment key e bytes l hs l' first is (inr it) =
-    keeps_settles moment it.mid it.back l' (keeps_at key (Some (broken e)) l it.mid first is (ap (λ (x : Ledger). x.entries) it.first.1) (ap (λ (x : Ledger). x.closed) it.first.1)) it.second
+    keeps_closes_broken moment it.mid it.back l' (keeps_at key (Some (broken e)) l it.mid first is (ap (λ (x : Ledger). x.entries) it.first.1) (ap (λ (x : Ledger). x.closed) it.first.1)) it.second
 
 own_open : (t : Bool) (moment key : ℕ) (e : Entry) (bytes : List ℕ) (l : Ledger) (hs : List Happening) (l' : Ledger) → AllFirst l → First e → If t (Sets key e) (FedWhole moment key e bytes) l hs l' → AllFirst l'
 own_open true moment key e bytes l hs l' first is it = keeps_sets key e l hs l' first is it
@@ -365,14 +365,14 @@ polled poll l hs l' first it = keeps_same l l' (ap (λ (x : Ledger). x.entries) 
 
 own_reads_as : (moment key : ℕ) (e : Entry) (answer : WireAnswer (List ℕ)) (l : Ledger) (hs : List Happening) (l' : Ledger) → AllFirst l → First e → ReadsAs moment key e answer l hs l' → AllFirst l'
 own_reads_as moment key e (wire.Done bytes) l hs l' first is it =
-    let mid = polled (Reads e.id (wire.Done bytes)) l it.front it.mid first it.first in own_feeds moment key bytes (it.mid.entries key) it.mid it.back l' mid (mid.here key) it.second
+    let mid = polled (Reads e.id (wire.Done bytes)) l it.prefix it.mid first it.first in own_feeds moment key bytes (it.mid.entries key) it.mid it.back l' mid (mid.here key) it.second
 own_reads_as moment key e wire.Waiting l hs l' first is it = polled (Reads e.id wire.Waiting) l hs l' first it
 own_reads_as moment key e wire.End l hs l' first is it =
-    keeps_sets key (record e { ended = true }) it.mid it.back l' (polled (Reads e.id wire.End) l it.front it.mid first it.first) is it.second
-own_reads_as moment key e wire.Fault l hs l' first is it = keeps_fails moment key it.mid it.back l' (polled (Reads e.id wire.Fault) l it.front it.mid first it.first) it.second
+    keeps_sets key (record e { ended = true }) it.mid it.back l' (polled (Reads e.id wire.End) l it.prefix it.mid first it.first) is it.second
+own_reads_as moment key e wire.Fault l hs l' first is it = keeps_fails moment key it.mid it.back l' (polled (Reads e.id wire.Fault) l it.prefix it.mid first it.first) it.second
 
 own_reads_if : (t : Bool) (moment key : ℕ) (e : Entry) (l : Ledger) (hs : List Happening) (l' : Ledger) → AllFirst l → First e → If t (ReadsOpen moment key e) Nothing l hs l' → AllFirst l'
-own_reads_if true moment key e l hs l' first is (answer, piece, it) = own_reads_as moment key e answer l hs l' first is it
+own_reads_if true moment key e l hs l' first is (answer, segment, it) = own_reads_as moment key e answer l hs l' first is it
 own_reads_if false moment key e l hs l' first is it = keeps_nothing l hs l' first it
 
 own_reads : (moment key : ℕ) (o : Option Entry) (l : Ledger) (hs : List Happening) (l' : Ledger) → AllFirst l → FirstAt o → ReadsAt moment key o l hs l' → AllFirst l'
@@ -384,13 +384,13 @@ keeps_reads moment key l hs l' first it = own_reads moment key (l.entries key) l
 
 own_writes_as : (moment key : ℕ) (e : Entry) (offered : List ℕ) (answer : WireAnswer ℕ) (l : Ledger) (hs : List Happening) (l' : Ledger) → AllFirst l → First e → WritesAs moment key e offered answer l hs l' → AllFirst l'
 own_writes_as moment key e offered (wire.Done n) l hs l' first is it =
-    keeps_sets key (record e { taken = e.taken ++ take n offered }) it.mid it.back l' (polled (Writes e.id offered (wire.Done n)) l it.front it.mid first it.first) is it.second
+    keeps_sets key (record e { taken = e.taken ++ take n offered }) it.mid it.back l' (polled (Writes e.id offered (wire.Done n)) l it.prefix it.mid first it.first) is it.second
 own_writes_as moment key e offered wire.Waiting l hs l' first is it = polled (Writes e.id offered wire.Waiting) l hs l' first it
-own_writes_as moment key e offered wire.End l hs l' first is it = keeps_fails moment key it.mid it.back l' (polled (Writes e.id offered wire.End) l it.front it.mid first it.first) it.second
-own_writes_as moment key e offered wire.Fault l hs l' first is it = keeps_fails moment key it.mid it.back l' (polled (Writes e.id offered wire.Fault) l it.front it.mid first it.first) it.second
+own_writes_as moment key e offered wire.End l hs l' first is it = keeps_fails moment key it.mid it.back l' (polled (Writes e.id offered wire.End) l it.prefix it.mid first it.first) it.second
+own_writes_as moment key e offered wire.Fault l hs l' first is it = keeps_fails moment key it.mid it.back l' (polled (Writes e.id offered wire.Fault) l it.prefix it.mid first it.first) it.second
 
 own_writes_if : (t : Bool) (moment key : ℕ) (e : Entry) (l : Ledger) (hs : List Happening) (l' : Ledger) → AllFirst l → First e → If t (WritesOpen moment key e) Nothing l hs l' → AllFirst l'
-own_writes_if true moment key e l hs l' first is (offered, front, answer, it) = own_writes_as moment key e offered answer l hs l' first is it
+own_writes_if true moment key e l hs l' first is (offered, prefix, answer, it) = own_writes_as moment key e offered answer l hs l' first is it
 own_writes_if false moment key e l hs l' first is it = keeps_nothing l hs l' first it
 
 own_writes : (moment key : ℕ) (o : Option Entry) (l : Ledger) (hs : List Happening) (l' : Ledger) → AllFirst l → FirstAt o → WritesAt moment key o l hs l' → AllFirst l'
@@ -401,7 +401,7 @@ keeps_writes : (moment key : ℕ) → Keeps (WritesOne moment key)
 keeps_writes moment key l hs l' first it = own_writes moment key (l.entries key) l hs l' first (first.here key) it
 
 ends_if : (t : Bool) (moment key : ℕ) (e : Entry) (l : Ledger) (hs : List Happening) (l' : Ledger) → AllFirst l → First e → If t (Then (ClosesAs moment Drained key e) (ClosesBroken moment)) Nothing l hs l' → AllFirst l'
-ends_if true moment key e l hs l' first is it = keeps_settles moment it.mid it.back l' (keeps_closes moment Drained key e l it.front it.mid first is it.first) it.second
+ends_if true moment key e l hs l' first is it = keeps_closes_broken moment it.mid it.back l' (keeps_closes moment Drained key e l it.prefix it.mid first is it.first) it.second
 ends_if false moment key e l hs l' first is it = keeps_nothing l hs l' first it
 
 ends_at : (moment key : ℕ) (o : Option Entry) (l : Ledger) (hs : List Happening) (l' : Ledger) → AllFirst l → FirstAt o → EndsAt moment key o l hs l' → AllFirst l'
@@ -439,7 +439,7 @@ keeps_ticks moment l hs l' first it =
 
 keeps_tick : (moment : ℕ) → Keeps (TicksIfDue moment)
 keeps_tick moment l hs l' first it =
-    keeps_if (is_tick_due moment l) (Then (Ticks moment) (ClosesBroken moment)) Nothing (keeps_then (Ticks moment) (ClosesBroken moment) (keeps_ticks moment) (keeps_settles moment)) keeps_nothing l hs l' first it
+    keeps_if (is_tick_due moment l) (Then (Ticks moment) (ClosesBroken moment)) Nothing (keeps_then (Ticks moment) (ClosesBroken moment) (keeps_ticks moment) (keeps_closes_broken moment)) keeps_nothing l hs l' first it
 
 keeps_round : (moment : ℕ) → Keeps (Round moment)
 keeps_round moment l hs l' first (n, it) =
@@ -449,7 +449,7 @@ keeps_round moment l hs l' first (n, it) =
 
 keeps_turn : (moment : ℕ) → Keeps (Turn moment)
 keeps_turn moment =
-    keeps_then (ClosesBroken moment) (Then (TicksIfDue moment) (Then (AcceptsAt Ipp) (Then (AcceptsAt Lpd) (Then (AcceptsAt Devices) (Round moment))))) (keeps_settles moment)
+    keeps_then (ClosesBroken moment) (Then (TicksIfDue moment) (Then (AcceptsAt Ipp) (Then (AcceptsAt Lpd) (Then (AcceptsAt Devices) (Round moment))))) (keeps_closes_broken moment)
     (keeps_then (TicksIfDue moment) (Then (AcceptsAt Ipp) (Then (AcceptsAt Lpd) (Then (AcceptsAt Devices) (Round moment)))) (keeps_tick moment)
     (keeps_then (AcceptsAt Ipp) (Then (AcceptsAt Lpd) (Then (AcceptsAt Devices) (Round moment))) (keeps_accepts Ipp)
     (keeps_then (AcceptsAt Lpd) (Then (AcceptsAt Devices) (Round moment)) (keeps_accepts Lpd) (keeps_then (AcceptsAt Devices) (Round moment) (keeps_accepts Devices) (keeps_round moment)))))

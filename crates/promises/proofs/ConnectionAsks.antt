@@ -32,11 +32,11 @@ use Rattle.server.specs.Acting.{place_of, place_of_part, Asks, ActsOn, ActsNext}
 use Rattle.server.specs.Polling.{Acts, Serves}
 use Rattle.promises.specs.Orders.{MemoryRefused, RunPart, AreHandled, named_by, IsAt, AreAt, run_notes, due_by}
 use Rattle.promises.proofs.AnswerKinds.{EventOf, typed}
-use Rattle.promises.specs.Answers.{Act, ClientTalk, drains, IsFrontOf, IsNext, IsOwed, IsStateOf, asked_by, IsLast, BrokeAfter, IsOneAtMost}
+use Rattle.promises.specs.Answers.{Act, ClientTalk, drains, IsPrefixOf, IsNext, IsOwed, IsStateOf, asked_by, IsLast, BrokeAfter, IsOneAtMost}
 use Rattle.promises.proofs.SentToDevices.{Counts, due_at, FreshTalk, IsFresh, IsClient, same_key, other_key, is_key, Ordered, notes_append, calm_sets, Good, one_entry, not_key, client_none, client_fresh, no_true, counts_device, ordered_then, sent_by, IsLost, lost_device, breaks_same, ReadsOn, reads_still, reads_then}
 use Rattle.promises.proofs.HandledEvents.{happened, CameAs, Goes, goes_then, goes_calm, TalkedAs, Went, progressed_still, one_handled, none_closed, LostAs, lost_by, StopsAs, stops_still, acts_on}
 use Rattle.promises.proofs.DueToClients.{calms_chooses, Gave, gave_still, gives_nothing, at_aside, at_here, Just_these, Loose, notified_of, refusal_at, one_refusal, given, No_memory, gives_dropped, gives_declines, gives_answers}
-use Rattle.promises.proofs.EventsOfTurns.{Moves, moves_calm, moves_then, moves_many, moves_settles}
+use Rattle.promises.proofs.EventsOfTurns.{Moves, moves_calm, moves_then, moves_many, moves_closes_broken}
 use Rattle.promises.proofs.StreamSteps.{IsClientAsk, silent_run, notifies_part, device_does, IsClientStep, client_keeps, DeviceAsks, device_keeps}
 use Rattle.promises.proofs.DeviceNames.{Just, greets}
 
@@ -149,7 +149,7 @@ pub acted_event : (moment key : ℕ) (who : Client) (event : Event) (last : Bool
 acted_event moment key who event last new l hs l' own good there client (outcome, it) = by (gives_answers key new.id who (is_query event) (effects_of outcome) it.mid it.back l' it.second)
   where
     h : RunPart
-    h = one_handled moment event outcome it.front it.mid None (Some key)
+    h = one_handled moment event outcome it.prefix it.mid None (Some key)
 
     more : (k : ℕ) → Ordered (λ device. sent_by outcome it.mid.core device ++ []) (l.entries k) (l'.entries k) → Ordered (sent_by outcome it.mid.core) (l.entries k) (l'.entries k)
     more k o = record {
@@ -161,22 +161,22 @@ acted_event moment key who event last new l hs l' own good there client (outcome
       stays = o.stays;
     }
 
-    event_few : (lost : Option AllocationSite) → IsOneAtMost (one_handled moment event outcome it.front it.mid None (Some key) ∷ refusal_at moment new.id key l'.core lost)
+    event_few : (lost : Option AllocationSite) → IsOneAtMost (one_handled moment event outcome it.prefix it.mid None (Some key) ∷ refusal_at moment new.id key l'.core lost)
     event_few None = tt
     event_few (Some place) = (tt, λ is. is)
 
     by : (given : (lost : Option AllocationSite) × Gave (notified_of new.id lost) key (λ closes bytes. Loose closes who (is_query event) (effects_of outcome) lost bytes) it.mid it.back l') → Acted moment key (step.Asks (ask.Event who event) last) new new.due l hs l'
     by (lost, g) =
-        let one = happened moment event outcome l it.front it.mid good it.first in
+        let one = happened moment event outcome l it.prefix it.mid good it.first in
         let refused : List RunPart = refusal_at moment new.id key l'.core lost in
-        let asked : asked_by key (one_handled moment event outcome it.front it.mid None (Some key) ∷ refusal_at moment new.id key l'.core lost) ≡ one_handled moment event outcome it.front it.mid None (Some key) ∷ refusal_at moment new.id key l'.core lost =
+        let asked : asked_by key (one_handled moment event outcome it.prefix it.mid None (Some key) ∷ refusal_at moment new.id key l'.core lost) ≡ one_handled moment event outcome it.prefix it.mid None (Some key) ∷ refusal_at moment new.id key l'.core lost =
         ap (λ (t : Bool). (if t then h ∷ [] else []) ++ asked_by key (refusal_at moment new.id key l'.core lost)) (is_key key) ∙ ap (λ (its : List RunPart). h ∷ its) (refusal_asked moment new.id key lost l'.core) in
         record {
           handled = h ∷ refusal_at moment new.id key l'.core lost;
           sent = sent_by outcome it.mid.core;
           run = (one.handles, refusal_run moment new.id key lost it.mid.core l'.core g.core);
           timed = All-cons (IsAt true moment) h (refusal_at moment new.id key l'.core lost) (refl, sym (own_nameless true who event own)) (refusal_timed moment new.id key lost l'.core);
-          notified = ap run_notes it.whole ∙ (notes_append it.front it.back ∙ ap (λ (ns : List Note). run_notes it.front ++ ns) (g.notes ∙ refusal_notified moment new.id key lost l'.core));
+          notified = ap run_notes it.whole ∙ (notes_append it.prefix it.back ∙ ap (λ (ns : List Note). run_notes it.prefix ++ ns) (g.notes ∙ refusal_notified moment new.id key lost l'.core));
           sends = λ device before. refusal_sends moment new.id key lost l'.core device (before ++ sent_by outcome it.mid.core device);
           others = λ k apart. more k (ordered_then (sent_by outcome it.mid.core) (λ device. []) (l.entries k) (it.mid.entries k) (l'.entries k) (one.each k) (g.others k apart));
           aside = λ k apart. ap (λ (t : Bool). (if t then h ∷ [] else []) ++ asked_by k (refusal_at moment new.id key l'.core lost)) (not_key key k (λ same. apart (sym same))) ∙ refusal_aside moment new.id key lost l'.core k apart;
@@ -197,7 +197,7 @@ acted_event moment key who event last new l hs l' own good there client (outcome
                     refusal_at moment new.id key l'.core lost,
                     asked,
                     refl,
-                    given moment new.id key l'.core (closes_of new.progress) who (is_query event) (effects_of outcome) lost gave.4.0 (typed who moment event l.core outcome (run_notes it.front) it.mid.core own one.handles)
+                    given moment new.id key l'.core (closes_of new.progress) who (is_query event) (effects_of outcome) lost gave.4.0 (typed who moment event l.core outcome (run_notes it.prefix) it.mid.core own one.handles)
                         (subst (λ (x : PeerRecord). Loose (closes_of x) who (is_query event) (effects_of outcome) lost gave.4.0) (sym progress) gave.4.1),
                   ),
                   gave.4.2 ∙ ap (λ (due : List ℕ). due ++ gave.4.0) (sym was.4 ∙ ap (λ (x : Entry). x.due) (sym this)),
@@ -276,14 +276,14 @@ pub same_state : (core : State) (handled : List RunPart) → IsStateOf core core
 same_state core [] = refl
 same_state core (it ∷ later) = inl refl
 
-pub client_acts : (moment key id : ℕ) (what : Ask) (l : Ledger) (front : List Happening) (mid : Ledger) (back : List Happening) (l' : Ledger) (hs : List Happening) → hs ≡ front ++ back → Good l
-    → (a : Asks key id what l front mid) → ClientTalk a.entry.progress → ActsOn moment key id what mid back l' → Goes true moment l hs l'
-client_acts moment key id what l front mid back l' hs whole good a client does = record {
+pub client_acts : (moment key id : ℕ) (what : Ask) (l : Ledger) (prefix : List Happening) (mid : Ledger) (back : List Happening) (l' : Ledger) (hs : List Happening) → hs ≡ prefix ++ back → Good l
+    → (a : Asks key id what l prefix mid) → ClientTalk a.entry.progress → ActsOn moment key id what mid back l' → Goes true moment l hs l'
+client_acts moment key id what l prefix mid back l' hs whole good a client does = record {
   handled = acted.handled;
   good = record { one = λ device k other p q. one device k other (k == key) refl (other == key) refl p q; fresh = λ k. fresh k (k == key) refl };
   run = subst (λ (s : State). AreHandled s acted.handled l'.core) core acted.run;
   timed = acted.timed;
-  notified = ap run_notes whole ∙ (notes_append front back ∙ (ap (λ (ns : List Note). ns ++ run_notes back) (ap run_notes a.chosen) ∙ acted.notified));
+  notified = ap run_notes whole ∙ (notes_append prefix back ∙ (ap (λ (ns : List Note). ns ++ run_notes back) (ap run_notes a.chosen) ∙ acted.notified));
   came = λ k device counts. came k device (k == key) refl counts;
   lost = λ k device is. lost k device (k == key) refl is;
   progresses = λ k e is of sound. progresses k e (k == key) refl is of sound;
@@ -380,8 +380,8 @@ client_acts moment key id what l front mid back l' hs whole good a client does =
     or_false true is = refl
     or_false false is = is
 
-    front_on : (e : Entry) → ReadsOn a.new e → IsFrontOf a.entry.read e.read
-    front_on e later = let reads = reads_then a.entry a.new e read_on later in (reads.more, reads.grown)
+    prefix_on : (e : Entry) → ReadsOn a.new e → IsPrefixOf a.entry.read e.read
+    prefix_on e later = let reads = reads_then a.entry a.new e read_on later in (reads.more, reads.grown)
 
     went : (e : Entry) → l'.entries key ≡ Some e → ClientTalk e.progress → e.broken ≡ false → ((a.asks.comes ≡ no_memory) × (a.asks.mid.progress ≡ a.entry.progress)) ⊎ IsNext l.core.settings a.entry.read a.entry.progress a.asks.comes a.asks.mid.progress → a.asks.mid.due ≡ a.entry.due → Went l.core key acted.handled (l.entries key) e
     went e is of sound (inl (none, still)) due = let it = acted.here e is of sound in absurd (not_given a.new.id (closes_of a.new.progress) (asked_by key acted.handled) it.1.0 a.asks.comes none it.1.1)
@@ -396,7 +396,7 @@ client_acts moment key id what l front mid back l' hs whole good a client does =
           reads = reads_then a.entry a.new e read_on it.2;
           acts = act ∷ [];
           are = acts_on a.new e a.entry.progress e.progress (act ∷ []) it.2 (refl, record { next = subst (λ (t : PeerRecord). IsNext l.core.settings a.entry.read a.entry.progress a.asks.comes t) (sym new_progress) next; owed = it.1.1 }, λ last. refl, it.0);
-          fronts = All-cons (λ (x : Act). IsFrontOf x.read e.read) act [] (front_on e it.2) (All-nil (λ (x : Act). IsFrontOf x.read e.read));
+          prefixes = All-cons (λ (x : Act). IsPrefixOf x.read e.read) act [] (prefix_on e it.2) (All-nil (λ (x : Act). IsPrefixOf x.read e.read));
           quiet = λ is. absurd (no_true a.entry.draining is (not_draining a.entry.draining a.entry.broken a.asks.counts));
           over = λ last. it.2.drains ((steps_read a.asks.comes a.asks.mid a.new what a.asks.steps).2 (or_false (drains a.asks.comes) last));
           states = All-cons (λ (x : Act). IsStateOf x.state l.core acted.handled) act [] (same_state l.core acted.handled) (All-nil (λ (x : Act). IsStateOf x.state l.core acted.handled));
@@ -414,7 +414,7 @@ client_acts moment key id what l front mid back l' hs whole good a client does =
       acts = [];
       after = a.entry.progress;
       are = refl;
-      fronts = All-nil (λ (x : Act). IsFrontOf x.read e.read);
+      prefixes = All-nil (λ (x : Act). IsPrefixOf x.read e.read);
       states = All-nil (λ (x : Act). IsStateOf x.state l.core acted.handled);
       unanswered = asked_by key acted.handled;
       one = acted.one;
@@ -426,7 +426,7 @@ client_acts moment key id what l front mid back l' hs whole good a client does =
       where
         by : ((a.asks.comes ≡ no_memory) × (a.asks.mid.progress ≡ a.entry.progress)) ⊎ IsNext l.core.settings a.entry.read a.entry.progress a.asks.comes a.asks.mid.progress → IsLast l.core acted.handled e.read a.entry.progress e.progress
         by (inl (none, still)) = inl (sym (progress ∙ (new_progress ∙ still)))
-        by (inr comes) = inr (l.core, a.entry.read, a.asks.comes, same_state l.core acted.handled, front_on e reads, subst (λ (t : PeerRecord). IsNext l.core.settings a.entry.read a.entry.progress a.asks.comes t) (sym (progress ∙ new_progress)) comes)
+        by (inr comes) = inr (l.core, a.entry.read, a.asks.comes, same_state l.core acted.handled, prefix_on e reads, subst (λ (t : PeerRecord). IsNext l.core.settings a.entry.read a.entry.progress a.asks.comes t) (sym (progress ∙ new_progress)) comes)
     broke e progress reads (inl (none, still)) due (inr (bytes, owed, is)) = absurd (not_given a.new.id (closes_of a.new.progress) (asked_by key acted.handled) bytes a.asks.comes none owed)
     broke e progress reads (inr next) due (inr (bytes, owed, is)) =
         let act : Act = record { read = a.entry.read; before = a.entry.progress; after = a.new.progress; what = a.asks.comes; asked = asked_by key acted.handled; bytes = bytes; state = l.core } in
@@ -434,7 +434,7 @@ client_acts moment key id what l front mid back l' hs whole good a client does =
           acts = act ∷ [];
           after = a.new.progress;
           are = acts_on a.new e a.entry.progress a.new.progress (act ∷ []) reads (refl, record { next = subst (λ (t : PeerRecord). IsNext l.core.settings a.entry.read a.entry.progress a.asks.comes t) (sym new_progress) next; owed = owed }, λ last. refl, refl);
-          fronts = All-cons (λ (x : Act). IsFrontOf x.read e.read) act [] (front_on e reads) (All-nil (λ (x : Act). IsFrontOf x.read e.read));
+          prefixes = All-cons (λ (x : Act). IsPrefixOf x.read e.read) act [] (prefix_on e reads) (All-nil (λ (x : Act). IsPrefixOf x.read e.read));
           states = All-cons (λ (x : Act). IsStateOf x.state l.core acted.handled) act [] (same_state l.core acted.handled) (All-nil (λ (x : Act). IsStateOf x.state l.core acted.handled));
           unanswered = [];
           one = tt;
@@ -457,31 +457,31 @@ client_acts moment key id what l front mid back l' hs whole good a client does =
         subst (λ (j : ℕ). TalkedAs l.core j acted.handled (l.entries j) e) (sym at) (inl (went e (subst (λ (j : ℕ). l'.entries j ≡ Some e) at is) of sound acted_on_next.1 acted_on_next.0))
     progresses k e false same is of sound = progressed_still l.core k acted.handled (l.entries k) (l'.entries k) (ordered k (other_key k key same)).stays (acted.aside k (other_key k key same)) e is of sound
 
-pub device_acts : (moment key id : ℕ) (what : Ask) (l : Ledger) (front : List Happening) (mid : Ledger) (back : List Happening) (l' : Ledger) (hs : List Happening) → hs ≡ front ++ back → Good l
-    → (a : Asks key id what l front mid) → DeviceAsks what a.entry a.new → ActsOn moment key id what mid back l' → Goes true moment l hs l'
-device_acts moment key id what l front mid back l' hs whole good a (inl (is, sent)) does =
-    let first = goes_calm true moment l front mid good (calm_sets key a.entry a.new l front mid a.there sent (ap run_notes a.chosen) a.after) in
-    goes_then true moment l front mid back l' hs whole first (device_does moment key id what mid back l' is first.good does)
-device_acts moment key id what l front mid back l' hs whole good a (inr names) does =
+pub device_acts : (moment key id : ℕ) (what : Ask) (l : Ledger) (prefix : List Happening) (mid : Ledger) (back : List Happening) (l' : Ledger) (hs : List Happening) → hs ≡ prefix ++ back → Good l
+    → (a : Asks key id what l prefix mid) → DeviceAsks what a.entry a.new → ActsOn moment key id what mid back l' → Goes true moment l hs l'
+device_acts moment key id what l prefix mid back l' hs whole good a (inl (is, sent)) does =
+    let first = goes_calm true moment l prefix mid good (calm_sets key a.entry a.new l prefix mid a.there sent (ap run_notes a.chosen) a.after) in
+    goes_then true moment l prefix mid back l' hs whole first (device_does moment key id what mid back l' is first.good does)
+device_acts moment key id what l prefix mid back l' hs whole good a (inr names) does =
     let sound : a.entry.broken ≡ false = not_broken a.entry.draining a.entry.broken a.asks.counts in
     let none : a.entry.due ≡ [] = names.fresh (subst IsFresh a.there (good.fresh key)) sound in
-    let just : Just key names.device names.name a.entry a.new l front mid =
+    let just : Just key names.device names.name a.entry a.new l prefix mid =
     record { good = good; silent = ap run_notes a.chosen; there = a.there; after = a.after; named = names.after; fresh = names.open_progress; due = names.due ∙ none; link = names.link } in
-    greets moment key id names.device names.name a.entry a.new l front mid back l' hs whole just (subst (λ (it : Ask). ActsOn moment key id it mid back l') names.asks does)
+    greets moment key id names.device names.name a.entry a.new l prefix mid back l' hs whole just (subst (λ (it : Ask). ActsOn moment key id it mid back l') names.asks does)
 
-pub acts_by : (moment key id : ℕ) (what : Ask) (l : Ledger) (front : List Happening) (mid : Ledger) (back : List Happening) (l' : Ledger) (hs : List Happening) → hs ≡ front ++ back → Good l
-    → (a : Asks key id what l front mid) → (progress : PeerRecord) → a.entry.progress ≡ progress → ActsOn moment key id what mid back l' → Goes true moment l hs l'
-acts_by moment key id what l front mid back l' hs whole good a (Http said closes body) is does = client_acts moment key id what l front mid back l' hs whole good a (subst ClientTalk (sym is) tt) does
-acts_by moment key id what l front mid back l' hs whole good a (Queue items session) is does = client_acts moment key id what l front mid back l' hs whole good a (subst ClientTalk (sym is) tt) does
-acts_by moment key id what l front mid back l' hs whole good a (Link reports device) is does =
-    device_acts moment key id what l front mid back l' hs whole good a
+pub acts_by : (moment key id : ℕ) (what : Ask) (l : Ledger) (prefix : List Happening) (mid : Ledger) (back : List Happening) (l' : Ledger) (hs : List Happening) → hs ≡ prefix ++ back → Good l
+    → (a : Asks key id what l prefix mid) → (progress : PeerRecord) → a.entry.progress ≡ progress → ActsOn moment key id what mid back l' → Goes true moment l hs l'
+acts_by moment key id what l prefix mid back l' hs whole good a (Http said closes body) is does = client_acts moment key id what l prefix mid back l' hs whole good a (subst ClientTalk (sym is) tt) does
+acts_by moment key id what l prefix mid back l' hs whole good a (Queue items session) is does = client_acts moment key id what l prefix mid back l' hs whole good a (subst ClientTalk (sym is) tt) does
+acts_by moment key id what l prefix mid back l' hs whole good a (Link reports device) is does =
+    device_acts moment key id what l prefix mid back l' hs whole good a
     (device_keeps l.core.settings reports device a.entry a.asks.comes a.asks.mid what a.new is (subst (λ (t : PeerRecord). FreshTalk t a.entry) is (subst IsFresh a.there (good.fresh key))) (not_broken a.entry.draining a.entry.broken a.asks.counts) (subst (λ (t : PeerRecord). ItemComes l.core.settings t a.entry a.asks.comes a.asks.mid) is a.asks.takes_item) a.asks.steps) does
 
 pub moves_acts_next : (moment key : ℕ) → Moves true moment (ActsNext moment key)
-moves_acts_next moment key l hs l' good (id, what, it) = acts_by moment key id what l it.front it.mid it.back l' hs it.whole good it.first it.first.entry.progress refl it.second
+moves_acts_next moment key l hs l' good (id, what, it) = acts_by moment key id what l it.prefix it.mid it.back l' hs it.whole good it.first it.first.entry.progress refl it.second
 
 pub moves_acts : (moment key : ℕ) → Moves true moment (Acts moment key)
-moves_acts moment key = moves_then true moment (ActsNext moment key) (ClosesBroken moment) (moves_acts_next moment key) (moves_settles moment)
+moves_acts moment key = moves_then true moment (ActsNext moment key) (ClosesBroken moment) (moves_acts_next moment key) (moves_closes_broken moment)
 
 pub moves_serves : (moment key : ℕ) → Moves true moment (Serves moment key)
 moves_serves moment key l hs l' good it = moves_then true moment (Many (Acts moment key)) (Chooses Rested) (moves_many true moment (Acts moment key) (moves_acts moment key)) (moves_calm true moment (Chooses Rested) (calms_chooses Rested)) l hs l' good it.0

@@ -1,4 +1,4 @@
--- Two relations that lead one list of happenings to one end. Each choice that is made stands in the list, so a relation needs no look at what follows it.
+-- Two relations that lead one list of happenings to one end. Each choice that is made is in the list, so a relation needs no look at what follows it.
 use Rattle.std.proofs.Common.{◌≡◌, ℕ, zero, suc, Bool, true, false, List, [], ◌∷◌, ◌++◌, refl, sym, ◌∙◌, ap, subst, inl, inr, append_assoc, append-nil}
 use Rattle.std.proofs.lemmas.List.{append_cancel_left}
 use Rattle.wires.specs.Poll.{Poll}
@@ -34,12 +34,12 @@ fixed_chooses choice = fixed_just (λ l. Chosen choice ∷ []) (λ l. l)
 pub alike_then : {R R' S S' : Rel} → Alike R R' → Alike S S' → Alike (Then R S) (Then R' S')
 alike_then {R} {R'} {S} {S'} r s = record {
   one = λ l hs rest a ks more b e p q.
-      let both : p.front ++ (p.back ++ rest) ≡ q.front ++ (q.back ++ more) =
-      sym (append_assoc p.front p.back rest) ∙ (ap (λ (x : List Happening). x ++ rest) (sym p.whole) ∙ (e ∙ (ap (λ (x : List Happening). x ++ more) q.whole ∙ append_assoc q.front q.back more))) in
-      let first = r.one l p.front (p.back ++ rest) p.mid q.front (q.back ++ more) q.mid both p.first q.first in
-      let left : p.back ++ rest ≡ q.back ++ more = append_cancel_left p.front (p.back ++ rest) (q.back ++ more) (both ∙ ap (λ (x : List Happening). x ++ (q.back ++ more)) (sym first.0)) in
+      let both : p.prefix ++ (p.back ++ rest) ≡ q.prefix ++ (q.back ++ more) =
+      sym (append_assoc p.prefix p.back rest) ∙ (ap (λ (x : List Happening). x ++ rest) (sym p.whole) ∙ (e ∙ (ap (λ (x : List Happening). x ++ more) q.whole ∙ append_assoc q.prefix q.back more))) in
+      let first = r.one l p.prefix (p.back ++ rest) p.mid q.prefix (q.back ++ more) q.mid both p.first q.first in
+      let left : p.back ++ rest ≡ q.back ++ more = append_cancel_left p.prefix (p.back ++ rest) (q.back ++ more) (both ∙ ap (λ (x : List Happening). x ++ (q.back ++ more)) (sym first.0)) in
       let second = s.one p.mid p.back rest a q.back more b left p.second (subst (λ (x : Ledger). S' x q.back b) (sym first.1) q.second) in
-      (p.whole ∙ (ap (λ (x : List Happening). x ++ p.back) first.0 ∙ (ap (λ (x : List Happening). q.front ++ x) second.0 ∙ sym q.whole)), second.1);
+      (p.whole ∙ (ap (λ (x : List Happening). x ++ p.back) first.0 ∙ (ap (λ (x : List Happening). q.prefix ++ x) second.0 ∙ sym q.whole)), second.1);
 }
 
 -- ---- relations that differ in their first happening
@@ -66,7 +66,7 @@ apart kind hs rest ks more e p q = absurd (begins_one kind (ks ++ more) (subst (
 
 pub begins_then : (kind : Happening → Bool) (is : Bool) (R S : Rel) → Begins kind is R → Begins kind is (Then R S)
 begins_then kind is R S r = record {
-  begins = λ l hs a it. subst (BeginsAs kind is) (sym it.whole) (begins_append kind is it.front it.back (r.begins l it.front it.mid it.first));
+  begins = λ l hs a it. subst (BeginsAs kind is) (sym it.whole) (begins_append kind is it.prefix it.back (r.begins l it.prefix it.mid it.first));
 }
 
 pub begins_just : (kind : Happening → Bool) (is : Bool) (h : Happening) (tail : List Happening) (xs : List Happening) → kind h ≡ is → xs ≡ h ∷ tail → BeginsAs kind is xs
@@ -85,22 +85,22 @@ is_choice (Notified note) = false
 is_choice (Chosen choice) = true
 
 -- the first happening of one list is one
-pub first_one : (x y : Happening) (hs rest ks more front back : List Happening) → hs ++ rest ≡ ks ++ more → hs ≡ x ∷ front → ks ≡ y ∷ back → x ≡ y
-first_one x y hs rest ks more front back e p q = let both : x ∷ (front ++ rest) ≡ y ∷ (back ++ more) = sym (ap (λ (z : List Happening). z ++ rest) p) ∙ (e ∙ ap (λ (z : List Happening). z ++ more) q) in cc
+pub first_one : (x y : Happening) (hs rest ks more prefix back : List Happening) → hs ++ rest ≡ ks ++ more → hs ≡ x ∷ prefix → ks ≡ y ∷ back → x ≡ y
+first_one x y hs rest ks more prefix back e p q = let both : x ∷ (prefix ++ rest) ≡ y ∷ (back ++ more) = sym (ap (λ (z : List Happening). z ++ rest) p) ∙ (e ∙ ap (λ (z : List Happening). z ++ more) q) in cc
 
 pub same_choice : (choice other : Choice) → Chosen choice ≡ Chosen other → choice ≡ other
 same_choice choice other same = cc
 
 -- one after the other, where the first part notifies how the second parts are alike
 pub then_one : {X : Type 0} (D D' R R' : Rel) (l : Ledger) (hs rest : List Happening) (a : Ledger) (ks more : List Happening) (b : Ledger) → hs ++ rest ≡ ks ++ more → (p : Then D R l hs a) (q : Then D' R' l ks b)
-    → ((left right : List Happening) → p.front ++ left ≡ q.front ++ right → X × (p.front ≡ q.front) × (p.mid ≡ q.mid)) → (X → Alike R R') → X × (hs ≡ ks) × (a ≡ b)
+    → ((left right : List Happening) → p.prefix ++ left ≡ q.prefix ++ right → X × (p.prefix ≡ q.prefix) × (p.mid ≡ q.mid)) → (X → Alike R R') → X × (hs ≡ ks) × (a ≡ b)
 then_one D D' R R' l hs rest a ks more b e p q notifies alike =
-    let both : p.front ++ (p.back ++ rest) ≡ q.front ++ (q.back ++ more) =
-    sym (append_assoc p.front p.back rest) ∙ (ap (λ (x : List Happening). x ++ rest) (sym p.whole) ∙ (e ∙ (ap (λ (x : List Happening). x ++ more) q.whole ∙ append_assoc q.front q.back more))) in
+    let both : p.prefix ++ (p.back ++ rest) ≡ q.prefix ++ (q.back ++ more) =
+    sym (append_assoc p.prefix p.back rest) ∙ (ap (λ (x : List Happening). x ++ rest) (sym p.whole) ∙ (e ∙ (ap (λ (x : List Happening). x ++ more) q.whole ∙ append_assoc q.prefix q.back more))) in
     let first = notifies (p.back ++ rest) (q.back ++ more) both in
-    let left : p.back ++ rest ≡ q.back ++ more = append_cancel_left p.front (p.back ++ rest) (q.back ++ more) (both ∙ ap (λ (x : List Happening). x ++ (q.back ++ more)) (sym first.1)) in
+    let left : p.back ++ rest ≡ q.back ++ more = append_cancel_left p.prefix (p.back ++ rest) (q.back ++ more) (both ∙ ap (λ (x : List Happening). x ++ (q.back ++ more)) (sym first.1)) in
     let second = (alike first.0).one p.mid p.back rest a q.back more b left p.second (subst (λ (x : Ledger). R' x q.back b) (sym first.2) q.second) in
-    (first.0, p.whole ∙ (ap (λ (x : List Happening). x ++ p.back) first.1 ∙ (ap (λ (x : List Happening). q.front ++ x) second.0 ∙ sym q.whole)), second.1)
+    (first.0, p.whole ∙ (ap (λ (x : List Happening). x ++ p.back) first.1 ∙ (ap (λ (x : List Happening). q.prefix ++ x) second.0 ∙ sym q.whole)), second.1)
 
 -- the one or the other, which begin apart
 pub alike_or : {R R' S S' : Rel} (kind : Happening → Bool) → Begins kind true R → Begins kind true R' → Begins kind false S → Begins kind false S' → Alike R R' → Alike S S' → Alike (Or R S) (Or R' S')
@@ -135,21 +135,21 @@ times_cons zero R l hs a it =
     let same : hs ≡ it.back = it.whole ∙ ap (λ (x : List Happening). x ++ it.back) it.first.0 in
     record {
       mid = a;
-      front = hs;
+      prefix = hs;
       back = [];
       whole = sym (append-nil hs);
       first = subst (λ (x : List Happening). R l x a) (sym same) (subst (λ (x : Ledger). R x it.back a) it.first.1 it.second);
       second = (refl, refl);
     }
 times_cons (suc n) R l hs a it =
-    let before = times_cons n R l it.front it.mid it.first in
+    let before = times_cons n R l it.prefix it.mid it.first in
     record {
       mid = before.mid;
-      front = before.front;
+      prefix = before.prefix;
       back = before.back ++ it.back;
-      whole = it.whole ∙ (ap (λ (x : List Happening). x ++ it.back) before.whole ∙ append_assoc before.front before.back it.back);
+      whole = it.whole ∙ (ap (λ (x : List Happening). x ++ it.back) before.whole ∙ append_assoc before.prefix before.back it.back);
       first = before.first;
-      second = record { mid = it.mid; front = before.back; back = it.back; whole = refl; first = before.second; second = it.second };
+      second = record { mid = it.mid; prefix = before.back; back = it.back; whole = refl; first = before.second; second = it.second };
     }
 
 -- until it can't be done once more
@@ -159,18 +159,18 @@ record Done (R : Rel) (n : ℕ) (Stop : Ledger → Type 0) (l : Ledger) (hs : Li
 
 until_one : (R : Rel) (Stop : Ledger → Type 0) → Fixed R → ((l : Ledger) (hs : List Happening) (a : Ledger) → Stop l → R l hs a → ⊥) → (n m : ℕ) → (l : Ledger) (hs rest : List Happening) (a : Ledger) (ks more : List Happening) (b : Ledger) → hs ++ rest ≡ ks ++ more → Done R n Stop l hs a → Done R m Stop l ks b → (hs ≡ ks) × (a ≡ b)
 until_one R Stop r never zero zero l hs rest a ks more b e p q = (p.done.0 ∙ sym q.done.0, p.done.1 ∙ sym q.done.1)
-until_one R Stop r never zero (suc m) l hs rest a ks more b e p q = let first = times_cons m R l ks b q.done in absurd (never l first.front first.mid (subst Stop p.done.1 p.stop) first.first)
-until_one R Stop r never (suc n) zero l hs rest a ks more b e p q = let first = times_cons n R l hs a p.done in absurd (never l first.front first.mid (subst Stop q.done.1 q.stop) first.first)
+until_one R Stop r never zero (suc m) l hs rest a ks more b e p q = let first = times_cons m R l ks b q.done in absurd (never l first.prefix first.mid (subst Stop p.done.1 p.stop) first.first)
+until_one R Stop r never (suc n) zero l hs rest a ks more b e p q = let first = times_cons n R l hs a p.done in absurd (never l first.prefix first.mid (subst Stop q.done.1 q.stop) first.first)
 until_one R Stop r never (suc n) (suc m) l hs rest a ks more b e p q =
     let x = times_cons n R l hs a p.done in
     let y = times_cons m R l ks b q.done in
-    let both : x.front ++ (x.back ++ rest) ≡ y.front ++ (y.back ++ more) =
-    sym (append_assoc x.front x.back rest) ∙ (ap (λ (z : List Happening). z ++ rest) (sym x.whole) ∙ (e ∙ (ap (λ (z : List Happening). z ++ more) y.whole ∙ append_assoc y.front y.back more))) in
-    let first = r.one l x.front (x.back ++ rest) x.mid y.front (y.back ++ more) y.mid both x.first y.first in
-    let left : x.back ++ rest ≡ y.back ++ more = append_cancel_left x.front (x.back ++ rest) (y.back ++ more) (both ∙ ap (λ (z : List Happening). z ++ (y.back ++ more)) (sym first.0)) in
+    let both : x.prefix ++ (x.back ++ rest) ≡ y.prefix ++ (y.back ++ more) =
+    sym (append_assoc x.prefix x.back rest) ∙ (ap (λ (z : List Happening). z ++ rest) (sym x.whole) ∙ (e ∙ (ap (λ (z : List Happening). z ++ more) y.whole ∙ append_assoc y.prefix y.back more))) in
+    let first = r.one l x.prefix (x.back ++ rest) x.mid y.prefix (y.back ++ more) y.mid both x.first y.first in
+    let left : x.back ++ rest ≡ y.back ++ more = append_cancel_left x.prefix (x.back ++ rest) (y.back ++ more) (both ∙ ap (λ (z : List Happening). z ++ (y.back ++ more)) (sym first.0)) in
     let later : Times m R x.mid y.back b = subst (λ (z : Ledger). Times m R z y.back b) (sym first.1) y.second in
-    let behind = until_one R Stop r never n m x.mid x.back rest a y.back more b left (record { done = x.second; stop = p.stop }) (record { done = later; stop = q.stop }) in
-    (x.whole ∙ (ap (λ (z : List Happening). z ++ x.back) first.0 ∙ (ap (λ (z : List Happening). y.front ++ z) behind.0 ∙ sym y.whole)), behind.1)
+    let tail = until_one R Stop r never n m x.mid x.back rest a y.back more b left (record { done = x.second; stop = p.stop }) (record { done = later; stop = q.stop }) in
+    (x.whole ∙ (ap (λ (z : List Happening). z ++ x.back) first.0 ∙ (ap (λ (z : List Happening). y.prefix ++ z) tail.0 ∙ sym y.whole)), tail.1)
 
 pub fixed_until : (R : Rel) (Stop : Ledger → Type 0) → Fixed R → ((l : Ledger) (hs : List Happening) (a : Ledger) → Stop l → R l hs a → ⊥) → Fixed (λ l hs a. Many R l hs a × Stop a)
 fixed_until R Stop r never = record { one = λ l hs rest a ks more b e p q. until_one R Stop r never p.0.0 q.0.0 l hs rest a ks more b e (record { done = p.0.1; stop = p.1 }) (record { done = q.0.1; stop = q.1 }) }
@@ -178,36 +178,36 @@ fixed_until R Stop r never = record { one = λ l hs rest a ks more b e p q. unti
 -- a relation taken at least once, and then another relation, begins as the first relation
 many_first : (kind : Happening → Bool) (R S : Rel) → Begins kind true R → (m : ℕ) (l : Ledger) (ks : List Happening) (b : Ledger) → Then (Times (suc m) R) S l ks b → BeginsAs kind true ks
 many_first kind R S br m l ks b q =
-    let x = times_cons m R l q.front q.mid q.first in
-    subst (BeginsAs kind true) (sym q.whole) (begins_append kind true q.front q.back (subst (BeginsAs kind true) (sym x.whole) (begins_append kind true x.front x.back (br.begins l x.front x.mid x.first))))
+    let x = times_cons m R l q.prefix q.mid q.first in
+    subst (BeginsAs kind true) (sym q.whole) (begins_append kind true q.prefix q.back (subst (BeginsAs kind true) (sym x.whole) (begins_append kind true x.prefix x.back (br.begins l x.prefix x.mid x.first))))
 
 none_first : (kind : Happening → Bool) (S : Rel) → Begins kind false S → (l : Ledger) (hs : List Happening) (a : Ledger) → Then Nothing S l hs a → BeginsAs kind false hs
 none_first kind S bs l hs a p = subst (BeginsAs kind false) (sym (p.whole ∙ ap (λ (z : List Happening). z ++ p.back) p.first.0)) (bs.begins p.mid p.back a p.second)
 
 -- a relation taken again and again, and then another relation whose beginnings differ
-behind_one : (kind : Happening → Bool) (R S : Rel) → Begins kind true R → Begins kind false S → Fixed R → Fixed S → (n m : ℕ) → (l : Ledger) (hs rest : List Happening) (a : Ledger) (ks more : List Happening) (b : Ledger) → hs ++ rest ≡ ks ++ more → Then (Times n R) S l hs a → Then (Times m R) S l ks b → (hs ≡ ks) × (a ≡ b)
-behind_one kind R S br bs r s zero zero l hs rest a ks more b e p q = (alike_then fixed_nothing s).one l hs rest a ks more b e p q
-behind_one kind R S br bs r s zero (suc m) l hs rest a ks more b e p q = apart kind ks more hs rest (sym e) (many_first kind R S br m l ks b q) (none_first kind S bs l hs a p)
-behind_one kind R S br bs r s (suc n) zero l hs rest a ks more b e p q = apart kind hs rest ks more e (many_first kind R S br n l hs a p) (none_first kind S bs l ks b q)
-behind_one kind R S br bs r s (suc n) (suc m) l hs rest a ks more b e p q =
-    let x = times_cons n R l p.front p.mid p.first in
-    let y = times_cons m R l q.front q.mid q.first in
-    let left : Then (Times n R) S x.mid (x.back ++ p.back) a = record { mid = p.mid; front = x.back; back = p.back; whole = refl; first = x.second; second = p.second } in
-    let right : Then (Times m R) S y.mid (y.back ++ q.back) b = record { mid = q.mid; front = y.back; back = q.back; whole = refl; first = y.second; second = q.second } in
-    let all_left : hs ≡ x.front ++ (x.back ++ p.back) = p.whole ∙ (ap (λ (z : List Happening). z ++ p.back) x.whole ∙ append_assoc x.front x.back p.back) in
-    let all_right : ks ≡ y.front ++ (y.back ++ q.back) = q.whole ∙ (ap (λ (z : List Happening). z ++ q.back) y.whole ∙ append_assoc y.front y.back q.back) in
-    let both : x.front ++ ((x.back ++ p.back) ++ rest) ≡ y.front ++ ((y.back ++ q.back) ++ more) =
-    sym (append_assoc x.front (x.back ++ p.back) rest) ∙ (ap (λ (z : List Happening). z ++ rest) (sym all_left) ∙ (e ∙ (ap (λ (z : List Happening). z ++ more) all_right ∙ append_assoc y.front (y.back ++ q.back) more))) in
-    let first = r.one l x.front ((x.back ++ p.back) ++ rest) x.mid y.front ((y.back ++ q.back) ++ more) y.mid both x.first y.first in
+after_one : (kind : Happening → Bool) (R S : Rel) → Begins kind true R → Begins kind false S → Fixed R → Fixed S → (n m : ℕ) → (l : Ledger) (hs rest : List Happening) (a : Ledger) (ks more : List Happening) (b : Ledger) → hs ++ rest ≡ ks ++ more → Then (Times n R) S l hs a → Then (Times m R) S l ks b → (hs ≡ ks) × (a ≡ b)
+after_one kind R S br bs r s zero zero l hs rest a ks more b e p q = (alike_then fixed_nothing s).one l hs rest a ks more b e p q
+after_one kind R S br bs r s zero (suc m) l hs rest a ks more b e p q = apart kind ks more hs rest (sym e) (many_first kind R S br m l ks b q) (none_first kind S bs l hs a p)
+after_one kind R S br bs r s (suc n) zero l hs rest a ks more b e p q = apart kind hs rest ks more e (many_first kind R S br n l hs a p) (none_first kind S bs l ks b q)
+after_one kind R S br bs r s (suc n) (suc m) l hs rest a ks more b e p q =
+    let x = times_cons n R l p.prefix p.mid p.first in
+    let y = times_cons m R l q.prefix q.mid q.first in
+    let left : Then (Times n R) S x.mid (x.back ++ p.back) a = record { mid = p.mid; prefix = x.back; back = p.back; whole = refl; first = x.second; second = p.second } in
+    let right : Then (Times m R) S y.mid (y.back ++ q.back) b = record { mid = q.mid; prefix = y.back; back = q.back; whole = refl; first = y.second; second = q.second } in
+    let all_left : hs ≡ x.prefix ++ (x.back ++ p.back) = p.whole ∙ (ap (λ (z : List Happening). z ++ p.back) x.whole ∙ append_assoc x.prefix x.back p.back) in
+    let all_right : ks ≡ y.prefix ++ (y.back ++ q.back) = q.whole ∙ (ap (λ (z : List Happening). z ++ q.back) y.whole ∙ append_assoc y.prefix y.back q.back) in
+    let both : x.prefix ++ ((x.back ++ p.back) ++ rest) ≡ y.prefix ++ ((y.back ++ q.back) ++ more) =
+    sym (append_assoc x.prefix (x.back ++ p.back) rest) ∙ (ap (λ (z : List Happening). z ++ rest) (sym all_left) ∙ (e ∙ (ap (λ (z : List Happening). z ++ more) all_right ∙ append_assoc y.prefix (y.back ++ q.back) more))) in
+    let first = r.one l x.prefix ((x.back ++ p.back) ++ rest) x.mid y.prefix ((y.back ++ q.back) ++ more) y.mid both x.first y.first in
     let after : (x.back ++ p.back) ++ rest ≡ (y.back ++ q.back) ++ more =
-    append_cancel_left x.front ((x.back ++ p.back) ++ rest) ((y.back ++ q.back) ++ more) (both ∙ ap (λ (z : List Happening). z ++ ((y.back ++ q.back) ++ more)) (sym first.0)) in
-    let behind = behind_one kind R S br bs r s n m x.mid (x.back ++ p.back) rest a (y.back ++ q.back) more b after left (subst (λ (z : Ledger). Then (Times m R) S z (y.back ++ q.back) b) (sym first.1) right) in
-    (all_left ∙ (ap (λ (z : List Happening). z ++ (x.back ++ p.back)) first.0 ∙ (ap (λ (z : List Happening). y.front ++ z) behind.0 ∙ sym all_right)), behind.1)
+    append_cancel_left x.prefix ((x.back ++ p.back) ++ rest) ((y.back ++ q.back) ++ more) (both ∙ ap (λ (z : List Happening). z ++ ((y.back ++ q.back) ++ more)) (sym first.0)) in
+    let tail = after_one kind R S br bs r s n m x.mid (x.back ++ p.back) rest a (y.back ++ q.back) more b after left (subst (λ (z : Ledger). Then (Times m R) S z (y.back ++ q.back) b) (sym first.1) right) in
+    (all_left ∙ (ap (λ (z : List Happening). z ++ (x.back ++ p.back)) first.0 ∙ (ap (λ (z : List Happening). y.prefix ++ z) tail.0 ∙ sym all_right)), tail.1)
 
 pub fixed_many_then : (kind : Happening → Bool) (R S : Rel) → Begins kind true R → Begins kind false S → Fixed R → Fixed S → Fixed (Then (Many R) S)
 fixed_many_then kind R S br bs r s = record {
   one = λ l hs rest a ks more b e p q.
-      behind_one kind R S br bs r s p.first.0 q.first.0 l hs rest a ks more b e
-      (record { mid = p.mid; front = p.front; back = p.back; whole = p.whole; first = p.first.1; second = p.second })
-      (record { mid = q.mid; front = q.front; back = q.back; whole = q.whole; first = q.first.1; second = q.second });
+      after_one kind R S br bs r s p.first.0 q.first.0 l hs rest a ks more b e
+      (record { mid = p.mid; prefix = p.prefix; back = p.back; whole = p.whole; first = p.first.1; second = p.second })
+      (record { mid = q.mid; prefix = q.prefix; back = q.back; whole = q.whole; first = q.first.1; second = q.second });
 }

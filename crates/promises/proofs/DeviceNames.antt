@@ -177,34 +177,34 @@ pub record Just (key device : ℕ) (name : List ℕ) (e new : Entry) (l : Ledger
   pub due : new.due ≡ []
   pub link : ClientTalk e.progress → ⊥
 
-pub greets : (moment key id device : ℕ) (name : List ℕ) (e new : Entry) (l : Ledger) (front : List Happening) (mid : Ledger) (back : List Happening) (l' : Ledger) (hs : List Happening) → hs ≡ front ++ back
-    → Just key device name e new l front mid → HandlesHello moment key id device name mid back l' → Goes true moment l hs l'
-greets moment key id device name e new l front mid back l' hs whole just (inl (alone, (outcome, it))) =
-    let waits = awaits moment device key e new l front mid just.good just.silent just.named just.fresh just.due (alone_now device key new l mid just.after alone) in
-    awaits_named moment device key name outcome l front mid back l' hs whole waits (happened moment (Is.Report device (report.Hello name)) outcome mid back l' waits.good it)
-greets moment key id device name e new l front mid back l' hs whole just (inr (inl (old, has, it))) =
+pub greets : (moment key id device : ℕ) (name : List ℕ) (e new : Entry) (l : Ledger) (prefix : List Happening) (mid : Ledger) (back : List Happening) (l' : Ledger) (hs : List Happening) → hs ≡ prefix ++ back
+    → Just key device name e new l prefix mid → HandlesHello moment key id device name mid back l' → Goes true moment l hs l'
+greets moment key id device name e new l prefix mid back l' hs whole just (inl (alone, (outcome, it))) =
+    let waits = awaits moment device key e new l prefix mid just.good just.silent just.named just.fresh just.due (alone_now device key new l mid just.after alone) in
+    awaits_named moment device key name outcome l prefix mid back l' hs whole waits (happened moment (Is.Report device (report.Hello name)) outcome mid back l' waits.good it)
+greets moment key id device name e new l prefix mid back l' hs whole just (inr (inl (old, has, it))) =
     let is_old : IsDevice device (mid.entries old) = as_device true device (mid.entries old) has.1 in
     let found = device_there device (mid.entries old) is_old in
-    let way = gives_way_at old (mid.entries old) found.0 mid it.front it.mid found.1 it.first in
+    let way = gives_way_at old (mid.entries old) found.0 mid it.prefix it.mid found.1 it.first in
     let alone = alone_then device key old new found.0 l mid it.mid just.good just.after has.0 found.1 is_old way.1 in
-    let quiet : run_notes (front ++ it.front) ≡ [] = notes_append front it.front ∙ (ap (λ (ns : List Note). ns ++ run_notes it.front) just.silent ∙ ap run_notes way.0) in
-    let waits = awaits moment device key e new l (front ++ it.front) it.mid just.good quiet just.named just.fresh just.due alone in
+    let quiet : run_notes (prefix ++ it.prefix) ≡ [] = notes_append prefix it.prefix ∙ (ap (λ (ns : List Note). ns ++ run_notes it.prefix) just.silent ∙ ap run_notes way.0) in
+    let waits = awaits moment device key e new l (prefix ++ it.prefix) it.mid just.good quiet just.named just.fresh just.due alone in
     let ends = it.second in
-    let gone = happened moment (Is.Report device report.Gone) ends.first.0 it.mid ends.front ends.mid waits.good ends.first.1 in
-    let none = gone_sends_none moment device it.mid.core ends.first.0 (run_notes ends.front) ends.mid.core gone.handles in
-    let still = awaits_event moment device key (Is.Report device report.Gone) ends.first.0 l (front ++ it.front) it.mid ends.front ends.mid ((front ++ it.front) ++ ends.front) refl waits gone none refl in
+    let gone = happened moment (Is.Report device report.Gone) ends.first.0 it.mid ends.prefix ends.mid waits.good ends.first.1 in
+    let none = gone_sends_none moment device it.mid.core ends.first.0 (run_notes ends.prefix) ends.mid.core gone.handles in
+    let still = awaits_event moment device key (Is.Report device report.Gone) ends.first.0 l (prefix ++ it.prefix) it.mid ends.prefix ends.mid ((prefix ++ it.prefix) ++ ends.prefix) refl waits gone none refl in
     let last = happened moment (Is.Report device (report.Hello name)) ends.second.0 ends.mid ends.back l' still.good ends.second.1 in
-    awaits_named moment device key name ends.second.0 l ((front ++ it.front) ++ ends.front) ends.mid ends.back l' hs (whole ∙ joined it.front ends.front ends.back back it.back it.whole ends.whole) still last
+    awaits_named moment device key name ends.second.0 l ((prefix ++ it.prefix) ++ ends.prefix) ends.mid ends.back l' hs (whole ∙ joined it.prefix ends.prefix ends.back back it.back it.whole ends.whole) still last
   where
-    joined : (a b c back rest : List Happening) → back ≡ a ++ rest → rest ≡ b ++ c → front ++ back ≡ ((front ++ a) ++ b) ++ c
+    joined : (a b c back rest : List Happening) → back ≡ a ++ rest → rest ≡ b ++ c → prefix ++ back ≡ ((prefix ++ a) ++ b) ++ c
     joined a b c back rest p q =
-        ap (λ (xs : List Happening). front ++ xs) (p ∙ ap (λ (xs : List Happening). a ++ xs) q) ∙ (sym (append_assoc front a (b ++ c)) ∙ sym (append_assoc (front ++ a) b c))
-greets moment key id device name e new l front mid back l' hs whole just (inr (inr (old, has, it))) =
+        ap (λ (xs : List Happening). prefix ++ xs) (p ∙ ap (λ (xs : List Happening). a ++ xs) q) ∙ (sym (append_assoc prefix a (b ++ c)) ∙ sym (append_assoc (prefix ++ a) b c))
+greets moment key id device name e new l prefix mid back l' hs whole just (inr (inr (old, has, it))) =
     let here : mid.entries key ≡ Some new = ap (λ (x : Ledger). x.entries key) just.after ∙ at_here key new l.entries in
-    let way = gives_way_at key (mid.entries key) new mid it.front it.mid here it.first in
+    let way = gives_way_at key (mid.entries key) new mid it.prefix it.mid here it.first in
     let ended : l' ≡ with_entry key (superseded_entry new) mid = it.second.1 ∙ way.1 in
-    let quiet : run_notes back ≡ [] = ap run_notes it.whole ∙ (notes_append it.front it.back ∙ (ap (λ (ns : List Note). ns ++ run_notes it.back) (ap run_notes way.0) ∙ ap run_notes it.second.0)) in
-    let silent_all : run_notes hs ≡ [] = ap run_notes whole ∙ (notes_append front back ∙ (ap (λ (ns : List Note). ns ++ run_notes back) just.silent ∙ quiet)) in
+    let quiet : run_notes back ≡ [] = ap run_notes it.whole ∙ (notes_append it.prefix it.back ∙ (ap (λ (ns : List Note). ns ++ run_notes it.back) (ap run_notes way.0) ∙ ap run_notes it.second.0)) in
+    let silent_all : run_notes hs ≡ [] = ap run_notes whole ∙ (notes_append prefix back ∙ (ap (λ (ns : List Note). ns ++ run_notes back) just.silent ∙ quiet)) in
     goes_calm true moment l hs l' just.good (record {
       core = ap (λ (x : Ledger). x.core) ended ∙ ap (λ (x : Ledger). x.core) just.after;
       closed = ap (λ (x : Ledger). x.closed) ended ∙ ap (λ (x : Ledger). x.closed) just.after;

@@ -45,16 +45,16 @@ pub no_entry : (o : Option Entry) (e : Entry) → o ≡ None → o ≡ Some e �
 no_entry o e p q = cc
 
 pub read_as : (d e : Entry) → said_on e.progress ≡ said_on d.progress → e.read ≡ d.read → IsRead d → IsRead e
-read_as d e said read (front, rest, whole, reads_as) = (front, rest, read ∙ whole, subst (λ (reports : List ReportRecord). ParsesFirst front reports) (sym said) reads_as)
+read_as d e said read (prefix, rest, whole, reads_as) = (prefix, rest, read ∙ whole, subst (λ (reports : List ReportRecord). ParsesFirst prefix reports) (sym said) reads_as)
 
 pub grows_as : (d e : Entry) → e.progress ≡ d.progress → e.read ≡ d.read → (d.broken ≡ true → e.broken ≡ true) → Grows d e
 grows_as d e progress read broken = record { progress = inl progress; broken = broken; reads = read_as d e (ap said_on progress) read }
 
-pub grows_reading : (d : Entry) (piece : List ℕ) → Grows d (reading piece d)
-grows_reading d piece = record {
+pub grows_reading : (d : Entry) (segment : List ℕ) → Grows d (reading segment d)
+grows_reading d segment = record {
   progress = inl refl;
   broken = λ is. is;
-  reads = λ (front, rest, whole, reads_as). (front, rest ++ piece, ap (λ (bytes : List ℕ). bytes ++ piece) whole ∙ append_assoc front rest piece, reads_as);
+  reads = λ (prefix, rest, whole, reads_as). (prefix, rest ++ segment, ap (λ (bytes : List ℕ). bytes ++ segment) whole ∙ append_assoc prefix rest segment, reads_as);
 }
 
 grows_then : (d e f : Entry) → Grows d e → Grows e f → Grows d f
@@ -206,7 +206,7 @@ pub broken_passes : (progress : PeerRecord) (l l' : Ledger) → device_of progre
 broken_passes progress l l' nameless closed passes (inl (key, e, there, is, broken)) =
     let it = passes key e there (ap device_of is ∙ nameless) broken in
     inl (key, it.0, it.1, it.2 ∙ is, it.3)
-broken_passes progress l l' nameless closed passes (inr (before, it, behind, whole, is, broken)) = inr (before, it, behind, closed ∙ whole, is, broken)
+broken_passes progress l l' nameless closed passes (inr (before, it, tail, whole, is, broken)) = inr (before, it, tail, closed ∙ whole, is, broken)
 
 pub given_passes : (device : ℕ) (past : List PeerRecord) (l l' : Ledger) → l'.closed ≡ l.closed → ((k : ℕ) → Passes (l.entries k) (l'.entries k)) → All (λ (progress : PeerRecord). is_of device progress ≡ false → IsGivenUp progress l) past → All (λ (progress : PeerRecord). is_of device progress ≡ false → IsGivenUp progress l') past
 given_passes device past l l' closed passes all =
@@ -252,8 +252,8 @@ broken_left progress key e fate l there (inl (k, d, at, is, broken)) =
     let this : d ≡ e = one_entry d e (sym at ∙ (ap l.entries same ∙ there)) in
     inr (l.closed, (e, fate), [], refl, ap (λ (x : Entry). x.progress) (sym this) ∙ is, ap (λ (x : Entry). x.broken) (sym this) ∙ broken))
     (λ apart. inl (k, d, aside key None l.entries k apart ∙ at, is, broken))
-broken_left progress key e fate l there (inr (before, it, behind, whole, is, broken)) =
-    inr (before, it, behind ++ (e, fate) ∷ [], ap (λ (closed : List (Entry × Fate)). closed ++ (e, fate) ∷ []) whole ∙ append_assoc before (it ∷ behind) ((e, fate) ∷ []), is, broken)
+broken_left progress key e fate l there (inr (before, it, tail, whole, is, broken)) =
+    inr (before, it, tail ++ (e, fate) ∷ [], ap (λ (closed : List (Entry × Fate)). closed ++ (e, fate) ∷ []) whole ∙ append_assoc before (it ∷ tail) ((e, fate) ∷ []), is, broken)
 
 given_left : (device key : ℕ) (e : Entry) (fate : Fate) (past : List PeerRecord) (l : Ledger) → l.entries key ≡ Some e → All (λ (progress : PeerRecord). is_of device progress ≡ false → IsGivenUp progress l) past → All (λ (progress : PeerRecord). is_of device progress ≡ false → IsGivenUp progress (without key e fate l)) past
 given_left device key e fate past l there all =

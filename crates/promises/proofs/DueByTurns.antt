@@ -33,12 +33,12 @@ use Rattle.server.specs.Polling.{Opens, AcceptsAs, AcceptsOne, AcceptsAt, FedWho
 use Rattle.server.specs.Turn as Between
 use Rattle.server.specs.Turn.{Ticks, Notes, is_tick_due, TicksIfDue, Covers, Round, Turn, BodyAsks, BodyComes, Action, Turned, Served_body, Reported, Ticked, Trace, DoesAction, Runs}
 use Rattle.server.specs.Law.{moment_of, happenings_of, happenings_in}
-use Rattle.promises.specs.Orders.{RunPart, AreHandled, hello_in, named_by, is_turn, AreOf, run_notes, due_by, AreSent, WasSent, IsFrontSent, WasHalted}
-use Rattle.promises.specs.Answers.{Act, ClientTalk, IsFrontOf, IsStateOf, IsAnswered, WasAnswered, IsFirst, AreAnswered, IsCutOff, WasCutOff}
+use Rattle.promises.specs.Orders.{RunPart, AreHandled, hello_in, named_by, is_turn, AreOf, run_notes, due_by, AreSent, WasSent, IsPrefixSent, WasHalted}
+use Rattle.promises.specs.Answers.{Act, ClientTalk, IsPrefixOf, IsStateOf, IsAnswered, WasAnswered, IsFirst, AreAnswered, IsCutOff, WasCutOff}
 use Rattle.promises.proofs.SentToDevices.{Counts, due_at, Ordered, ordered_still, ordered_keeps, Calm, notes_append, calm_still, calm_sets, breaking, Good, one_entry, IsLost, no_true, ReadsOn, reads_still, reads_same}
 use Rattle.promises.proofs.HandledEvents.{Plain, goes_plain, CameAs, Goes, handled_append, came_then, goes_then, goes_calm, TalkedAs, progressed_then, progressed_still, ClosedAs, AllClosed, none_closed, all_closed_then, goes_refused, LostAs, lost_then, CameWith, StopsAs, stops_still, stops_then}
 use Rattle.promises.proofs.DueToClients.{Calms, calms_nothing, calms_chooses, calms_breaks}
-use Rattle.promises.proofs.EventsOfTurns.{Moves, moves_calm, moves_then, moves_if, moves_each, moves_happens, moves_unanswered, closes_at, moves_settles}
+use Rattle.promises.proofs.EventsOfTurns.{Moves, moves_calm, moves_then, moves_if, moves_each, moves_happens, moves_unanswered, closes_at, moves_closes_broken}
 use Rattle.promises.proofs.ConnectionAsks.{moves_serves}
 
 -- ---- reads
@@ -55,11 +55,11 @@ moves_drops moment key e l hs l' good there it = goes_calm true moment l hs l' g
 
 pub fed_whole : (moment key : ℕ) (e : Entry) (bytes : List ℕ) (l : Ledger) (hs : List Happening) (l' : Ledger) → Good l → l.entries key ≡ Some e → FedWhole moment key e bytes l hs l' → Goes true moment l hs l'
 fed_whole moment key e bytes l hs l' good there (inl it) =
-    let first = moves_sets moment key e (reading bytes e) l it.front it.mid good there (refl, refl, refl, record { same = refl; more = bytes; grown = refl; drains = λ is. is }) it.first in
-    goes_then true moment l it.front it.mid it.back l' hs it.whole first (moves_serves moment key it.mid it.back l' first.good it.second)
+    let first = moves_sets moment key e (reading bytes e) l it.prefix it.mid good there (refl, refl, refl, record { same = refl; more = bytes; grown = refl; drains = λ is. is }) it.first in
+    goes_then true moment l it.prefix it.mid it.back l' hs it.whole first (moves_serves moment key it.mid it.back l' first.good it.second)
 fed_whole moment key e bytes l hs l' good there (inr it) =
-    let first = moves_drops moment key e l it.front it.mid good there it.first in
-    goes_then true moment l it.front it.mid it.back l' hs it.whole first (moves_settles moment it.mid it.back l' first.good it.second)
+    let first = moves_drops moment key e l it.prefix it.mid good there it.first in
+    goes_then true moment l it.prefix it.mid it.back l' hs it.whole first (moves_closes_broken moment it.mid it.back l' first.good it.second)
 
 pub fed_open : (t : Bool) (moment key : ℕ) (e : Entry) (bytes : List ℕ) (l : Ledger) (hs : List Happening) (l' : Ledger) → Good l → l.entries key ≡ Some e → If t (Sets key e) (FedWhole moment key e bytes) l hs l' → Goes true moment l hs l'
 fed_open true moment key e bytes l hs l' good there it = moves_sets moment key e e l hs l' good there (refl, refl, refl, reads_same e) it
@@ -73,11 +73,11 @@ pub moves_feeds : (moment key : ℕ) (bytes : List ℕ) → Moves true moment (F
 moves_feeds moment key bytes l hs l' good it = feeds_at moment key bytes (l.entries key) l hs l' good refl it
 
 pub moves_fails : (moment key : ℕ) → Moves true moment (Fails moment key)
-moves_fails moment key = moves_then true moment (Breaks key) (ClosesBroken moment) (moves_calm true moment (Breaks key) (calms_breaks key)) (moves_settles moment)
+moves_fails moment key = moves_then true moment (Breaks key) (ClosesBroken moment) (moves_calm true moment (Breaks key) (calms_breaks key)) (moves_closes_broken moment)
 
 pub polled_then : (moment : ℕ) (R : Rel) (l : Ledger) (hs : List Happening) (l' : Ledger) → Good l → (poll : Poll) → (it : Then (Polls poll) R l hs l') → ((mid : Ledger) → mid ≡ l → R mid it.back l' → Goes true moment mid it.back l') → Goes true moment l hs l'
 polled_then moment R l hs l' good poll it goes =
-    goes_then true moment l it.front it.mid it.back l' hs it.whole (goes_calm true moment l it.front it.mid good (calm_still l it.front it.mid (ap run_notes it.first.0) it.first.1)) (goes it.mid it.first.1 it.second)
+    goes_then true moment l it.prefix it.mid it.back l' hs it.whole (goes_calm true moment l it.prefix it.mid good (calm_still l it.prefix it.mid (ap run_notes it.first.0) it.first.1)) (goes it.mid it.first.1 it.second)
 
 pub good_at : (l mid : Ledger) → mid ≡ l → Good l → Good mid
 good_at l mid same good = subst Good (sym same) good
@@ -91,7 +91,7 @@ reads_as moment key e wire.End l hs l' good there it =
 reads_as moment key e wire.Fault l hs l' good there it = polled_then moment (Fails moment key) l hs l' good (Reads e.id wire.Fault) it (λ mid same more. moves_fails moment key mid it.back l' (good_at l mid same good) more)
 
 pub reads_if : (t : Bool) (moment key : ℕ) (e : Entry) (l : Ledger) (hs : List Happening) (l' : Ledger) → Good l → l.entries key ≡ Some e → If t (ReadsOpen moment key e) Nothing l hs l' → Goes true moment l hs l'
-reads_if true moment key e l hs l' good there (answer, piece, it) = reads_as moment key e answer l hs l' good there it
+reads_if true moment key e l hs l' good there (answer, segment, it) = reads_as moment key e answer l hs l' good there it
 reads_if false moment key e l hs l' good there it = goes_calm true moment l hs l' good (calms_nothing l hs l' it)
 
 pub reads_at : (moment key : ℕ) (o : Option Entry) (l : Ledger) (hs : List Happening) (l' : Ledger) → Good l → l.entries key ≡ o → ReadsAt moment key o l hs l' → Goes true moment l hs l'
@@ -112,7 +112,7 @@ writes_as moment key e offered wire.End l hs l' good there it = polled_then mome
 writes_as moment key e offered wire.Fault l hs l' good there it = polled_then moment (Fails moment key) l hs l' good (Writes e.id offered wire.Fault) it (λ mid same more. moves_fails moment key mid it.back l' (good_at l mid same good) more)
 
 pub writes_if : (t : Bool) (moment key : ℕ) (e : Entry) (l : Ledger) (hs : List Happening) (l' : Ledger) → Good l → l.entries key ≡ Some e → If t (WritesOpen moment key e) Nothing l hs l' → Goes true moment l hs l'
-writes_if true moment key e l hs l' good there (offered, front, answer, it) = writes_as moment key e offered answer l hs l' good there it
+writes_if true moment key e l hs l' good there (offered, prefix, answer, it) = writes_as moment key e offered answer l hs l' good there it
 writes_if false moment key e l hs l' good there it = goes_calm true moment l hs l' good (calms_nothing l hs l' it)
 
 pub writes_at : (moment key : ℕ) (o : Option Entry) (l : Ledger) (hs : List Happening) (l' : Ledger) → Good l → l.entries key ≡ o → WritesAt moment key o l hs l' → Goes true moment l hs l'
@@ -124,8 +124,8 @@ moves_writes moment key l hs l' good it = writes_at moment key (l.entries key) l
 
 pub ends_if : (t : Bool) (moment key : ℕ) (e : Entry) (l : Ledger) (hs : List Happening) (l' : Ledger) → Good l → l.entries key ≡ Some e → If t (Then (ClosesAs moment Drained key e) (ClosesBroken moment)) Nothing l hs l' → Goes true moment l hs l'
 ends_if true moment key e l hs l' good there it =
-    let first = closes_at moment Drained key e l it.front it.mid good there it.first in
-    goes_then true moment l it.front it.mid it.back l' hs it.whole first (moves_settles moment it.mid it.back l' first.good it.second)
+    let first = closes_at moment Drained key e l it.prefix it.mid good there it.first in
+    goes_then true moment l it.prefix it.mid it.back l' hs it.whole first (moves_closes_broken moment it.mid it.back l' first.good it.second)
 ends_if false moment key e l hs l' good there it = goes_calm true moment l hs l' good (calms_nothing l hs l' it)
 
 pub ends_at : (moment key : ℕ) (o : Option Entry) (l : Ledger) (hs : List Happening) (l' : Ledger) → Good l → l.entries key ≡ o → EndsAt moment key o l hs l' → Goes true moment l hs l'
@@ -153,7 +153,7 @@ opening_progresses core door id key x e is of sound =
       door = door;
       acts = [];
       are = ap (λ (y : Entry). y.progress) (sym this);
-      fronts = All-nil (λ (a : Act). IsFrontOf a.read e.read);
+      prefixes = All-nil (λ (a : Act). IsPrefixOf a.read e.read);
       over = λ is. cc;
       states = All-nil (λ (a : Act). IsStateOf a.state core []);
       asked = refl;
@@ -195,7 +195,7 @@ moves_ticks turn moment l hs l' good it = moves_then turn moment (Notes (now_at 
 
 pub moves_tick : (moment : ℕ) → Moves true moment (TicksIfDue moment)
 moves_tick moment l hs l' good it =
-    moves_if true moment (is_tick_due moment l) (Then (Ticks moment) (ClosesBroken moment)) Nothing (moves_then true moment (Ticks moment) (ClosesBroken moment) (moves_ticks true moment) (moves_settles moment)) (moves_calm true moment Nothing calms_nothing) l hs l' good it
+    moves_if true moment (is_tick_due moment l) (Then (Ticks moment) (ClosesBroken moment)) Nothing (moves_then true moment (Ticks moment) (ClosesBroken moment) (moves_ticks true moment) (moves_closes_broken moment)) (moves_calm true moment Nothing calms_nothing) l hs l' good it
 
 pub covers_calm : (n : ℕ) → Calms (Covers n)
 covers_calm n l hs l' it = calms_chooses (Looked n) l hs l' it.1
@@ -208,7 +208,7 @@ moves_round moment l hs l' good (n, it) =
 
 pub moves_turn : (moment : ℕ) → Moves true moment (Turn moment)
 moves_turn moment =
-    moves_then true moment (ClosesBroken moment) (Then (TicksIfDue moment) (Then (AcceptsAt Ipp) (Then (AcceptsAt Lpd) (Then (AcceptsAt Devices) (Round moment))))) (moves_settles moment)
+    moves_then true moment (ClosesBroken moment) (Then (TicksIfDue moment) (Then (AcceptsAt Ipp) (Then (AcceptsAt Lpd) (Then (AcceptsAt Devices) (Round moment))))) (moves_closes_broken moment)
     (moves_then true moment (TicksIfDue moment) (Then (AcceptsAt Ipp) (Then (AcceptsAt Lpd) (Then (AcceptsAt Devices) (Round moment)))) (moves_tick moment)
     (moves_then true moment (AcceptsAt Ipp) (Then (AcceptsAt Lpd) (Then (AcceptsAt Devices) (Round moment))) (moves_accepts moment Ipp)
     (moves_then true moment (AcceptsAt Lpd) (Then (AcceptsAt Devices) (Round moment)) (moves_accepts moment Lpd) (moves_then true moment (AcceptsAt Devices) (Round moment) (moves_accepts moment Devices) (moves_round moment)))))
@@ -309,17 +309,17 @@ module _ (opening : State) (trace : Trace) (l : Ledger) (runs : Runs trace (open
   answered_since x key handled e none (inl went) = absurd (no_entry x went.before none went.there)
   answered_since x key handled e none (inr answered) = answered
 
-  halted_since : (x o : Option Entry) (handled : List RunPart) (device : ℕ) → x ≡ None → LostAs device handled x o → IsFrontSent handled device (due_at o)
+  halted_since : (x o : Option Entry) (handled : List RunPart) (device : ℕ) → x ≡ None → LostAs device handled x o → IsPrefixSent handled device (due_at o)
   halted_since x o handled device none (inl (was, same)) = absurd (subst (λ (y : Option Entry). IsLost device y) none was)
-  halted_since x o handled device none (inr h) = (h.before, h.behind, h.whole, h.rest, by h.came)
+  halted_since x o handled device none (inr h) = (h.before, h.tail, h.whole, h.rest, by h.came)
     where
       by : CameWith device h.before x (due_at o ++ h.rest) → due_at o ++ h.rest ≡ due_by device [] h.before
       by (inl (counts, due)) = absurd (subst (λ (y : Option Entry). Counts device y) none counts)
       by (inr (called, due)) = due
 
   -- a prefix of the bytes sent until an earlier event
-  front_more : (handled before behind : List RunPart) (device : ℕ) (due : List ℕ) → handled ≡ before ++ behind → IsFrontSent before device due → IsFrontSent handled device due
-  front_more handled before behind device due whole (first, later, same, rest, is) = (first, later ++ behind, whole ∙ (ap (λ (its : List RunPart). its ++ behind) same ∙ append_assoc first later behind), rest, is)
+  prefix_more : (handled before tail : List RunPart) (device : ℕ) (due : List ℕ) → handled ≡ before ++ tail → IsPrefixSent before device due → IsPrefixSent handled device due
+  prefix_more handled before tail device due whole (first, later, same, rest, is) = (first, later ++ tail, whole ∙ (ap (λ (its : List RunPart). its ++ tail) same ∙ append_assoc first later tail), rest, is)
 
   cut_since : (x : Option Entry) (key : ℕ) (handled : List RunPart) (e : Entry) → x ≡ None → StopsAs opening key handled x e → IsCutOff opening key handled e
   cut_since x key handled e none (inl (d, there, broken, progress, due, silent, reads)) = absurd (no_entry x d none there)
@@ -336,13 +336,13 @@ module _ (opening : State) (trace : Trace) (l : Ledger) (runs : Runs trace (open
         sym (ap due_at there) ∙ due_since None (l.entries key) all.handled device refl (all.came key device (subst (λ (o : Option Entry). Counts device o) (sym there) (named, sound)));
     closed = subst (λ (closed : List (Entry × Fate)). All (λ (it : Entry × Fate). WasSent all.handled it.0) closed) (sym all.closed.closed)
         (All-weaker (λ (it : Entry × Fate). ClosedAs (opening_ledger opening) all.handled it.0) (λ (it : Entry × Fate). WasSent all.handled it.0)
-        (λ it c device named sound. (c.before, c.behind, c.whole, due_since None (Some it.0) c.before device refl (c.came device named sound))) all.closed.more all.closed.each);
+        (λ it c device named sound. (c.before, c.tail, c.whole, due_since None (Some it.0) c.before device refl (c.came device named sound))) all.closed.more all.closed.each);
     halted = λ key e there device named is.
-        subst (λ (o : Option Entry). IsFrontSent all.handled device (due_at o)) there
+        subst (λ (o : Option Entry). IsPrefixSent all.handled device (due_at o)) there
         (halted_since None (l.entries key) all.handled device refl (all.lost key device (subst (λ (o : Option Entry). IsLost device o) (sym there) (named, is))));
     closed_halted = subst (λ (closed : List (Entry × Fate)). All (λ (it : Entry × Fate). WasHalted all.handled it.0) closed) (sym all.closed.closed)
         (All-weaker (λ (it : Entry × Fate). ClosedAs (opening_ledger opening) all.handled it.0) (λ (it : Entry × Fate). WasHalted all.handled it.0)
-        (λ it c device named is. front_more all.handled c.before c.behind device it.0.due c.whole (halted_since None (Some it.0) c.before device refl (c.lost device named is))) all.closed.more all.closed.each);
+        (λ it c device named is. prefix_more all.handled c.before c.tail device it.0.due c.whole (halted_since None (Some it.0) c.before device refl (c.lost device named is))) all.closed.more all.closed.each);
   }
 
   pub are_answered : ((key : ℕ) (e : Entry) → l.entries key ≡ Some e → IsActedOn e) → ((key : ℕ) (e : Entry) → l.entries key ≡ Some e → IsFirst e.read e.progress) → All (λ (it : Entry × Fate). IsFirst it.0.read it.0.progress) l.closed → AreAnswered opening trace l
@@ -357,9 +357,9 @@ module _ (opening : State) (trace : Trace) (l : Ledger) (runs : Runs trace (open
     acted_on = acted_on;
     closed = subst (λ (closed : List (Entry × Fate)). All (λ (it : Entry × Fate). WasAnswered opening all.handled it.0) closed) (sym all.closed.closed)
         (All-weaker (λ (it : Entry × Fate). ClosedAs (opening_ledger opening) all.handled it.0) (λ (it : Entry × Fate). WasAnswered opening all.handled it.0)
-        (λ it c client sound. (c.key, c.before, c.behind, c.whole, answered_since None c.key c.before it.0 refl (c.progresses client sound))) all.closed.more all.closed.each);
+        (λ it c client sound. (c.key, c.before, c.tail, c.whole, answered_since None c.key c.before it.0 refl (c.progresses client sound))) all.closed.more all.closed.each);
     cut_off = λ key e there client broken. cut_since None key all.handled e refl (all.stops key e there client broken);
     closed_cut_off = subst (λ (closed : List (Entry × Fate)). All (λ (it : Entry × Fate). WasCutOff opening all.handled it.0) closed) (sym all.closed.closed)
         (All-weaker (λ (it : Entry × Fate). ClosedAs (opening_ledger opening) all.handled it.0) (λ (it : Entry × Fate). WasCutOff opening all.handled it.0)
-        (λ it c client broken. (c.key, c.before, c.behind, c.whole, cut_since None c.key c.before it.0 refl (c.stops client broken))) all.closed.more all.closed.each);
+        (λ it c client broken. (c.key, c.before, c.tail, c.whole, cut_since None c.key c.before it.0 refl (c.stops client broken))) all.closed.more all.closed.each);
   }

@@ -42,7 +42,7 @@ pub calms_chooses : (choice : Choice) → Calms (Chooses choice)
 calms_chooses choice l hs l' it = calm_still l hs l' (ap run_notes it.0) it.1
 
 pub calms_then : (R S : Rel) → Calms R → Calms S → Calms (Then R S)
-calms_then R S r s l hs l' it = sent_then (λ device. []) (λ device. []) l it.front it.mid it.back l' hs it.whole (r l it.front it.mid it.first) (s it.mid it.back l' it.second)
+calms_then R S r s l hs l' it = sent_then (λ device. []) (λ device. []) l it.prefix it.mid it.back l' hs it.whole (r l it.prefix it.mid it.first) (s it.mid it.back l' it.second)
 
 pub calms_refusal : (place : AllocationSite) (id : Option ℕ) → run_notes (Notified (Refused place id) ∷ []) ≡ [] → Calms (Notifies (Refused place id))
 calms_refusal place id silent l hs l' it = calm_still l hs l' (ap run_notes it.0 ∙ silent) it.1
@@ -112,16 +112,16 @@ gave_sets key Q d new l hs l' there progress reads gives breaks silent after = r
     set = ap (λ (x : Ledger). x.entries key) after ∙ at_here key new l.entries
 
 -- first a part after which each connection is as it was
-pub gave_behind : (notified : List Note) (key : ℕ) (Q : Bool → List ℕ → Type 0) (R S : Rel) → ((l : Ledger) (hs : List Happening) (l' : Ledger) → R l hs l' → (run_notes hs ≡ notified) × (l' ≡ l)) → Gives key Q S → (l : Ledger) (hs : List Happening) (l' : Ledger) → Then R S l hs l' → Gave notified key Q l hs l'
-gave_behind notified key Q R S still gives l hs l' it =
-    let first = still l it.front it.mid it.first in
+pub gave_later : (notified : List Note) (key : ℕ) (Q : Bool → List ℕ → Type 0) (R S : Rel) → ((l : Ledger) (hs : List Happening) (l' : Ledger) → R l hs l' → (run_notes hs ≡ notified) × (l' ≡ l)) → Gives key Q S → (l : Ledger) (hs : List Happening) (l' : Ledger) → Then R S l hs l' → Gave notified key Q l hs l'
+gave_later notified key Q R S still gives l hs l' it =
+    let first = still l it.prefix it.mid it.first in
     let g = gives it.mid it.back l' it.second in
-    let reads_as : run_notes hs ≡ notified = ap run_notes it.whole ∙ (notes_append it.front it.back ∙ (ap (λ (ns : List Note). run_notes it.front ++ ns) g.notes ∙ (append-nil (run_notes it.front) ∙ first.0))) in
+    let reads_as : run_notes hs ≡ notified = ap run_notes it.whole ∙ (notes_append it.prefix it.back ∙ (ap (λ (ns : List Note). run_notes it.prefix ++ ns) g.notes ∙ (append-nil (run_notes it.prefix) ∙ first.0))) in
     let all : Gave notified key Q it.mid hs l' = record { core = g.core; closed = g.closed; notes = reads_as; others = g.others; client = g.client; here = g.here; halts = g.halts } in
     subst (λ (x : Ledger). Gave notified key Q x hs l') first.1 all
 
 pub gave_after : (key : ℕ) (Q : Bool → List ℕ → Type 0) (R S : Rel) → ((l : Ledger) (hs : List Happening) (l' : Ledger) → R l hs l' → (run_notes hs ≡ []) × (l' ≡ l)) → Gives key Q S → Gives key Q (Then R S)
-gave_after key Q R S still gives l hs l' it = gave_behind [] key Q R S still gives l hs l' it
+gave_after key Q R S still gives l hs l' it = gave_later [] key Q R S still gives l hs l' it
 
 pub gave_as : (notified : List Note) (key : ℕ) (Q R : Bool → List ℕ → Type 0) (l : Ledger) (hs : List Happening) (l' : Ledger) → ((d : Entry) (bytes : List ℕ) → l.entries key ≡ Some d → Q (closes_of d.progress) bytes → R (closes_of d.progress) bytes) → Gave notified key Q l hs l' → Gave notified key R l hs l'
 gave_as notified key Q R l hs l' weaker g = record {
@@ -167,7 +167,7 @@ pub gives_open : (refusable : Bool) (key : ℕ) (bytes : List ℕ) (d : Entry) (
 gives_open false key bytes d l hs l' there sound it = gave_sets key (Just_these bytes) d (owing bytes d) l hs l' there refl (reads_still d (owing bytes d) refl refl refl) (λ unbroken. (sound, (bytes, refl, refl))) (λ is. absurd (no_true d.broken is sound)) (ap run_notes it.0) it.1
 gives_open true key bytes d l hs l' there sound (inl it) =
     gave_sets key (Just_these bytes) d (owing bytes d) l hs l' there refl (reads_still d (owing bytes d) refl refl refl) (λ unbroken. (sound, (bytes, refl, refl))) (λ is. absurd (no_true d.broken is sound))
-    (ap run_notes it.whole ∙ (notes_append it.front it.back ∙ (ap (λ (ns : List Note). ns ++ run_notes it.back) (ap run_notes it.first.0) ∙ ap run_notes it.second.0))) (it.second.1 ∙ ap (λ (x : Ledger). with_entry key (owing bytes d) x) it.first.1)
+    (ap run_notes it.whole ∙ (notes_append it.prefix it.back ∙ (ap (λ (ns : List Note). ns ++ run_notes it.back) (ap run_notes it.first.0) ∙ ap run_notes it.second.0))) (it.second.1 ∙ ap (λ (x : Ledger). with_entry key (owing bytes d) x) it.first.1)
 gives_open true key bytes d l hs l' there sound (inr it) = gave_sets key (Just_these bytes) d (broken d) l hs l' there refl (reads_still d (broken d) refl refl refl) (λ unbroken. absurd (no_true true refl unbroken)) (λ is. refl) (ap run_notes it.0) it.1
 
 pub gives_if : (t refusable : Bool) (key : ℕ) (bytes : List ℕ) (d : Entry) (l : Ledger) (hs : List Happening) (l' : Ledger) → d.broken ≡ t → l.entries key ≡ Some d → If t Nothing (EnqueuesOpen refusable key bytes d) l hs l' → Gave [] key (Just_these bytes) l hs l'
@@ -288,7 +288,7 @@ abbrev pub No_memory : ℕ → Bool → List ℕ → Type 0
 No_memory request closes given = given ≡ http_status closes TemporaryError request
 
 pub gives_dropped : (key id request : ℕ) (l : Ledger) (hs : List Happening) (l' : Ledger) → Ans.Drops key id request l hs l' → Gave (Refused At.Event (Some id) ∷ []) key (No_memory request) l hs l'
-gives_dropped key id request = gave_behind (Refused At.Event (Some id) ∷ []) key (No_memory request) (Notifies (Refused At.Event (Some id))) (EnqueuesStatus key TemporaryError request) (still_notifies At.Event id refl) (gives_status key TemporaryError request)
+gives_dropped key id request = gave_later (Refused At.Event (Some id) ∷ []) key (No_memory request) (Notifies (Refused At.Event (Some id))) (EnqueuesStatus key TemporaryError request) (still_notifies At.Event id refl) (gives_status key TemporaryError request)
 
 -- the status is given only if the event is a query
 abbrev pub Lost_memory : ℕ → Bool → Bool → List ℕ → Type 0
@@ -301,7 +301,7 @@ gives_by false query key request is l hs l' it = gives_breaks key (Lost_memory r
 
 pub gives_lost : (key id request : ℕ) (query : Bool) (l : Ledger) (hs : List Happening) (l' : Ledger) → Ans.LosesReply key id request query l hs l' → Gave (Refused At.Reply (Some id) ∷ []) key (Lost_memory request query) l hs l'
 gives_lost key id request query =
-    gave_behind (Refused At.Reply (Some id) ∷ []) key (Lost_memory request query) (Notifies (Refused At.Reply (Some id))) (If query (EnqueuesStatus key TemporaryError request) (Breaks key)) (still_notifies At.Reply id refl)
+    gave_later (Refused At.Reply (Some id) ∷ []) key (Lost_memory request query) (Notifies (Refused At.Reply (Some id))) (If query (EnqueuesStatus key TemporaryError request) (Breaks key)) (still_notifies At.Reply id refl)
     (gives_by query query key request refl)
 
 pub gives_replies_with : (key id request : ℕ) (query : Bool) (answer : Response) → GivesSome id key (λ lost closes bytes. LooseIpp closes request query answer lost bytes) (Ans.RepliesWith key id request query answer)
@@ -318,7 +318,7 @@ gives_replies_with key id request query (answered.Lpd answer) l hs l' it = (None
 gives_replies_with key id request query answered.Nothing l hs l' it = (None, gives_nothing key (λ closes bytes. LooseIpp closes request query answered.Nothing None bytes) (λ closes. refl) l hs l' it)
 
 pub gives_declines : (place : AllocationSite) (key id : ℕ) → run_notes (Notified (Refused place (Some id)) ∷ []) ≡ Refused place (Some id) ∷ [] → (l : Ledger) (hs : List Happening) (l' : Ledger) → Ans.Declines place key id l hs l' → Gave (Refused place (Some id) ∷ []) key (Just_these (1 ∷ [])) l hs l'
-gives_declines place key id notifies = gave_behind (Refused place (Some id) ∷ []) key (Just_these (1 ∷ [])) (Notifies (Refused place (Some id))) (Enqueues key (1 ∷ [])) (still_notifies place id notifies) (gives_enqueues key (1 ∷ []))
+gives_declines place key id notifies = gave_later (Refused place (Some id) ∷ []) key (Just_these (1 ∷ [])) (Notifies (Refused place (Some id))) (Enqueues key (1 ∷ [])) (still_notifies place id notifies) (gives_enqueues key (1 ∷ []))
 
 -- memory wasn't refused
 abbrev pub Kept : (List ℕ → Type 0) → Option AllocationSite → Bool → List ℕ → Type 0
@@ -331,7 +331,7 @@ gives_shows key id text l hs l' (inl it) = (
 )
 gives_shows key id text l hs l' (inr it) = (
   Some At.Reply,
-  gave_behind (Refused At.Reply (Some id) ∷ []) key (Kept (λ bytes. bytes ≡ text) (Some At.Reply)) (Notifies (Refused At.Reply (Some id))) (Breaks key) (still_notifies At.Reply id refl) (gives_breaks key (Kept (λ bytes. bytes ≡ text) (Some At.Reply))) l hs l' it,
+  gave_later (Refused At.Reply (Some id) ∷ []) key (Kept (λ bytes. bytes ≡ text) (Some At.Reply)) (Notifies (Refused At.Reply (Some id))) (Breaks key) (still_notifies At.Reply id refl) (gives_breaks key (Kept (λ bytes. bytes ≡ text) (Some At.Reply))) l hs l' it,
 )
 
 pub gives_notified : (key id : ℕ) (answer : LpdResponse) → GivesSome id key (Kept (LooseText answer)) (Ans.SendsLpd key id answer)
@@ -361,6 +361,6 @@ gives_answers key id client.LpdJob query None l hs l' it = (
 gives_answers key id client.LpdCommand query (Some reply) l hs l' it = gives_shown key id reply.response l hs l' it
 gives_answers key id client.LpdCommand query None l hs l' it = (
   Some At.Event,
-  gave_behind (Refused At.Event (Some id) ∷ []) key (λ closes bytes. Loose closes client.LpdCommand query None (Some At.Event) bytes) (Notifies (Refused At.Event (Some id))) (Breaks key) (still_notifies At.Event id refl)
+  gave_later (Refused At.Event (Some id) ∷ []) key (λ closes bytes. Loose closes client.LpdCommand query None (Some At.Event) bytes) (Notifies (Refused At.Event (Some id))) (Breaks key) (still_notifies At.Event id refl)
       (gives_breaks key (λ closes bytes. Loose closes client.LpdCommand query None (Some At.Event) bytes)) l hs l' it,
 )

@@ -26,8 +26,8 @@ moves_calm turn moment R calms l hs l' good it = goes_calm turn moment l hs l' g
 
 pub moves_then : (turn : Bool) (moment : ℕ) (R S : Rel) → Moves turn moment R → Moves turn moment S → Moves turn moment (Then R S)
 moves_then turn moment R S r s l hs l' good it =
-    let first = r l it.front it.mid good it.first in
-    goes_then turn moment l it.front it.mid it.back l' hs it.whole first (s it.mid it.back l' first.good it.second)
+    let first = r l it.prefix it.mid good it.first in
+    goes_then turn moment l it.prefix it.mid it.back l' hs it.whole first (s it.mid it.back l' first.good it.second)
 
 pub moves_if : (turn : Bool) (moment : ℕ) (t : Bool) (R S : Rel) → Moves turn moment R → Moves turn moment S → Moves turn moment (If t R S)
 moves_if turn moment true R S r s l hs l' good it = r l hs l' good it
@@ -62,7 +62,7 @@ leaves_at moment fate key e l hs l' good there it =
     gone = record {
       key = key;
       before = [];
-      behind = [];
+      tail = [];
       whole = refl;
       came = λ device named sound. inl (subst (λ (o : Option Entry). Counts device o) (sym there) (named, sound), sym (ap due_at there));
       lost = λ device named is. inl (subst (λ (o : Option Entry). IsLost device o) (sym there) (named, is), sym (ap due_at there));
@@ -76,8 +76,8 @@ moves_gone moment (Some device) = moves_unanswered true moment (Is.Report device
 
 pub closes_at : (moment : ℕ) (fate : Fate) (key : ℕ) (e : Entry) (l : Ledger) (hs : List Happening) (l' : Ledger) → Good l → l.entries key ≡ Some e → ClosesAs moment fate key e l hs l' → Goes true moment l hs l'
 closes_at moment fate key e l hs l' good there it =
-    let first = leaves_at moment fate key e l it.front it.mid good there it.first in
-    goes_then true moment l it.front it.mid it.back l' hs it.whole first (moves_gone moment (device_of e.progress) it.mid it.back l' first.good it.second)
+    let first = leaves_at moment fate key e l it.prefix it.mid good there it.first in
+    goes_then true moment l it.prefix it.mid it.back l' hs it.whole first (moves_gone moment (device_of e.progress) it.mid it.back l' first.good it.second)
 
-pub moves_settles : (moment : ℕ) → Moves true moment (ClosesBroken moment)
-moves_settles moment l hs l' good it = moves_many true moment (ClosesFirst moment) (λ a ks b fine first. closes_at moment Broken first.key first.entry a ks b fine first.there first.closes) l hs l' good it.0
+pub moves_closes_broken : (moment : ℕ) → Moves true moment (ClosesBroken moment)
+moves_closes_broken moment l hs l' good it = moves_many true moment (ClosesFirst moment) (λ a ks b fine first. closes_at moment Broken first.key first.entry a ks b fine first.there first.closes) l hs l' good it.0

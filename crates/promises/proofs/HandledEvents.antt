@@ -31,7 +31,7 @@ use Rattle.server.specs.Ledger.{Ledger, at_key, job_bytes, Fate}
 use Rattle.server.specs.Rel.{Notifies}
 use Rattle.server.specs.Enqueuing.{IsDevice}
 use Rattle.server.specs.Happening.{Happens, found_by}
-use Rattle.promises.specs.Answers.{Act, ClientTalk, drains, drained, AreActs, IsFrontOf, IsStateOf, is_asked, asked_by, IsAnswered, IsLast, BrokeAfter, IsCutOff}
+use Rattle.promises.specs.Answers.{Act, ClientTalk, drains, drained, AreActs, IsPrefixOf, IsStateOf, is_asked, asked_by, IsAnswered, IsLast, BrokeAfter, IsCutOff}
 use Rattle.promises.specs.Orders.{EventComes, MemoryRefused, RunPart, began_by, AreHandled, named_by, IsAt, AreAt, run_note, run_notes, cancel_for, start_for, orders_of, names, due_by}
 use Rattle.promises.proofs.EventNotes.{notified_all}
 use Rattle.promises.proofs.SentToDevices.{Counts, due_at, IsFresh, counts_device, same_key, not_key, Ordered, Calm, Good, good_sent, notes_append, sent_by, orders, Stays, IsLost, BreaksAs, lost_device, ReadsOn, reads_same, reads_then}
@@ -60,9 +60,9 @@ happened moment event outcome l hs l' good it =
     let core : it.mid.core ≡ d.state = ap (λ (x : Ledger). x.core) d.after in
     let good_mid : Good it.mid = subst Good (sym d.after) (record { one = good.one; fresh = good.fresh }) in
     let s = orders outcome it.mid it.back l' good_mid it.second in
-    let notified : run_notes it.front ≡ d.notes =
+    let notified : run_notes it.prefix ≡ d.notes =
     ap run_notes d.notified ∙ (notes_append (found_by outcome) (map Notified d.notes) ∙ (ap (λ (ns : List Note). ns ++ run_notes (map Notified d.notes)) (found_silent outcome) ∙ notified_notes moment event l.core outcome d.notes d.state d.handles)) in
-    let all : run_notes hs ≡ d.notes = ap run_notes it.whole ∙ (notes_append it.front it.back ∙ (ap (λ (ns : List Note). run_notes it.front ++ ns) s.notes ∙ (append-nil (run_notes it.front) ∙ notified))) in
+    let all : run_notes hs ≡ d.notes = ap run_notes it.whole ∙ (notes_append it.prefix it.back ∙ (ap (λ (ns : List Note). run_notes it.prefix ++ ns) s.notes ∙ (append-nil (run_notes it.prefix) ∙ notified))) in
     record {
       handles = subst (λ (c : State). Handles moment event l.core outcome (run_notes hs) c) (sym (s.core ∙ core)) (subst (λ (ns : List Note). Handles moment event l.core outcome ns d.state) (sym all) d.handles);
       each = λ key.
@@ -88,8 +88,8 @@ CameAs device handled x y = CameWith device handled x (due_at y)
 -- the connection broke at one of these events: the bytes due on it are a prefix of the bytes that would be due by then
 pub record Halted (device : ℕ) (handled : List RunPart) (x : Option Entry) (due : List ℕ) : Type 0 where
   pub before : List RunPart
-  pub behind : List RunPart
-  pub whole : handled ≡ before ++ behind
+  pub tail : List RunPart
+  pub whole : handled ≡ before ++ tail
   pub rest : List ℕ
   pub came : CameWith device before x (due ++ rest)
 
@@ -102,7 +102,7 @@ pub lost_by : (device : ℕ) (handled : List RunPart) (sent : ℕ → List ℕ) 
 lost_by device handled sent x y sends (inl was) = inl was
 lost_by device handled sent x y sends (inr (counts, rest, due)) = inr (record {
   before = handled;
-  behind = [];
+  tail = [];
   whole = sym (append-nil handled);
   rest = rest;
   came = inl (counts, due ∙ sym sends);
@@ -119,7 +119,7 @@ pub record Went (core : State) (key : ℕ) (handled : List RunPart) (x : Option 
   pub reads : ReadsOn before e
   pub acts : List Act
   pub are : AreActs e.id before.progress acts e.progress
-  pub fronts : All (λ (a : Act). IsFrontOf a.read e.read) acts
+  pub prefixes : All (λ (a : Act). IsPrefixOf a.read e.read) acts
   pub quiet : before.draining ≡ true → acts ≡ []
   pub over : drained acts ≡ true → e.draining ≡ true
   pub states : All (λ (a : Act). IsStateOf a.state core handled) acts
@@ -169,14 +169,14 @@ acts_none id before after acts none are = subst (λ (its : List Act). AreActs id
 pub acts_on : (d e : Entry) (before after : PeerRecord) (acts : List Act) → ReadsOn d e → AreActs d.id before acts after → AreActs e.id before acts after
 acts_on d e before after acts reads are = subst (λ (id : ℕ). AreActs id before acts after) (sym reads.same) are
 
-front_more : (d e : Entry) (read : List ℕ) → ReadsOn d e → IsFrontOf read d.read → IsFrontOf read e.read
-front_more d e read reads (rest, is) = (rest ++ reads.more, reads.grown ∙ (ap (λ (bytes : List ℕ). bytes ++ reads.more) is ∙ append_assoc read rest reads.more))
+prefix_more : (d e : Entry) (read : List ℕ) → ReadsOn d e → IsPrefixOf read d.read → IsPrefixOf read e.read
+prefix_more d e read reads (rest, is) = (rest ++ reads.more, reads.grown ∙ (ap (λ (bytes : List ℕ). bytes ++ reads.more) is ∙ append_assoc read rest reads.more))
 
-fronts_more : (d e : Entry) (acts : List Act) → ReadsOn d e → All (λ (a : Act). IsFrontOf a.read d.read) acts → All (λ (a : Act). IsFrontOf a.read e.read) acts
-fronts_more d e acts reads all = All-weaker (λ (a : Act). IsFrontOf a.read d.read) (λ (a : Act). IsFrontOf a.read e.read) (λ a is. front_more d e a.read reads is) acts all
+prefixes_more : (d e : Entry) (acts : List Act) → ReadsOn d e → All (λ (a : Act). IsPrefixOf a.read d.read) acts → All (λ (a : Act). IsPrefixOf a.read e.read) acts
+prefixes_more d e acts reads all = All-weaker (λ (a : Act). IsPrefixOf a.read d.read) (λ (a : Act). IsPrefixOf a.read e.read) (λ a is. prefix_more d e a.read reads is) acts all
 
-fronts_joined : (d e : Entry) (acts more : List Act) → ReadsOn d e → All (λ (a : Act). IsFrontOf a.read d.read) acts → All (λ (a : Act). IsFrontOf a.read e.read) more → All (λ (a : Act). IsFrontOf a.read e.read) (acts ++ more)
-fronts_joined d e acts more reads first later = All-append (λ (a : Act). IsFrontOf a.read e.read) acts more (fronts_more d e acts reads first) later
+prefixes_joined : (d e : Entry) (acts more : List Act) → ReadsOn d e → All (λ (a : Act). IsPrefixOf a.read d.read) acts → All (λ (a : Act). IsPrefixOf a.read e.read) more → All (λ (a : Act). IsPrefixOf a.read e.read) (acts ++ more)
+prefixes_joined d e acts more reads first later = All-append (λ (a : Act). IsPrefixOf a.read e.read) acts more (prefixes_more d e acts reads first) later
 
 asked_append : (key : ℕ) (first later : List RunPart) → asked_by key (first ++ later) ≡ asked_by key first ++ asked_by key later
 asked_append key [] later = refl
@@ -190,15 +190,15 @@ state_more state core [] (it ∷ later) is = inl is
 state_more state core (it ∷ first) later (inl is) = inl is
 state_more state core (it ∷ first) later (inr is) = inr (state_more state it.state first later is)
 
-state_behind : (state core mid : State) (first later : List RunPart) → AreHandled core first mid → IsStateOf state mid later → IsStateOf state core (first ++ later)
-state_behind state core mid [] later same is = subst (λ (s : State). IsStateOf state s later) same is
-state_behind state core mid (it ∷ first) later (handles, run) is = inr (state_behind state it.state mid first later run is)
+state_later : (state core mid : State) (first later : List RunPart) → AreHandled core first mid → IsStateOf state mid later → IsStateOf state core (first ++ later)
+state_later state core mid [] later same is = subst (λ (s : State). IsStateOf state s later) same is
+state_later state core mid (it ∷ first) later (handles, run) is = inr (state_later state it.state mid first later run is)
 
 states_more : (core : State) (first later : List RunPart) (acts : List Act) → All (λ (a : Act). IsStateOf a.state core first) acts → All (λ (a : Act). IsStateOf a.state core (first ++ later)) acts
 states_more core first later acts all = All-weaker (λ (a : Act). IsStateOf a.state core first) (λ (a : Act). IsStateOf a.state core (first ++ later)) (λ a is. state_more a.state core first later is) acts all
 
-states_behind : (core mid : State) (first later : List RunPart) (acts : List Act) → AreHandled core first mid → All (λ (a : Act). IsStateOf a.state mid later) acts → All (λ (a : Act). IsStateOf a.state core (first ++ later)) acts
-states_behind core mid first later acts run all = All-weaker (λ (a : Act). IsStateOf a.state mid later) (λ (a : Act). IsStateOf a.state core (first ++ later)) (λ a is. state_behind a.state core mid first later run is) acts all
+states_later : (core mid : State) (first later : List RunPart) (acts : List Act) → AreHandled core first mid → All (λ (a : Act). IsStateOf a.state mid later) acts → All (λ (a : Act). IsStateOf a.state core (first ++ later)) acts
+states_later core mid first later acts run all = All-weaker (λ (a : Act). IsStateOf a.state mid later) (λ (a : Act). IsStateOf a.state core (first ++ later)) (λ a is. state_later a.state core mid first later run is) acts all
 
 asked_joined : (key : ℕ) (first later : List RunPart) (acts more : List Act) → asked_by key first ≡ flat_map (λ (a : Act). a.asked) acts → asked_by key later ≡ flat_map (λ (a : Act). a.asked) more → asked_by key (first ++ later) ≡ flat_map (λ (a : Act). a.asked) (acts ++ more)
 asked_joined key first later acts more p q =
@@ -216,9 +216,9 @@ progressed_then core mid key first later x y e run (inr a) before = inr (record 
   door = a.door;
   acts = a.acts;
   are = a.are;
-  fronts = a.fronts;
+  prefixes = a.prefixes;
   over = a.over;
-  states = states_behind core mid first later a.acts run a.states;
+  states = states_later core mid first later a.acts run a.states;
   asked = a.asked;
   due = a.due;
 })
@@ -237,10 +237,10 @@ progressed_then core mid key first later x y e run (inl w) before = by (before w
       reads = reads_then v.before w.before e v.reads w.reads;
       acts = v.acts ++ w.acts;
       are = acts_append e.id v.before.progress w.before.progress e.progress v.acts w.acts (acts_on w.before e v.before.progress w.before.progress v.acts w.reads v.are) (λ last. w.quiet (v.over last)) w.are;
-      fronts = fronts_joined w.before e v.acts w.acts w.reads v.fronts w.fronts;
+      prefixes = prefixes_joined w.before e v.acts w.acts w.reads v.prefixes w.prefixes;
       quiet = λ is. both_none v.acts w.acts (v.quiet is) (w.quiet (v.reads.drains is));
       over = λ last. over_joined v.acts (drained_either v.acts w.acts last) v.over;
-      states = All-append (λ (a : Act). IsStateOf a.state core (first ++ later)) v.acts w.acts (states_more core first later v.acts v.states) (states_behind core mid first later w.acts run w.states);
+      states = All-append (λ (a : Act). IsStateOf a.state core (first ++ later)) v.acts w.acts (states_more core first later v.acts v.states) (states_later core mid first later w.acts run w.states);
       asked = asked_joined key first later v.acts w.acts v.asked w.asked;
       due = due_joined v.before.due w.before.due e.due v.acts w.acts v.due w.due;
     })
@@ -251,9 +251,9 @@ progressed_then core mid key first later x y e run (inl w) before = by (before w
       door = b.door;
       acts = b.acts ++ w.acts;
       are = acts_append e.id (opening_peer b.door) w.before.progress e.progress b.acts w.acts (acts_on w.before e (opening_peer b.door) w.before.progress b.acts w.reads b.are) (λ last. w.quiet (b.over last)) w.are;
-      fronts = fronts_joined w.before e b.acts w.acts w.reads b.fronts w.fronts;
+      prefixes = prefixes_joined w.before e b.acts w.acts w.reads b.prefixes w.prefixes;
       over = λ last. over_joined b.acts (drained_either b.acts w.acts last) b.over;
-      states = All-append (λ (a : Act). IsStateOf a.state core (first ++ later)) b.acts w.acts (states_more core first later b.acts b.states) (states_behind core mid first later w.acts run w.states);
+      states = All-append (λ (a : Act). IsStateOf a.state core (first ++ later)) b.acts w.acts (states_more core first later b.acts b.states) (states_later core mid first later w.acts run w.states);
       asked = asked_joined key b.since later b.acts w.acts b.asked w.asked;
       due = due_joined [] w.before.due e.due b.acts w.acts b.due w.due;
     })
@@ -272,11 +272,11 @@ StopsAs core key handled x e =
 
 last_more : (core : State) (first later : List RunPart) (d e : Entry) (after progress : PeerRecord) → ReadsOn d e → IsLast core first d.read after progress → IsLast core (first ++ later) e.read after progress
 last_more core first later d e after progress reads (inl is) = inl is
-last_more core first later d e after progress reads (inr (state, read, what, of, front, next)) = inr (state, read, what, state_more state core first later of, front_more d e read reads front, next)
+last_more core first later d e after progress reads (inr (state, read, what, of, prefix, next)) = inr (state, read, what, state_more state core first later of, prefix_more d e read reads prefix, next)
 
-last_behind : (core mid : State) (first later : List RunPart) (whole : List ℕ) (after progress : PeerRecord) → AreHandled core first mid → IsLast mid later whole after progress → IsLast core (first ++ later) whole after progress
-last_behind core mid first later whole after progress run (inl is) = inl is
-last_behind core mid first later whole after progress run (inr (state, read, what, of, front, next)) = inr (state, read, what, state_behind state core mid first later run of, front, next)
+last_after : (core mid : State) (first later : List RunPart) (whole : List ℕ) (after progress : PeerRecord) → AreHandled core first mid → IsLast mid later whole after progress → IsLast core (first ++ later) whole after progress
+last_after core mid first later whole after progress run (inl is) = inl is
+last_after core mid first later whole after progress run (inr (state, read, what, of, prefix, next)) = inr (state, read, what, state_later state core mid first later run of, prefix, next)
 
 -- more comes, which it doesn't ask for
 abbrev broke_more : (core : State) (key : ℕ) (first later since : List RunPart) (before : PeerRecord) (base : List ℕ) (d e : Entry) → BrokeAfter core key first since before base d → d.progress ≡ e.progress → d.due ≡ e.due → asked_by key later ≡ [] → ReadsOn d e → BrokeAfter core key (first ++ later) (since ++ later) before base e
@@ -284,7 +284,7 @@ broke_more core key first later since before base d e b progress due none reads 
   acts = b.acts;
   after = b.after;
   are = acts_on d e before b.after b.acts reads b.are;
-  fronts = fronts_more d e b.acts reads b.fronts;
+  prefixes = prefixes_more d e b.acts reads b.prefixes;
   states = states_more core first later b.acts b.states;
   unanswered = b.unanswered;
   one = b.one;
@@ -300,21 +300,21 @@ broke_ended mid key later d e acts b over quiet (inl last) = let it = quiet (ove
 broke_ended mid key later d e acts b over quiet (inr last) = b.over last
 
 -- the connection had gone on by other acts before
-abbrev broke_behind : (core mid : State) (key : ℕ) (first later since : List RunPart) (before : PeerRecord) (base : List ℕ) (d e : Entry) (acts : List Act) → AreHandled core first mid → AreActs d.id before acts d.progress → (drained acts ≡ true → d.draining ≡ true) → All (λ (a : Act). IsFrontOf a.read d.read) acts → All (λ (a : Act). IsStateOf a.state core first) acts → asked_by key since ≡ flat_map (λ (a : Act). a.asked) acts
+abbrev broke_after : (core mid : State) (key : ℕ) (first later since : List RunPart) (before : PeerRecord) (base : List ℕ) (d e : Entry) (acts : List Act) → AreHandled core first mid → AreActs d.id before acts d.progress → (drained acts ≡ true → d.draining ≡ true) → All (λ (a : Act). IsPrefixOf a.read d.read) acts → All (λ (a : Act). IsStateOf a.state core first) acts → asked_by key since ≡ flat_map (λ (a : Act). a.asked) acts
     → d.due ≡ base ++ flat_map (λ (a : Act). a.bytes) acts → (b : BrokeAfter mid key later later d.progress d.due e) → ReadsOn d e → QuietFrom d.draining b.acts b.unanswered d.progress e.progress → BrokeAfter core key (first ++ later) (since ++ later) before base e
-broke_behind core mid key first later since before base d e acts run are over fronts states asked due b reads quiet = record {
+broke_after core mid key first later since before base d e acts run are over prefixes states asked due b reads quiet = record {
   acts = acts ++ b.acts;
   after = b.after;
   are = acts_append e.id before d.progress b.after acts b.acts (acts_on d e before d.progress acts reads are) (λ last. (quiet (over last)).0) b.are;
-  fronts = fronts_joined d e acts b.acts reads fronts b.fronts;
-  states = All-append (λ (a : Act). IsStateOf a.state core (first ++ later)) acts b.acts (states_more core first later acts states) (states_behind core mid first later b.acts run b.states);
+  prefixes = prefixes_joined d e acts b.acts reads prefixes b.prefixes;
+  states = All-append (λ (a : Act). IsStateOf a.state core (first ++ later)) acts b.acts (states_more core first later acts states) (states_later core mid first later b.acts run b.states);
   unanswered = b.unanswered;
   one = b.one;
   asked = asked_append key since later
       ∙ (ap (λ (its : List RunPart). its ++ asked_by key later) asked
       ∙ (ap (λ (its : List RunPart). flat_map (λ (a : Act). a.asked) acts ++ its) b.asked
       ∙ (sym (append_assoc (flat_map (λ (a : Act). a.asked) acts) (flat_map (λ (a : Act). a.asked) b.acts) b.unanswered) ∙ ap (λ (its : List RunPart). its ++ b.unanswered) (sym (flat_map-append (λ (a : Act). a.asked) acts b.acts)))));
-  last = last_behind core mid first later e.read b.after e.progress run b.last;
+  last = last_after core mid first later e.read b.after e.progress run b.last;
   over = λ last. broke_ended mid key later d e acts b over quiet (drained_either acts b.acts last);
   due = due_joined base d.due e.due acts b.acts due b.due;
 }
@@ -342,7 +342,7 @@ stops_then core mid key first later x y e run client (inr (inl (d, there, of, so
       v.there,
       v.client,
       v.sound,
-      broke_behind core mid key first later first v.before.progress v.before.due d e v.acts run v.are v.over v.fronts v.states v.asked v.due b reads quiet,
+      broke_after core mid key first later first v.before.progress v.before.due d e v.acts run v.are v.over v.prefixes v.states v.asked v.due b reads quiet,
       reads_then v.before d e v.reads reads,
       λ drains.
           let none = v.quiet drains in
@@ -354,7 +354,7 @@ stops_then core mid key first later x y e run client (inr (inl (d, there, of, so
       since = a.since ++ later;
       whole = ap (λ (its : List RunPart). its ++ later) a.whole ∙ append_assoc a.earlier a.since later;
       door = a.door;
-      until = broke_behind core mid key first later a.since (opening_peer a.door) [] d e a.acts run a.are a.over a.fronts a.states a.asked a.due b reads quiet;
+      until = broke_after core mid key first later a.since (opening_peer a.door) [] d e a.acts run a.are a.over a.prefixes a.states a.asked a.due b reads quiet;
     }))
 stops_then core mid key first later x y e run client (inr (inr c)) progressed stopped = inr (inr (record {
   earlier = first ++ c.earlier;
@@ -365,12 +365,12 @@ stops_then core mid key first later x y e run client (inr (inr c)) progressed st
     acts = c.until.acts;
     after = c.until.after;
     are = c.until.are;
-    fronts = c.until.fronts;
-    states = states_behind core mid first later c.until.acts run c.until.states;
+    prefixes = c.until.prefixes;
+    states = states_later core mid first later c.until.acts run c.until.states;
     unanswered = c.until.unanswered;
     one = c.until.one;
     asked = c.until.asked;
-    last = last_behind core mid first later e.read c.until.after e.progress run c.until.last;
+    last = last_after core mid first later e.read c.until.after e.progress run c.until.last;
     over = c.until.over;
     due = c.until.due;
   };
@@ -393,7 +393,7 @@ stops_still core key handled x y stays none e is client broken =
         acts = [];
         after = d.progress;
         are = refl;
-        fronts = All-nil (λ (a : Act). IsFrontOf a.read e.read);
+        prefixes = All-nil (λ (a : Act). IsPrefixOf a.read e.read);
         states = All-nil (λ (a : Act). IsStateOf a.state core handled);
         unanswered = [];
         one = tt;
@@ -418,7 +418,7 @@ progressed_still core key handled x y stays none e is client sound =
       reads = d.5;
       acts = [];
       are = sym d.2;
-      fronts = All-nil (λ (a : Act). IsFrontOf a.read e.read);
+      prefixes = All-nil (λ (a : Act). IsPrefixOf a.read e.read);
       quiet = λ is. refl;
       over = λ is. cc;
       states = All-nil (λ (a : Act). IsStateOf a.state core handled);
@@ -432,8 +432,8 @@ progressed_still core key handled x y stays none e is client sound =
 pub record ClosedAs (l : Ledger) (handled : List RunPart) (e : Entry) : Type 0 where
   pub key : ℕ
   pub before : List RunPart
-  pub behind : List RunPart
-  pub whole : handled ≡ before ++ behind
+  pub tail : List RunPart
+  pub whole : handled ≡ before ++ tail
   pub came : (device : ℕ) → device_of e.progress ≡ Some device → e.broken ≡ false → CameAs device before (l.entries key) (Some e)
   pub lost : (device : ℕ) → device_of e.progress ≡ Some device → e.broken ≡ true → LostAs device before (l.entries key) (Some e)
   pub progresses : ClientTalk e.progress → e.broken ≡ false → TalkedAs l.core key before (l.entries key) e
@@ -498,8 +498,8 @@ came_then device first later x y z came before = came_with device first later x 
 pub lost_then : (device : ℕ) (first later : List RunPart) (x y z : Option Entry) → LostAs device later y z → (IsLost device y → LostAs device first x y) → (Counts device y → CameAs device first x y) → LostAs device (first ++ later) x z
 lost_then device first later x y z (inr h) lost came = inr (record {
   before = first ++ h.before;
-  behind = h.behind;
-  whole = ap (λ (its : List RunPart). first ++ its) h.whole ∙ sym (append_assoc first h.before h.behind);
+  tail = h.tail;
+  whole = ap (λ (its : List RunPart). first ++ its) h.whole ∙ sym (append_assoc first h.before h.tail);
   rest = h.rest;
   came = came_with device first h.before x y (due_at z ++ h.rest) h.came came;
 })
@@ -509,8 +509,8 @@ lost_then device first later x y z (inl (is, same)) lost came = by (lost is)
     by (inl (was, due)) = inl (was, same ∙ due)
     by (inr h) = inr (record {
       before = h.before;
-      behind = h.behind ++ later;
-      whole = ap (λ (its : List RunPart). its ++ later) h.whole ∙ append_assoc h.before h.behind later;
+      tail = h.tail ++ later;
+      whole = ap (λ (its : List RunPart). its ++ later) h.whole ∙ append_assoc h.before h.tail later;
       rest = h.rest;
       came = subst (λ (bytes : List ℕ). CameWith device h.before x (bytes ++ h.rest)) (sym same) h.came;
     })
@@ -524,23 +524,23 @@ closed_more : (l : Ledger) (first later : List RunPart) (e : Entry) → ClosedAs
 closed_more l first later e c = record {
   key = c.key;
   before = c.before;
-  behind = c.behind ++ later;
-  whole = ap (λ (its : List RunPart). its ++ later) c.whole ∙ append_assoc c.before c.behind later;
+  tail = c.tail ++ later;
+  whole = ap (λ (its : List RunPart). its ++ later) c.whole ∙ append_assoc c.before c.tail later;
   came = c.came;
   lost = c.lost;
   progresses = c.progresses;
   stops = c.stops;
 }
 
-closed_behind : (l mid : Ledger) (first later : List RunPart) (e : Entry) → AreHandled l.core first mid.core → ((key device : ℕ) → Counts device (mid.entries key) → CameAs device first (l.entries key) (mid.entries key))
+closed_after : (l mid : Ledger) (first later : List RunPart) (e : Entry) → AreHandled l.core first mid.core → ((key device : ℕ) → Counts device (mid.entries key) → CameAs device first (l.entries key) (mid.entries key))
     → ((key device : ℕ) → IsLost device (mid.entries key) → LostAs device first (l.entries key) (mid.entries key))
     → ((key : ℕ) (d : Entry) → mid.entries key ≡ Some d → ClientTalk d.progress → d.broken ≡ false → TalkedAs l.core key first (l.entries key) d)
     → ((key : ℕ) (d : Entry) → mid.entries key ≡ Some d → ClientTalk d.progress → d.broken ≡ true → StopsAs l.core key first (l.entries key) d) → ClosedAs mid later e → ClosedAs l (first ++ later) e
-closed_behind l mid first later e run came lost progresses stops c = record {
+closed_after l mid first later e run came lost progresses stops c = record {
   key = c.key;
   before = first ++ c.before;
-  behind = c.behind;
-  whole = ap (λ (its : List RunPart). first ++ its) c.whole ∙ sym (append_assoc first c.before c.behind);
+  tail = c.tail;
+  whole = ap (λ (its : List RunPart). first ++ its) c.whole ∙ sym (append_assoc first c.before c.tail);
   came = λ device named sound. came_then device first c.before (l.entries c.key) (mid.entries c.key) (Some e) (c.came device named sound) (came c.key device);
   lost = λ device named is. lost_then device first c.before (l.entries c.key) (mid.entries c.key) (Some e) (c.lost device named is) (lost c.key device) (came c.key device);
   progresses = λ client sound. progressed_then l.core mid.core c.key first c.before (l.entries c.key) (mid.entries c.key) e run (c.progresses client sound) (λ d there of unbroken. progresses c.key d there of unbroken);
@@ -556,16 +556,16 @@ all_closed_then l mid l' first later run came lost progresses stops p q = record
   closed = q.closed ∙ (ap (λ (xs : List (Entry × Fate)). xs ++ q.more) p.closed ∙ append_assoc l.closed p.more q.more);
   each = All-append (λ (it : Entry × Fate). ClosedAs l (first ++ later) it.0) p.more q.more
       (All-weaker (λ (it : Entry × Fate). ClosedAs l first it.0) (λ (it : Entry × Fate). ClosedAs l (first ++ later) it.0) (λ it c. closed_more l first later it.0 c) p.more p.each)
-      (All-weaker (λ (it : Entry × Fate). ClosedAs mid later it.0) (λ (it : Entry × Fate). ClosedAs l (first ++ later) it.0) (λ it c. closed_behind l mid first later it.0 run came lost progresses stops c) q.more q.each);
+      (All-weaker (λ (it : Entry × Fate). ClosedAs mid later it.0) (λ (it : Entry × Fate). ClosedAs l (first ++ later) it.0) (λ it c. closed_after l mid first later it.0 run came lost progresses stops c) q.more q.each);
 }
 
-pub goes_then : (turn : Bool) (moment : ℕ) (l : Ledger) (front : List Happening) (mid : Ledger) (back : List Happening) (l' : Ledger) (hs : List Happening) → hs ≡ front ++ back → Goes turn moment l front mid → Goes turn moment mid back l' → Goes turn moment l hs l'
-goes_then turn moment l front mid back l' hs whole p q = record {
+pub goes_then : (turn : Bool) (moment : ℕ) (l : Ledger) (prefix : List Happening) (mid : Ledger) (back : List Happening) (l' : Ledger) (hs : List Happening) → hs ≡ prefix ++ back → Goes turn moment l prefix mid → Goes turn moment mid back l' → Goes turn moment l hs l'
+goes_then turn moment l prefix mid back l' hs whole p q = record {
   handled = p.handled ++ q.handled;
   good = q.good;
   run = handled_append l.core mid.core l'.core p.handled q.handled p.run q.run;
   timed = All-append (IsAt turn moment) p.handled q.handled p.timed q.timed;
-  notified = ap run_notes whole ∙ (notes_append front back ∙ (ap (λ (ns : List Note). ns ++ run_notes back) p.notified ∙ (ap (λ (ns : List Note). flat_map (λ (it : RunPart). it.notes) p.handled ++ ns) q.notified ∙ sym (flat_map-append (λ (it : RunPart). it.notes) p.handled q.handled))));
+  notified = ap run_notes whole ∙ (notes_append prefix back ∙ (ap (λ (ns : List Note). ns ++ run_notes back) p.notified ∙ (ap (λ (ns : List Note). flat_map (λ (it : RunPart). it.notes) p.handled ++ ns) q.notified ∙ sym (flat_map-append (λ (it : RunPart). it.notes) p.handled q.handled))));
   came = λ key device counts. came_then device p.handled q.handled (l.entries key) (mid.entries key) (l'.entries key) (q.came key device counts) (p.came key device);
   lost = λ key device is. lost_then device p.handled q.handled (l.entries key) (mid.entries key) (l'.entries key) (q.lost key device is) (p.lost key device) (p.came key device);
   progresses = λ key e is client sound. progressed_then l.core mid.core key p.handled q.handled (l.entries key) (mid.entries key) e p.run (q.progresses key e is client sound) (λ d there of unbroken. p.progresses key d there of unbroken);
@@ -692,26 +692,26 @@ pub record Awaits (moment device key : ℕ) (l : Ledger) (hs : List Happening) (
   pub stops : (other : ℕ) (e : Entry) → l'.entries other ≡ Some e → ClientTalk e.progress → e.broken ≡ true → StopsAs l.core other handled (l.entries other) e
   pub closed : l'.closed ≡ l.closed
 
-front_nil : (bytes rest : List ℕ) → bytes ++ rest ≡ [] → bytes ≡ []
-front_nil [] rest is = refl
-front_nil (b ∷ bytes) rest is = cc
+prefix_nil : (bytes rest : List ℕ) → bytes ++ rest ≡ [] → bytes ≡ []
+prefix_nil [] rest is = refl
+prefix_nil (b ∷ bytes) rest is = cc
 
 -- if no bytes were due and none are sent, no bytes are due once the connection broke
 lost_none : (sent : ℕ → List ℕ) (device : ℕ) (x y : Option Entry) → (IsLost device x → due_at x ≡ []) → (Counts device x → due_at x ≡ []) → sent device ≡ [] → BreaksAs sent device x y → due_at y ≡ []
 lost_none sent device x y lost due none (inl (was, same)) = same ∙ lost was
-lost_none sent device x y lost due none (inr (counts, rest, is)) = front_nil (due_at y) rest (is ∙ (ap (λ (bytes : List ℕ). bytes ++ sent device) (due counts) ∙ none))
+lost_none sent device x y lost due none (inr (counts, rest, is)) = prefix_nil (due_at y) rest (is ∙ (ap (λ (bytes : List ℕ). bytes ++ sent device) (due counts) ∙ none))
 
 -- an event that sends nothing to it
-pub awaits_event : (moment device key : ℕ) (event : Event) (outcome : Outcome) (l : Ledger) (front : List Happening) (mid : Ledger) (back : List Happening) (l' : Ledger) (hs : List Happening) → hs ≡ front ++ back
-    → Awaits moment device key l front mid → Handles_one moment event outcome mid back l' → sent_by outcome l'.core device ≡ [] → None ≡ named_by true event → Awaits moment device key l hs l'
-awaits_event moment device key event outcome l front mid back l' hs whole p it none nameless =
+pub awaits_event : (moment device key : ℕ) (event : Event) (outcome : Outcome) (l : Ledger) (prefix : List Happening) (mid : Ledger) (back : List Happening) (l' : Ledger) (hs : List Happening) → hs ≡ prefix ++ back
+    → Awaits moment device key l prefix mid → Handles_one moment event outcome mid back l' → sent_by outcome l'.core device ≡ [] → None ≡ named_by true event → Awaits moment device key l hs l'
+awaits_event moment device key event outcome l prefix mid back l' hs whole p it none nameless =
     let q = goes_event true moment event outcome mid back l' p.good nameless it in
     record {
       handled = p.handled ++ q.handled;
       good = q.good;
       run = handled_append l.core mid.core l'.core p.handled q.handled p.run q.run;
       timed = All-append (IsAt true moment) p.handled q.handled p.timed q.timed;
-      notified = ap run_notes whole ∙ (notes_append front back ∙ (ap (λ (ns : List Note). ns ++ run_notes back) p.notified ∙ (ap (λ (ns : List Note). flat_map (λ (h : RunPart). h.notes) p.handled ++ ns) q.notified ∙ sym (flat_map-append (λ (h : RunPart). h.notes) p.handled q.handled))));
+      notified = ap run_notes whole ∙ (notes_append prefix back ∙ (ap (λ (ns : List Note). ns ++ run_notes back) p.notified ∙ (ap (λ (ns : List Note). flat_map (λ (h : RunPart). h.notes) p.handled ++ ns) q.notified ∙ sym (flat_map-append (λ (h : RunPart). h.notes) p.handled q.handled))));
       only = λ other is. p.only other ((it.each other).device device is);
       due = λ counts.
           let was = (it.each key).counts device counts in
@@ -725,14 +725,14 @@ awaits_event moment device key event outcome l front mid back l' hs whole p it n
     }
 
 -- the device gives its name
-pub awaits_named : (moment device key : ℕ) (name : List ℕ) (outcome : Outcome) (l : Ledger) (front : List Happening) (mid : Ledger) (back : List Happening) (l' : Ledger) (hs : List Happening) → hs ≡ front ++ back
-    → Awaits moment device key l front mid → Handles_one moment (Is.Report device (report.Hello name)) outcome mid back l' → Goes true moment l hs l'
-awaits_named moment device key name outcome l front mid back l' hs whole p it = record {
+pub awaits_named : (moment device key : ℕ) (name : List ℕ) (outcome : Outcome) (l : Ledger) (prefix : List Happening) (mid : Ledger) (back : List Happening) (l' : Ledger) (hs : List Happening) → hs ≡ prefix ++ back
+    → Awaits moment device key l prefix mid → Handles_one moment (Is.Report device (report.Hello name)) outcome mid back l' → Goes true moment l hs l'
+awaits_named moment device key name outcome l prefix mid back l' hs whole p it = record {
   handled = p.handled ++ last ∷ [];
   good = good_one moment (Is.Report device (report.Hello name)) outcome mid back l' p.good it;
   run = handled_append l.core mid.core l'.core p.handled (last ∷ []) p.run (it.handles, refl);
   timed = All-append (IsAt true moment) p.handled (last ∷ []) p.timed (All-cons (IsAt true moment) last [] (refl, refl) (All-nil (IsAt true moment)));
-  notified = ap run_notes whole ∙ (notes_append front back ∙ (ap (λ (ns : List Note). ns ++ run_notes back) p.notified ∙ (ap (λ (ns : List Note). flat_map (λ (h : RunPart). h.notes) p.handled ++ ns) (sym (append-nil (run_notes back))) ∙ sym (flat_map-append (λ (h : RunPart). h.notes) p.handled (last ∷ [])))));
+  notified = ap run_notes whole ∙ (notes_append prefix back ∙ (ap (λ (ns : List Note). ns ++ run_notes back) p.notified ∙ (ap (λ (ns : List Note). flat_map (λ (h : RunPart). h.notes) p.handled ++ ns) (sym (append-nil (run_notes back))) ∙ sym (flat_map-append (λ (h : RunPart). h.notes) p.handled (last ∷ [])))));
   came = λ other of counts. by other of counts (device == of) refl;
   lost = λ other of is. lost_at other of (device == of) refl ((it.each other).breaks of is);
   progresses = λ other e is client sound.
@@ -778,7 +778,7 @@ awaits_named moment device key name outcome l front mid back l' hs whole p it = 
         let none : due_at (mid.entries other) ≡ [] = subst (λ (k : ℕ). due_at (mid.entries k) ≡ []) (sym here) (p.lost_due (subst (λ (k : ℕ). IsLost device (mid.entries k)) here this)) in
         inr (record {
           before = p.handled ++ last ∷ [];
-          behind = [];
+          tail = [];
           whole = sym (append-nil (p.handled ++ last ∷ []));
           rest = sent_by outcome l'.core of;
           came = inr (is_named of same, ap (λ (bytes : List ℕ). bytes ++ sent_by outcome l'.core of) (due ∙ none) ∙ sym (sent_all of same));
@@ -789,7 +789,7 @@ awaits_named moment device key name outcome l front mid back l' hs whole p it = 
         let none : due_at (mid.entries other) ≡ [] = subst (λ (k : ℕ). due_at (mid.entries k) ≡ []) (sym here) (p.due (subst (λ (k : ℕ). Counts device (mid.entries k)) here this)) in
         inr (record {
           before = p.handled ++ last ∷ [];
-          behind = [];
+          tail = [];
           whole = sym (append-nil (p.handled ++ last ∷ []));
           rest = rest;
           came = inr (is_named of same, due ∙ (ap (λ (bytes : List ℕ). bytes ++ sent_by outcome l'.core of) none ∙ sym (sent_all of same)));

@@ -114,9 +114,9 @@ quiet_nothing l hs l' it = quiet_by [] l l hs l' (λ came. refl) refl it
 
 quiet_then : {R S : Rel} → Quietly R → Quietly S → Quietly (Then R S)
 quiet_then {R} {S} f g l hs l' it =
-    let p = f l it.front it.mid it.first in
+    let p = f l it.prefix it.mid it.first in
     let q = g it.mid it.back l' it.second in
-    record { core = q.core ∙ p.core; silent = subst Silent (sym it.whole) (silent_then it.front it.back p.silent q.silent) }
+    record { core = q.core ∙ p.core; silent = subst Silent (sym it.whole) (silent_then it.prefix it.back p.silent q.silent) }
 
 quiet_or : {R S : Rel} → Quietly R → Quietly S → Quietly (Or R S)
 quiet_or f g l hs l' (inl it) = f l hs l' it
@@ -273,8 +273,8 @@ client_refused key id client.LpdCommand query = refuses_then (Some id) (Breaks k
 run_then : (old mid new : State) (events later : List Timed) (outcomes others : List Outcome) (notified more : List Note) → AreNotifiedOf old events outcomes notified mid → AreNotifiedOf mid later others more new → AreNotifiedOf old (events ++ later) (outcomes ++ others) (notified ++ more) new
 run_then old mid new [] later [] others notified more (same, none) q =
     subst (λ (ns : List Note). AreNotifiedOf old later others (ns ++ more) new) (sym none) (subst (λ (s : State). AreNotifiedOf s later others more new) same q)
-run_then old mid new (timed ∷ events) later (outcome ∷ outcomes) others notified more (next, first, behind, is, comes, rest) q =
-    (next, first, behind ++ more, ap (λ (ns : List Note). ns ++ more) is ∙ append_assoc first behind more, comes, run_then next mid new events later outcomes others behind more rest q)
+run_then old mid new (timed ∷ events) later (outcome ∷ outcomes) others notified more (next, first, tail, is, comes, rest) q =
+    (next, first, tail ++ more, ap (λ (ns : List Note). ns ++ more) is ∙ append_assoc first tail more, comes, run_then next mid new events later outcomes others tail more rest q)
 run_then old mid new [] later (outcome ∷ outcomes) others notified more none q = absurd none
 run_then old mid new (timed ∷ events) later [] others notified more none q = absurd none
 
@@ -302,13 +302,13 @@ one_event came moment event outcome l hs l' notified is it =
       notified = subst (λ (ns : List Note). AreNotifiedOf l.core (timed ∷ []) (outcome ∷ []) ns l'.core) (sym is) (one_notified timed outcome notified l.core l'.core it);
     }
 
-from_then : (came : Bool) (moment : ℕ) (l : Ledger) (front : List Happening) (mid : Ledger) (back : List Happening) (l' : Ledger) → NotifiedFrom came moment l front mid → NotifiedFrom (after came front) moment mid back l' → NotifiedFrom came moment l (front ++ back) l'
-from_then came moment l front mid back l' p q = record {
+from_then : (came : Bool) (moment : ℕ) (l : Ledger) (prefix : List Happening) (mid : Ledger) (back : List Happening) (l' : Ledger) → NotifiedFrom came moment l prefix mid → NotifiedFrom (after came prefix) moment mid back l' → NotifiedFrom came moment l (prefix ++ back) l'
+from_then came moment l prefix mid back l' p q = record {
   events = p.events ++ q.events;
   outcomes = p.outcomes ++ q.outcomes;
   timed = All-append (λ (timed : Timed). timed.moment ≡ moment) p.events q.events p.timed q.timed;
-  notified = subst (λ (ns : List Note). AreNotifiedOf l.core (p.events ++ q.events) (p.outcomes ++ q.outcomes) ns l'.core) (sym (notes_then came front back))
-      (run_then l.core mid.core l'.core p.events q.events p.outcomes q.outcomes (event_notes came front) (event_notes (after came front) back) p.notified q.notified);
+  notified = subst (λ (ns : List Note). AreNotifiedOf l.core (p.events ++ q.events) (p.outcomes ++ q.outcomes) ns l'.core) (sym (notes_then came prefix back))
+      (run_then l.core mid.core l'.core p.events q.events p.outcomes q.outcomes (event_notes came prefix) (event_notes (after came prefix) back) p.notified q.notified);
 }
 
 -- ---- an event
@@ -354,18 +354,18 @@ kept_then came moment event outcome Q kept quiet l hs l' it =
     let sent = quiet_orders outcome it.first.mid it.first.back it.mid it.first.second in
     let rest = quiet it.mid it.back l' it.second in
     let core : l'.core ≡ made.state = rest.core ∙ (sent.core ∙ ap (λ (x : Ledger). x.core) made.after) in
-    let first : event_notes came it.first.front ≡ made.notes =
+    let first : event_notes came it.first.prefix ≡ made.notes =
     ap (event_notes came) made.notified ∙ found_notes outcome came made.notes kept (notified_back moment event l.core outcome made.notes made.state made.handles) in
-    let happened : event_notes came it.front ≡ made.notes = ap (event_notes came) it.first.whole ∙ notes_before came it.first.front it.first.back made.notes first sent.silent in
+    let happened : event_notes came it.prefix ≡ made.notes = ap (event_notes came) it.first.whole ∙ notes_before came it.first.prefix it.first.back made.notes first sent.silent in
     one_event came moment event outcome l hs l' made.notes
-    (ap (event_notes came) it.whole ∙ notes_before came it.front it.back made.notes happened rest.silent)
+    (ap (event_notes came) it.whole ∙ notes_before came it.prefix it.back made.notes happened rest.silent)
     (kept_notified (record { event = event; moment = moment }) l.core outcome made.notes l'.core kept
     (subst (λ (s : State). Handles moment event l.core outcome made.notes s) (sym core) made.handles))
 
 -- a dropped event changes nothing
 dropped_nothing : (moment : ℕ) (event : Event) (l : Ledger) (hs : List Happening) (l' : Ledger) → Happens moment event None l hs l' → (hs ≡ []) × (l'.core ≡ l.core)
 dropped_nothing moment event l hs l' it =
-    let none : it.front ≡ [] = it.first.notified ∙ ap (λ (ns : List Note). map Notified ns) it.first.handles.1 in (
+    let none : it.prefix ≡ [] = it.first.notified ∙ ap (λ (ns : List Note). map Notified ns) it.first.handles.1 in (
       it.whole ∙ (ap (λ (ks : List Happening). ks ++ it.back) none ∙ it.second.0),
       ap (λ (x : Ledger). x.core) it.second.1 ∙ (ap (λ (x : Ledger). x.core) it.first.after ∙ it.first.handles.0),
     )
@@ -374,7 +374,7 @@ dropped_nothing moment event l hs l' it =
 dropped_then : (moment : ℕ) (event : Event) (Q : Rel) → ((l : Ledger) (hs : List Happening) (l' : Ledger) → Q l hs l' → Refuses l hs l')
     → (l : Ledger) (hs : List Happening) (l' : Ledger) → Then (Happens moment event None) Q l hs l' → NotifiedFrom true moment l hs l'
 dropped_then moment event Q refuses l hs l' it =
-    let none = dropped_nothing moment event l it.front it.mid it.first in
+    let none = dropped_nothing moment event l it.prefix it.mid it.first in
     let rest = refuses it.mid it.back l' it.second in
     let whole : hs ≡ Notified (Refused At.Event rest.id) ∷ rest.later = it.whole ∙ (ap (λ (ks : List Happening). ks ++ it.back) none.0 ∙ rest.whole) in
     one_event true moment event None l hs l' (Refused At.Event rest.id ∷ [])
@@ -391,12 +391,12 @@ light_kept : (moment : ℕ) (event : Event) (outcome : Outcome) (l : Ledger) (hs
 light_kept moment event (Some handled) l hs l' light it = tt
 light_kept moment event None l hs l' light it = it.first.handles.2 light
 
-nothing_behind : (R : Rel) (l : Ledger) (hs : List Happening) (l' : Ledger) → R l hs l' → Then R Nothing l hs l'
-nothing_behind R l hs l' it = record { mid = l'; front = hs; back = []; whole = sym (append-nil hs); first = it; second = (refl, refl) }
+nothing_after : (R : Rel) (l : Ledger) (hs : List Happening) (l' : Ledger) → R l hs l' → Then R Nothing l hs l'
+nothing_after R l hs l' it = record { mid = l'; prefix = hs; back = []; whole = sym (append-nil hs); first = it; second = (refl, refl) }
 
 light_from : (came : Bool) (moment : ℕ) (event : Event) → ((s : State) → TakesNoMemory event moment s) → (l : Ledger) (hs : List Happening) (l' : Ledger) → Unanswered moment event l hs l' → NotifiedFrom came moment l hs l'
 light_from came moment event light l hs l' (outcome, it) =
-    kept_then came moment event outcome Nothing (light_kept moment event outcome l hs l' (light l.core) it) quiet_nothing l hs l' (nothing_behind (Happens moment event outcome) l hs l' it)
+    kept_then came moment event outcome Nothing (light_kept moment event outcome l hs l' (light l.core) it) quiet_nothing l hs l' (nothing_after (Happens moment event outcome) l hs l' it)
 
 -- ---- parts of an action
 
@@ -410,7 +410,7 @@ module _ (moment : ℕ) where
 
   then_in : {R S : Rel} → Within R → Within S → Within (Then R S)
   then_in f g l hs l' it came =
-      subst (λ (ks : List Happening). NotifiedFrom came moment l ks l') (sym it.whole) (from_then came moment l it.front it.mid it.back l' (f l it.front it.mid it.first came) (g it.mid it.back l' it.second (after came it.front)))
+      subst (λ (ks : List Happening). NotifiedFrom came moment l ks l') (sym it.whole) (from_then came moment l it.prefix it.mid it.back l' (f l it.prefix it.mid it.first came) (g it.mid it.back l' it.second (after came it.prefix)))
 
   abbrev IsSaid : Ledger → List Happening → Ledger → Type 0
   IsSaid l hs l' = (came : Bool) → NotifiedFrom came moment l hs l'
@@ -471,11 +471,11 @@ module _ (moment : ℕ) where
   closes_first_in : Within (ClosesFirst moment)
   closes_first_in l hs l' it = closes_in Broken it.key it.entry l hs l' it.closes
 
-  settles_in : Within (ClosesBroken moment)
-  settles_in l hs l' it = many_in (ClosesFirst moment) closes_first_in l hs l' it.0
+  closes_broken_in : Within (ClosesBroken moment)
+  closes_broken_in l hs l' it = many_in (ClosesFirst moment) closes_first_in l hs l' it.0
 
   fails_in : (key : ℕ) → Within (Fails moment key)
-  fails_in key = then_in (quietly_in (quiet_breaks key)) settles_in
+  fails_in key = then_in (quietly_in (quiet_breaks key)) closes_broken_in
 
   -- ---- devices that say their names
 
@@ -537,10 +537,10 @@ module _ (moment : ℕ) where
   -- ---- reads
 
   serves_in : (key : ℕ) → Within (Serves moment key)
-  serves_in key l hs l' it = then_in (many_in (Acts moment key) (then_in (acts_next_in key) settles_in)) (chooses_in Rested) l hs l' it.0
+  serves_in key l hs l' it = then_in (many_in (Acts moment key) (then_in (acts_next_in key) closes_broken_in)) (chooses_in Rested) l hs l' it.0
 
   fed_whole_in : (key : ℕ) (e : Entry) (bytes : List ℕ) → Within (FedWhole moment key e bytes)
-  fed_whole_in key e bytes = or_in (then_in (sets_in key (reading bytes e)) (serves_in key)) (then_in (quietly_in (quiet_drops At.Feed key e (λ came. refl))) settles_in)
+  fed_whole_in key e bytes = or_in (then_in (sets_in key (reading bytes e)) (serves_in key)) (then_in (quietly_in (quiet_drops At.Feed key e (λ came. refl))) closes_broken_in)
 
   fed_in : (key : ℕ) (e : Entry) (bytes : List ℕ) → Within (FedOpen moment key e bytes)
   fed_in key e bytes = if_in e.draining (Sets key e) (FedWhole moment key e bytes) (sets_in key e) (fed_whole_in key e bytes)
@@ -584,7 +584,7 @@ module _ (moment : ℕ) where
 
   ends_at_in : (key : ℕ) (o : Option Entry) → Within (EndsAt moment key o)
   ends_at_in key None = nothing_in
-  ends_at_in key (Some e) = if_in (is_done e) (Then (ClosesAs moment Drained key e) (ClosesBroken moment)) Nothing (then_in (closes_in Drained key e) settles_in) nothing_in
+  ends_at_in key (Some e) = if_in (is_done e) (Then (ClosesAs moment Drained key e) (ClosesBroken moment)) Nothing (then_in (closes_in Drained key e) closes_broken_in) nothing_in
 
   ends_one_in : (key : ℕ) → Within (EndsOne moment key)
   ends_one_in key l hs l' it = ends_at_in key (l.entries key) l hs l' it
@@ -603,7 +603,7 @@ module _ (moment : ℕ) where
   accepts_in door l hs l' it = if_in (nat_lt l.count CONNECTIONS) (AcceptsOne door) Nothing (λ a ks b (answer, is). accepts_as_in door answer a ks b is) nothing_in l hs l' it
 
   tick_due_in : Within (TicksIfDue moment)
-  tick_due_in l hs l' it = if_in (is_tick_due moment l) (Then (Ticks moment) (ClosesBroken moment)) Nothing (then_in ticks_in settles_in) nothing_in l hs l' it
+  tick_due_in l hs l' it = if_in (is_tick_due moment l) (Then (Ticks moment) (ClosesBroken moment)) Nothing (then_in ticks_in closes_broken_in) nothing_in l hs l' it
 
   round_in : Within (Round moment)
   round_in l hs l' (n, it) =
@@ -612,7 +612,7 @@ module _ (moment : ℕ) where
       l hs l' it
 
   turn_in : Within (Turn moment)
-  turn_in = then_in settles_in (then_in tick_due_in (then_in (accepts_in Ipp) (then_in (accepts_in Lpd) (then_in (accepts_in Devices) round_in))))
+  turn_in = then_in closes_broken_in (then_in tick_due_in (then_in (accepts_in Ipp) (then_in (accepts_in Lpd) (then_in (accepts_in Devices) round_in))))
 
   -- ---- calls between turns
 

@@ -51,7 +51,7 @@ use Rattle.promises.proofs.SentToDevices.{no_true, one_entry}
 use Rattle.promises.proofs.StreamSteps.{silent_growth, silent_part, client_keeps}
 use Rattle.promises.proofs.ConnectionAsks.{not_broken}
 use Rattle.promises.proofs.DeviceReports.{FreshOf, Grows, no_both, read_as, grows_as, grows_reading, broken_stays, named_stays, IsNew, Kept, kept_same, kept_open, here, aside, by_key, KeptAll, reported_kept, reported_as, gone_notified, reported_left, notified_if, More, reported_more, reported_named, reported_over, unnamed_nameless, SoundAt, kept_sound, Sound, sound_by, sound_kept, sound_left, none_read, AllGreeted, greeted_but, greeted_on, greeted_kept, greeted_left, greeted_first, greeted_more, greeted_nameless}
-use Rattle.promises.proofs.CalmParts.{notes_append, Calm, Calms, kept_still, kept_next, no_notes, calm_still, calm_sets, calms_nothing, calms_notifies, calms_polls, calms_choice, grows_broken, calms_breaks, calms_dropped, calms_declines, calms_answers, body_answers, OneEvent, happened, handles_behind}
+use Rattle.promises.proofs.CalmParts.{notes_append, Calm, Calms, kept_still, kept_next, no_notes, calm_still, calm_sets, calms_nothing, calms_notifies, calms_polls, calms_choice, grows_broken, calms_breaks, calms_dropped, calms_declines, calms_answers, body_answers, OneEvent, happened, handles_after}
 use Rattle.promises.proofs.Devices.{IsFine, step_fine, step_progress, client_grows, ReportsIt, DeviceStep, device_step}
 use Rattle.promises.proofs.CombinedParts.{or_within, if_within, many_within, each_within}
 
@@ -68,9 +68,9 @@ state_more state opening [] (it ∷ later) is = inl is
 state_more state opening (it ∷ first) later (inl is) = inl is
 state_more state opening (it ∷ first) later (inr is) = inr (state_more state it.state first later is)
 
-state_behind : (state opening mid : State) (first later : List Came) → AreRun opening first mid → IsStateIn state mid later → IsStateIn state opening (first ++ later)
-state_behind state opening mid [] later same is = subst (λ (s : State). IsStateIn state s later) same is
-state_behind state opening mid (it ∷ first) later (handles, run) is = inr (state_behind state it.state mid first later run is)
+state_later : (state opening mid : State) (first later : List Came) → AreRun opening first mid → IsStateIn state mid later → IsStateIn state opening (first ++ later)
+state_later state opening mid [] later same is = subst (λ (s : State). IsStateIn state s later) same is
+state_later state opening mid (it ∷ first) later (handles, run) is = inr (state_later state it.state mid first later run is)
 
 record Goes (turn : Bool) (moment : ℕ) (l : Ledger) (hs : List Happening) (l' : Ledger) : Type 1 where
   came : List Came
@@ -85,26 +85,26 @@ pub run_then : (old mid new : State) (first later : List Came) → AreRun old fi
 run_then old mid new [] later same rest = subst (λ (s : State). AreRun s later new) same rest
 run_then old mid new (it ∷ first) later (handles, more) rest = (handles, run_then it.state mid new first later more rest)
 
-pub notified_then : (hs front back : List Happening) (first later : List Came) → hs ≡ front ++ back → core_notes front ≡ flat_map (λ (it : Came). it.notes) first → core_notes back ≡ flat_map (λ (it : Came). it.notes) later → core_notes hs ≡ flat_map (λ (it : Came). it.notes) (first ++ later)
-notified_then hs front back first later whole p q =
-    ap core_notes whole ∙ (notes_append front back ∙ (ap (λ (ns : List Note). ns ++ core_notes back) p ∙ (ap (λ (ns : List Note). flat_map (λ (it : Came). it.notes) first ++ ns) q ∙ sym (flat_map-append (λ (it : Came). it.notes) first later))))
+pub notified_then : (hs prefix back : List Happening) (first later : List Came) → hs ≡ prefix ++ back → core_notes prefix ≡ flat_map (λ (it : Came). it.notes) first → core_notes back ≡ flat_map (λ (it : Came). it.notes) later → core_notes hs ≡ flat_map (λ (it : Came). it.notes) (first ++ later)
+notified_then hs prefix back first later whole p q =
+    ap core_notes whole ∙ (notes_append prefix back ∙ (ap (λ (ns : List Note). ns ++ core_notes back) p ∙ (ap (λ (ns : List Note). flat_map (λ (it : Came). it.notes) first ++ ns) q ∙ sym (flat_map-append (λ (it : Came). it.notes) first later))))
 
 reports_then : (device : ℕ) (before : List ReportRecord) (first later : List Came) → (before ++ reports_by device first) ++ reports_by device later ≡ before ++ reports_by device (first ++ later)
 reports_then device before first later =
     append_assoc before (reports_by device first) (reports_by device later) ∙ ap (λ (reports : List ReportRecord). before ++ reports) (sym (flat_map-append (report_by device) first later))
 
-goes_then : (turn : Bool) (moment : ℕ) (l : Ledger) (front : List Happening) (m : Ledger) (back : List Happening) (l' : Ledger) (hs : List Happening) → hs ≡ front ++ back → Goes turn moment l front m → Goes turn moment m back l' → Goes turn moment l hs l'
-goes_then turn moment l front m back l' hs whole p q = record {
+goes_then : (turn : Bool) (moment : ℕ) (l : Ledger) (prefix : List Happening) (m : Ledger) (back : List Happening) (l' : Ledger) (hs : List Happening) → hs ≡ prefix ++ back → Goes turn moment l prefix m → Goes turn moment m back l' → Goes turn moment l hs l'
+goes_then turn moment l prefix m back l' hs whole p q = record {
   came = p.came ++ q.came;
   timed = All-append (λ (it : Came). (it.moment ≡ moment) × (it.in_turn ≡ turn)) p.came q.came p.timed q.timed;
   run = run_then l.core m.core l'.core p.came q.came p.run q.run;
-  notified = notified_then hs front back p.came q.came whole p.notified q.notified;
+  notified = notified_then hs prefix back p.came q.came whole p.notified q.notified;
   sound = λ s. q.sound (p.sound s);
   reported = λ s device before r.
       reported_as device ((before ++ reports_by device p.came) ++ reports_by device q.came) (before ++ reports_by device (p.came ++ q.came)) l' (reports_then device before p.came q.came)
       (q.reported (p.sound s) device (before ++ reports_by device p.came) (p.reported s device before r));
   greeted = λ Name names s all.
-      q.greeted Name (λ state name device is. names state name device (state_behind state l.core m.core p.came q.came p.run is)) (p.sound s)
+      q.greeted Name (λ state name device is. names state name device (state_later state l.core m.core p.came q.came p.run is)) (p.sound s)
       (p.greeted Name (λ state name device is. names state name device (state_more state l.core p.came q.came is)) s all);
 }
 
@@ -166,7 +166,7 @@ module _ (turn : Bool) (moment : ℕ) where
   calmly_in calms l hs l' it = goes_calm turn moment l hs l' (calms l hs l' it)
 
   then_in : {R S : Rel} → Within R → Within S → Within (Then R S)
-  then_in f g l hs l' it = goes_then turn moment l it.front it.mid it.back l' hs it.whole (f l it.front it.mid it.first) (g it.mid it.back l' it.second)
+  then_in f g l hs l' it = goes_then turn moment l it.prefix it.mid it.back l' hs it.whole (f l it.prefix it.mid it.first) (g it.mid it.back l' it.second)
 
   abbrev IsSaid : Ledger → List Happening → Ledger → Type 1
   IsSaid l hs l' = Goes turn moment l hs l'
@@ -207,12 +207,12 @@ module _ (turn : Bool) (moment : ℕ) where
 
 -- ---- closings
 
-gone_event : (moment device key : ℕ) (fate : Fate) (e : Entry) (l : Ledger) (front : List Happening) (m : Ledger) (back : List Happening) (l' : Ledger) (hs : List Happening) → hs ≡ front ++ back → core_notes front ≡ [] → l.entries key ≡ Some e → device_of e.progress ≡ Some device → m ≡ without key e fate l
+gone_event : (moment device key : ℕ) (fate : Fate) (e : Entry) (l : Ledger) (prefix : List Happening) (m : Ledger) (back : List Happening) (l' : Ledger) (hs : List Happening) → hs ≡ prefix ++ back → core_notes prefix ≡ [] → l.entries key ≡ Some e → device_of e.progress ≡ Some device → m ≡ without key e fate l
     → Unanswered moment (Is.Report device report.Gone) m back l' → Goes true moment l hs l'
-gone_event moment device key fate e l front m back l' hs whole silent there named after (outcome, it) =
+gone_event moment device key fate e l prefix m back l' hs whole silent there named after (outcome, it) =
     let one = happened moment (Is.Report device report.Gone) outcome m back l' it in
     goes_one true moment (Is.Report device report.Gone) outcome l hs l'
-    (handles_behind moment (Is.Report device report.Gone) outcome l.core m.core l'.core (core_notes hs) (core_notes back) (ap (λ (x : Ledger). x.core) after) (no_notes hs front back whole silent) one.handles)
+    (handles_after moment (Is.Report device report.Gone) outcome l.core m.core l'.core (core_notes hs) (core_notes back) (ap (λ (x : Ledger). x.core) after) (no_notes hs prefix back whole silent) one.handles)
     (λ s. sound_kept m l' one.kept (subst Sound (sym after) (sound_left key e fate l there s)))
     (λ s of before r.
     reported_kept of (before ++ gone_notified of (Some device)) m l' one.kept
@@ -225,23 +225,23 @@ closes_at moment fate key e l hs l' there it = by (device_of e.progress) refl it
     after : it.mid ≡ without key e fate l
     after = it.first.2
 
-    silent : core_notes it.front ≡ []
+    silent : core_notes it.prefix ≡ []
     silent = ap core_notes it.first.0
 
     by : (o : Option ℕ) → device_of e.progress ≡ o → IsGone moment o it.mid it.back l' → Goes true moment l hs l'
     by None is gone =
-        goes_none true moment l hs l' (ap (λ (x : Ledger). x.core) (gone.1 ∙ after)) (no_notes hs it.front it.back it.whole silent ∙ ap core_notes gone.0) (λ s. subst Sound (sym (gone.1 ∙ after)) (sound_left key e fate l there s))
+        goes_none true moment l hs l' (ap (λ (x : Ledger). x.core) (gone.1 ∙ after)) (no_notes hs it.prefix it.back it.whole silent ∙ ap core_notes gone.0) (λ s. subst Sound (sym (gone.1 ∙ after)) (sound_left key e fate l there s))
         (λ s of before r.
         reported_as of (before ++ []) before l' (append-nil before)
         (subst (λ (x : Ledger). IsReported of (before ++ []) x) (sym (gone.1 ∙ after)) (reported_left of key None e fate before l there is r)))
         (λ Name all. subst (AllGreeted Name) (sym (gone.1 ∙ after)) (greeted_left Name key e fate l there all))
-    by (Some device) is gone = gone_event moment device key fate e l it.front it.mid it.back l' hs it.whole silent there is after gone
+    by (Some device) is gone = gone_event moment device key fate e l it.prefix it.mid it.back l' hs it.whole silent there is after gone
 
 closes_first : (moment : ℕ) → Within true moment (ClosesFirst moment)
 closes_first moment l hs l' it = closes_at moment Broken it.key it.entry l hs l' it.there it.closes
 
-settles_in : (moment : ℕ) → Within true moment (ClosesBroken moment)
-settles_in moment l hs l' it = many_in true moment (ClosesFirst moment) (closes_first moment) l hs l' it.0
+closes_broken_in : (moment : ℕ) → Within true moment (ClosesBroken moment)
+closes_broken_in moment l hs l' it = many_in true moment (ClosesFirst moment) (closes_first moment) l hs l' it.0
 
 -- ---- the asks of a connection
 
@@ -302,11 +302,11 @@ sound_but : (key : ℕ) (l l' : Ledger) → l'.closed ≡ l.closed → ((k : ℕ
 sound_but key l l' closed others s at =
     sound_by l l' closed s (λ k. by_key k key (λ same. subst (λ (j : ℕ). SoundAt (l'.entries j)) (sym same) at) (λ apart. kept_sound (l.entries k) (l'.entries k) (others k apart) (s.each k)))
 
-reports_on : (moment key : ℕ) (what : Ask) (d n : Entry) (l : Ledger) (front : List Happening) (m : Ledger) (back : List Happening) (l' : Ledger) (hs : List Happening) → hs ≡ front ++ back → core_notes front ≡ [] → l.entries key ≡ Some d → m ≡ with_entry key n l
+reports_on : (moment key : ℕ) (what : Ask) (d n : Entry) (l : Ledger) (prefix : List Happening) (m : Ledger) (back : List Happening) (l' : Ledger) (hs : List Happening) → hs ≡ prefix ++ back → core_notes prefix ≡ [] → l.entries key ≡ Some d → m ≡ with_entry key n l
     → (s : ReportsIt what d n) → Unanswered moment (Is.Report s.device s.it) m back l' → Goes true moment l hs l'
-reports_on moment key what d n l front m back l' hs whole silent there after s (outcome, it) =
+reports_on moment key what d n l prefix m back l' hs whole silent there after s (outcome, it) =
     goes_one true moment (Is.Report s.device s.it) outcome l hs l'
-    (handles_behind moment (Is.Report s.device s.it) outcome l.core m.core l'.core (core_notes hs) (core_notes back) (ap (λ (x : Ledger). x.core) after) (no_notes hs front back whole silent) one.handles)
+    (handles_after moment (Is.Report s.device s.it) outcome l.core m.core l'.core (core_notes hs) (core_notes back) (ap (λ (x : Ledger). x.core) after) (no_notes hs prefix back whole silent) one.handles)
     (λ sound. sound_but key l l' closed others sound (subst SoundAt (sym now.1) (fresh_named s.device now.0 (ap device_of progress), now.2.reads s.read)))
     (λ sound device before r. reported_more device s.device key (report_of s.it) before l l' more r)
     (λ Name names sound all. greeted_but Name key now.0 l l' closed (λ k apart e at. greeted_on Name l l' k (others k apart) all e at) now.1 (greeted_more Name s.device (report_of s.it) s.reports d now.0 s.before progress (all.each key d there)) all)
@@ -332,7 +332,7 @@ reports_on moment key what d n l front m back l' hs whole silent there after s (
 -- ---- a device gives its name
 
 -- the connection on which it does
-record Saying (device : ℕ) (name : List ℕ) (key : ℕ) (d n : Entry) (l m : Ledger) : Type 0 where
+record NameGiven (device : ℕ) (name : List ℕ) (key : ℕ) (d n : Entry) (l m : Ledger) : Type 0 where
   there : l.entries key ≡ Some d
   sound : d.broken ≡ false
   after : m ≡ with_entry key n l
@@ -342,14 +342,14 @@ record Saying (device : ℕ) (name : List ℕ) (key : ℕ) (d n : Entry) (l m : 
   progress : n.progress ≡ Link (reports ++ HelloReport name ∷ []) (Some device)
   read : IsRead n
 
-first_said : (device : ℕ) (name : List ℕ) (key : ℕ) (d n : Entry) (l m : Ledger) (s : Saying device name key d n l m) → Sound l → n.progress ≡ Link (HelloReport name ∷ []) (Some device)
+first_said : (device : ℕ) (name : List ℕ) (key : ℕ) (d n : Entry) (l m : Ledger) (s : NameGiven device name key d n l m) → Sound l → n.progress ≡ Link (HelloReport name ∷ []) (Some device)
 first_said device name key d n l m s sound = s.progress ∙ ap (λ (reports : List ReportRecord). Link (reports ++ HelloReport name ∷ []) (Some device)) ((subst SoundAt s.there (sound.each key)).0 s.reports s.before s.sound)
 
-gives_name_alone : (moment device : ℕ) (name : List ℕ) (key : ℕ) (d n : Entry) (l : Ledger) (front : List Happening) (m : Ledger) (back : List Happening) (l' : Ledger) (hs : List Happening) → hs ≡ front ++ back → core_notes front ≡ [] → Saying device name key d n l m → IsAlone device key m
+gives_name_alone : (moment device : ℕ) (name : List ℕ) (key : ℕ) (d n : Entry) (l : Ledger) (prefix : List Happening) (m : Ledger) (back : List Happening) (l' : Ledger) (hs : List Happening) → hs ≡ prefix ++ back → core_notes prefix ≡ [] → NameGiven device name key d n l m → IsAlone device key m
     → Unanswered moment (Is.Report device (report.Hello name)) m back l' → Goes true moment l hs l'
-gives_name_alone moment device name key d n l front m back l' hs whole silent s alone (outcome, it) =
+gives_name_alone moment device name key d n l prefix m back l' hs whole silent s alone (outcome, it) =
     goes_one true moment (Is.Report device (report.Hello name)) outcome l hs l'
-    (handles_behind moment (Is.Report device (report.Hello name)) outcome l.core m.core l'.core (core_notes hs) (core_notes back) (ap (λ (x : Ledger). x.core) s.after) (no_notes hs front back whole silent) one.handles)
+    (handles_after moment (Is.Report device (report.Hello name)) outcome l.core m.core l'.core (core_notes hs) (core_notes back) (ap (λ (x : Ledger). x.core) s.after) (no_notes hs prefix back whole silent) one.handles)
     (λ sound. sound_but key l l' closed others sound (subst SoundAt (sym now.1) (fresh_named device now.0 (ap device_of (progress ∙ s.progress)), now.2.reads s.read)))
     (λ sound of before r.
     reported_named of device key name before l l'
@@ -387,17 +387,17 @@ unnamed_said (Queue items session) = refl
 unnamed_said (Link reports device) = refl
 
 -- the connection is turned away: the device has another connection
-gives_name_again : (moment device : ℕ) (name : List ℕ) (key id : ℕ) (d n : Entry) (l : Ledger) (front : List Happening) (m : Ledger) (back : List Happening) (l' : Ledger) (hs : List Happening) → hs ≡ front ++ back → core_notes front ≡ [] → Saying device name key d n l m
+gives_name_again : (moment device : ℕ) (name : List ℕ) (key id : ℕ) (d n : Entry) (l : Ledger) (prefix : List Happening) (m : Ledger) (back : List Happening) (l' : Ledger) (hs : List Happening) → hs ≡ prefix ++ back → core_notes prefix ≡ [] → NameGiven device name key d n l m
     → Then (IsSuperseded key) (Notifies (DeviceRefused id (why.Connected device))) m back l' → Goes true moment l hs l'
-gives_name_again moment device name key id d n l front m back l' hs whole silent s it =
+gives_name_again moment device name key id d n l prefix m back l' hs whole silent s it =
     goes_calm true moment l hs l' (record {
       core = ap (λ (x : Ledger). x.core) (after ∙ ap (λ (x : Ledger). with_entry key (superseded_entry n) x) s.after);
-      notes = no_notes hs front back whole silent ∙ (no_notes back it.front it.back it.whole (ap core_notes way.0) ∙ ap core_notes it.second.0);
+      notes = no_notes hs prefix back whole silent ∙ (no_notes back it.prefix it.back it.whole (ap core_notes way.0) ∙ ap core_notes it.second.0);
       kept = record { closed = ap (λ (x : Ledger). x.closed) (after ∙ ap (λ (x : Ledger). with_entry key (superseded_entry n) x) s.after); each = each };
     })
   where
-    way : (it.front ≡ []) × (it.mid ≡ with_entry key (superseded_entry n) m)
-    way = gives_way_at key n (m.entries key) m it.front it.mid (set_here key n l m s.after) it.first
+    way : (it.prefix ≡ []) × (it.mid ≡ with_entry key (superseded_entry n) m)
+    way = gives_way_at key n (m.entries key) m it.prefix it.mid (set_here key n l m s.after) it.first
 
     after : l' ≡ with_entry key (superseded_entry n) m
     after = it.second.1 ∙ way.1
@@ -423,15 +423,15 @@ both_notified true one other = refl
 both_notified false one other = refl
 
 -- the device's old connection is superseded: the core is notified its end, and then the name on the new connection
-gives_name_over : (moment device : ℕ) (name : List ℕ) (key other : ℕ) (d n : Entry) (l : Ledger) (front : List Happening) (m : Ledger) (back : List Happening) (l' : Ledger) (hs : List Happening) → hs ≡ front ++ back → core_notes front ≡ [] → Saying device name key d n l m → HasOther true device key other m
+gives_name_over : (moment device : ℕ) (name : List ℕ) (key other : ℕ) (d n : Entry) (l : Ledger) (prefix : List Happening) (m : Ledger) (back : List Happening) (l' : Ledger) (hs : List Happening) → hs ≡ prefix ++ back → core_notes prefix ≡ [] → NameGiven device name key d n l m → HasOther true device key other m
     → TakesOver moment other device name m back l' → Goes true moment l hs l'
-gives_name_over moment device name key other d n l front m back l' hs whole silent s has it = record {
+gives_name_over moment device name key other d n l prefix m back l' hs whole silent s has it = record {
   came = one ∷ two ∷ [];
   timed = All-cons (λ (x : Came). (x.moment ≡ moment) × (x.in_turn ≡ true)) one (two ∷ []) (refl, refl) (All-cons (λ (x : Came). (x.moment ≡ moment) × (x.in_turn ≡ true)) two [] (refl, refl) (All-nil (λ (x : Came). (x.moment ≡ moment) × (x.in_turn ≡ true))));
-  run = (subst (λ (c : State). Handles moment (Is.Report device report.Gone) c gone.0 (core_notes last.front) last.mid.core) core first.handles, (second.handles, refl));
-  notified = no_notes hs front back whole silent
-      ∙ (no_notes back it.front it.back it.whole (ap core_notes way.0)
-      ∙ (ap core_notes last.whole ∙ (notes_append last.front last.back ∙ ap (λ (ns : List Note). core_notes last.front ++ ns) (sym (append-nil (core_notes last.back))))));
+  run = (subst (λ (c : State). Handles moment (Is.Report device report.Gone) c gone.0 (core_notes last.prefix) last.mid.core) core first.handles, (second.handles, refl));
+  notified = no_notes hs prefix back whole silent
+      ∙ (no_notes back it.prefix it.back it.whole (ap core_notes way.0)
+      ∙ (ap core_notes last.whole ∙ (notes_append last.prefix last.back ∙ ap (λ (ns : List Note). core_notes last.prefix ++ ns) (sym (append-nil (core_notes last.back))))));
   sound = λ sound. sound_by l l' closed sound (sounds sound);
   reported = λ sound of before r.
       reported_as of (before ++ notified_if of device (GoneReport ∷ HelloReport name ∷ [])) (before ++ reports_by of (one ∷ two ∷ [])) l' (ap (λ (reports : List ReportRecord). before ++ reports) (both_notified (device == of) GoneReport (HelloReport name)))
@@ -450,7 +450,7 @@ gives_name_over moment device name key other d n l front m back l' hs whole sile
     last : Then (IsGone moment (Some device)) (GivesName moment device name) it.mid it.back l'
     last = it.second
 
-    gone : Unanswered moment (Is.Report device report.Gone) it.mid last.front last.mid
+    gone : Unanswered moment (Is.Report device report.Gone) it.mid last.prefix last.mid
     gone = last.first
 
     said : Unanswered moment (Is.Report device (report.Hello name)) last.mid last.back l'
@@ -459,8 +459,8 @@ gives_name_over moment device name key other d n l front m back l' hs whole sile
     old : (e : Entry) × (m.entries other ≡ Some e) × (device_of e.progress ≡ Some device)
     old = open_as true device (m.entries other) has.1
 
-    way : (it.front ≡ []) × (it.mid ≡ with_entry other (superseded_entry old.0) m)
-    way = gives_way_at other old.0 (m.entries other) m it.front it.mid old.1 it.first
+    way : (it.prefix ≡ []) × (it.mid ≡ with_entry other (superseded_entry old.0) m)
+    way = gives_way_at other old.0 (m.entries other) m it.prefix it.mid old.1 it.first
 
     given : it.mid ≡ with_entry other (superseded_entry old.0) m
     given = way.1
@@ -468,14 +468,14 @@ gives_name_over moment device name key other d n l front m back l' hs whole sile
     core : it.mid.core ≡ l.core
     core = ap (λ (x : Ledger). x.core) given ∙ ap (λ (x : Ledger). x.core) s.after
 
-    first : OneEvent moment (Is.Report device report.Gone) gone.0 it.mid last.front last.mid
-    first = happened moment (Is.Report device report.Gone) gone.0 it.mid last.front last.mid gone.1
+    first : OneEvent moment (Is.Report device report.Gone) gone.0 it.mid last.prefix last.mid
+    first = happened moment (Is.Report device report.Gone) gone.0 it.mid last.prefix last.mid gone.1
 
     second : OneEvent moment (Is.Report device (report.Hello name)) said.0 last.mid last.back l'
     second = happened moment (Is.Report device (report.Hello name)) said.0 last.mid last.back l' said.1
 
     one : Came
-    one = record { moment = moment; event = Is.Report device report.Gone; outcome = gone.0; notes = core_notes last.front; state = last.mid.core; in_turn = true }
+    one = record { moment = moment; event = Is.Report device report.Gone; outcome = gone.0; notes = core_notes last.prefix; state = last.mid.core; in_turn = true }
 
     two : Came
     two = record { moment = moment; event = Is.Report device (report.Hello name); outcome = said.0; notes = core_notes last.back; state = l'.core; in_turn = true }
@@ -515,56 +515,56 @@ gives_name_over moment device name key other d n l front m back l' hs whole sile
         (kept_sound (Some (superseded_entry old.0)) (l'.entries other) up ((λ reports is unbroken. absurd (no_true true refl unbroken)), read_as old.0 (superseded_entry old.0) (unnamed_said old.0.progress) refl (subst SoundAt there (sound.each other)).1)))
         (λ away. kept_sound (l.entries k) (l'.entries k) (others k apart away) (sound.each k)))
 
-greets_on : (moment device : ℕ) (name : List ℕ) (key id : ℕ) (d n : Entry) (l : Ledger) (front : List Happening) (m : Ledger) (back : List Happening) (l' : Ledger) (hs : List Happening) → hs ≡ front ++ back → core_notes front ≡ [] → Saying device name key d n l m → HandlesHello moment key id device name m back l' → Goes true moment l hs l'
-greets_on moment device name key id d n l front m back l' hs whole silent s (inl (alone, it)) = gives_name_alone moment device name key d n l front m back l' hs whole silent s alone it
-greets_on moment device name key id d n l front m back l' hs whole silent s (inr (inl (other, has, it))) = gives_name_over moment device name key other d n l front m back l' hs whole silent s has it
-greets_on moment device name key id d n l front m back l' hs whole silent s (inr (inr (other, has, it))) = gives_name_again moment device name key id d n l front m back l' hs whole silent s it
+greets_on : (moment device : ℕ) (name : List ℕ) (key id : ℕ) (d n : Entry) (l : Ledger) (prefix : List Happening) (m : Ledger) (back : List Happening) (l' : Ledger) (hs : List Happening) → hs ≡ prefix ++ back → core_notes prefix ≡ [] → NameGiven device name key d n l m → HandlesHello moment key id device name m back l' → Goes true moment l hs l'
+greets_on moment device name key id d n l prefix m back l' hs whole silent s (inl (alone, it)) = gives_name_alone moment device name key d n l prefix m back l' hs whole silent s alone it
+greets_on moment device name key id d n l prefix m back l' hs whole silent s (inr (inl (other, has, it))) = gives_name_over moment device name key other d n l prefix m back l' hs whole silent s has it
+greets_on moment device name key id d n l prefix m back l' hs whole silent s (inr (inr (other, has, it))) = gives_name_again moment device name key id d n l prefix m back l' hs whole silent s it
 
 -- ---- the asks come about
 
-fine_acts : (moment key id : ℕ) (what : Ask) (l : Ledger) (front : List Happening) (m : Ledger) (back : List Happening) (l' : Ledger) (hs : List Happening) → hs ≡ front ++ back → (a : Asks key id what l front m) → IsFine what → Grows a.entry a.new → ActsOn moment key id what m back l' → Goes true moment l hs l'
-fine_acts moment key id what l front m back l' hs whole a fine grows does =
-    goes_then true moment l front m back l' hs whole (goes_calm true moment l front m (calm_sets key a.entry a.new l front m a.there grows (ap core_notes a.chosen) a.after)) (fine_does moment key id what fine m back l' does)
+fine_acts : (moment key id : ℕ) (what : Ask) (l : Ledger) (prefix : List Happening) (m : Ledger) (back : List Happening) (l' : Ledger) (hs : List Happening) → hs ≡ prefix ++ back → (a : Asks key id what l prefix m) → IsFine what → Grows a.entry a.new → ActsOn moment key id what m back l' → Goes true moment l hs l'
+fine_acts moment key id what l prefix m back l' hs whole a fine grows does =
+    goes_then true moment l prefix m back l' hs whole (goes_calm true moment l prefix m (calm_sets key a.entry a.new l prefix m a.there grows (ap core_notes a.chosen) a.after)) (fine_does moment key id what fine m back l' does)
 
-client_acts : (moment key id : ℕ) (what : Ask) (l : Ledger) (front : List Happening) (m : Ledger) (back : List Happening) (l' : Ledger) (hs : List Happening) → hs ≡ front ++ back → (a : Asks key id what l front m) → ClientTalk a.entry.progress → ActsOn moment key id what m back l' → Goes true moment l hs l'
-client_acts moment key id what l front m back l' hs whole a own does =
+client_acts : (moment key id : ℕ) (what : Ask) (l : Ledger) (prefix : List Happening) (m : Ledger) (back : List Happening) (l' : Ledger) (hs : List Happening) → hs ≡ prefix ++ back → (a : Asks key id what l prefix m) → ClientTalk a.entry.progress → ActsOn moment key id what m back l' → Goes true moment l hs l'
+client_acts moment key id what l prefix m back l' hs whole a own does =
     let next = client_keeps l.core.settings a.entry.progress a.entry a.asks.comes a.asks.mid own own a.asks.takes_item in
-    fine_acts moment key id what l front m back l' hs whole a (step_fine a.asks.comes a.asks.mid what a.new next.0 a.asks.steps)
+    fine_acts moment key id what l prefix m back l' hs whole a (step_fine a.asks.comes a.asks.mid what a.new next.0 a.asks.steps)
     (client_grows a.entry a.new (not_broken a.entry.draining a.entry.broken a.asks.counts) own (subst ClientTalk (sym (step_progress a.asks.comes a.asks.mid what a.new a.asks.steps)) next.1)) does
 
-device_acts : (moment key id : ℕ) (what : Ask) (l : Ledger) (front : List Happening) (m : Ledger) (back : List Happening) (l' : Ledger) (hs : List Happening) → hs ≡ front ++ back → (a : Asks key id what l front m) → DeviceStep l.core.settings what a.entry a.new → ActsOn moment key id what m back l' → Goes true moment l hs l'
-device_acts moment key id what l front m back l' hs whole a (inl (fine, grows)) does = fine_acts moment key id what l front m back l' hs whole a fine grows does
-device_acts moment key id what l front m back l' hs whole a (inr (inl s)) does =
-    greets_on moment s.device s.name key id a.entry a.new l front m back l' hs whole (ap core_notes a.chosen)
+device_acts : (moment key id : ℕ) (what : Ask) (l : Ledger) (prefix : List Happening) (m : Ledger) (back : List Happening) (l' : Ledger) (hs : List Happening) → hs ≡ prefix ++ back → (a : Asks key id what l prefix m) → DeviceStep l.core.settings what a.entry a.new → ActsOn moment key id what m back l' → Goes true moment l hs l'
+device_acts moment key id what l prefix m back l' hs whole a (inl (fine, grows)) does = fine_acts moment key id what l prefix m back l' hs whole a fine grows does
+device_acts moment key id what l prefix m back l' hs whole a (inr (inl s)) does =
+    greets_on moment s.device s.name key id a.entry a.new l prefix m back l' hs whole (ap core_notes a.chosen)
     (record { there = a.there; sound = not_broken a.entry.draining a.entry.broken a.asks.counts; after = a.after; reports = s.reports; before = s.before; place = s.place; progress = s.after; read = s.read })
     (subst (λ (it : Ask). ActsOn moment key id it m back l') s.asks does)
-device_acts moment key id what l front m back l' hs whole a (inr (inr s)) does =
-    reports_on moment key what a.entry a.new l front m back l' hs whole (ap core_notes a.chosen) a.there a.after s (subst (λ (it : Ask). ActsOn moment key id it m back l') s.asks does)
+device_acts moment key id what l prefix m back l' hs whole a (inr (inr s)) does =
+    reports_on moment key what a.entry a.new l prefix m back l' hs whole (ap core_notes a.chosen) a.there a.after s (subst (λ (it : Ask). ActsOn moment key id it m back l') s.asks does)
 
-acts_by : (moment key id : ℕ) (what : Ask) (l : Ledger) (front : List Happening) (m : Ledger) (back : List Happening) (l' : Ledger) (hs : List Happening) → hs ≡ front ++ back → (a : Asks key id what l front m) → (progress : PeerRecord) → a.entry.progress ≡ progress → ActsOn moment key id what m back l' → Goes true moment l hs l'
-acts_by moment key id what l front m back l' hs whole a (Http said closes body) is does = client_acts moment key id what l front m back l' hs whole a (subst ClientTalk (sym is) tt) does
-acts_by moment key id what l front m back l' hs whole a (Queue items session) is does = client_acts moment key id what l front m back l' hs whole a (subst ClientTalk (sym is) tt) does
-acts_by moment key id what l front m back l' hs whole a (Link reports device) is does =
-    device_acts moment key id what l front m back l' hs whole a
+acts_by : (moment key id : ℕ) (what : Ask) (l : Ledger) (prefix : List Happening) (m : Ledger) (back : List Happening) (l' : Ledger) (hs : List Happening) → hs ≡ prefix ++ back → (a : Asks key id what l prefix m) → (progress : PeerRecord) → a.entry.progress ≡ progress → ActsOn moment key id what m back l' → Goes true moment l hs l'
+acts_by moment key id what l prefix m back l' hs whole a (Http said closes body) is does = client_acts moment key id what l prefix m back l' hs whole a (subst ClientTalk (sym is) tt) does
+acts_by moment key id what l prefix m back l' hs whole a (Queue items session) is does = client_acts moment key id what l prefix m back l' hs whole a (subst ClientTalk (sym is) tt) does
+acts_by moment key id what l prefix m back l' hs whole a (Link reports device) is does =
+    device_acts moment key id what l prefix m back l' hs whole a
     (device_step l.core.settings reports device a.entry a.asks.comes a.asks.mid what a.new is (not_broken a.entry.draining a.entry.broken a.asks.counts) (subst (λ (t : PeerRecord). ItemComes l.core.settings t a.entry a.asks.comes a.asks.mid) is a.asks.takes_item) a.asks.steps) does
 
 acts_next_in : (moment key : ℕ) → Within true moment (ActsNext moment key)
-acts_next_in moment key l hs l' (id, what, it) = acts_by moment key id what l it.front it.mid it.back l' hs it.whole it.first it.first.entry.progress refl it.second
+acts_next_in moment key l hs l' (id, what, it) = acts_by moment key id what l it.prefix it.mid it.back l' hs it.whole it.first it.first.entry.progress refl it.second
 
 -- ---- a turn
 
 module _ (moment : ℕ) where
   serves_in : (key : ℕ) → Within true moment (Serves moment key)
-  serves_in key l hs l' it = then_in true moment (many_in true moment (Acts moment key) (then_in true moment (acts_next_in moment key) (settles_in moment))) (chooses_in true moment Rested) l hs l' it.0
+  serves_in key l hs l' it = then_in true moment (many_in true moment (Acts moment key) (then_in true moment (acts_next_in moment key) (closes_broken_in moment))) (chooses_in true moment Rested) l hs l' it.0
 
   sets_at : (key : ℕ) (d e : Entry) (l : Ledger) (hs : List Happening) (l' : Ledger) → l.entries key ≡ Some d → Grows d e → Sets key e l hs l' → Goes true moment l hs l'
   sets_at key d e l hs l' there grows it = goes_calm true moment l hs l' (calm_sets key d e l hs l' there grows (ap core_notes it.0) it.1)
 
   fed_whole : (key : ℕ) (e : Entry) (bytes : List ℕ) (l : Ledger) (hs : List Happening) (l' : Ledger) → l.entries key ≡ Some e → FedWhole moment key e bytes l hs l' → Goes true moment l hs l'
   fed_whole key e bytes l hs l' there (inl it) =
-      goes_then true moment l it.front it.mid it.back l' hs it.whole (sets_at key e (reading bytes e) l it.front it.mid there (grows_reading e bytes) it.first) (serves_in key it.mid it.back l' it.second)
+      goes_then true moment l it.prefix it.mid it.back l' hs it.whole (sets_at key e (reading bytes e) l it.prefix it.mid there (grows_reading e bytes) it.first) (serves_in key it.mid it.back l' it.second)
   fed_whole key e bytes l hs l' there (inr it) =
-      goes_then true moment l it.front it.mid it.back l' hs it.whole (goes_calm true moment l it.front it.mid (calm_sets key e (broken e) l it.front it.mid there (grows_broken e) (ap core_notes it.first.0) it.first.1)) (settles_in moment it.mid it.back l' it.second)
+      goes_then true moment l it.prefix it.mid it.back l' hs it.whole (goes_calm true moment l it.prefix it.mid (calm_sets key e (broken e) l it.prefix it.mid there (grows_broken e) (ap core_notes it.first.0) it.first.1)) (closes_broken_in moment it.mid it.back l' it.second)
 
   fed_open : (t : Bool) (key : ℕ) (e : Entry) (bytes : List ℕ) (l : Ledger) (hs : List Happening) (l' : Ledger) → l.entries key ≡ Some e → If t (Sets key e) (FedWhole moment key e bytes) l hs l' → Goes true moment l hs l'
   fed_open true key e bytes l hs l' there it = sets_at key e e l hs l' there (grows_as e e refl refl (λ is. is)) it
@@ -578,12 +578,12 @@ module _ (moment : ℕ) where
   feeds_in key bytes l hs l' it = feeds_at key bytes (l.entries key) l hs l' refl it
 
   fails_in : (key : ℕ) → Within true moment (Fails moment key)
-  fails_in key = then_in true moment (calmly_in true moment (calms_breaks key)) (settles_in moment)
+  fails_in key = then_in true moment (calmly_in true moment (calms_breaks key)) (closes_broken_in moment)
 
   -- after a poll each connection is as it was
   polled_sets : (poll : Poll) (key : ℕ) (d e : Entry) (l : Ledger) (hs : List Happening) (l' : Ledger) → l.entries key ≡ Some d → Grows d e → Then (Polls poll) (Sets key e) l hs l' → Goes true moment l hs l'
   polled_sets poll key d e l hs l' there grows it =
-      goes_then true moment l it.front it.mid it.back l' hs it.whole (polls_in true moment poll l it.front it.mid it.first) (sets_at key d e it.mid it.back l' (ap (λ (x : Ledger). x.entries key) it.first.1 ∙ there) grows it.second)
+      goes_then true moment l it.prefix it.mid it.back l' hs it.whole (polls_in true moment poll l it.prefix it.mid it.first) (sets_at key d e it.mid it.back l' (ap (λ (x : Ledger). x.entries key) it.first.1 ∙ there) grows it.second)
 
   reads_as : (key : ℕ) (e : Entry) (answer : WireAnswer (List ℕ)) (l : Ledger) (hs : List Happening) (l' : Ledger) → l.entries key ≡ Some e → ReadsAs moment key e answer l hs l' → Goes true moment l hs l'
   reads_as key e (wire.Done bytes) l hs l' there it = then_in true moment (polls_in true moment (Reads e.id (wire.Done bytes))) (feeds_in key bytes) l hs l' it
@@ -592,7 +592,7 @@ module _ (moment : ℕ) where
   reads_as key e wire.Fault l hs l' there it = then_in true moment (polls_in true moment (Reads e.id wire.Fault)) (fails_in key) l hs l' it
 
   reads_if : (t : Bool) (key : ℕ) (e : Entry) (l : Ledger) (hs : List Happening) (l' : Ledger) → l.entries key ≡ Some e → If t (ReadsOpen moment key e) Nothing l hs l' → Goes true moment l hs l'
-  reads_if true key e l hs l' there (answer, piece, it) = reads_as key e answer l hs l' there it
+  reads_if true key e l hs l' there (answer, segment, it) = reads_as key e answer l hs l' there it
   reads_if false key e l hs l' there it = nothing_in true moment l hs l' it
 
   reads_at : (key : ℕ) (o : Option Entry) (l : Ledger) (hs : List Happening) (l' : Ledger) → l.entries key ≡ o → ReadsAt moment key o l hs l' → Goes true moment l hs l'
@@ -621,7 +621,7 @@ module _ (moment : ℕ) where
   writes_in key l hs l' it = writes_at key (l.entries key) l hs l' refl it
 
   ends_if : (t : Bool) (key : ℕ) (e : Entry) (l : Ledger) (hs : List Happening) (l' : Ledger) → l.entries key ≡ Some e → If t (Then (ClosesAs moment Drained key e) (ClosesBroken moment)) Nothing l hs l' → Goes true moment l hs l'
-  ends_if true key e l hs l' there it = goes_then true moment l it.front it.mid it.back l' hs it.whole (closes_at moment Drained key e l it.front it.mid there it.first) (settles_in moment it.mid it.back l' it.second)
+  ends_if true key e l hs l' there it = goes_then true moment l it.prefix it.mid it.back l' hs it.whole (closes_at moment Drained key e l it.prefix it.mid there it.first) (closes_broken_in moment it.mid it.back l' it.second)
   ends_if false key e l hs l' there it = nothing_in true moment l hs l' it
 
   ends_at : (key : ℕ) (o : Option Entry) (l : Ledger) (hs : List Happening) (l' : Ledger) → l.entries key ≡ o → EndsAt moment key o l hs l' → Goes true moment l hs l'
@@ -666,7 +666,7 @@ module _ (moment : ℕ) where
   accepts_in door l hs l' it = if_in true moment (nat_lt l.count CONNECTIONS) (AcceptsOne door) Nothing (λ a ks b (answer, is). accepts_as door answer a ks b is) (nothing_in true moment) l hs l' it
 
   tick_due_in : Within true moment (TicksIfDue moment)
-  tick_due_in l hs l' it = if_in true moment (is_tick_due moment l) (Then (Ticks moment) (ClosesBroken moment)) Nothing (then_in true moment (ticks_in true moment) (settles_in moment)) (nothing_in true moment) l hs l' it
+  tick_due_in l hs l' it = if_in true moment (is_tick_due moment l) (Then (Ticks moment) (ClosesBroken moment)) Nothing (then_in true moment (ticks_in true moment) (closes_broken_in moment)) (nothing_in true moment) l hs l' it
 
   round_in : Within true moment (Round moment)
   round_in l hs l' (n, it) =
@@ -675,7 +675,7 @@ module _ (moment : ℕ) where
       l hs l' it
 
   turn_in : Within true moment (Turn moment)
-  turn_in = then_in true moment (settles_in moment) (then_in true moment tick_due_in (then_in true moment (accepts_in Ipp) (then_in true moment (accepts_in Lpd) (then_in true moment (accepts_in Devices) round_in))))
+  turn_in = then_in true moment (closes_broken_in moment) (then_in true moment tick_due_in (then_in true moment (accepts_in Ipp) (then_in true moment (accepts_in Lpd) (then_in true moment (accepts_in Devices) round_in))))
 
   -- ---- calls between turns
 
@@ -729,7 +729,7 @@ goes_on (action ∷ actions) l l' (mid, does, runs) =
           reported_as device ((before ++ reports_by device first.came) ++ reports_by device later.came) (before ++ reports_by device (first.came ++ later.came)) l' (reports_then device before first.came later.came)
           (later.reported (first.sound s) device (before ++ reports_by device first.came) (first.reported s device before r));
       greeted = λ Name names s all.
-          later.greeted Name (λ state name device is. names state name device (state_behind state l.core mid.core first.came later.came first.run is)) (first.sound s)
+          later.greeted Name (λ state name device is. names state name device (state_later state l.core mid.core first.came later.came first.run is)) (first.sound s)
           (first.greeted Name (λ state name device is. names state name device (state_more state l.core first.came later.came is)) s all);
     }
 

@@ -211,9 +211,9 @@ module _ (key : ℕ) where
 
   aside_then : (R S : Rel) → Asides R → Asides S → Asides (Then R S)
   aside_then R S r s l hs l' it =
-      let p = r l it.front it.mid it.first in
+      let p = r l it.prefix it.mid it.first in
       let q = s it.mid it.back l' it.second in
-      record { core = q.core ∙ p.core; notes = no_notes hs it.front it.back it.whole p.notes ∙ q.notes; others = λ other apart. q.others other apart ∙ p.others other apart }
+      record { core = q.core ∙ p.core; notes = no_notes hs it.prefix it.back it.whole p.notes ∙ q.notes; others = λ other apart. q.others other apart ∙ p.others other apart }
 
   aside_or : (R S : Rel) → Asides R → Asides S → Asides (Or R S)
   aside_or R S r s l hs l' (inl it) = r l hs l' it
@@ -326,11 +326,11 @@ module _ (key : ℕ) where
 abbrev IsRefused : List Happening → ℕ → ℕ → Bool → Type 0
 IsRefused hs device id ended = Contains hs (Notified (Refused At.Enqueue (Some id)))
 
-refused_front : (hs front back : List Happening) → hs ≡ front ++ back → (device id : ℕ) (ended : Bool) → IsRefused front device id ended → IsRefused hs device id ended
-refused_front hs front back whole device id ended is = subst (λ (xs : List Happening). Contains xs (Notified (Refused At.Enqueue (Some id)))) (sym whole) (Contains-append_left front back (Notified (Refused At.Enqueue (Some id))) is)
+refused_prefix : (hs prefix back : List Happening) → hs ≡ prefix ++ back → (device id : ℕ) (ended : Bool) → IsRefused prefix device id ended → IsRefused hs device id ended
+refused_prefix hs prefix back whole device id ended is = subst (λ (xs : List Happening). Contains xs (Notified (Refused At.Enqueue (Some id)))) (sym whole) (Contains-append_left prefix back (Notified (Refused At.Enqueue (Some id))) is)
 
-refused_back : (hs front back : List Happening) → hs ≡ front ++ back → (device id : ℕ) (ended : Bool) → IsRefused back device id ended → IsRefused hs device id ended
-refused_back hs front back whole device id ended is = subst (λ (xs : List Happening). Contains xs (Notified (Refused At.Enqueue (Some id)))) (sym whole) (Contains-append_right front back (Notified (Refused At.Enqueue (Some id))) is)
+refused_back : (hs prefix back : List Happening) → hs ≡ prefix ++ back → (device id : ℕ) (ended : Bool) → IsRefused back device id ended → IsRefused hs device id ended
+refused_back hs prefix back whole device id ended is = subst (λ (xs : List Happening). Contains xs (Notified (Refused At.Enqueue (Some id)))) (sym whole) (Contains-append_right prefix back (Notified (Refused At.Enqueue (Some id))) is)
 
 contains_first : {A : Type 0} (x : A) (xs : List A) → Contains (x ∷ xs) x
 contains_first x xs = (0, omega arith, refl)
@@ -349,11 +349,11 @@ module _ (O : ℕ → List ℕ → Type 0) (other : ℕ) where
   leaves_same : (l : Ledger) (hs : List Happening) (l' : Ledger) → l' ≡ l → Leaves_it l hs l'
   leaves_same l hs l' same = is_left O (Denied O hs) other l l' same
 
-  leaves_then : (l : Ledger) (front : List Happening) (mid : Ledger) (back : List Happening) (l' : Ledger) (hs : List Happening) → hs ≡ front ++ back → Leaves_it l front mid → Leaves_it mid back l' → Leaves_it l hs l'
-  leaves_then l front mid back l' hs whole p q =
+  leaves_then : (l : Ledger) (prefix : List Happening) (mid : Ledger) (back : List Happening) (l' : Ledger) (hs : List Happening) → hs ≡ prefix ++ back → Leaves_it l prefix mid → Leaves_it mid back l' → Leaves_it l hs l'
+  leaves_then l prefix mid back l' hs whole p q =
       left_then O (Denied O hs) (l.entries other) (mid.entries other) (l'.entries other)
-      (left_weaker O O (Denied O front) (Denied O hs) (l.entries other) (mid.entries other) (λ device bytes is. is) (λ of id ended d. (refused_front hs front back whole of id ended d.0, d.1)) p)
-      (left_weaker O O (Denied O back) (Denied O hs) (mid.entries other) (l'.entries other) (λ device bytes is. is) (λ of id ended d. (refused_back hs front back whole of id ended d.0, d.1)) q)
+      (left_weaker O O (Denied O prefix) (Denied O hs) (l.entries other) (mid.entries other) (λ device bytes is. is) (λ of id ended d. (refused_prefix hs prefix back whole of id ended d.0, d.1)) p)
+      (left_weaker O O (Denied O back) (Denied O hs) (mid.entries other) (l'.entries other) (λ device bytes is. is) (λ of id ended d. (refused_back hs prefix back whole of id ended d.0, d.1)) q)
 
   enqueues_open : (grows : Bool) (key device : ℕ) (bytes : List ℕ) (e : Entry) (l : Ledger) (hs : List Happening) (l' : Ledger) → O device bytes → l.entries key ≡ Some e → device_of e.progress ≡ Some device → e.broken ≡ false → EnqueuesOpen grows key bytes e l hs l' → Leaves_it l hs l'
   enqueues_open false key device bytes e l hs l' order there named sound it =
@@ -382,15 +382,15 @@ module _ (O : ℕ → List ℕ → Type 0) (other : ℕ) where
   left_sends : (cancels : List Cancel) → ((cancel : Cancel) → Contains cancels cancel → O cancel.device (cancel_line cancel.job)) → (l : Ledger) (hs : List Happening) (l' : Ledger) → EachOf cancels Sends l hs l' → Leaves_it l hs l'
   left_sends [] each l hs l' it = leaves_same l hs l' it.1
   left_sends (cancel ∷ cancels) each l hs l' it =
-      leaves_then l it.front it.mid it.back l' hs it.whole (left_enqueues_on (needs_memory (cancel_line cancel.job)) cancel.device (cancel_line cancel.job) (each cancel (contains_first cancel cancels)) l it.front it.mid it.first)
+      leaves_then l it.prefix it.mid it.back l' hs it.whole (left_enqueues_on (needs_memory (cancel_line cancel.job)) cancel.device (cancel_line cancel.job) (each cancel (contains_first cancel cancels)) l it.prefix it.mid it.first)
       (left_sends cancels (λ one has. each one (Contains-append_right (cancel ∷ []) cancels one has)) it.mid it.back l' it.second)
 
   left_starts : (core : State) (starts : List Started) → ((start : Started) → Contains starts start → O start.device (job_bytes core start.job)) → (l : Ledger) (hs : List Happening) (l' : Ledger) → l.core ≡ core → EachOf starts Starts l hs l' → Leaves_it l hs l'
   left_starts core [] each l hs l' same it = leaves_same l hs l' it.1
   left_starts core (start ∷ starts) each l hs l' same it =
-      let first : EnqueuesOn (λ e. true) start.device (job_bytes core start.job) l it.front it.mid = subst (λ (c : State). EnqueuesOn (λ e. true) start.device (job_bytes c start.job) l it.front it.mid) same it.first in
-      let core_kept : it.mid.core ≡ core = (enqueues_on (λ e. true) start.device (job_bytes core start.job) l it.front it.mid first).core ∙ same in
-      leaves_then l it.front it.mid it.back l' hs it.whole (left_enqueues_on (λ e. true) start.device (job_bytes core start.job) (each start (contains_first start starts)) l it.front it.mid first)
+      let first : EnqueuesOn (λ e. true) start.device (job_bytes core start.job) l it.prefix it.mid = subst (λ (c : State). EnqueuesOn (λ e. true) start.device (job_bytes c start.job) l it.prefix it.mid) same it.first in
+      let core_kept : it.mid.core ≡ core = (enqueues_on (λ e. true) start.device (job_bytes core start.job) l it.prefix it.mid first).core ∙ same in
+      leaves_then l it.prefix it.mid it.back l' hs it.whole (left_enqueues_on (λ e. true) start.device (job_bytes core start.job) (each start (contains_first start starts)) l it.prefix it.mid first)
       (left_starts core starts (λ one has. each one (Contains-append_right (start ∷ []) starts one has)) it.mid it.back l' core_kept it.second)
 
   left_starts_by : (core : State) (made : Dispatch) → ((start : Started) → Contains (began_by made core) start → O start.device (job_bytes core start.job)) → (l : Ledger) (hs : List Happening) (l' : Ledger) → l.core ≡ core → StartsBy made l hs l' → Leaves_it l hs l'
@@ -402,8 +402,8 @@ module _ (O : ℕ → List ℕ → Type 0) (other : ℕ) where
 left_orders : (outcome : Outcome) (core : State) (other : ℕ) (l : Ledger) (hs : List Happening) (l' : Ledger) → l.core ≡ core → Orders outcome l hs l' → Left (λ device bytes. IsOrderBy device outcome core bytes) (Denied (λ device bytes. IsOrderBy device outcome core bytes) hs) (l.entries other) (l'.entries other)
 left_orders (Some handled) core other l hs l' same it =
     let O : ℕ → List ℕ → Type 0 = λ device bytes. IsOrderBy device (Some handled) core bytes in
-    let core_kept : it.mid.core ≡ core = (each_sent handled.effects.cancels.items l it.front it.mid it.first).core ∙ same in
-    leaves_then O other l it.front it.mid it.back l' hs it.whole (left_sends O other handled.effects.cancels.items (λ cancel has. inl (cancel, has, refl, refl)) l it.front it.mid it.first)
+    let core_kept : it.mid.core ≡ core = (each_sent handled.effects.cancels.items l it.prefix it.mid it.first).core ∙ same in
+    leaves_then O other l it.prefix it.mid it.back l' hs it.whole (left_sends O other handled.effects.cancels.items (λ cancel has. inl (cancel, has, refl, refl)) l it.prefix it.mid it.first)
     (left_starts_by O other core handled.dispatch (λ start has. inr (start, has, refl, refl)) it.mid it.back l' core_kept it.second)
 left_orders None core other l hs l' same it = leaves_same (λ device bytes. IsOrderBy device None core bytes) other l hs l' it.1
 
@@ -418,34 +418,34 @@ pub record Spared (F : ℕ → Type 0) (moment key : ℕ) (l : Ledger) (hs : Lis
   pub each : (other : ℕ) → other ≢ key → Left (IsOrder came) (IsCause F came hs) (l.entries other) (l'.entries other)
 
 -- more events, and more happenings
-module _ (first later : List Came) (front back : List Happening) where
+module _ (first later : List Came) (prefix back : List Happening) where
   order_left : (device : ℕ) (bytes : List ℕ) → IsOrder first device bytes → IsOrder (first ++ later) device bytes
   order_left device bytes (it, has, is) = (it, Contains-append_left first later it has, is)
 
   order_right : (device : ℕ) (bytes : List ℕ) → IsOrder later device bytes → IsOrder (first ++ later) device bytes
   order_right device bytes (it, has, is) = (it, Contains-append_right first later it has, is)
 
-  cause_left : (F : ℕ → Type 0) (hs : List Happening) → hs ≡ front ++ back → (device id : ℕ) (ended : Bool) → IsCause F first front device id ended → IsCause F (first ++ later) hs device id ended
-  cause_left F hs whole device id ended (inl (notified, (bytes, is))) = inl (refused_front hs front back whole device id ended notified, (bytes, order_left device bytes is))
+  cause_left : (F : ℕ → Type 0) (hs : List Happening) → hs ≡ prefix ++ back → (device id : ℕ) (ended : Bool) → IsCause F first prefix device id ended → IsCause F (first ++ later) hs device id ended
+  cause_left F hs whole device id ended (inl (notified, (bytes, is))) = inl (refused_prefix hs prefix back whole device id ended notified, (bytes, order_left device bytes is))
   cause_left F hs whole device id ended (inr (is, (it, has, name, named), f)) = inr (is, (it, Contains-append_left first later it has, name, named), f)
 
-  cause_right : (F : ℕ → Type 0) (hs : List Happening) → hs ≡ front ++ back → (device id : ℕ) (ended : Bool) → IsCause F later back device id ended → IsCause F (first ++ later) hs device id ended
-  cause_right F hs whole device id ended (inl (notified, (bytes, is))) = inl (refused_back hs front back whole device id ended notified, (bytes, order_right device bytes is))
+  cause_right : (F : ℕ → Type 0) (hs : List Happening) → hs ≡ prefix ++ back → (device id : ℕ) (ended : Bool) → IsCause F later back device id ended → IsCause F (first ++ later) hs device id ended
+  cause_right F hs whole device id ended (inl (notified, (bytes, is))) = inl (refused_back hs prefix back whole device id ended notified, (bytes, order_right device bytes is))
   cause_right F hs whole device id ended (inr (is, (it, has, name, named), f)) = inr (is, (it, Contains-append_right first later it has, name, named), f)
 
 abbrev IsInTurn : ℕ → Came → Type 0
 IsInTurn moment it = (it.moment ≡ moment) × (it.in_turn ≡ true)
 
-spared_then : (F : ℕ → Type 0) (moment key : ℕ) (l : Ledger) (front : List Happening) (mid : Ledger) (back : List Happening) (l' : Ledger) (hs : List Happening) → hs ≡ front ++ back → Spared F moment key l front mid → Spared F moment key mid back l' → Spared F moment key l hs l'
-spared_then F moment key l front mid back l' hs whole p q = record {
+spared_then : (F : ℕ → Type 0) (moment key : ℕ) (l : Ledger) (prefix : List Happening) (mid : Ledger) (back : List Happening) (l' : Ledger) (hs : List Happening) → hs ≡ prefix ++ back → Spared F moment key l prefix mid → Spared F moment key mid back l' → Spared F moment key l hs l'
+spared_then F moment key l prefix mid back l' hs whole p q = record {
   came = p.came ++ q.came;
   timed = All-append (IsInTurn moment) p.came q.came p.timed q.timed;
   run = run_then l.core mid.core l'.core p.came q.came p.run q.run;
-  notified = notified_then hs front back p.came q.came whole p.notified q.notified;
+  notified = notified_then hs prefix back p.came q.came whole p.notified q.notified;
   each = λ other apart.
       left_then (IsOrder (p.came ++ q.came)) (IsCause F (p.came ++ q.came) hs) (l.entries other) (mid.entries other) (l'.entries other)
-      (left_weaker (IsOrder p.came) (IsOrder (p.came ++ q.came)) (IsCause F p.came front) (IsCause F (p.came ++ q.came) hs) (l.entries other) (mid.entries other) (order_left p.came q.came front back) (cause_left p.came q.came front back F hs whole) (p.each other apart))
-      (left_weaker (IsOrder q.came) (IsOrder (p.came ++ q.came)) (IsCause F q.came back) (IsCause F (p.came ++ q.came) hs) (mid.entries other) (l'.entries other) (order_right p.came q.came front back) (cause_right p.came q.came front back F hs whole) (q.each other apart));
+      (left_weaker (IsOrder p.came) (IsOrder (p.came ++ q.came)) (IsCause F p.came prefix) (IsCause F (p.came ++ q.came) hs) (l.entries other) (mid.entries other) (order_left p.came q.came prefix back) (cause_left p.came q.came prefix back F hs whole) (p.each other apart))
+      (left_weaker (IsOrder q.came) (IsOrder (p.came ++ q.came)) (IsCause F q.came back) (IsCause F (p.came ++ q.came) hs) (mid.entries other) (l'.entries other) (order_right p.came q.came prefix back) (cause_right p.came q.came prefix back F hs whole) (q.each other apart));
 }
 
 -- no event
@@ -481,7 +481,7 @@ brings F moment key event outcome l hs l' happens = record { spared = one; it = 
     each other =
         subst (λ (o : Option Entry). Left (IsOrder (it ∷ [])) (IsCause F (it ∷ []) hs) o (l'.entries other)) (decided other)
         (left_weaker (λ device bytes. IsOrderBy device outcome l'.core bytes) (IsOrder (it ∷ [])) (Denied (λ device bytes. IsOrderBy device outcome l'.core bytes) happens.back) (IsCause F (it ∷ []) hs) (happens.mid.entries other) (l'.entries other) order
-        (λ device id ended d. inl (refused_back hs happens.front happens.back happens.whole device id ended d.0, (d.1.0, order device d.1.0 d.1.1))) (left_orders outcome l'.core other happens.mid happens.back l' core_kept happens.second))
+        (λ device id ended d. inl (refused_back hs happens.prefix happens.back happens.whole device id ended d.0, (d.1.0, order device d.1.0 d.1.1))) (left_orders outcome l'.core other happens.mid happens.back l' core_kept happens.second))
 
     one : Spared F moment key l hs l'
     one = record {
@@ -546,15 +546,15 @@ module _ (moment key : ℕ) where
 
   times_fit : (device n : ℕ) (l : Ledger) (hs : List Happening) (l' : Ledger) → Bears key l device → Times n (ClosesFirst moment) l hs l' → Bears key l' device
   times_fit device zero l hs l' bears it = subst (λ (x : Ledger). Bears key x device) (sym it.1) bears
-  times_fit device (suc n) l hs l' bears it = first_fit device it.mid it.back l' (times_fit device n l it.front it.mid bears it.first) it.second
+  times_fit device (suc n) l hs l' bears it = first_fit device it.mid it.back l' (times_fit device n l it.prefix it.mid bears it.first) it.second
 
-  settles_fit : (device : ℕ) (l : Ledger) (hs : List Happening) (l' : Ledger) → Bears key l device → ClosesBroken moment l hs l' → Bears key l' device
-  settles_fit device l hs l' bears it = times_fit device it.0.0 l hs l' bears it.0.1
+  closes_broken_fit : (device : ℕ) (l : Ledger) (hs : List Happening) (l' : Ledger) → Bears key l device → ClosesBroken moment l hs l' → Bears key l' device
+  closes_broken_fit device l hs l' bears it = times_fit device it.0.0 l hs l' bears it.0.1
 
   kept_fine : (id : ℕ) (what : Ask) → IsFine what → (l : Ledger) (hs : List Happening) (l' : Ledger) → ActsOn moment key id what l hs l' → KeptAll l l'
   kept_fine id ask.Nothing fine l hs l' it = (calms_nothing l hs l' it).kept
   kept_fine id (ask.Broke growth) fine l hs l' it = (calms_notifies (Refused (place_of growth) (Some id)) (silent_growth growth id) l hs l' it).kept
-  kept_fine id (ask.Event who event) fine l hs l' (outcome, it) = kept_next l it.mid l' (happened moment event outcome l it.front it.mid it.first).kept (calms_answers key id who (is_query event) (effects_of outcome) it.mid it.back l' it.second).kept
+  kept_fine id (ask.Event who event) fine l hs l' (outcome, it) = kept_next l it.mid l' (happened moment event outcome l it.prefix it.mid it.first).kept (calms_answers key id who (is_query event) (effects_of outcome) it.mid it.back l' it.second).kept
   kept_fine id (ask.Unread request) fine l hs l' it = (calms_dropped key id request l hs l' it).kept
   kept_fine id (ask.Lost part) fine l hs l' it = (calms_declines (place_of_part part) key id (silent_part part id) l hs l' it).kept
   kept_fine id (ask.Hello device name) fine l hs l' it = absurd fine
@@ -562,13 +562,13 @@ module _ (moment key : ℕ) where
   kept_fine id (ask.UnknownDevice name) fine l hs l' it = (calms_notifies (DeviceRefused id (why.UnknownName name)) refl l hs l' it).kept
   kept_fine id (ask.Fault device) fine l hs l' it = (calms_notifies (DeviceRefused id (why.Fault device)) refl l hs l' it).kept
 
-  acts_by : (device id : ℕ) (what : Ask) (l : Ledger) (front : List Happening) (m : Ledger) (back : List Happening) (l' : Ledger) (a : Asks key id what l front m) → device_of a.entry.progress ≡ Some device → ActsOn moment key id what m back l' → (progress : PeerRecord) → a.entry.progress ≡ progress → Bears key l' device
-  acts_by device id what l front m back l' a named does (Http said closes body) is = let never : None ≡ Some device = sym (ap device_of is) ∙ named in cc
-  acts_by device id what l front m back l' a named does (Queue items session) is = let never : None ≡ Some device = sym (ap device_of is) ∙ named in cc
-  acts_by device id what l front m back l' a named does (Link reports o) is = by (device_step l.core.settings reports o a.entry a.asks.comes a.asks.mid what a.new is (not_broken a.entry.draining a.entry.broken a.asks.counts) (subst (λ (t : PeerRecord). ItemComes l.core.settings t a.entry a.asks.comes a.asks.mid) is a.asks.takes_item) a.asks.steps)
+  acts_by : (device id : ℕ) (what : Ask) (l : Ledger) (prefix : List Happening) (m : Ledger) (back : List Happening) (l' : Ledger) (a : Asks key id what l prefix m) → device_of a.entry.progress ≡ Some device → ActsOn moment key id what m back l' → (progress : PeerRecord) → a.entry.progress ≡ progress → Bears key l' device
+  acts_by device id what l prefix m back l' a named does (Http said closes body) is = let never : None ≡ Some device = sym (ap device_of is) ∙ named in cc
+  acts_by device id what l prefix m back l' a named does (Queue items session) is = let never : None ≡ Some device = sym (ap device_of is) ∙ named in cc
+  acts_by device id what l prefix m back l' a named does (Link reports o) is = by (device_step l.core.settings reports o a.entry a.asks.comes a.asks.mid what a.new is (not_broken a.entry.draining a.entry.broken a.asks.counts) (subst (λ (t : PeerRecord). ItemComes l.core.settings t a.entry a.asks.comes a.asks.mid) is a.asks.takes_item) a.asks.steps)
     where
       at : m.entries key ≡ Some a.new
-      at = asked_here key id what l front m a
+      at = asked_here key id what l prefix m a
 
       by : DeviceStep l.core.settings what a.entry a.new → Bears key l' device
       by (inl (fine, grows)) = fits_kept device a.new (l'.entries key) (ap device_of (named_stays device a.entry a.new named grows) ∙ named) (kept_open a.new (m.entries key) (l'.entries key) at ((kept_fine id what fine m back l' does).each key))
@@ -581,7 +581,7 @@ module _ (moment key : ℕ) where
   acts_fit : (device : ℕ) (l : Ledger) (hs : List Happening) (l' : Ledger) → Bears key l device → Acts moment key l hs l' → Bears key l' device
   acts_fit device l hs l' bears it =
       let a = it.first.2.first in
-      settles_fit device it.mid it.back l' (acts_by device it.first.0 it.first.1 l it.first.2.front it.first.2.mid it.first.2.back it.mid a (bears a.entry a.there) it.first.2.second a.entry.progress refl) it.second
+      closes_broken_fit device it.mid it.back l' (acts_by device it.first.0 it.first.1 l it.first.2.prefix it.first.2.mid it.first.2.back it.mid a (bears a.entry a.there) it.first.2.second a.entry.progress refl) it.second
 
 module _ (F : ℕ → Type 0) (moment key : ℕ) where
   abbrev pub Spares_in : Rel → Type 0
@@ -591,7 +591,7 @@ module _ (F : ℕ → Type 0) (moment key : ℕ) where
   aside_in aside l hs l' it = spared_aside F moment key l hs l' (aside l hs l' it)
 
   joins : (R S : Rel) → Spares_in R → Spares_in S → Spares_in (Then R S)
-  joins R S r s l hs l' it = spared_then F moment key l it.front it.mid it.back l' hs it.whole (r l it.front it.mid it.first) (s it.mid it.back l' it.second)
+  joins R S r s l hs l' it = spared_then F moment key l it.prefix it.mid it.back l' hs it.whole (r l it.prefix it.mid it.first) (s it.mid it.back l' it.second)
 
   or_in : (R S : Rel) → Spares_in R → Spares_in S → Spares_in (Or R S)
   or_in R S r s l hs l' (inl it) = r l hs l' it
@@ -618,18 +618,18 @@ module _ (F : ℕ → Type 0) (moment key : ℕ) where
   spares_gone (Some device) = spares_unanswered (Is.Report device report.Gone)
 
   closes_first : Spares_in (ClosesFirst moment)
-  closes_first l hs l' it = spared_then F moment key l it.closes.front it.closes.mid it.closes.back l' hs it.closes.whole closed (spares_gone (device_of it.entry.progress) it.closes.mid it.closes.back l' it.closes.second)
+  closes_first l hs l' it = spared_then F moment key l it.closes.prefix it.closes.mid it.closes.back l' hs it.closes.whole closed (spares_gone (device_of it.entry.progress) it.closes.mid it.closes.back l' it.closes.second)
     where
-      gone : (other : ℕ) → Left (IsOrder []) (IsCause F [] it.closes.front) (l.entries other) (it.closes.mid.entries other)
+      gone : (other : ℕ) → Left (IsOrder []) (IsCause F [] it.closes.prefix) (l.entries other) (it.closes.mid.entries other)
       gone other =
-          left_at (IsOrder []) (IsCause F [] it.closes.front) other it.key None l it.closes.mid (ap (λ (x : Ledger). x.entries) it.closes.first.2)
-          (λ same. subst (λ (o : Option Entry). Left (IsOrder []) (IsCause F [] it.closes.front) o None) (sym (ap l.entries same ∙ it.there)) (left_closed (IsOrder []) (IsCause F [] it.closes.front) it.entry it.is_broken))
+          left_at (IsOrder []) (IsCause F [] it.closes.prefix) other it.key None l it.closes.mid (ap (λ (x : Ledger). x.entries) it.closes.first.2)
+          (λ same. subst (λ (o : Option Entry). Left (IsOrder []) (IsCause F [] it.closes.prefix) o None) (sym (ap l.entries same ∙ it.there)) (left_closed (IsOrder []) (IsCause F [] it.closes.prefix) it.entry it.is_broken))
 
-      closed : Spared F moment key l it.closes.front it.closes.mid
-      closed = spared_none F moment key l it.closes.front it.closes.mid (ap (λ (x : Ledger). x.core) it.closes.first.2) (ap core_notes it.closes.first.0) (λ other apart. gone other)
+      closed : Spared F moment key l it.closes.prefix it.closes.mid
+      closed = spared_none F moment key l it.closes.prefix it.closes.mid (ap (λ (x : Ledger). x.core) it.closes.first.2) (ap core_notes it.closes.first.0) (λ other apart. gone other)
 
-  pub spares_settles : Spares_in (ClosesBroken moment)
-  spares_settles l hs l' it = many_in (ClosesFirst moment) closes_first l hs l' it.0
+  pub spares_closes_broken : Spares_in (ClosesBroken moment)
+  spares_closes_broken l hs l' it = many_in (ClosesFirst moment) closes_first l hs l' it.0
 
   -- ---- the asks of a connection
 
@@ -656,39 +656,39 @@ module _ (F : ℕ → Type 0) (moment key : ℕ) where
     came = later.came;
     timed = later.timed;
     run = subst (λ (c : State). AreRun c later.came l'.core) way.0 later.run;
-    notified = no_notes hs it.front it.back it.whole way.1 ∙ later.notified;
+    notified = no_notes hs it.prefix it.back it.whole way.1 ∙ later.notified;
     each = λ other apart.
-        left_then (IsOrder later.came) (IsCause F later.came hs) (l.entries other) (it.mid.entries other) (l'.entries other) (superseded later.came hs old device other (l.entries old) l it.front it.mid refl is (again, fits now) it.first)
-        (left_weaker (IsOrder later.came) (IsOrder later.came) (IsCause F later.came it.back) (IsCause F later.came hs) (it.mid.entries other) (l'.entries other) (λ of bytes order. order) behind (later.each other apart));
+        left_then (IsOrder later.came) (IsCause F later.came hs) (l.entries other) (it.mid.entries other) (l'.entries other) (superseded later.came hs old device other (l.entries old) l it.prefix it.mid refl is (again, fits now) it.first)
+        (left_weaker (IsOrder later.came) (IsOrder later.came) (IsCause F later.came it.back) (IsCause F later.came hs) (it.mid.entries other) (l'.entries other) (λ of bytes order. order) tail (later.each other apart));
   }
     where
-      gone : Spared F moment key it.mid it.second.front it.second.mid
-      gone = spares_gone (Some device) it.mid it.second.front it.second.mid it.second.first
+      gone : Spared F moment key it.mid it.second.prefix it.second.mid
+      gone = spares_gone (Some device) it.mid it.second.prefix it.second.mid it.second.first
 
       named : Brings F moment key (Is.Report device (report.Hello name)) it.second.mid it.second.back l'
       named = brings F moment key (Is.Report device (report.Hello name)) it.second.second.0 it.second.mid it.second.back l' it.second.second.1
 
       later : Spared F moment key it.mid it.back l'
-      later = spared_then F moment key it.mid it.second.front it.second.mid it.second.back l' it.back it.second.whole gone named.spared
+      later = spared_then F moment key it.mid it.second.prefix it.second.mid it.second.back l' it.back it.second.whole gone named.spared
 
       first : Kept (it.mid.entries key) (it.second.mid.entries key)
-      first = (happened moment (Is.Report device report.Gone) it.second.first.0 it.mid it.second.front it.second.mid it.second.first.1).kept.each key
+      first = (happened moment (Is.Report device report.Gone) it.second.first.0 it.mid it.second.prefix it.second.mid it.second.first.1).kept.each key
 
       second : Kept (it.second.mid.entries key) (l'.entries key)
       second = (happened moment (Is.Report device (report.Hello name)) it.second.second.0 it.second.mid it.second.back l' it.second.second.1).kept.each key
 
       now : Bears key l' device
-      now = fits_kept device n (l'.entries key) bears (kept_open n (it.mid.entries key) (l'.entries key) ((aside_gives_way old l it.front it.mid it.first).others key (λ same. apart (sym same)) ∙ there) (kept_then (it.mid.entries key) (it.second.mid.entries key) (l'.entries key) first second))
+      now = fits_kept device n (l'.entries key) bears (kept_open n (it.mid.entries key) (l'.entries key) ((aside_gives_way old l it.prefix it.mid it.first).others key (λ same. apart (sym same)) ∙ there) (kept_then (it.mid.entries key) (it.second.mid.entries key) (l'.entries key) first second))
 
-      way : (it.mid.core ≡ l.core) × (core_notes it.front ≡ [])
-      way = way_core old (l.entries old) l it.front it.mid it.first
+      way : (it.mid.core ≡ l.core) × (core_notes it.prefix ≡ [])
+      way = way_core old (l.entries old) l it.prefix it.mid it.first
 
       again : ComesAgain device (gone.came ++ named.spared.came)
       again = (named.it, Contains-append_right gone.came named.spared.came named.it named.has, name, named.is)
 
-      behind : (of id : ℕ) (ended : Bool) → IsCause F later.came it.back of id ended → IsCause F later.came hs of id ended
-      behind of id ended (inl (notified, more)) = inl (refused_back hs it.front it.back it.whole of id ended notified, more)
-      behind of id ended (inr more) = inr more
+      tail : (of id : ℕ) (ended : Bool) → IsCause F later.came it.back of id ended → IsCause F later.came hs of id ended
+      tail of id ended (inl (notified, more)) = inl (refused_back hs it.prefix it.back it.whole of id ended notified, more)
+      tail of id ended (inr more) = inr more
 
   spares_greets : (id device : ℕ) (name : List ℕ) (n : Entry) (l : Ledger) (hs : List Happening) (l' : Ledger) → l.entries key ≡ Some n → device_of n.progress ≡ Some device → (Bears key l' device → F device) → HandlesHello moment key id device name l hs l' → Spared F moment key l hs l'
   spares_greets id device name n l hs l' there bears fits (inl (alone, it)) = spares_unanswered (Is.Report device (report.Hello name)) l hs l' it
@@ -727,8 +727,8 @@ module _ (F : ℕ → Type 0) (moment key : ℕ) where
   acts_as id (ask.Unread request) l hs l' fits it = plain id (ask.Unread request) tt l hs l' it
   acts_as id (ask.Lost part) l hs l' fits it = plain id (ask.Lost part) tt l hs l' it
   acts_as id (ask.Hello device name) l hs l' fits it =
-      spared_then F moment key l it.front it.mid it.back l' hs it.whole (spared_aside F moment key l it.front it.mid (aside_asks id (ask.Hello device name) l it.front it.mid it.first))
-      (spares_greets id device name it.first.new it.mid it.back l' (asked_here key id (ask.Hello device name) l it.front it.mid it.first) (hello_bears l.core.settings device name it.first.entry it.first.new it.first.asks) (fits device) it.second)
+      spared_then F moment key l it.prefix it.mid it.back l' hs it.whole (spared_aside F moment key l it.prefix it.mid (aside_asks id (ask.Hello device name) l it.prefix it.mid it.first))
+      (spares_greets id device name it.first.new it.mid it.back l' (asked_here key id (ask.Hello device name) l it.prefix it.mid it.first) (hello_bears l.core.settings device name it.first.entry it.first.new it.first.asks) (fits device) it.second)
   acts_as id (ask.Report device report) l hs l' fits it = plain id (ask.Report device report) tt l hs l' it
   acts_as id (ask.UnknownDevice name) l hs l' fits it = plain id (ask.UnknownDevice name) tt l hs l' it
   acts_as id (ask.Fault device) l hs l' fits it = plain id (ask.Fault device) tt l hs l' it
@@ -737,27 +737,27 @@ module _ (F : ℕ → Type 0) (moment key : ℕ) where
   spares_acts_next l hs l' fits (id, what, it) = acts_as id what l hs l' fits it
 
   spares_acts : Ends_in (Acts moment key)
-  spares_acts l hs l' fits it = spared_then F moment key l it.front it.mid it.back l' hs it.whole (spares_acts_next l it.front it.mid (λ device fit. fits device (settles_fit moment key device it.mid it.back l' fit it.second)) it.first) (spares_settles it.mid it.back l' it.second)
+  spares_acts l hs l' fits it = spared_then F moment key l it.prefix it.mid it.back l' hs it.whole (spares_acts_next l it.prefix it.mid (λ device fit. fits device (closes_broken_fit moment key device it.mid it.back l' fit it.second)) it.first) (spares_closes_broken it.mid it.back l' it.second)
 
   spares_each : (n : ℕ) → Ends_in (Times n (Acts moment key))
   spares_each zero l hs l' fits it = spared_aside F moment key l hs l' (aside_nothing key l hs l' it)
-  spares_each (suc n) l hs l' fits it = spared_then F moment key l it.front it.mid it.back l' hs it.whole (spares_each n l it.front it.mid (λ device fit. fits device (acts_fit moment key device it.mid it.back l' fit it.second)) it.first) (spares_acts it.mid it.back l' fits it.second)
+  spares_each (suc n) l hs l' fits it = spared_then F moment key l it.prefix it.mid it.back l' hs it.whole (spares_each n l it.prefix it.mid (λ device fit. fits device (acts_fit moment key device it.mid it.back l' fit it.second)) it.first) (spares_acts it.mid it.back l' fits it.second)
 
   spares_serves : Ends_in (Serves moment key)
   spares_serves l hs l' fits it =
-      spared_then F moment key l it.0.front it.0.mid it.0.back l' hs it.0.whole (spares_each it.0.first.0 l it.0.front it.0.mid (λ device fit. fits device (subst (λ (x : Ledger). Bears key x device) (sym it.0.second.1) fit)) it.0.first.1) (spared_aside F moment key it.0.mid it.0.back l' (aside_chooses key Rested it.0.mid it.0.back l' it.0.second))
+      spared_then F moment key l it.0.prefix it.0.mid it.0.back l' hs it.0.whole (spares_each it.0.first.0 l it.0.prefix it.0.mid (λ device fit. fits device (subst (λ (x : Ledger). Bears key x device) (sym it.0.second.1) fit)) it.0.first.1) (spared_aside F moment key it.0.mid it.0.back l' (aside_chooses key Rested it.0.mid it.0.back l' it.0.second))
 
   -- ---- reads, writes and closings that are not at once
 
   spares_fails : Spares_in (Fails moment key)
-  spares_fails = joins (Breaks key) (ClosesBroken moment) (aside_in (aside_breaks key)) spares_settles
+  spares_fails = joins (Breaks key) (ClosesBroken moment) (aside_in (aside_breaks key)) spares_closes_broken
 
   last : (R S : Rel) → Spares_in R → Ends_in S → Ends_in (Then R S)
-  last R S r q l hs l' fits it = spared_then F moment key l it.front it.mid it.back l' hs it.whole (r l it.front it.mid it.first) (q it.mid it.back l' fits it.second)
+  last R S r q l hs l' fits it = spared_then F moment key l it.prefix it.mid it.back l' hs it.whole (r l it.prefix it.mid it.first) (q it.mid it.back l' fits it.second)
 
   spares_fed : (e : Entry) (bytes : List ℕ) → Ends_in (FedWhole moment key e bytes)
   spares_fed e bytes l hs l' fits (inl it) = last (Sets key (reading bytes e)) (Serves moment key) (aside_in (aside_sets key (reading bytes e))) spares_serves l hs l' fits it
-  spares_fed e bytes l hs l' fits (inr it) = joins (Drops At.Feed key e) (ClosesBroken moment) (aside_in (aside_drops key At.Feed e refl)) spares_settles l hs l' it
+  spares_fed e bytes l hs l' fits (inr it) = joins (Drops At.Feed key e) (ClosesBroken moment) (aside_in (aside_drops key At.Feed e refl)) spares_closes_broken l hs l' it
 
   ends_if : (t : Bool) (R S : Rel) → Ends_in R → Ends_in S → Ends_in (If t R S)
   ends_if true R S r q l hs l' fits it = r l hs l' fits it
@@ -809,115 +809,115 @@ module _ (F : ℕ → Type 0) (moment key : ℕ) where
 
   ends_at : (o : Option Entry) → Spares_in (EndsAt moment key o)
   ends_at None = aside_in (aside_nothing key)
-  ends_at (Some e) = if_in (is_done e) (Then (ClosesAs moment Drained key e) (ClosesBroken moment)) Nothing (joins (ClosesAs moment Drained key e) (ClosesBroken moment) (closes_as e) spares_settles) (aside_in (aside_nothing key))
+  ends_at (Some e) = if_in (is_done e) (Then (ClosesAs moment Drained key e) (ClosesBroken moment)) Nothing (joins (ClosesAs moment Drained key e) (ClosesBroken moment) (closes_as e) spares_closes_broken) (aside_in (aside_nothing key))
 
   pub spares_ends : Spares_in (EndsOne moment key)
   spares_ends l hs l' it = ends_at (l.entries key) l hs l' it
 
 -- ---- none is broken afterwards
 
-abbrev pub Settled : Rel → Type 0
-Settled R = (l : Ledger) (hs : List Happening) (l' : Ledger) → NoneBroken l → R l hs l' → NoneBroken l'
+abbrev pub Unbroken : Rel → Type 0
+Unbroken R = (l : Ledger) (hs : List Happening) (l' : Ledger) → NoneBroken l → R l hs l' → NoneBroken l'
 
-settled_same : (l l' : Ledger) → l'.entries ≡ l.entries → NoneBroken l → NoneBroken l'
-settled_same l l' same none key is = none key (subst (λ (entries : ℕ → Option Entry). IsBroken (entries key)) same is)
+unbroken_same : (l l' : Ledger) → l'.entries ≡ l.entries → NoneBroken l → NoneBroken l'
+unbroken_same l l' same none key is = none key (subst (λ (entries : ℕ → Option Entry). IsBroken (entries key)) same is)
 
-pub settled_nothing : Settled Nothing
-settled_nothing l hs l' none it = settled_same l l' (ap (λ (x : Ledger). x.entries) it.1) none
+pub unbroken_nothing : Unbroken Nothing
+unbroken_nothing l hs l' none it = unbroken_same l l' (ap (λ (x : Ledger). x.entries) it.1) none
 
-pub settled_last : (R : Rel) (moment : ℕ) → Settled (Then R (ClosesBroken moment))
-settled_last R moment l hs l' none it = it.second.1
+pub unbroken_last : (R : Rel) (moment : ℕ) → Unbroken (Then R (ClosesBroken moment))
+unbroken_last R moment l hs l' none it = it.second.1
 
-pub settled_then : (R S : Rel) → Settled R → Settled S → Settled (Then R S)
-settled_then R S r s l hs l' none it = s it.mid it.back l' (r l it.front it.mid none it.first) it.second
+pub unbroken_then : (R S : Rel) → Unbroken R → Unbroken S → Unbroken (Then R S)
+unbroken_then R S r s l hs l' none it = s it.mid it.back l' (r l it.prefix it.mid none it.first) it.second
 
-settled_if : (t : Bool) (R S : Rel) → Settled R → Settled S → Settled (If t R S)
-settled_if true R S r s l hs l' none it = r l hs l' none it
-settled_if false R S r s l hs l' none it = s l hs l' none it
+unbroken_if : (t : Bool) (R S : Rel) → Unbroken R → Unbroken S → Unbroken (If t R S)
+unbroken_if true R S r s l hs l' none it = r l hs l' none it
+unbroken_if false R S r s l hs l' none it = s l hs l' none it
 
-settled_times : (n : ℕ) (R : Rel) → Settled R → Settled (Times n R)
-settled_times zero R r = settled_nothing
-settled_times (suc n) R r = settled_then (Times n R) R (settled_times n R r) r
+unbroken_times : (n : ℕ) (R : Rel) → Unbroken R → Unbroken (Times n R)
+unbroken_times zero R r = unbroken_nothing
+unbroken_times (suc n) R r = unbroken_then (Times n R) R (unbroken_times n R r) r
 
-settled_polls : (poll : Poll) → Settled (Polls poll)
-settled_polls poll l hs l' none it = settled_same l l' (ap (λ (x : Ledger). x.entries) it.1) none
+unbroken_polls : (poll : Poll) → Unbroken (Polls poll)
+unbroken_polls poll l hs l' none it = unbroken_same l l' (ap (λ (x : Ledger). x.entries) it.1) none
 
 broken_if : (t : Bool) (x y : Option Entry) → (IsBroken x → ⊥) → (IsBroken y → ⊥) → IsBroken (if t then x else y) → ⊥
 broken_if true x y p q is = p is
 broken_if false x y p q is = q is
 
 -- a connection that isn't broken changes
-pub settled_sets : (key : ℕ) (d e : Entry) (l : Ledger) (hs : List Happening) (l' : Ledger) → NoneBroken l → l.entries key ≡ Some d → e.broken ≡ d.broken → Sets key e l hs l' → NoneBroken l'
-settled_sets key d e l hs l' none there same it other is =
+pub unbroken_sets : (key : ℕ) (d e : Entry) (l : Ledger) (hs : List Happening) (l' : Ledger) → NoneBroken l → l.entries key ≡ Some d → e.broken ≡ d.broken → Sets key e l hs l' → NoneBroken l'
+unbroken_sets key d e l hs l' none there same it other is =
     broken_if (other == key) (Some e) (l.entries other) (λ broken. none key (subst IsBroken (sym there) (sym same ∙ broken))) (none other) (subst (λ (x : Ledger). IsBroken (x.entries other)) it.1 is)
 
-settled_serves : (moment key : ℕ) → Settled (Serves moment key)
-settled_serves moment key l hs l' none it =
-    let acted = settled_times it.0.first.0 (Acts moment key) (settled_last (ActsNext moment key) moment) l it.0.front it.0.mid none it.0.first.1 in
-    settled_same it.0.mid l' (ap (λ (x : Ledger). x.entries) it.0.second.1) acted
+unbroken_serves : (moment key : ℕ) → Unbroken (Serves moment key)
+unbroken_serves moment key l hs l' none it =
+    let acted = unbroken_times it.0.first.0 (Acts moment key) (unbroken_last (ActsNext moment key) moment) l it.0.prefix it.0.mid none it.0.first.1 in
+    unbroken_same it.0.mid l' (ap (λ (x : Ledger). x.entries) it.0.second.1) acted
 
-settled_fed : (moment key : ℕ) (e : Entry) (bytes : List ℕ) (l : Ledger) (hs : List Happening) (l' : Ledger) → NoneBroken l → l.entries key ≡ Some e → FedWhole moment key e bytes l hs l' → NoneBroken l'
-settled_fed moment key e bytes l hs l' none there (inl it) = settled_serves moment key it.mid it.back l' (settled_sets key e (reading bytes e) l it.front it.mid none there refl it.first) it.second
-settled_fed moment key e bytes l hs l' none there (inr it) = it.second.1
+unbroken_fed : (moment key : ℕ) (e : Entry) (bytes : List ℕ) (l : Ledger) (hs : List Happening) (l' : Ledger) → NoneBroken l → l.entries key ≡ Some e → FedWhole moment key e bytes l hs l' → NoneBroken l'
+unbroken_fed moment key e bytes l hs l' none there (inl it) = unbroken_serves moment key it.mid it.back l' (unbroken_sets key e (reading bytes e) l it.prefix it.mid none there refl it.first) it.second
+unbroken_fed moment key e bytes l hs l' none there (inr it) = it.second.1
 
-settled_open : (t : Bool) (moment key : ℕ) (e : Entry) (bytes : List ℕ) (l : Ledger) (hs : List Happening) (l' : Ledger) → NoneBroken l → l.entries key ≡ Some e → If t (Sets key e) (FedWhole moment key e bytes) l hs l' → NoneBroken l'
-settled_open true moment key e bytes l hs l' none there it = settled_sets key e e l hs l' none there refl it
-settled_open false moment key e bytes l hs l' none there it = settled_fed moment key e bytes l hs l' none there it
+unbroken_open : (t : Bool) (moment key : ℕ) (e : Entry) (bytes : List ℕ) (l : Ledger) (hs : List Happening) (l' : Ledger) → NoneBroken l → l.entries key ≡ Some e → If t (Sets key e) (FedWhole moment key e bytes) l hs l' → NoneBroken l'
+unbroken_open true moment key e bytes l hs l' none there it = unbroken_sets key e e l hs l' none there refl it
+unbroken_open false moment key e bytes l hs l' none there it = unbroken_fed moment key e bytes l hs l' none there it
 
-settled_feeds_at : (moment key : ℕ) (bytes : List ℕ) (o : Option Entry) (l : Ledger) (hs : List Happening) (l' : Ledger) → NoneBroken l → l.entries key ≡ o → FeedsAt moment key bytes o l hs l' → NoneBroken l'
-settled_feeds_at moment key bytes None l hs l' none there it = settled_nothing l hs l' none it
-settled_feeds_at moment key bytes (Some e) l hs l' none there it = settled_open e.draining moment key e bytes l hs l' none there it
+unbroken_feeds_at : (moment key : ℕ) (bytes : List ℕ) (o : Option Entry) (l : Ledger) (hs : List Happening) (l' : Ledger) → NoneBroken l → l.entries key ≡ o → FeedsAt moment key bytes o l hs l' → NoneBroken l'
+unbroken_feeds_at moment key bytes None l hs l' none there it = unbroken_nothing l hs l' none it
+unbroken_feeds_at moment key bytes (Some e) l hs l' none there it = unbroken_open e.draining moment key e bytes l hs l' none there it
 
-settled_feeds : (moment key : ℕ) (bytes : List ℕ) → Settled (FeedsOne moment key bytes)
-settled_feeds moment key bytes l hs l' none it = settled_feeds_at moment key bytes (l.entries key) l hs l' none refl it
+unbroken_feeds : (moment key : ℕ) (bytes : List ℕ) → Unbroken (FeedsOne moment key bytes)
+unbroken_feeds moment key bytes l hs l' none it = unbroken_feeds_at moment key bytes (l.entries key) l hs l' none refl it
 
-settled_fails : (moment key : ℕ) → Settled (Fails moment key)
-settled_fails moment key = settled_last (Breaks key) moment
+unbroken_fails : (moment key : ℕ) → Unbroken (Fails moment key)
+unbroken_fails moment key = unbroken_last (Breaks key) moment
 
-settled_after : (poll : Poll) (key : ℕ) (d e : Entry) (l : Ledger) (hs : List Happening) (l' : Ledger) → NoneBroken l → l.entries key ≡ Some d → e.broken ≡ d.broken → Then (Polls poll) (Sets key e) l hs l' → NoneBroken l'
-settled_after poll key d e l hs l' none there same it =
-    settled_sets key d e it.mid it.back l' (settled_polls poll l it.front it.mid none it.first) (ap (λ (x : Ledger). x.entries key) it.first.1 ∙ there) same it.second
+unbroken_after : (poll : Poll) (key : ℕ) (d e : Entry) (l : Ledger) (hs : List Happening) (l' : Ledger) → NoneBroken l → l.entries key ≡ Some d → e.broken ≡ d.broken → Then (Polls poll) (Sets key e) l hs l' → NoneBroken l'
+unbroken_after poll key d e l hs l' none there same it =
+    unbroken_sets key d e it.mid it.back l' (unbroken_polls poll l it.prefix it.mid none it.first) (ap (λ (x : Ledger). x.entries key) it.first.1 ∙ there) same it.second
 
-settled_reads_as : (moment key : ℕ) (e : Entry) (answer : WireAnswer (List ℕ)) (l : Ledger) (hs : List Happening) (l' : Ledger) → NoneBroken l → l.entries key ≡ Some e → ReadsAs moment key e answer l hs l' → NoneBroken l'
-settled_reads_as moment key e (wire.Done bytes) l hs l' none there it = settled_then (Polls (Reads e.id (wire.Done bytes))) (FeedsOne moment key bytes) (settled_polls (Reads e.id (wire.Done bytes))) (settled_feeds moment key bytes) l hs l' none it
-settled_reads_as moment key e wire.Waiting l hs l' none there it = settled_polls (Reads e.id wire.Waiting) l hs l' none it
-settled_reads_as moment key e wire.End l hs l' none there it = settled_after (Reads e.id wire.End) key e (record e { ended = true }) l hs l' none there refl it
-settled_reads_as moment key e wire.Fault l hs l' none there it = settled_then (Polls (Reads e.id wire.Fault)) (Fails moment key) (settled_polls (Reads e.id wire.Fault)) (settled_fails moment key) l hs l' none it
+unbroken_reads_as : (moment key : ℕ) (e : Entry) (answer : WireAnswer (List ℕ)) (l : Ledger) (hs : List Happening) (l' : Ledger) → NoneBroken l → l.entries key ≡ Some e → ReadsAs moment key e answer l hs l' → NoneBroken l'
+unbroken_reads_as moment key e (wire.Done bytes) l hs l' none there it = unbroken_then (Polls (Reads e.id (wire.Done bytes))) (FeedsOne moment key bytes) (unbroken_polls (Reads e.id (wire.Done bytes))) (unbroken_feeds moment key bytes) l hs l' none it
+unbroken_reads_as moment key e wire.Waiting l hs l' none there it = unbroken_polls (Reads e.id wire.Waiting) l hs l' none it
+unbroken_reads_as moment key e wire.End l hs l' none there it = unbroken_after (Reads e.id wire.End) key e (record e { ended = true }) l hs l' none there refl it
+unbroken_reads_as moment key e wire.Fault l hs l' none there it = unbroken_then (Polls (Reads e.id wire.Fault)) (Fails moment key) (unbroken_polls (Reads e.id wire.Fault)) (unbroken_fails moment key) l hs l' none it
 
-settled_reads_if : (t : Bool) (moment key : ℕ) (e : Entry) (l : Ledger) (hs : List Happening) (l' : Ledger) → NoneBroken l → l.entries key ≡ Some e → If t (ReadsOpen moment key e) Nothing l hs l' → NoneBroken l'
-settled_reads_if true moment key e l hs l' none there (answer, piece, it) = settled_reads_as moment key e answer l hs l' none there it
-settled_reads_if false moment key e l hs l' none there it = settled_nothing l hs l' none it
+unbroken_reads_if : (t : Bool) (moment key : ℕ) (e : Entry) (l : Ledger) (hs : List Happening) (l' : Ledger) → NoneBroken l → l.entries key ≡ Some e → If t (ReadsOpen moment key e) Nothing l hs l' → NoneBroken l'
+unbroken_reads_if true moment key e l hs l' none there (answer, segment, it) = unbroken_reads_as moment key e answer l hs l' none there it
+unbroken_reads_if false moment key e l hs l' none there it = unbroken_nothing l hs l' none it
 
-settled_reads_at : (moment key : ℕ) (o : Option Entry) (l : Ledger) (hs : List Happening) (l' : Ledger) → NoneBroken l → l.entries key ≡ o → ReadsAt moment key o l hs l' → NoneBroken l'
-settled_reads_at moment key None l hs l' none there it = settled_nothing l hs l' none it
-settled_reads_at moment key (Some e) l hs l' none there it = settled_reads_if (is_read e) moment key e l hs l' none there it
+unbroken_reads_at : (moment key : ℕ) (o : Option Entry) (l : Ledger) (hs : List Happening) (l' : Ledger) → NoneBroken l → l.entries key ≡ o → ReadsAt moment key o l hs l' → NoneBroken l'
+unbroken_reads_at moment key None l hs l' none there it = unbroken_nothing l hs l' none it
+unbroken_reads_at moment key (Some e) l hs l' none there it = unbroken_reads_if (is_read e) moment key e l hs l' none there it
 
-pub settled_reads : (moment key : ℕ) → Settled (ReadsOne moment key)
-settled_reads moment key l hs l' none it = settled_reads_at moment key (l.entries key) l hs l' none refl it
+pub unbroken_reads : (moment key : ℕ) → Unbroken (ReadsOne moment key)
+unbroken_reads moment key l hs l' none it = unbroken_reads_at moment key (l.entries key) l hs l' none refl it
 
-settled_writes_as : (moment key : ℕ) (e : Entry) (offered : List ℕ) (answer : WireAnswer ℕ) (l : Ledger) (hs : List Happening) (l' : Ledger) → NoneBroken l → l.entries key ≡ Some e → WritesAs moment key e offered answer l hs l' → NoneBroken l'
-settled_writes_as moment key e offered (wire.Done n) l hs l' none there it = settled_after (Writes e.id offered (wire.Done n)) key e (record e { taken = e.taken ++ take n offered }) l hs l' none there refl it
-settled_writes_as moment key e offered wire.Waiting l hs l' none there it = settled_polls (Writes e.id offered wire.Waiting) l hs l' none it
-settled_writes_as moment key e offered wire.End l hs l' none there it = settled_then (Polls (Writes e.id offered wire.End)) (Fails moment key) (settled_polls (Writes e.id offered wire.End)) (settled_fails moment key) l hs l' none it
-settled_writes_as moment key e offered wire.Fault l hs l' none there it = settled_then (Polls (Writes e.id offered wire.Fault)) (Fails moment key) (settled_polls (Writes e.id offered wire.Fault)) (settled_fails moment key) l hs l' none it
+unbroken_writes_as : (moment key : ℕ) (e : Entry) (offered : List ℕ) (answer : WireAnswer ℕ) (l : Ledger) (hs : List Happening) (l' : Ledger) → NoneBroken l → l.entries key ≡ Some e → WritesAs moment key e offered answer l hs l' → NoneBroken l'
+unbroken_writes_as moment key e offered (wire.Done n) l hs l' none there it = unbroken_after (Writes e.id offered (wire.Done n)) key e (record e { taken = e.taken ++ take n offered }) l hs l' none there refl it
+unbroken_writes_as moment key e offered wire.Waiting l hs l' none there it = unbroken_polls (Writes e.id offered wire.Waiting) l hs l' none it
+unbroken_writes_as moment key e offered wire.End l hs l' none there it = unbroken_then (Polls (Writes e.id offered wire.End)) (Fails moment key) (unbroken_polls (Writes e.id offered wire.End)) (unbroken_fails moment key) l hs l' none it
+unbroken_writes_as moment key e offered wire.Fault l hs l' none there it = unbroken_then (Polls (Writes e.id offered wire.Fault)) (Fails moment key) (unbroken_polls (Writes e.id offered wire.Fault)) (unbroken_fails moment key) l hs l' none it
 
-settled_writes_if : (t : Bool) (moment key : ℕ) (e : Entry) (l : Ledger) (hs : List Happening) (l' : Ledger) → NoneBroken l → l.entries key ≡ Some e → If t (WritesOpen moment key e) Nothing l hs l' → NoneBroken l'
-settled_writes_if true moment key e l hs l' none there (offered, front, answer, it) = settled_writes_as moment key e offered answer l hs l' none there it
-settled_writes_if false moment key e l hs l' none there it = settled_nothing l hs l' none it
+unbroken_writes_if : (t : Bool) (moment key : ℕ) (e : Entry) (l : Ledger) (hs : List Happening) (l' : Ledger) → NoneBroken l → l.entries key ≡ Some e → If t (WritesOpen moment key e) Nothing l hs l' → NoneBroken l'
+unbroken_writes_if true moment key e l hs l' none there (offered, prefix, answer, it) = unbroken_writes_as moment key e offered answer l hs l' none there it
+unbroken_writes_if false moment key e l hs l' none there it = unbroken_nothing l hs l' none it
 
-settled_writes_at : (moment key : ℕ) (o : Option Entry) (l : Ledger) (hs : List Happening) (l' : Ledger) → NoneBroken l → l.entries key ≡ o → WritesAt moment key o l hs l' → NoneBroken l'
-settled_writes_at moment key None l hs l' none there it = settled_nothing l hs l' none it
-settled_writes_at moment key (Some e) l hs l' none there it = settled_writes_if (nat_lt 0 (length (waiting e))) moment key e l hs l' none there it
+unbroken_writes_at : (moment key : ℕ) (o : Option Entry) (l : Ledger) (hs : List Happening) (l' : Ledger) → NoneBroken l → l.entries key ≡ o → WritesAt moment key o l hs l' → NoneBroken l'
+unbroken_writes_at moment key None l hs l' none there it = unbroken_nothing l hs l' none it
+unbroken_writes_at moment key (Some e) l hs l' none there it = unbroken_writes_if (nat_lt 0 (length (waiting e))) moment key e l hs l' none there it
 
-pub settled_writes : (moment key : ℕ) → Settled (WritesOne moment key)
-settled_writes moment key l hs l' none it = settled_writes_at moment key (l.entries key) l hs l' none refl it
+pub unbroken_writes : (moment key : ℕ) → Unbroken (WritesOne moment key)
+unbroken_writes moment key l hs l' none it = unbroken_writes_at moment key (l.entries key) l hs l' none refl it
 
-settled_ends_at : (moment key : ℕ) (o : Option Entry) → Settled (EndsAt moment key o)
-settled_ends_at moment key None = settled_nothing
-settled_ends_at moment key (Some e) = settled_if (is_done e) (Then (ClosesAs moment Drained key e) (ClosesBroken moment)) Nothing (settled_last (ClosesAs moment Drained key e) moment) settled_nothing
+unbroken_ends_at : (moment key : ℕ) (o : Option Entry) → Unbroken (EndsAt moment key o)
+unbroken_ends_at moment key None = unbroken_nothing
+unbroken_ends_at moment key (Some e) = unbroken_if (is_done e) (Then (ClosesAs moment Drained key e) (ClosesBroken moment)) Nothing (unbroken_last (ClosesAs moment Drained key e) moment) unbroken_nothing
 
-pub settled_ends : (moment key : ℕ) → Settled (EndsOne moment key)
-settled_ends moment key l hs l' none it = settled_ends_at moment key (l.entries key) l hs l' none it
+pub unbroken_ends : (moment key : ℕ) → Unbroken (EndsOne moment key)
+unbroken_ends moment key l hs l' none it = unbroken_ends_at moment key (l.entries key) l hs l' none it
 
 -- ---- the law
 
@@ -956,7 +956,7 @@ spares moment key l hs l' none after it = record {
 
 pub spares_all : (moment : ℕ) → SparesAll moment
 spares_all moment = record {
-  reads = λ key l hs l' none it. spares moment key l hs l' none (settled_reads moment key l hs l' none it) (spares_reads (Bears key l') moment key l hs l' (λ device fit. fit) it);
-  writes = λ key l hs l' none it. spares moment key l hs l' none (settled_writes moment key l hs l' none it) (spares_writes (Bears key l') moment key l hs l' it);
-  ends = λ key l hs l' none it. spares moment key l hs l' none (settled_ends moment key l hs l' none it) (spares_ends (Bears key l') moment key l hs l' it);
+  reads = λ key l hs l' none it. spares moment key l hs l' none (unbroken_reads moment key l hs l' none it) (spares_reads (Bears key l') moment key l hs l' (λ device fit. fit) it);
+  writes = λ key l hs l' none it. spares moment key l hs l' none (unbroken_writes moment key l hs l' none it) (spares_writes (Bears key l') moment key l hs l' it);
+  ends = λ key l hs l' none it. spares moment key l hs l' none (unbroken_ends moment key l hs l' none it) (spares_ends (Bears key l') moment key l hs l' it);
 }

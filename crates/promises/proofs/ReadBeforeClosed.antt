@@ -36,7 +36,7 @@ use Rattle.server.specs.Turn as Between
 use Rattle.server.specs.Turn.{Ticks, is_tick_due, TicksIfDue, Round, Turn, BodyAsks, BodyComes, Action, Turned, Served_body, Reported, Ticked, Trace, DoesAction, Runs}
 use Rattle.promises.proofs.StreamSteps.{silent_growth, silent_part}
 use Rattle.promises.proofs.CalmParts.{Calms, calms_nothing, calms_notifies, calms_choice, calms_polls, calms_breaks, calms_dropped, calms_declines, calms_answers, body_answers, happened}
-use Rattle.promises.proofs.ReadIsActedOn.{AllActedOn, broken_acted_on, there, keeps_same, keeps_settles, keeps_each, keeps_reads, keeps_writes, keeps_ends, keeps_tick, keeps_accepts, keeps_action}
+use Rattle.promises.proofs.ReadIsActedOn.{AllActedOn, broken_acted_on, there, keeps_same, keeps_closes_broken, keeps_each, keeps_reads, keeps_writes, keeps_ends, keeps_tick, keeps_accepts, keeps_action}
 
 -- of each closed connection
 abbrev pub EndActedOn : Ledger → Type 0
@@ -52,7 +52,7 @@ calmly : {R : Rel} → Calms R → Ends R
 calmly calms l hs l' it = ends_same l l' (calms l hs l' it).kept.closed
 
 ends_then : {R S : Rel} → Ends R → Ends S → Ends (Then R S)
-ends_then f g l hs l' it ended = g it.mid it.back l' it.second (f l it.front it.mid it.first ended)
+ends_then f g l hs l' it ended = g it.mid it.back l' it.second (f l it.prefix it.mid it.first ended)
 
 ends_if : (test : Bool) (R S : Rel) → Ends R → Ends S → Ends (If test R S)
 ends_if true R S f g l hs l' it = f l hs l' it
@@ -92,8 +92,8 @@ module _ (moment : ℕ) where
   ends_closes : (fate : Fate) (key : ℕ) (e : Entry) → IsActedOn e → Ends (ClosesAs moment fate key e)
   ends_closes fate key e acted_on = ends_then (ends_leaves fate key e acted_on) (ends_gone (device_of e.progress))
 
-  ends_settles : Ends (ClosesBroken moment)
-  ends_settles l hs l' it = ends_many (ClosesFirst moment) (λ a ks b first. ends_closes Broken first.key first.entry (broken_acted_on first.entry first.is_broken) a ks b first.closes) l hs l' it.0
+  ends_closes_broken : Ends (ClosesBroken moment)
+  ends_closes_broken l hs l' it = ends_many (ClosesFirst moment) (λ a ks b first. ends_closes Broken first.key first.entry (broken_acted_on first.entry first.is_broken) a ks b first.closes) l hs l' it.0
 
   -- ---- the asks of a connection
 
@@ -127,14 +127,14 @@ module _ (moment : ℕ) where
   -- ---- reads, writes and closings
 
   ends_serves : (key : ℕ) → Ends (Serves moment key)
-  ends_serves key l hs l' it = ends_then (ends_many (Acts moment key) (ends_then (ends_acts_next key) ends_settles)) (calmly (calms_choice Rested)) l hs l' it.0
+  ends_serves key l hs l' it = ends_then (ends_many (Acts moment key) (ends_then (ends_acts_next key) ends_closes_broken)) (calmly (calms_choice Rested)) l hs l' it.0
 
   ends_fails : (key : ℕ) → Ends (Fails moment key)
-  ends_fails key = ends_then (calmly (calms_breaks key)) ends_settles
+  ends_fails key = ends_then (calmly (calms_breaks key)) ends_closes_broken
 
   fed_whole : (key : ℕ) (e : Entry) (bytes : List ℕ) → Ends (FedWhole moment key e bytes)
   fed_whole key e bytes l hs l' (inl it) = ends_then (ends_sets key (reading bytes e)) (ends_serves key) l hs l' it
-  fed_whole key e bytes l hs l' (inr it) = ends_then {R = Drops At.Feed key e} (λ a ks b is. ends_same a b (ap (λ (x : Ledger). x.closed) is.1)) ends_settles l hs l' it
+  fed_whole key e bytes l hs l' (inr it) = ends_then {R = Drops At.Feed key e} (λ a ks b is. ends_same a b (ap (λ (x : Ledger). x.closed) is.1)) ends_closes_broken l hs l' it
 
   feeds_at : (key : ℕ) (bytes : List ℕ) (o : Option Entry) → Ends (FeedsAt moment key bytes o)
   feeds_at key bytes None = calmly calms_nothing
@@ -151,7 +151,7 @@ module _ (moment : ℕ) where
 
   reads_at : (key : ℕ) (o : Option Entry) → Ends (ReadsAt moment key o)
   reads_at key None = calmly calms_nothing
-  reads_at key (Some e) = ends_if (is_read e) (ReadsOpen moment key e) Nothing (λ l hs l' (answer, piece, it). reads_as key e answer l hs l' it) (calmly calms_nothing)
+  reads_at key (Some e) = ends_if (is_read e) (ReadsOpen moment key e) Nothing (λ l hs l' (answer, segment, it). reads_as key e answer l hs l' it) (calmly calms_nothing)
 
   ends_reads : (key : ℕ) → Ends (ReadsOne moment key)
   ends_reads key l hs l' it = reads_at key (l.entries key) l hs l' it
@@ -173,12 +173,12 @@ module _ (moment : ℕ) where
   done_at : (key : ℕ) (o : Option Entry) (l : Ledger) (hs : List Happening) (l' : Ledger) → l.entries key ≡ o → AllActedOn l → EndsAt moment key o l hs l' → EndActedOn l → EndActedOn l'
   done_at key None l hs l' open_there acted_on it = calmly calms_nothing l hs l' it
   done_at key (Some e) l hs l' open_there acted_on it =
-      ends_if (is_done e) (Then (ClosesAs moment Drained key e) (ClosesBroken moment)) Nothing (ends_then (ends_closes Drained key e (there l key e acted_on open_there)) ends_settles) (calmly calms_nothing) l hs l' it
+      ends_if (is_done e) (Then (ClosesAs moment Drained key e) (ClosesBroken moment)) Nothing (ends_then (ends_closes Drained key e (there l key e acted_on open_there)) ends_closes_broken) (calmly calms_nothing) l hs l' it
 
   ends_done : (n : ℕ) (l : Ledger) (hs : List Happening) (l' : Ledger) → AllActedOn l → Each n (EndsOne moment) l hs l' → EndActedOn l → EndActedOn l'
   ends_done zero l hs l' acted_on it ended = calmly calms_nothing l hs l' it ended
   ends_done (suc n) l hs l' acted_on it ended =
-      done_at n (it.mid.entries n) it.mid it.back l' refl (keeps_each n (EndsOne moment) (keeps_ends moment) l it.front it.mid acted_on it.first) it.second (ends_done n l it.front it.mid acted_on it.first ended)
+      done_at n (it.mid.entries n) it.mid it.back l' refl (keeps_each n (EndsOne moment) (keeps_ends moment) l it.prefix it.mid acted_on it.first) it.second (ends_done n l it.prefix it.mid acted_on it.first ended)
 
   -- ---- a turn
 
@@ -186,7 +186,7 @@ module _ (moment : ℕ) where
   ends_ticks l hs l' it ended = ends_unanswered Is.Tick it.mid it.back l' it.second (ends_same l it.mid (ap (λ (x : Ledger). x.closed) it.first.1) ended)
 
   ends_tick_due : Ends (TicksIfDue moment)
-  ends_tick_due l hs l' it = ends_if (is_tick_due moment l) (Then (Ticks moment) (ClosesBroken moment)) Nothing (ends_then ends_ticks ends_settles) (calmly calms_nothing) l hs l' it
+  ends_tick_due l hs l' it = ends_if (is_tick_due moment l) (Then (Ticks moment) (ClosesBroken moment)) Nothing (ends_then ends_ticks ends_closes_broken) (calmly calms_nothing) l hs l' it
 
   ends_opens : (door : Door) (id : ℕ) → Ends (Opens door id)
   ends_opens door id l hs l' (inl (key, free, is, after)) = ends_same l l' (ap (λ (x : Ledger). x.closed) after)
@@ -205,26 +205,26 @@ module _ (moment : ℕ) where
   ends_round l hs l' acted_on (n, it) ended =
       let looked = keeps_same l it.mid (ap (λ (x : Ledger). x.entries) it.first.1.1) acted_on in
       let reads = it.second in
-      let read = keeps_each n (ReadsOne moment) (keeps_reads moment) it.mid reads.front reads.mid looked reads.first in
+      let read = keeps_each n (ReadsOne moment) (keeps_reads moment) it.mid reads.prefix reads.mid looked reads.first in
       let writes = reads.second in
-      let written = keeps_each n (WritesOne moment) (keeps_writes moment) reads.mid writes.front writes.mid read writes.first in
+      let written = keeps_each n (WritesOne moment) (keeps_writes moment) reads.mid writes.prefix writes.mid read writes.first in
       ends_done n writes.mid writes.back l' written writes.second
-      (ends_each n (WritesOne moment) ends_writes reads.mid writes.front writes.mid writes.first (ends_each n (ReadsOne moment) ends_reads it.mid reads.front reads.mid reads.first (ends_same l it.mid (ap (λ (x : Ledger). x.closed) it.first.1.1) ended)))
+      (ends_each n (WritesOne moment) ends_writes reads.mid writes.prefix writes.mid writes.first (ends_each n (ReadsOne moment) ends_reads it.mid reads.prefix reads.mid reads.first (ends_same l it.mid (ap (λ (x : Ledger). x.closed) it.first.1.1) ended)))
 
   ends_turn : (l : Ledger) (hs : List Happening) (l' : Ledger) → AllActedOn l → Turn moment l hs l' → EndActedOn l → EndActedOn l'
   ends_turn l hs l' acted_on it ended =
-      let settled = keeps_settles moment l it.front it.mid acted_on it.first in
+      let unbroken = keeps_closes_broken moment l it.prefix it.mid acted_on it.first in
       let tick = it.second in
-      let ticked = keeps_tick moment it.mid tick.front tick.mid settled tick.first in
+      let ticked = keeps_tick moment it.mid tick.prefix tick.mid unbroken tick.first in
       let ipp = tick.second in
-      let one = keeps_accepts Ipp tick.mid ipp.front ipp.mid ticked ipp.first in
+      let one = keeps_accepts Ipp tick.mid ipp.prefix ipp.mid ticked ipp.first in
       let lpd = ipp.second in
-      let two = keeps_accepts Lpd ipp.mid lpd.front lpd.mid one lpd.first in
+      let two = keeps_accepts Lpd ipp.mid lpd.prefix lpd.mid one lpd.first in
       let devices = lpd.second in
-      let three = keeps_accepts Devices lpd.mid devices.front devices.mid two devices.first in
+      let three = keeps_accepts Devices lpd.mid devices.prefix devices.mid two devices.first in
       ends_round devices.mid devices.back l' three devices.second
-      (ends_accepts Devices lpd.mid devices.front devices.mid devices.first
-      (ends_accepts Lpd ipp.mid lpd.front lpd.mid lpd.first (ends_accepts Ipp tick.mid ipp.front ipp.mid ipp.first (ends_tick_due it.mid tick.front tick.mid tick.first (ends_settles l it.front it.mid it.first ended)))))
+      (ends_accepts Devices lpd.mid devices.prefix devices.mid devices.first
+      (ends_accepts Lpd ipp.mid lpd.prefix lpd.mid lpd.first (ends_accepts Ipp tick.mid ipp.prefix ipp.mid ipp.first (ends_tick_due it.mid tick.prefix tick.mid tick.first (ends_closes_broken l it.prefix it.mid it.first ended)))))
 
   -- ---- calls between turns
 

@@ -29,7 +29,7 @@ use Rattle.server.specs.Turn as Between
 use Rattle.server.specs.Turn.{Ticks, Notes, is_tick_due, TicksIfDue, Covers, Round, Turn, BodyAsks, BodyComes, Action, Turned, Served_body, Reported, Ticked, Trace, DoesAction, Runs}
 use Rattle.promises.specs.Others.{IsOrder, IsCause}
 use Rattle.promises.proofs.SentToDevices.{same_key, other_key}
-use Rattle.promises.proofs.OtherConnections.{IsOut, Left, Spared, brings, Spares_in, spares_unanswered, spares_settles, spares_reads, spares_writes}
+use Rattle.promises.proofs.OtherConnections.{IsOut, Left, Spared, brings, Spares_in, spares_unanswered, spares_closes_broken, spares_reads, spares_writes}
 
 -- on each open connection
 abbrev pub AllActedOn : Ledger → Type 0
@@ -81,7 +81,7 @@ keeps_nothing : KeepsActedOn Nothing
 keeps_nothing l hs l' acted_on it = keeps_same l l' (ap (λ (x : Ledger). x.entries) it.1) acted_on
 
 keeps_then : (R S : Rel) → KeepsActedOn R → KeepsActedOn S → KeepsActedOn (Then R S)
-keeps_then R S r s l hs l' acted_on it = s it.mid it.back l' (r l it.front it.mid acted_on it.first) it.second
+keeps_then R S r s l hs l' acted_on it = s it.mid it.back l' (r l it.prefix it.mid acted_on it.first) it.second
 
 keeps_if : (t : Bool) (R S : Rel) → KeepsActedOn R → KeepsActedOn S → KeepsActedOn (If t R S)
 keeps_if true R S r s l hs l' acted_on it = r l hs l' acted_on it
@@ -91,8 +91,8 @@ pub keeps_each : (n : ℕ) (R : ℕ → Rel) → ((key : ℕ) → KeepsActedOn (
 keeps_each zero R r = keeps_nothing
 keeps_each (suc n) R r = keeps_then (Each n R) (R n) (keeps_each n R r) (r n)
 
-pub keeps_settles : (moment : ℕ) → KeepsActedOn (ClosesBroken moment)
-keeps_settles moment = keeps_left moment (ClosesBroken moment) (spares_settles Any moment)
+pub keeps_closes_broken : (moment : ℕ) → KeepsActedOn (ClosesBroken moment)
+keeps_closes_broken moment = keeps_left moment (ClosesBroken moment) (spares_closes_broken Any moment)
 
 at_if : (t : Bool) (x y : Option Entry) → (t ≡ true → IsActedOnAt x) → (t ≡ false → IsActedOnAt y) → IsActedOnAt (if t then x else y)
 at_if true x y p q = p refl
@@ -126,12 +126,12 @@ breaks_all key l hs l' acted_on it = by (l.entries key) it
     by (Some e) is = keeps_sets key (broken e) l hs l' acted_on (broken_acted_on (broken e) refl) is
 
 keeps_fails : (moment key : ℕ) → KeepsActedOn (Fails moment key)
-keeps_fails moment key = keeps_then (Breaks key) (ClosesBroken moment) (breaks_all key) (keeps_settles moment)
+keeps_fails moment key = keeps_then (Breaks key) (ClosesBroken moment) (breaks_all key) (keeps_closes_broken moment)
 
 own_fed : (moment key : ℕ) (e : Entry) (bytes : List ℕ) (l : Ledger) (hs : List Happening) (l' : Ledger) → AllActedOn l → FedWhole moment key e bytes l hs l' → IsActedOnAt (l'.entries key)
 own_fed moment key e bytes l hs l' acted_on (inl it) = it.second.1
 own_fed moment key e bytes l hs l' acted_on (inr it) =
-    keeps_settles moment it.mid it.back l' (keeps_at key (Some (broken e)) l it.mid acted_on (broken_acted_on (broken e) refl) (ap (λ (x : Ledger). x.entries) it.first.1)) it.second key
+    keeps_closes_broken moment it.mid it.back l' (keeps_at key (Some (broken e)) l it.mid acted_on (broken_acted_on (broken e) refl) (ap (λ (x : Ledger). x.entries) it.first.1)) it.second key
 
 own_open : (t : Bool) (moment key : ℕ) (e : Entry) (bytes : List ℕ) (l : Ledger) (hs : List Happening) (l' : Ledger) → AllActedOn l → IsActedOn e → If t (Sets key e) (FedWhole moment key e bytes) l hs l' → IsActedOnAt (l'.entries key)
 own_open true moment key e bytes l hs l' acted_on is it = keeps_sets key e l hs l' acted_on is it key
@@ -146,14 +146,14 @@ polled poll l hs l' acted_on it = keeps_same l l' (ap (λ (x : Ledger). x.entrie
 
 own_reads_as : (moment key : ℕ) (e : Entry) (answer : WireAnswer (List ℕ)) (l : Ledger) (hs : List Happening) (l' : Ledger) → AllActedOn l → IsActedOn e → ReadsAs moment key e answer l hs l' → IsActedOnAt (l'.entries key)
 own_reads_as moment key e (wire.Done bytes) l hs l' acted_on is it =
-    let first = polled (Reads e.id (wire.Done bytes)) l it.front it.mid acted_on it.first in own_feeds moment key bytes (it.mid.entries key) it.mid it.back l' first (first key) it.second
+    let first = polled (Reads e.id (wire.Done bytes)) l it.prefix it.mid acted_on it.first in own_feeds moment key bytes (it.mid.entries key) it.mid it.back l' first (first key) it.second
 own_reads_as moment key e wire.Waiting l hs l' acted_on is it = polled (Reads e.id wire.Waiting) l hs l' acted_on it key
 own_reads_as moment key e wire.End l hs l' acted_on is it =
-    keeps_sets key (record e { ended = true }) it.mid it.back l' (polled (Reads e.id wire.End) l it.front it.mid acted_on it.first) is it.second key
-own_reads_as moment key e wire.Fault l hs l' acted_on is it = keeps_fails moment key it.mid it.back l' (polled (Reads e.id wire.Fault) l it.front it.mid acted_on it.first) it.second key
+    keeps_sets key (record e { ended = true }) it.mid it.back l' (polled (Reads e.id wire.End) l it.prefix it.mid acted_on it.first) is it.second key
+own_reads_as moment key e wire.Fault l hs l' acted_on is it = keeps_fails moment key it.mid it.back l' (polled (Reads e.id wire.Fault) l it.prefix it.mid acted_on it.first) it.second key
 
 own_reads_if : (t : Bool) (moment key : ℕ) (e : Entry) (l : Ledger) (hs : List Happening) (l' : Ledger) → AllActedOn l → IsActedOn e → If t (ReadsOpen moment key e) Nothing l hs l' → IsActedOnAt (l'.entries key)
-own_reads_if true moment key e l hs l' acted_on is (answer, piece, it) = own_reads_as moment key e answer l hs l' acted_on is it
+own_reads_if true moment key e l hs l' acted_on is (answer, segment, it) = own_reads_as moment key e answer l hs l' acted_on is it
 own_reads_if false moment key e l hs l' acted_on is it = keeps_nothing l hs l' acted_on it key
 
 own_reads : (moment key : ℕ) (o : Option Entry) (l : Ledger) (hs : List Happening) (l' : Ledger) → AllActedOn l → IsActedOnAt o → ReadsAt moment key o l hs l' → IsActedOnAt (l'.entries key)
@@ -165,13 +165,13 @@ keeps_reads moment key = by_key (ReadsOne moment key) moment key (λ l hs l' it.
 
 own_writes_as : (moment key : ℕ) (e : Entry) (offered : List ℕ) (answer : WireAnswer ℕ) (l : Ledger) (hs : List Happening) (l' : Ledger) → AllActedOn l → IsActedOn e → WritesAs moment key e offered answer l hs l' → IsActedOnAt (l'.entries key)
 own_writes_as moment key e offered (wire.Done n) l hs l' acted_on is it =
-    keeps_sets key (record e { taken = e.taken ++ take n offered }) it.mid it.back l' (polled (Writes e.id offered (wire.Done n)) l it.front it.mid acted_on it.first) is it.second key
+    keeps_sets key (record e { taken = e.taken ++ take n offered }) it.mid it.back l' (polled (Writes e.id offered (wire.Done n)) l it.prefix it.mid acted_on it.first) is it.second key
 own_writes_as moment key e offered wire.Waiting l hs l' acted_on is it = polled (Writes e.id offered wire.Waiting) l hs l' acted_on it key
-own_writes_as moment key e offered wire.End l hs l' acted_on is it = keeps_fails moment key it.mid it.back l' (polled (Writes e.id offered wire.End) l it.front it.mid acted_on it.first) it.second key
-own_writes_as moment key e offered wire.Fault l hs l' acted_on is it = keeps_fails moment key it.mid it.back l' (polled (Writes e.id offered wire.Fault) l it.front it.mid acted_on it.first) it.second key
+own_writes_as moment key e offered wire.End l hs l' acted_on is it = keeps_fails moment key it.mid it.back l' (polled (Writes e.id offered wire.End) l it.prefix it.mid acted_on it.first) it.second key
+own_writes_as moment key e offered wire.Fault l hs l' acted_on is it = keeps_fails moment key it.mid it.back l' (polled (Writes e.id offered wire.Fault) l it.prefix it.mid acted_on it.first) it.second key
 
 own_writes_if : (t : Bool) (moment key : ℕ) (e : Entry) (l : Ledger) (hs : List Happening) (l' : Ledger) → AllActedOn l → IsActedOn e → If t (WritesOpen moment key e) Nothing l hs l' → IsActedOnAt (l'.entries key)
-own_writes_if true moment key e l hs l' acted_on is (offered, front, answer, it) = own_writes_as moment key e offered answer l hs l' acted_on is it
+own_writes_if true moment key e l hs l' acted_on is (offered, prefix, answer, it) = own_writes_as moment key e offered answer l hs l' acted_on is it
 own_writes_if false moment key e l hs l' acted_on is it = keeps_nothing l hs l' acted_on it key
 
 own_writes : (moment key : ℕ) (o : Option Entry) (l : Ledger) (hs : List Happening) (l' : Ledger) → AllActedOn l → IsActedOnAt o → WritesAt moment key o l hs l' → IsActedOnAt (l'.entries key)
@@ -191,7 +191,7 @@ keeps_closes moment key e =
 
 ends_at : (moment key : ℕ) (o : Option Entry) → KeepsActedOn (EndsAt moment key o)
 ends_at moment key None = keeps_nothing
-ends_at moment key (Some e) = keeps_if (is_done e) (Then (ClosesAs moment Drained key e) (ClosesBroken moment)) Nothing (keeps_then (ClosesAs moment Drained key e) (ClosesBroken moment) (keeps_closes moment key e) (keeps_settles moment)) keeps_nothing
+ends_at moment key (Some e) = keeps_if (is_done e) (Then (ClosesAs moment Drained key e) (ClosesBroken moment)) Nothing (keeps_then (ClosesAs moment Drained key e) (ClosesBroken moment) (keeps_closes moment key e) (keeps_closes_broken moment)) keeps_nothing
 
 pub keeps_ends : (moment key : ℕ) → KeepsActedOn (EndsOne moment key)
 keeps_ends moment key l hs l' acted_on it = ends_at moment key (l.entries key) l hs l' acted_on it
@@ -227,7 +227,7 @@ keeps_ticks moment l hs l' acted_on it =
 
 pub keeps_tick : (moment : ℕ) → KeepsActedOn (TicksIfDue moment)
 keeps_tick moment l hs l' acted_on it =
-    keeps_if (is_tick_due moment l) (Then (Ticks moment) (ClosesBroken moment)) Nothing (keeps_then (Ticks moment) (ClosesBroken moment) (keeps_ticks moment) (keeps_settles moment)) keeps_nothing l hs l' acted_on it
+    keeps_if (is_tick_due moment l) (Then (Ticks moment) (ClosesBroken moment)) Nothing (keeps_then (Ticks moment) (ClosesBroken moment) (keeps_ticks moment) (keeps_closes_broken moment)) keeps_nothing l hs l' acted_on it
 
 keeps_round : (moment : ℕ) → KeepsActedOn (Round moment)
 keeps_round moment l hs l' acted_on (n, it) =
@@ -237,7 +237,7 @@ keeps_round moment l hs l' acted_on (n, it) =
 
 keeps_turn : (moment : ℕ) → KeepsActedOn (Turn moment)
 keeps_turn moment =
-    keeps_then (ClosesBroken moment) (Then (TicksIfDue moment) (Then (AcceptsAt Ipp) (Then (AcceptsAt Lpd) (Then (AcceptsAt Devices) (Round moment))))) (keeps_settles moment)
+    keeps_then (ClosesBroken moment) (Then (TicksIfDue moment) (Then (AcceptsAt Ipp) (Then (AcceptsAt Lpd) (Then (AcceptsAt Devices) (Round moment))))) (keeps_closes_broken moment)
     (keeps_then (TicksIfDue moment) (Then (AcceptsAt Ipp) (Then (AcceptsAt Lpd) (Then (AcceptsAt Devices) (Round moment)))) (keeps_tick moment)
     (keeps_then (AcceptsAt Ipp) (Then (AcceptsAt Lpd) (Then (AcceptsAt Devices) (Round moment))) (keeps_accepts Ipp)
     (keeps_then (AcceptsAt Lpd) (Then (AcceptsAt Devices) (Round moment)) (keeps_accepts Lpd) (keeps_then (AcceptsAt Devices) (Round moment) (keeps_accepts Devices) (keeps_round moment)))))

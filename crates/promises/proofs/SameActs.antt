@@ -50,8 +50,8 @@ module _ (steps : StepsOnce) (queries : SameQueries) where
   pub none_closes : (moment : ℕ) (l : Ledger) (hs : List Happening) (a : Ledger) → NoneBroken l → ClosesFirst moment l hs a → ⊥
   none_closes moment l hs a none it = none it.key (broken_there l it.key it.entry it.there it.is_broken)
 
-  pub same_settles : (moment : ℕ) → One (ClosesBroken moment)
-  same_settles moment = same_until (ClosesFirst moment) NoneBroken (record { one = closes_first moment }) (none_closes moment)
+  pub same_closes_broken : (moment : ℕ) → One (ClosesBroken moment)
+  same_closes_broken moment = same_until (ClosesFirst moment) NoneBroken (record { one = closes_first moment }) (none_closes moment)
 
   -- ---- devices that give their names
 

@@ -155,7 +155,7 @@ module _ (steps : StepsOnce) where
       → keyed hs ++ rest ≡ keyed ks ++ more → Calm hs → Calm ks → Happens moment event outcome l hs a → Happens moment other said l ks b → SameOutcome outcome said × (keyed hs ≡ keyed ks) × (a ≡ b)
   happened_same moment event other outcome said l hs rest a ks more b same query kept enqueues e c d p q =
       same_then_by (Decides moment event outcome) (Decides moment other said) (Orders outcome) (Orders said) l hs rest a ks more b e c d p q
-      (λ left right both calm still. decided_same moment event other outcome said l p.front left p.mid q.front right q.mid same query kept enqueues both p.first q.first)
+      (λ left right both calm still. decided_same moment event other outcome said l p.prefix left p.mid q.prefix right q.mid same query kept enqueues both p.first q.first)
       (λ way. same_orders outcome said way)
 
   pub unanswered_same : (moment : ℕ) (event other : Event) → SameEvent event other → is_query event ≡ is_query other → ((s : State) → TakesNoMemory event moment s) → ((s : State) → TakesNoMemory other moment s) → Same (Unanswered moment event) (Unanswered moment other)
@@ -183,13 +183,13 @@ module _ (steps : StepsOnce) where
 
       never : (x : Event) (S : Option Effects → Rel) (outcome : Outcome) (l : Ledger) (hs : List Happening) (a : Ledger) → Refuses (S None) → outcome ≡ None → Then (Happens moment x outcome) (S (effects_of outcome)) l hs a → Calm hs → ⊥
       never x S outcome l hs a refused is it calm =
-          let last : S None it.mid it.back a = subst (λ (o : Outcome). S (effects_of o) it.mid it.back a) is it.second in refused.never it.mid it.back a last (calm_last hs it.front it.back it.whole calm)
+          let last : S None it.mid it.back a = subst (λ (o : Outcome). S (effects_of o) it.mid it.back a) is it.second in refused.never it.mid it.back a last (calm_last hs it.prefix it.back it.whole calm)
 
       by_kind : (outcome said : Outcome) (l : Ledger) (hs rest : List Happening) (a : Ledger) (ks more : List Happening) (b : Ledger) → keyed hs ++ rest ≡ keyed ks ++ more → Calm hs → Calm ks → IsKept outcome ⊎ (outcome ≡ None) → IsKept said ⊎ (said ≡ None)
           → Then (Happens moment event outcome) (Q (effects_of outcome)) l hs a → Then (Happens moment other said) (R (effects_of said)) l ks b → (keyed hs ≡ keyed ks) × (a ≡ b)
       by_kind outcome said l hs rest a ks more b e c d (inl kept) (inl enqueues) p q =
           let it = same_then_by (Happens moment event outcome) (Happens moment other said) (Q (effects_of outcome)) (R (effects_of said)) l hs rest a ks more b e c d p q
-          (λ left right both calm still. happened_same moment event other outcome said l p.front left p.mid q.front right q.mid same query kept enqueues both calm still p.first q.first) (λ way. replies outcome said way kept) in
+          (λ left right both calm still. happened_same moment event other outcome said l p.prefix left p.mid q.prefix right q.mid same query kept enqueues both calm still p.first q.first) (λ way. replies outcome said way kept) in
           (it.1, it.2)
       by_kind outcome said l hs rest a ks more b e c d (inr is) its p q = absurd (never event Q outcome l hs a refuses is p c)
       by_kind outcome said l hs rest a ks more b e c d (inl kept) (inr is) p q = absurd (never other R said l ks b refuse is q d)

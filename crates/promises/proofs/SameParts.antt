@@ -29,7 +29,7 @@ use Rattle.promises.proofs.Determined.{times_cons}
 use Rattle.promises.proofs.UniqueActs.{same_entry}
 use Rattle.promises.proofs.SeenAlike.{Calm, Same, keyed_append, keyed_parts, calm_first, calm_last, same_then_by}
 use Rattle.promises.proofs.SameEvents.{refuses_notifies, refuses_dropped, refuses_declines}
-use Rattle.promises.proofs.SameActs.{none_closes, same_settles, same_does}
+use Rattle.promises.proofs.SameActs.{none_closes, same_closes_broken, same_does}
 use Rattle.promises.proofs.SentToDevices.{same_key, is_key}
 use Rattle.server.specs.Acting.{place_of, place_of_part}
 
@@ -149,8 +149,8 @@ IsOther h = (byte : ℕ) → h ≡ HasByte byte → ⊥
 
 module _ (some : SomeParse) (stays : FirstStays) (no_item : NoItemFollows) (one_lpd : OneLpdParse) (no_report : NoReportFollows) where
   -- two prefixes of a stream go on as one
-  fronts : {A : Type 0} (read : List ℕ) (said one other : List HttpElement) → ParsesFirst read (said ++ one) → ParsesFirst read (said ++ other) → ((u v : List HttpElement) → one ++ u ≡ other ++ v → A) → A
-  fronts read said one other p q goes =
+  prefixes : {A : Type 0} (read : List ℕ) (said one other : List HttpElement) → ParsesFirst read (said ++ one) → ParsesFirst read (said ++ other) → ((u v : List HttpElement) → one ++ u ≡ other ++ v → A) → A
+  prefixes read said one other p q goes =
       let whole = some read in
       let exchanges : Exchanges (read ++ []) whole.0 = subst (λ (x : List ℕ). Exchanges x whole.0) (sym (append-nil read)) whole.1 in
       let left = stays read [] (said ++ one) whole.0 p exchanges in
@@ -181,7 +181,7 @@ module _ (some : SomeParse) (stays : FirstStays) (no_item : NoItemFollows) (one_
   -- no part of a body is taken: there is another item, so that not all was acted on
   record Other (settings : ServerSettings) (progress : PeerRecord) (e : Entry) (comes : Step) (mid : Entry) (takes_item : ItemComes settings progress e comes mid) : Type 0 where
     none : part_acted_on settings progress e comes mid takes_item ≡ None
-    left_over : IsActedOnAs e.read progress → ⊥
+    not_acted_on : IsActedOnAs e.read progress → ⊥
     element : (said : List HttpElement) (closes : Bool) (body : List ℕ) → progress ≡ Http said closes body → (h : HttpElement) × IsOther h × ParsesFirst e.read (said ++ h ∷ [])
 
   lost_some : {A : Type 0} (what it : Ask) (loss : Loss) → what ≡ it → lost_of it ≡ Some loss → lost_of what ≡ None → A
@@ -193,7 +193,7 @@ module _ (some : SomeParse) (stays : FirstStays) (no_item : NoItemFollows) (one_
   http_other : (settings : ServerSettings) (said : List HttpElement) (closes : Bool) (body : List ℕ) (e : Entry) (comes : Step) (mid : Entry) (it : IppItemComes e said closes body comes mid) (which : HttpItem) (h : HttpElement) → it.item ≡ which → part_taken which it.part ≡ None → elements_of which it.part ≡ h ∷ [] → IsOther h → Other settings (Http said closes body) e comes mid it
   http_other settings said closes body e comes mid it which h is none elements other = record {
     none = ap (λ (x : HttpItem). part_taken x it.part) is ∙ none;
-    left_over = λ acted_on. no_more e.read said h [] acted_on first;
+    not_acted_on = λ acted_on. no_more e.read said h [] acted_on first;
     element = λ of ends text same. (h, other, subst (λ (x : List HttpElement). ParsesFirst e.read (x ++ h ∷ [])) (one_http said of closes ends body text same).0 first);
   }
     where
@@ -238,14 +238,14 @@ module _ (some : SomeParse) (stays : FirstStays) (no_item : NoItemFollows) (one_
 
   kind : (settings : ServerSettings) (progress : PeerRecord) (e : Entry) (comes : Step) (mid : Entry) (what : Ask) (new : Entry) → (takes_item : ItemComes settings progress e comes mid) → StepsTo comes mid what new → lost_of what ≡ None → Part e new what progress ⊎ Other settings progress e comes mid takes_item
   kind settings (Http said closes body) e comes mid what new takes_item steps none = http_kind settings said closes body e comes mid what new takes_item takes_item.item refl steps none
-  kind settings (Queue items session) e comes mid what new (inl it) steps none = inr (record { none = refl; left_over = λ acted_on. no_item e.read items it.said Open it.next acted_on; element = λ said closes body same. cc })
-  kind settings (Queue items session) e comes mid what new (inr (inl it)) steps none = inr (record { none = refl; left_over = λ acted_on. open_fault (one_lpd e.read items items Open (Faulty it.fault) acted_on it.is).1; element = λ said closes body same. cc })
+  kind settings (Queue items session) e comes mid what new (inl it) steps none = inr (record { none = refl; not_acted_on = λ acted_on. no_item e.read items it.said Open it.next acted_on; element = λ said closes body same. cc })
+  kind settings (Queue items session) e comes mid what new (inr (inl it)) steps none = inr (record { none = refl; not_acted_on = λ acted_on. open_fault (one_lpd e.read items items Open (Faulty it.fault) acted_on it.is).1; element = λ said closes body same. cc })
     where
       open_fault : Open ≡ Faulty it.fault → ⊥
       open_fault same = cc
   kind settings (Queue items session) e comes mid what new (inr (inr it)) steps none = breaks comes mid what new it.0 steps none
-  kind settings (OfDevice reports device) e comes mid what new (inl it) steps none = inr (record { none = refl; left_over = λ acted_on. no_report e.read reports it.said Link.Unfinished it.next acted_on; element = λ said closes body same. cc })
-  kind settings (OfDevice reports device) e comes mid what new (inr (inl it)) steps none = inr (record { none = refl; left_over = λ acted_on. open_fault (ap (λ (x : ParsedLines). x.ending) (sym acted_on ∙ it.is)); element = λ said closes body same. cc })
+  kind settings (OfDevice reports device) e comes mid what new (inl it) steps none = inr (record { none = refl; not_acted_on = λ acted_on. no_report e.read reports it.said Link.Unfinished it.next acted_on; element = λ said closes body same. cc })
+  kind settings (OfDevice reports device) e comes mid what new (inr (inl it)) steps none = inr (record { none = refl; not_acted_on = λ acted_on. open_fault (ap (λ (x : ParsedLines). x.ending) (sym acted_on ∙ it.is)); element = λ said closes body same. cc })
     where
       open_fault : Link.Unfinished ≡ Link.Faulty it.fault → ⊥
       open_fault same = cc
@@ -274,7 +274,7 @@ module _ (some : SomeParse) (stays : FirstStays) (no_item : NoItemFollows) (one_
   record AsksElse (moment key : ℕ) (l : Ledger) (hs : List Happening) (a : Ledger) (it : ActsNext moment key l hs a) : Type 0 where
     none : part_of it.2.first.asks ≡ None
     lost : lost_of it.1 ≡ None
-    left_over : IsActedOnAt (l.entries key) → ⊥
+    not_acted_on : IsActedOnAt (l.entries key) → ⊥
     element : (e : Entry) (said : List HttpElement) (closes : Bool) (body : List ℕ) → l.entries key ≡ Some e → e.progress ≡ Http said closes body → (h : HttpElement) × IsOther h × ParsesFirst e.read (said ++ h ∷ [])
 
   flowing : (x y : Bool) → (x || y) ≡ false → (x ≡ false) × (y ≡ false)
@@ -284,11 +284,11 @@ module _ (some : SomeParse) (stays : FirstStays) (no_item : NoItemFollows) (one_
   next_kind : (moment key : ℕ) (l : Ledger) (hs : List Happening) (a : Ledger) → (it : ActsNext moment key l hs a) → Calm hs → TakesPart key l hs a ⊎ AsksElse moment key l hs a it
   next_kind moment key l hs a (id, what, it) calm = by (kind l.core.settings p.entry.progress p.entry p.asks.comes p.asks.mid what p.new p.asks.takes_item p.asks.steps none)
     where
-      p : Asks key id what l it.front it.mid
+      p : Asks key id what l it.prefix it.mid
       p = it.first
 
       none : lost_of what ≡ None
-      none = unlost moment key id what it.mid it.back a it.second (calm_last hs it.front it.back it.whole calm)
+      none = unlost moment key id what it.mid it.back a it.second (calm_last hs it.prefix it.back it.whole calm)
 
       sound : (p.entry.draining ≡ false) × (p.entry.broken ≡ false)
       sound = flowing p.entry.draining p.entry.broken p.asks.counts
@@ -310,21 +310,21 @@ module _ (some : SomeParse) (stays : FirstStays) (no_item : NoItemFollows) (one_
               first = took.first;
               after = still.1 ∙ (p.after ∙ ap (λ (x : Entry). with_entry key x l) took.after);
             };
-            unseen = ap keyed it.whole ∙ (keyed_append it.front it.back ∙ (ap (λ (x : List Happening). keyed x ++ keyed it.back) p.chosen ∙ ap keyed still.0));
+            unseen = ap keyed it.whole ∙ (keyed_append it.prefix it.back ∙ (ap (λ (x : List Happening). keyed x ++ keyed it.back) p.chosen ∙ ap keyed still.0));
           })
       by (inr other) = inr (record {
         none = other.none;
         lost = none;
-        left_over = λ acted_on. left_over (subst IsActedOnAt p.there acted_on);
+        not_acted_on = λ acted_on. not_acted_on (subst IsActedOnAt p.there acted_on);
         element = λ e said closes body there progress.
             let same : p.entry ≡ e = same_entry (l.entries key) p.entry e p.there there in
             let is : p.entry.progress ≡ Http said closes body = ap (λ (x : Entry). x.progress) same ∙ progress in
             subst (λ (x : Entry). (h : HttpElement) × IsOther h × ParsesFirst x.read (said ++ h ∷ [])) same (other.element said closes body is);
       })
         where
-          left_over : IsActedOn p.entry → ⊥
-          left_over (inl over) = untrue (p.entry.draining || p.entry.broken) p.asks.counts over
-          left_over (inr acted_on) = other.left_over acted_on
+          not_acted_on : IsActedOn p.entry → ⊥
+          not_acted_on (inl over) = untrue (p.entry.draining || p.entry.broken) p.asks.counts over
+          not_acted_on (inr acted_on) = other.not_acted_on acted_on
 
   module _ (steps : StepsOnce) (queries : SameQueries) (asks : AsksOne) (moment key : ℕ) where
     -- two asks of one connection's number are one
@@ -350,35 +350,35 @@ module _ (some : SomeParse) (stays : FirstStays) (no_item : NoItemFollows) (one_
     next_same : (l : Ledger) (hs rest : List Happening) (a : Ledger) (ks more : List Happening) (b : Ledger) → keyed hs ++ rest ≡ keyed ks ++ more → Calm hs → Calm ks → (p : ActsNext moment key l hs a) (q : ActsNext moment key l ks b) → AsksElse moment key l hs a p → AsksElse moment key l ks b q → (keyed hs ≡ keyed ks) × (a ≡ b)
     next_same l hs rest a ks more b e c d (id, what, p) (other, said, q) x y =
         let it = same_then_by (Asks key id what) (Asks key other said) (ActsOn moment key id what) (ActsOn moment key other said) l hs rest a ks more b e c d p q
-        (λ left right both calm still. asks_same id other what said l p.front p.mid q.front q.mid p.first q.first x.none y.none x.lost y.lost)
+        (λ left right both calm still. asks_same id other what said l p.prefix p.mid q.prefix q.mid p.first q.first x.none y.none x.lost y.lost)
         (λ one. subst (λ (k : ℕ). Same (ActsOn moment key id what) (ActsOn moment key k said)) one.ids (same_does steps queries moment key id what said one.same_ask)) in
         (it.1, it.2)
 
-    acts_same : (l : Ledger) (hs rest : List Happening) (a : Ledger) (ks more : List Happening) (b : Ledger) → keyed hs ++ rest ≡ keyed ks ++ more → Calm hs → Calm ks → (p : Acts moment key l hs a) (q : Acts moment key l ks b) → AsksElse moment key l p.front p.mid p.first → AsksElse moment key l q.front q.mid q.first → (keyed hs ≡ keyed ks) × (a ≡ b)
+    acts_same : (l : Ledger) (hs rest : List Happening) (a : Ledger) (ks more : List Happening) (b : Ledger) → keyed hs ++ rest ≡ keyed ks ++ more → Calm hs → Calm ks → (p : Acts moment key l hs a) (q : Acts moment key l ks b) → AsksElse moment key l p.prefix p.mid p.first → AsksElse moment key l q.prefix q.mid q.first → (keyed hs ≡ keyed ks) × (a ≡ b)
     acts_same l hs rest a ks more b e c d p q x y =
         let it = same_then_by {X = Unit {0}} (ActsNext moment key) (ActsNext moment key) (ClosesBroken moment) (ClosesBroken moment) l hs rest a ks more b e c d p q
-        (λ left right both calm still. let first = next_same l p.front left p.mid q.front right q.mid both calm still p.first q.first x y in (tt, first.0, first.1)) (λ u. same_settles steps queries moment) in
+        (λ left right both calm still. let first = next_same l p.prefix left p.mid q.prefix right q.mid both calm still p.first q.first x y in (tt, first.0, first.1)) (λ u. same_closes_broken steps queries moment) in
         (it.1, it.2)
 
     -- where none is broken, nothing is closed
-    settled : (l : Ledger) (hs : List Happening) (a : Ledger) → NoneBroken l → ClosesBroken moment l hs a → (hs ≡ []) × (a ≡ l)
-    settled l hs a none it = by it.0.0 it.0.1
+    unbroken : (l : Ledger) (hs : List Happening) (a : Ledger) → NoneBroken l → ClosesBroken moment l hs a → (hs ≡ []) × (a ≡ l)
+    unbroken l hs a none it = by it.0.0 it.0.1
       where
         by : (n : ℕ) → Times n (ClosesFirst moment) l hs a → (hs ≡ []) × (a ≡ l)
         by zero times = times
-        by (suc n) times = let first = times_cons n (ClosesFirst moment) l hs a times in absurd (none_closes steps queries moment l first.front first.mid none first.first)
+        by (suc n) times = let first = times_cons n (ClosesFirst moment) l hs a times in absurd (none_closes steps queries moment l first.prefix first.mid none first.first)
 
-    act_kind : (l : Ledger) (hs : List Happening) (a : Ledger) → NoneBroken l → Calm hs → (p : Acts moment key l hs a) → TakesPart key l hs a ⊎ AsksElse moment key l p.front p.mid p.first
-    act_kind l hs a none calm p = by (next_kind moment key l p.front p.mid p.first (calm_first hs p.front p.back p.whole calm))
+    act_kind : (l : Ledger) (hs : List Happening) (a : Ledger) → NoneBroken l → Calm hs → (p : Acts moment key l hs a) → TakesPart key l hs a ⊎ AsksElse moment key l p.prefix p.mid p.first
+    act_kind l hs a none calm p = by (next_kind moment key l p.prefix p.mid p.first (calm_first hs p.prefix p.back p.whole calm))
       where
-        by : TakesPart key l p.front p.mid ⊎ AsksElse moment key l p.front p.mid p.first → TakesPart key l hs a ⊎ AsksElse moment key l p.front p.mid p.first
+        by : TakesPart key l p.prefix p.mid ⊎ AsksElse moment key l p.prefix p.mid p.first → TakesPart key l hs a ⊎ AsksElse moment key l p.prefix p.mid p.first
         by (inr other) = inr other
         by (inl took) =
-            let still = settled p.mid p.back a (part_sound key took.bytes l p.mid took.part none) p.second in
+            let still = unbroken p.mid p.back a (part_sound key took.bytes l p.mid took.part none) p.second in
             inl (record {
               bytes = took.bytes;
               part = subst (λ (x : Ledger). IsPart key took.bytes l x) (sym still.1) took.part;
-              unseen = ap keyed p.whole ∙ (keyed_append p.front p.back ∙ (ap (λ (x : List Happening). x ++ keyed p.back) took.unseen ∙ ap keyed still.0));
+              unseen = ap keyed p.whole ∙ (keyed_append p.prefix p.back ∙ (ap (λ (x : List Happening). x ++ keyed p.back) took.unseen ∙ ap keyed still.0));
             })
 
     -- ---- asks until all is acted on
@@ -395,8 +395,8 @@ module _ (some : SomeParse) (stays : FirstStays) (no_item : NoItemFollows) (one_
     lag_of [] l m p = inl (part_none key l m p)
     lag_of (x ∷ xs) l m p = inr (x, xs, p)
 
-    left_over_part : (x : ℕ) (xs : List ℕ) (l m : Ledger) → IsPart key (x ∷ xs) l m → IsActedOnAt (l.entries key) → ⊥
-    left_over_part x xs l m p acted_on = by (subst IsActedOnAt p.there acted_on)
+    not_acted_on_part : (x : ℕ) (xs : List ℕ) (l m : Ledger) → IsPart key (x ∷ xs) l m → IsActedOnAt (l.entries key) → ⊥
+    not_acted_on_part x xs l m p acted_on = by (subst IsActedOnAt p.there acted_on)
       where
         never : (s t : Bool) → s ≡ false → t ≡ false → (s || t) ≡ true → ⊥
         never true t a b c = untrue true a refl
@@ -406,29 +406,29 @@ module _ (some : SomeParse) (stays : FirstStays) (no_item : NoItemFollows) (one_
         by (inl over) = never p.e.draining p.e.broken p.flows p.sound over
         by (inr all) = no_more p.e.read p.said (HasByte x) (map HasByte xs) (subst (IsActedOnAs p.e.read) p.progress all) p.first
 
-    unseen_front : (hs front back : List Happening) → hs ≡ front ++ back → keyed front ≡ [] → keyed hs ≡ keyed back
-    unseen_front hs front back whole unseen = ap keyed whole ∙ (keyed_append front back ∙ ap (λ (x : List Happening). x ++ keyed back) unseen)
+    unseen_prefix : (hs prefix back : List Happening) → hs ≡ prefix ++ back → keyed prefix ≡ [] → keyed hs ≡ keyed back
+    unseen_prefix hs prefix back whole unseen = ap keyed whole ∙ (keyed_append prefix back ∙ ap (λ (x : List Happening). x ++ keyed back) unseen)
 
     -- where all is acted on, only parts of no bytes are taken
     abbrev Finishes : ℕ → Type 0
     Finishes m = (l : Ledger) (ks : List Happening) (b : Ledger) → NoneBroken l → IsActedOnAt (l.entries key) → Calm ks → Run m l ks b → (keyed ks ≡ []) × (b ≡ l)
 
     finishes : (m : ℕ) → Finishes m → Finishes (suc m)
-    finishes m rest l ks b none acted_on calm q = by (act_kind l y.front y.mid none (calm_first ks y.front y.back y.whole calm) y.first)
+    finishes m rest l ks b none acted_on calm q = by (act_kind l y.prefix y.mid none (calm_first ks y.prefix y.back y.whole calm) y.first)
       where
         y : Then (Acts moment key) (Times m (Acts moment key)) l ks b
         y = times_cons m (Acts moment key) l ks b q.times
 
         still : (bytes : List ℕ) → IsPart key bytes l y.mid → y.mid ≡ l
         still [] p = part_none key l y.mid p
-        still (x ∷ xs) p = absurd (left_over_part x xs l y.mid p acted_on)
+        still (x ∷ xs) p = absurd (not_acted_on_part x xs l y.mid p acted_on)
 
-        by : TakesPart key l y.front y.mid ⊎ AsksElse moment key l y.first.front y.first.mid y.first.first → (keyed ks ≡ []) × (b ≡ l)
-        by (inr other) = absurd (other.left_over acted_on)
+        by : TakesPart key l y.prefix y.mid ⊎ AsksElse moment key l y.first.prefix y.first.mid y.first.first → (keyed ks ≡ []) × (b ≡ l)
+        by (inr other) = absurd (other.not_acted_on acted_on)
         by (inl took) =
             let later : Run m l y.back b = subst (λ (z : Ledger). Run m z y.back b) (still took.bytes took.part) (record { times = y.second; acted_on = q.acted_on }) in
-            let it = rest l y.back b none acted_on (calm_last ks y.front y.back y.whole calm) later in
-            (unseen_front ks y.front y.back y.whole took.unseen ∙ it.0, it.1)
+            let it = rest l y.back b none acted_on (calm_last ks y.prefix y.back y.whole calm) later in
+            (unseen_prefix ks y.prefix y.back y.whole took.unseen ∙ it.0, it.1)
 
     finish : (m : ℕ) → Finishes m
     finish zero l ks b none acted_on calm q = (ap keyed q.times.0, q.times.1)
@@ -466,7 +466,7 @@ module _ (some : SomeParse) (stays : FirstStays) (no_item : NoItemFollows) (one_
     meets_even : (k : ℕ) → Meets k → (n m : ℕ) → suc n + suc m ≤ suc k → (l : Ledger) → NoneBroken l → (hs rest : List Happening) (a : Ledger) (ks more : List Happening) (b : Ledger)
         → keyed hs ++ rest ≡ keyed ks ++ more → Calm hs → Calm ks → Run (suc n) l hs a → Run (suc m) l ks b → Met hs a ks b
     meets_even k meet n m le l none hs rest a ks more b e c d p q =
-        by (act_kind l x.front x.mid none (calm_first hs x.front x.back x.whole c) x.first) (act_kind l y.front y.mid none (calm_first ks y.front y.back y.whole d) y.first)
+        by (act_kind l x.prefix x.mid none (calm_first hs x.prefix x.back x.whole c) x.first) (act_kind l y.prefix y.mid none (calm_first ks y.prefix y.back y.whole d) y.first)
       where
         x : Then (Acts moment key) (Times n (Acts moment key)) l hs a
         x = times_cons n (Acts moment key) l hs a p.times
@@ -474,30 +474,30 @@ module _ (some : SomeParse) (stays : FirstStays) (no_item : NoItemFollows) (one_
         y : Then (Acts moment key) (Times m (Acts moment key)) l ks b
         y = times_cons m (Acts moment key) l ks b q.times
 
-        by : TakesPart key l x.front x.mid ⊎ AsksElse moment key l x.first.front x.first.mid x.first.first → TakesPart key l y.front y.mid ⊎ AsksElse moment key l y.first.front y.first.mid y.first.first → Met hs a ks b
+        by : TakesPart key l x.prefix x.mid ⊎ AsksElse moment key l x.first.prefix x.first.mid x.first.first → TakesPart key l y.prefix y.mid ⊎ AsksElse moment key l y.first.prefix y.first.mid y.first.first → Met hs a ks b
         by (inl took) other =
-            let seen : keyed hs ≡ keyed x.back = unseen_front hs x.front x.back x.whole took.unseen in
+            let seen : keyed hs ≡ keyed x.back = unseen_prefix hs x.prefix x.back x.whole took.unseen in
             let both : keyed ks ++ more ≡ keyed x.back ++ rest = sym e ∙ ap (λ (z : List Happening). z ++ rest) seen in
-            let it = meet (suc m) n (omega (arith, le)) l x.mid none (lag_of took.bytes l x.mid took.part) ks more b x.back rest a both d (calm_last hs x.front x.back x.whole c) q (record { times = x.second; acted_on = p.acted_on }) in
+            let it = meet (suc m) n (omega (arith, le)) l x.mid none (lag_of took.bytes l x.mid took.part) ks more b x.back rest a both d (calm_last hs x.prefix x.back x.whole c) q (record { times = x.second; acted_on = p.acted_on }) in
             (seen ∙ sym it.0, sym it.1)
         by (inr one) (inl took) =
-            let seen : keyed ks ≡ keyed y.back = unseen_front ks y.front y.back y.whole took.unseen in
+            let seen : keyed ks ≡ keyed y.back = unseen_prefix ks y.prefix y.back y.whole took.unseen in
             let both : keyed hs ++ rest ≡ keyed y.back ++ more = e ∙ ap (λ (z : List Happening). z ++ more) seen in
-            let it = meet (suc n) m (omega (arith, le)) l y.mid none (lag_of took.bytes l y.mid took.part) hs rest a y.back more b both c (calm_last ks y.front y.back y.whole d) p (record { times = y.second; acted_on = q.acted_on }) in
+            let it = meet (suc n) m (omega (arith, le)) l y.mid none (lag_of took.bytes l y.mid took.part) hs rest a y.back more b both c (calm_last ks y.prefix y.back y.whole d) p (record { times = y.second; acted_on = q.acted_on }) in
             (it.0 ∙ sym seen, it.1)
         by (inr one) (inr other) =
-            let both : keyed x.front ++ (keyed x.back ++ rest) ≡ keyed y.front ++ (keyed y.back ++ more) = sym (keyed_parts hs x.front x.back rest x.whole) ∙ (e ∙ keyed_parts ks y.front y.back more y.whole) in
-            let first = acts_same l x.front (keyed x.back ++ rest) x.mid y.front (keyed y.back ++ more) y.mid both (calm_first hs x.front x.back x.whole c) (calm_first ks y.front y.back y.whole d) x.first y.first one other in
-            let left : keyed x.back ++ rest ≡ keyed y.back ++ more = append_cancel_left (keyed x.front) (keyed x.back ++ rest) (keyed y.back ++ more) (both ∙ ap (λ (z : List Happening). z ++ (keyed y.back ++ more)) (sym first.0)) in
-            let it = meet n m (omega (arith, le)) x.mid y.mid x.first.second.1 (inl (sym first.1)) x.back rest a y.back more b left (calm_last hs x.front x.back x.whole c) (calm_last ks y.front y.back y.whole d) (record { times = x.second; acted_on = p.acted_on }) (record { times = y.second; acted_on = q.acted_on }) in (
-              ap keyed x.whole ∙ (keyed_append x.front x.back ∙ (ap (λ (z : List Happening). z ++ keyed x.back) first.0 ∙ (ap (λ (z : List Happening). keyed y.front ++ z) it.0 ∙ sym (ap keyed y.whole ∙ keyed_append y.front y.back)))),
+            let both : keyed x.prefix ++ (keyed x.back ++ rest) ≡ keyed y.prefix ++ (keyed y.back ++ more) = sym (keyed_parts hs x.prefix x.back rest x.whole) ∙ (e ∙ keyed_parts ks y.prefix y.back more y.whole) in
+            let first = acts_same l x.prefix (keyed x.back ++ rest) x.mid y.prefix (keyed y.back ++ more) y.mid both (calm_first hs x.prefix x.back x.whole c) (calm_first ks y.prefix y.back y.whole d) x.first y.first one other in
+            let left : keyed x.back ++ rest ≡ keyed y.back ++ more = append_cancel_left (keyed x.prefix) (keyed x.back ++ rest) (keyed y.back ++ more) (both ∙ ap (λ (z : List Happening). z ++ (keyed y.back ++ more)) (sym first.0)) in
+            let it = meet n m (omega (arith, le)) x.mid y.mid x.first.second.1 (inl (sym first.1)) x.back rest a y.back more b left (calm_last hs x.prefix x.back x.whole c) (calm_last ks y.prefix y.back y.whole d) (record { times = x.second; acted_on = p.acted_on }) (record { times = y.second; acted_on = q.acted_on }) in (
+              ap keyed x.whole ∙ (keyed_append x.prefix x.back ∙ (ap (λ (z : List Happening). z ++ keyed x.back) first.0 ∙ (ap (λ (z : List Happening). keyed y.prefix ++ z) it.0 ∙ sym (ap keyed y.whole ∙ keyed_append y.prefix y.back)))),
               it.1,
             )
 
     -- where the second is ahead
-    meets_behind : (k : ℕ) → Meets k → (n m : ℕ) → suc n + m ≤ suc k → (l l2 : Ledger) → NoneBroken l → (z : ℕ) (zs : List ℕ) → IsPart key (z ∷ zs) l l2 → (hs rest : List Happening) (a : Ledger) (ks more : List Happening) (b : Ledger)
+    meets_after : (k : ℕ) → Meets k → (n m : ℕ) → suc n + m ≤ suc k → (l l2 : Ledger) → NoneBroken l → (z : ℕ) (zs : List ℕ) → IsPart key (z ∷ zs) l l2 → (hs rest : List Happening) (a : Ledger) (ks more : List Happening) (b : Ledger)
         → keyed hs ++ rest ≡ keyed ks ++ more → Calm hs → Calm ks → Run (suc n) l hs a → Run m l2 ks b → Met hs a ks b
-    meets_behind k meet n m le l l2 none z zs part hs rest a ks more b e c d p q = by (act_kind l x.front x.mid none (calm_first hs x.front x.back x.whole c) x.first)
+    meets_after k meet n m le l l2 none z zs part hs rest a ks more b e c d p q = by (act_kind l x.prefix x.mid none (calm_first hs x.prefix x.back x.whole c) x.first)
       where
         x : Then (Acts moment key) (Times n (Acts moment key)) l hs a
         x = times_cons n (Acts moment key) l hs a p.times
@@ -506,13 +506,13 @@ module _ (some : SomeParse) (stays : FirstStays) (no_item : NoItemFollows) (one_
         later = record { times = x.second; acted_on = p.acted_on }
 
         calm : Calm x.back
-        calm = calm_last hs x.front x.back x.whole c
+        calm = calm_last hs x.prefix x.back x.whole c
 
         taken : (bytes : List ℕ) → IsPart key bytes l x.mid → keyed hs ≡ keyed x.back → ((more : List ℕ) × (z ∷ zs ≡ bytes ++ more)) ⊎ ((w : ℕ) × (ws : List ℕ) × (bytes ≡ (z ∷ zs) ++ w ∷ ws)) → Met hs a ks b
         taken bytes one seen (inl (left, is)) =
-            let behind = part_rest key bytes left l x.mid l2 one (subst (λ (xs : List ℕ). IsPart key xs l l2) is part) in
+            let tail = part_rest key bytes left l x.mid l2 one (subst (λ (xs : List ℕ). IsPart key xs l l2) is part) in
             let both : keyed x.back ++ rest ≡ keyed ks ++ more = sym (ap (λ (v : List Happening). v ++ rest) seen) ∙ e in
-            let it = meet n m (omega (arith, le)) x.mid l2 (part_sound key bytes l x.mid one none) (lag_of left x.mid l2 behind) x.back rest a ks more b both calm d later q in
+            let it = meet n m (omega (arith, le)) x.mid l2 (part_sound key bytes l x.mid one none) (lag_of left x.mid l2 tail) x.back rest a ks more b both calm d later q in
             (seen ∙ it.0, it.1)
         taken bytes one seen (inr (w, ws, is)) =
             let ahead = part_rest key (z ∷ zs) (w ∷ ws) l l2 x.mid part (subst (λ (xs : List ℕ). IsPart key xs l x.mid) is one) in
@@ -520,36 +520,36 @@ module _ (some : SomeParse) (stays : FirstStays) (no_item : NoItemFollows) (one_
             let it = meet m n (omega (arith, le)) l2 x.mid (part_sound key (z ∷ zs) l l2 part none) (inr (w, ws, ahead)) ks more b x.back rest a both d calm q later in
             (seen ∙ sym it.0, sym it.1)
 
-        by : TakesPart key l x.front x.mid ⊎ AsksElse moment key l x.first.front x.first.mid x.first.first → Met hs a ks b
+        by : TakesPart key l x.prefix x.mid ⊎ AsksElse moment key l x.first.prefix x.first.mid x.first.first → Met hs a ks b
         by (inr other) =
-            let it = other.element part.e part.said part.closes part.body part.there part.progress in fronts part.e.read part.said (it.0 ∷ []) (HasByte z ∷ map HasByte zs) it.2 part.first (λ u v same. clash it.0 z u (map HasByte zs ++ v) it.1 same)
+            let it = other.element part.e part.said part.closes part.body part.there part.progress in prefixes part.e.read part.said (it.0 ∷ []) (HasByte z ∷ map HasByte zs) it.2 part.first (λ u v same. clash it.0 z u (map HasByte zs ++ v) it.1 same)
         by (inl took) =
             let one = took.part in
             let its = seen_as key (z ∷ zs) l l2 part one.e one.said one.closes one.body one.there one.progress in
-            taken took.bytes one (unseen_front hs x.front x.back x.whole took.unseen) (fronts one.e.read one.said (map HasByte took.bytes) (map HasByte (z ∷ zs)) one.first its.first (λ u v same. prefix took.bytes (z ∷ zs) u v same))
+            taken took.bytes one (unseen_prefix hs x.prefix x.back x.whole took.unseen) (prefixes one.e.read one.said (map HasByte took.bytes) (map HasByte (z ∷ zs)) one.first its.first (λ u v same. prefix took.bytes (z ∷ zs) u v same))
 
     meet : (k : ℕ) → Meets k
     meet k zero m le l l2 none (inl same) hs rest a ks more b e c d p q =
         let last = finish m l ks b none (subst (λ (x : Ledger). IsActedOnAt (x.entries key)) p.times.1 p.acted_on) d (subst (λ (x : Ledger). Run m x ks b) same q) in (ap keyed p.times.0 ∙ sym last.0, p.times.1 ∙ sym last.1)
-    meet k zero m le l l2 none (inr (x, xs, part)) hs rest a ks more b e c d p q = absurd (left_over_part x xs l l2 part (subst (λ (z : Ledger). IsActedOnAt (z.entries key)) p.times.1 p.acted_on))
+    meet k zero m le l l2 none (inr (x, xs, part)) hs rest a ks more b e c d p q = absurd (not_acted_on_part x xs l l2 part (subst (λ (z : Ledger). IsActedOnAt (z.entries key)) p.times.1 p.acted_on))
     meet zero (suc n) m le l l2 none lag hs rest a ks more b e c d p q = absurd (omega arith)
     meet (suc k) (suc n) zero le l l2 none (inl same) hs rest a ks more b e c d p q =
         let acted_on : IsActedOnAt (l.entries key) = subst (λ (x : Ledger). IsActedOnAt (x.entries key)) (q.times.1 ∙ same) q.acted_on in let last = finish (suc n) l hs a none acted_on c p in (last.0 ∙ sym (ap keyed q.times.0), last.1 ∙ (sym same ∙ sym q.times.1))
     meet (suc k) (suc n) (suc m) le l l2 none (inl same) hs rest a ks more b e c d p q = meets_even k (meet k) n m le l none hs rest a ks more b e c d p (subst (λ (x : Ledger). Run (suc m) x ks b) same q)
-    meet (suc k) (suc n) m le l l2 none (inr (z, zs, part)) hs rest a ks more b e c d p q = meets_behind k (meet k) n m le l l2 none z zs part hs rest a ks more b e c d p q
+    meet (suc k) (suc n) m le l l2 none (inr (z, zs, part)) hs rest a ks more b e c d p q = meets_after k (meet k) n m le l l2 none z zs part hs rest a ks more b e c d p q
 
     -- what a connection asks, until it has no ask
     pub serves_same : (l : Ledger) (hs rest : List Happening) (a : Ledger) (ks more : List Happening) (b : Ledger) → NoneBroken l → keyed hs ++ rest ≡ keyed ks ++ more → Calm hs → Calm ks → Serves moment key l hs a → Serves moment key l ks b → (keyed hs ≡ keyed ks) × (a ≡ b)
     serves_same l hs rest a ks more b none e c d p q =
         let x = p.0 in
         let y = q.0 in
-        let seen : keyed hs ≡ keyed x.front = rested hs x.front x.back x.whole x.second.0 in
-        let saw : keyed ks ≡ keyed y.front = rested ks y.front y.back y.whole y.second.0 in
-        let both : keyed x.front ++ rest ≡ keyed y.front ++ more = sym (ap (λ (z : List Happening). z ++ rest) seen) ∙ (e ∙ ap (λ (z : List Happening). z ++ more) saw) in
-        let left : Run x.first.0 l x.front x.mid = record { times = x.first.1; acted_on = subst (λ (z : Ledger). IsActedOnAt (z.entries key)) x.second.1 p.1 } in
-        let right : Run y.first.0 l y.front y.mid = record { times = y.first.1; acted_on = subst (λ (z : Ledger). IsActedOnAt (z.entries key)) y.second.1 q.1 } in
-        let it = meet (x.first.0 + y.first.0) x.first.0 y.first.0 (omega arith) l l none (inl refl) x.front rest x.mid y.front more y.mid both (calm_first hs x.front x.back x.whole c) (calm_first ks y.front y.back y.whole d) left right in
+        let seen : keyed hs ≡ keyed x.prefix = rested hs x.prefix x.back x.whole x.second.0 in
+        let saw : keyed ks ≡ keyed y.prefix = rested ks y.prefix y.back y.whole y.second.0 in
+        let both : keyed x.prefix ++ rest ≡ keyed y.prefix ++ more = sym (ap (λ (z : List Happening). z ++ rest) seen) ∙ (e ∙ ap (λ (z : List Happening). z ++ more) saw) in
+        let left : Run x.first.0 l x.prefix x.mid = record { times = x.first.1; acted_on = subst (λ (z : Ledger). IsActedOnAt (z.entries key)) x.second.1 p.1 } in
+        let right : Run y.first.0 l y.prefix y.mid = record { times = y.first.1; acted_on = subst (λ (z : Ledger). IsActedOnAt (z.entries key)) y.second.1 q.1 } in
+        let it = meet (x.first.0 + y.first.0) x.first.0 y.first.0 (omega arith) l l none (inl refl) x.prefix rest x.mid y.prefix more y.mid both (calm_first hs x.prefix x.back x.whole c) (calm_first ks y.prefix y.back y.whole d) left right in
         (seen ∙ (it.0 ∙ sym saw), x.second.1 ∙ (it.1 ∙ sym y.second.1))
       where
-        rested : (xs front back : List Happening) → xs ≡ front ++ back → back ≡ Chosen Rested ∷ [] → keyed xs ≡ keyed front
-        rested xs front back whole is = ap keyed whole ∙ (keyed_append front back ∙ (ap (λ (z : List Happening). keyed front ++ keyed z) is ∙ append-nil (keyed front)))
+        rested : (xs prefix back : List Happening) → xs ≡ prefix ++ back → back ≡ Chosen Rested ∷ [] → keyed xs ≡ keyed prefix
+        rested xs prefix back whole is = ap keyed whole ∙ (keyed_append prefix back ∙ (ap (λ (z : List Happening). keyed prefix ++ keyed z) is ∙ append-nil (keyed prefix)))

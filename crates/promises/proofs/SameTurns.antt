@@ -31,14 +31,14 @@ use Rattle.server.specs.Law.{happenings_of, happenings_in}
 use Rattle.promises.specs.Keyed.{key_chosen, keyed, keyed_of, keyed_in, SeenLeadsToOne}
 use Rattle.promises.specs.OneLedger.{StepsOnce, SameQueries, AsksOnce}
 use Rattle.promises.proofs.UniqueActs.{same_self}
-use Rattle.promises.proofs.SeenAlike.{Calm, Same, One, keyed_append, calm_front, calm_back, calm_last, same_just, same_nothing, same_polls, same_chooses, same_then_by, same_then, refuses_then, same_or, same_if, first_seen}
+use Rattle.promises.proofs.SeenAlike.{Calm, Same, One, keyed_append, calm_prefix, calm_back, calm_last, same_just, same_nothing, same_polls, same_chooses, same_then_by, same_then, refuses_then, same_or, same_if, first_seen}
 use Rattle.promises.proofs.SameEvents.{same_sets, refuses_drops, refuses_notifies, same_breaks, one_tick, same_body}
-use Rattle.promises.proofs.SameActs.{same_closes_as, same_settles, same_reports}
+use Rattle.promises.proofs.SameActs.{same_closes_as, same_closes_broken, same_reports}
 use Rattle.promises.proofs.SameParts.{serves_same}
 use Rattle.promises.proofs.SentToDevices.{same_key, other_key}
 use Rattle.std.proofs.lemmas.Bool.Decides.{nat_tests}
 use Rattle.promises.specs.Others.{Bears}
-use Rattle.promises.proofs.OtherConnections.{spares_reads, spares_writes, spares_ends, Settled, settled_nothing, settled_then, settled_sets, settled_reads, settled_writes, settled_ends}
+use Rattle.promises.proofs.OtherConnections.{spares_reads, spares_writes, spares_ends, Unbroken, unbroken_nothing, unbroken_then, unbroken_sets, unbroken_reads, unbroken_writes, unbroken_ends}
 
 -- ---- accepts
 
@@ -74,7 +74,7 @@ just_polled poll l hs a it = ([], ap keyed it.0)
 
 poll_then : (poll : Poll) (R : Rel) (l : Ledger) (hs : List Happening) (a : Ledger) → Then (Polls poll) R l hs a → IsFirst poll hs
 unfolding IsFirst
-poll_then poll R l hs a it = (keyed it.back, ap keyed it.whole ∙ (keyed_append it.front it.back ∙ ap (λ (xs : List Happening). keyed xs ++ keyed it.back) it.first.0))
+poll_then poll R l hs a it = (keyed it.back, ap keyed it.whole ∙ (keyed_append it.prefix it.back ∙ ap (λ (xs : List Happening). keyed xs ++ keyed it.back) it.first.0))
 
 one_poll : (poll other : Poll) (hs rest ks more : List Happening) → keyed hs ++ rest ≡ keyed ks ++ more → IsFirst poll hs → IsFirst other ks → poll ≡ other
 unfolding IsFirst
@@ -107,13 +107,13 @@ record Onward (R : Rel) : Type 0 where
 onward : (R : Rel) → One R → Onward R
 onward R r = record { one = λ l hs rest a ks more b none e c d p q. r.one l hs rest a ks more b e c d p q }
 
-onward_then : (R S : Rel) → Settled R → Onward R → Onward S → Onward (Then R S)
+onward_then : (R S : Rel) → Unbroken R → Onward R → Onward S → Onward (Then R S)
 onward_then R S keeps r s = record {
   one = λ l hs rest a ks more b none e c d p q.
       let it = same_then_by {X = Unit {0}} R R (λ z zs w. NoneBroken z × S z zs w) (λ z zs w. NoneBroken z × S z zs w) l hs rest a ks more b e c d
-      (record { mid = p.mid; front = p.front; back = p.back; whole = p.whole; first = p.first; second = (keeps l p.front p.mid none p.first, p.second) })
-      (record { mid = q.mid; front = q.front; back = q.back; whole = q.whole; first = q.first; second = (keeps l q.front q.mid none q.first, q.second) })
-      (λ left right both calm still. let first = r.one l p.front left p.mid q.front right q.mid none both calm still p.first q.first in (tt, first.0, first.1))
+      (record { mid = p.mid; prefix = p.prefix; back = p.back; whole = p.whole; first = p.first; second = (keeps l p.prefix p.mid none p.first, p.second) })
+      (record { mid = q.mid; prefix = q.prefix; back = q.back; whole = q.whole; first = q.first; second = (keeps l q.prefix q.mid none q.first, q.second) })
+      (λ left right both calm still. let first = r.one l p.prefix left p.mid q.prefix right q.mid none both calm still p.first q.first in (tt, first.0, first.1))
       (λ u. record { one = λ z xs xrest w ys ymore v f g h x y. s.one z xs xrest w ys ymore v x.0 f g h x.1 y.1 }) in
       (it.1, it.2);
 }
@@ -122,13 +122,13 @@ onward_if : (test : Bool) (R S : Rel) → Onward R → Onward S → Onward (If t
 onward_if true R S r s = record { one = λ l hs rest a ks more b none e c d p q. r.one l hs rest a ks more b none e c d p q }
 onward_if false R S r s = record { one = λ l hs rest a ks more b none e c d p q. s.one l hs rest a ks more b none e c d p q }
 
-settled_each : (n : ℕ) (R : ℕ → Rel) → ((i : ℕ) → Settled (R i)) → Settled (Each n R)
-settled_each zero R each = settled_nothing
-settled_each (suc n) R each = settled_then (Each n R) (R n) (settled_each n R each) (each n)
+unbroken_each : (n : ℕ) (R : ℕ → Rel) → ((i : ℕ) → Unbroken (R i)) → Unbroken (Each n R)
+unbroken_each zero R each = unbroken_nothing
+unbroken_each (suc n) R each = unbroken_then (Each n R) (R n) (unbroken_each n R each) (each n)
 
-onward_each : (n : ℕ) (R : ℕ → Rel) → ((i : ℕ) → Settled (R i)) → ((i : ℕ) → Onward (R i)) → Onward (Each n R)
+onward_each : (n : ℕ) (R : ℕ → Rel) → ((i : ℕ) → Unbroken (R i)) → ((i : ℕ) → Onward (R i)) → Onward (Each n R)
 onward_each zero R keeps each = onward Nothing same_nothing
-onward_each (suc n) R keeps each = onward_then (Each n R) (R n) (settled_each n R keeps) (onward_each n R keeps each) (each n)
+onward_each (suc n) R keeps each = onward_then (Each n R) (R n) (unbroken_each n R keeps) (onward_each n R keeps each) (each n)
 
 -- a connection that is accepted isn't broken
 opened_sound : (t : Bool) (door : Door) (id : ℕ) (o : Option Entry) → IsBroken (if t then Some (opening_entry door id) else o) → (IsBroken o → ⊥) → ⊥
@@ -138,28 +138,28 @@ opened_sound true door id o is none = never is
     never same = cc
 opened_sound false door id o is none = none is
 
-settled_polls : (poll : Poll) → Settled (Polls poll)
-settled_polls poll l hs l' none it = subst NoneBroken (sym it.1) none
+unbroken_polls : (poll : Poll) → Unbroken (Polls poll)
+unbroken_polls poll l hs l' none it = subst NoneBroken (sym it.1) none
 
-settled_opens : (door : Door) (id : ℕ) → Settled (Opens door id)
-settled_opens door id l hs l' none (inl (key, free, is, after)) other broken = opened_sound (other == key) door id (l.entries other) (subst (λ (x : Ledger). IsBroken (x.entries other)) after broken) (none other)
-settled_opens door id l hs l' none (inr it) other broken = none other (subst (λ (x : Ledger). IsBroken (x.entries other)) it.1 broken)
+unbroken_opens : (door : Door) (id : ℕ) → Unbroken (Opens door id)
+unbroken_opens door id l hs l' none (inl (key, free, is, after)) other broken = opened_sound (other == key) door id (l.entries other) (subst (λ (x : Ledger). IsBroken (x.entries other)) after broken) (none other)
+unbroken_opens door id l hs l' none (inr it) other broken = none other (subst (λ (x : Ledger). IsBroken (x.entries other)) it.1 broken)
 
-settled_accepts_as : (door : Door) (answer : Progress ℕ) → Settled (AcceptsAs door answer)
-settled_accepts_as door (wire.Done id) = settled_then (Polls (Accepts door (wire.Done id))) (Opens door id) (settled_polls (Accepts door (wire.Done id))) (settled_opens door id)
-settled_accepts_as door wire.Waiting = settled_polls (Accepts door wire.Waiting)
-settled_accepts_as door wire.End = settled_polls (Accepts door wire.End)
-settled_accepts_as door wire.Fault = settled_polls (Accepts door wire.Fault)
+unbroken_accepts_as : (door : Door) (answer : Progress ℕ) → Unbroken (AcceptsAs door answer)
+unbroken_accepts_as door (wire.Done id) = unbroken_then (Polls (Accepts door (wire.Done id))) (Opens door id) (unbroken_polls (Accepts door (wire.Done id))) (unbroken_opens door id)
+unbroken_accepts_as door wire.Waiting = unbroken_polls (Accepts door wire.Waiting)
+unbroken_accepts_as door wire.End = unbroken_polls (Accepts door wire.End)
+unbroken_accepts_as door wire.Fault = unbroken_polls (Accepts door wire.Fault)
 
-settled_accepts : (door : Door) → Settled (AcceptsAt door)
-settled_accepts door l hs l' none it = by (nat_lt l.count CONNECTIONS) it
+unbroken_accepts : (door : Door) → Unbroken (AcceptsAt door)
+unbroken_accepts door l hs l' none it = by (nat_lt l.count CONNECTIONS) it
   where
     by : (t : Bool) → If t (AcceptsOne door) Nothing l hs l' → NoneBroken l'
-    by true (answer, one) = settled_accepts_as door answer l hs l' none one
+    by true (answer, one) = unbroken_accepts_as door answer l hs l' none one
     by false still = subst NoneBroken (sym still.1) none
 
-settled_ticks : (moment : ℕ) → Settled (TicksIfDue moment)
-settled_ticks moment l hs l' none it = by (is_tick_due moment l) it
+unbroken_ticks : (moment : ℕ) → Unbroken (TicksIfDue moment)
+unbroken_ticks moment l hs l' none it = by (is_tick_due moment l) it
   where
     by : (t : Bool) → If t (Then (Ticks moment) (ClosesBroken moment)) Nothing l hs l' → NoneBroken l'
     by true ticks = ticks.second.1
@@ -200,17 +200,17 @@ module _ (steps : StepsOnce) (queries : SameQueries) (asks : AsksOne) (bodies : 
   -- ---- reads
 
   closes_broken : (moment : ℕ) → One (ClosesBroken moment)
-  closes_broken moment = same_settles steps queries moment
+  closes_broken moment = same_closes_broken steps queries moment
 
   fed_whole : (moment key : ℕ) (e : Entry) (bytes : List ℕ) (l : Ledger) (hs rest : List Happening) (a : Ledger) (ks more : List Happening) (b : Ledger) → NoneBroken l → l.entries key ≡ Some e → keyed hs ++ rest ≡ keyed ks ++ more → Calm hs → Calm ks → FedWhole moment key e bytes l hs a → FedWhole moment key e bytes l ks b → (keyed hs ≡ keyed ks) × (a ≡ b)
   fed_whole moment key e bytes l hs rest a ks more b none there same c d (inr p) q = absurd ((refuses_then (Drops At.Feed key e) (ClosesBroken moment) (refuses_drops At.Feed key e)).never l hs a p c)
   fed_whole moment key e bytes l hs rest a ks more b none there same c d (inl p) (inr q) = absurd ((refuses_then (Drops At.Feed key e) (ClosesBroken moment) (refuses_drops At.Feed key e)).never l ks b q d)
   fed_whole moment key e bytes l hs rest a ks more b none there same c d (inl p) (inl q) =
-      let sound : NoneBroken p.mid = settled_sets key e (reading bytes e) l p.front p.mid none there refl p.first in
+      let sound : NoneBroken p.mid = unbroken_sets key e (reading bytes e) l p.prefix p.mid none there refl p.first in
       let seen : keyed hs ≡ keyed p.back = ap keyed (p.whole ∙ ap (λ (xs : List Happening). xs ++ p.back) p.first.0) in
       let saw : keyed ks ≡ keyed q.back = ap keyed (q.whole ∙ ap (λ (xs : List Happening). xs ++ q.back) q.first.0) in
       let both : keyed p.back ++ rest ≡ keyed q.back ++ more = sym (ap (λ (xs : List Happening). xs ++ rest) seen) ∙ (same ∙ ap (λ (xs : List Happening). xs ++ more) saw) in
-      let it = serves_same some stays no_item one_lpd no_report steps queries asks moment key p.mid p.back rest a q.back more b sound both (calm_last hs p.front p.back p.whole c) (calm_last ks q.front q.back q.whole d) p.second (subst (λ (x : Ledger). Serves moment key x q.back b) (q.first.1 ∙ sym p.first.1) q.second) in
+      let it = serves_same some stays no_item one_lpd no_report steps queries asks moment key p.mid p.back rest a q.back more b sound both (calm_last hs p.prefix p.back p.whole c) (calm_last ks q.prefix q.back q.whole d) p.second (subst (λ (x : Ledger). Serves moment key x q.back b) (q.first.1 ∙ sym p.first.1) q.second) in
       (seen ∙ (it.0 ∙ sym saw), it.1)
 
   feeds_if : (t : Bool) (moment key : ℕ) (e : Entry) (bytes : List ℕ) (l : Ledger) (hs rest : List Happening) (a : Ledger) (ks more : List Happening) (b : Ledger) → NoneBroken l → l.entries key ≡ Some e → keyed hs ++ rest ≡ keyed ks ++ more → Calm hs → Calm ks → If t (Sets key e) (FedWhole moment key e bytes) l hs a → If t (Sets key e) (FedWhole moment key e bytes) l ks b → (keyed hs ≡ keyed ks) × (a ≡ b)
@@ -228,7 +228,7 @@ module _ (steps : StepsOnce) (queries : SameQueries) (asks : AsksOne) (bodies : 
   same_fails moment key = same_then (same_breaks key) (closes_broken moment)
 
   reads_as : (moment key : ℕ) (e : Entry) (answer : Progress (List ℕ)) → Onward (ReadsAs moment key e answer)
-  reads_as moment key e (wire.Done bytes) = onward_then (Polls (Reads e.id (wire.Done bytes))) (FeedsOne moment key bytes) (settled_polls (Reads e.id (wire.Done bytes))) (onward (Polls (Reads e.id (wire.Done bytes))) (same_polls (Reads e.id (wire.Done bytes)))) (feeds moment key bytes)
+  reads_as moment key e (wire.Done bytes) = onward_then (Polls (Reads e.id (wire.Done bytes))) (FeedsOne moment key bytes) (unbroken_polls (Reads e.id (wire.Done bytes))) (onward (Polls (Reads e.id (wire.Done bytes))) (same_polls (Reads e.id (wire.Done bytes)))) (feeds moment key bytes)
   reads_as moment key e wire.Waiting = onward (Polls (Reads e.id wire.Waiting)) (same_polls (Reads e.id wire.Waiting))
   reads_as moment key e wire.End = onward (Then (Polls (Reads e.id wire.End)) (Sets key (record e { ended = true }))) (same_then (same_polls (Reads e.id wire.End)) (same_sets key (record e { ended = true })))
   reads_as moment key e wire.Fault = onward (Then (Polls (Reads e.id wire.Fault)) (Fails moment key)) (same_then (same_polls (Reads e.id wire.Fault)) (same_fails moment key))
@@ -244,7 +244,7 @@ module _ (steps : StepsOnce) (queries : SameQueries) (asks : AsksOne) (bodies : 
 
   reads_open : (moment key : ℕ) (x : Entry) → Onward (ReadsOpen moment key x)
   reads_open moment key x = record {
-    one = λ l hs rest a ks more b none e c d (answer, piece, p) (other, its, q).
+    one = λ l hs rest a ks more b none e c d (answer, segment, p) (other, its, q).
         let same : answer ≡ other = same_read x.id answer other (one_poll (Reads x.id answer) (Reads x.id other) hs rest ks more e (read_first moment key x answer l hs a p) (read_first moment key x other l ks b q)) in
         (reads_as moment key x answer).one l hs rest a ks more b none e c d p (subst (λ (y : Progress (List ℕ)). ReadsAs moment key x y l ks b) (sym same) q);
   }
@@ -275,7 +275,7 @@ module _ (steps : StepsOnce) (queries : SameQueries) (asks : AsksOne) (bodies : 
 
   writes_open : (moment key : ℕ) (x : Entry) → One (WritesOpen moment key x)
   writes_open moment key x = record {
-    one = λ l hs rest a ks more b e c d (offered, front, answer, p) (bytes, its, other, q).
+    one = λ l hs rest a ks more b e c d (offered, prefix, answer, p) (bytes, its, other, q).
         let same = same_write x.id offered bytes answer other (one_poll (Writes x.id offered answer) (Writes x.id bytes other) hs rest ks more e (write_first moment key x offered answer l hs a p) (write_first moment key x bytes other l ks b q)) in
         (writes_as moment key x offered answer).one l hs rest a ks more b e c d p (subst (λ (y : Progress ℕ). WritesAs moment key x offered y l ks b) (sym same.1) (subst (λ (y : List ℕ). WritesAs moment key x y other l ks b) (sym same.0) q));
   }
@@ -349,7 +349,7 @@ module _ (steps : StepsOnce) (queries : SameQueries) (asks : AsksOne) (bodies : 
   none_after : (R : ℕ → Rel) → Passes R → (n m : ℕ) → (l : Ledger) (hs : List Happening) (a : Ledger) → NoneFrom n l → Each m R l hs a → NoneFrom n a
   unfolding NoneFrom
   none_after R passes n zero l hs a none it = λ key le. ap (λ (x : Ledger). x.entries key) it.1 ∙ none key le
-  none_after R passes n (suc m) l hs a none it = none_next R passes n m it.mid it.back a (none_after R passes n m l it.front it.mid none it.first) it.second
+  none_after R passes n (suc m) l hs a none it = none_next R passes n m it.mid it.back a (none_after R passes n m l it.prefix it.mid none it.first) it.second
 
   least : (k : ℕ) → k ≤ 0 → k ≡ 0
   least k small = omega arith
@@ -362,9 +362,9 @@ module _ (steps : StepsOnce) (queries : SameQueries) (asks : AsksOne) (bodies : 
   shrink_by R passes n m le l hs a none it rest true is = subst (λ (k : ℕ). Each k R l hs a) (sym (same_key n (suc m) is)) it
   shrink_by R passes n m le l hs a none it rest false is =
       let small = below n m le is in
-      let free : it.mid.entries m ≡ None = none_after R passes n m l it.front it.mid none it.first m small in
+      let free : it.mid.entries m ≡ None = none_after R passes n m l it.prefix it.mid none it.first m small in
       let still = passes.empty m it.mid it.back a free it.second in
-      let whole : hs ≡ it.front = it.whole ∙ (ap (λ (xs : List Happening). it.front ++ xs) still.0 ∙ append-nil it.front) in
+      let whole : hs ≡ it.prefix = it.whole ∙ (ap (λ (xs : List Happening). it.prefix ++ xs) still.0 ∙ append-nil it.prefix) in
       rest hs a small (subst (λ (x : Ledger). Each m R l hs x) (sym still.1) (subst (λ (xs : List Happening). Each m R l xs it.mid) (sym whole) it.first))
 
   shrink : (R : ℕ → Rel) → Passes R → (n m : ℕ) → n ≤ m → (l : Ledger) (hs : List Happening) (a : Ledger) → NoneFrom n l → Each m R l hs a → Each n R l hs a
@@ -378,28 +378,28 @@ module _ (steps : StepsOnce) (queries : SameQueries) (asks : AsksOne) (bodies : 
   shorter : (moment n m : ℕ) → n ≤ m → (l : Ledger) (hs : List Happening) (a : Ledger) → NoneFrom n l → Goes moment m l hs a → Goes moment n l hs a
   shorter moment n m le l hs a none it =
       let rest = it.second in
-      let read = none_after (ReadsOne moment) (passes_reads moment) n m l it.front it.mid none it.first in
-      let wrote = none_after (WritesOne moment) (passes_writes moment) n m it.mid rest.front rest.mid read rest.first in
+      let read = none_after (ReadsOne moment) (passes_reads moment) n m l it.prefix it.mid none it.first in
+      let wrote = none_after (WritesOne moment) (passes_writes moment) n m it.mid rest.prefix rest.mid read rest.first in
       record {
         mid = it.mid;
-        front = it.front;
+        prefix = it.prefix;
         back = it.back;
         whole = it.whole;
-        first = shrink (ReadsOne moment) (passes_reads moment) n m le l it.front it.mid none it.first;
+        first = shrink (ReadsOne moment) (passes_reads moment) n m le l it.prefix it.mid none it.first;
         second = record {
           mid = rest.mid;
-          front = rest.front;
+          prefix = rest.prefix;
           back = rest.back;
           whole = rest.whole;
-          first = shrink (WritesOne moment) (passes_writes moment) n m le it.mid rest.front rest.mid read rest.first;
+          first = shrink (WritesOne moment) (passes_writes moment) n m le it.mid rest.prefix rest.mid read rest.first;
           second = shrink (EndsOne moment) (passes_ends moment) n m le rest.mid rest.back a wrote rest.second;
         };
       }
 
   goes : (moment n : ℕ) → Onward (Goes moment n)
   goes moment n =
-      onward_then (Each n (ReadsOne moment)) (Then (Each n (WritesOne moment)) (Each n (EndsOne moment))) (settled_each n (ReadsOne moment) (settled_reads moment)) (onward_each n (ReadsOne moment) (settled_reads moment) (reads moment))
-      (onward_then (Each n (WritesOne moment)) (Each n (EndsOne moment)) (settled_each n (WritesOne moment) (settled_writes moment)) (onward_each n (WritesOne moment) (settled_writes moment) (writes moment)) (onward_each n (EndsOne moment) (settled_ends moment) (ends moment)))
+      onward_then (Each n (ReadsOne moment)) (Then (Each n (WritesOne moment)) (Each n (EndsOne moment))) (unbroken_each n (ReadsOne moment) (unbroken_reads moment)) (onward_each n (ReadsOne moment) (unbroken_reads moment) (reads moment))
+      (onward_then (Each n (WritesOne moment)) (Each n (EndsOne moment)) (unbroken_each n (WritesOne moment) (unbroken_writes moment)) (onward_each n (WritesOne moment) (unbroken_writes moment) (writes moment)) (onward_each n (EndsOne moment) (unbroken_ends moment) (ends moment)))
 
   round_same : (moment : ℕ) → Onward (Round moment)
   unfolding NoneFrom
@@ -415,20 +415,20 @@ module _ (steps : StepsOnce) (queries : SameQueries) (asks : AsksOne) (bodies : 
           more (inr le) = inr (omega (arith, le))
 
       looked : (n : ℕ) (l : Ledger) (hs : List Happening) (a : Ledger) → (p : Rounds moment n l hs a) → (keyed hs ≡ keyed p.back) × Goes moment n l p.back a
-      looked n l hs a p = (ap keyed p.whole ∙ (keyed_append p.front p.back ∙ ap (λ (xs : List Happening). keyed xs ++ keyed p.back) p.first.1.0), subst (λ (x : Ledger). Goes moment n x p.back a) p.first.1.1 p.second)
+      looked n l hs a p = (ap keyed p.whole ∙ (keyed_append p.prefix p.back ∙ ap (λ (xs : List Happening). keyed xs ++ keyed p.back) p.first.1.0), subst (λ (x : Ledger). Goes moment n x p.back a) p.first.1.1 p.second)
 
       by : (n m : ℕ) (l : Ledger) (hs rest : List Happening) (a : Ledger) (ks more : List Happening) (b : Ledger) → NoneBroken l → keyed hs ++ rest ≡ keyed ks ++ more → Calm hs → Calm ks → (p : Rounds moment n l hs a) (q : Rounds moment m l ks b) → (n ≤ m) ⊎ (m ≤ n) → (keyed hs ≡ keyed ks) × (a ≡ b)
       by n m l hs rest a ks more b none e c d p q (inl le) =
           let x = looked n l hs a p in
           let y = looked m l ks b q in
           let both : keyed p.back ++ rest ≡ keyed q.back ++ more = sym (ap (λ (xs : List Happening). xs ++ rest) x.0) ∙ (e ∙ ap (λ (xs : List Happening). xs ++ more) y.0) in
-          let it = (goes moment n).one l p.back rest a q.back more b none both (calm_last hs p.front p.back p.whole c) (calm_last ks q.front q.back q.whole d) x.1 (shorter moment n m le l q.back b p.first.0 y.1) in
+          let it = (goes moment n).one l p.back rest a q.back more b none both (calm_last hs p.prefix p.back p.whole c) (calm_last ks q.prefix q.back q.whole d) x.1 (shorter moment n m le l q.back b p.first.0 y.1) in
           (x.0 ∙ (it.0 ∙ sym y.0), it.1)
       by n m l hs rest a ks more b none e c d p q (inr le) =
           let x = looked n l hs a p in
           let y = looked m l ks b q in
           let both : keyed p.back ++ rest ≡ keyed q.back ++ more = sym (ap (λ (xs : List Happening). xs ++ rest) x.0) ∙ (e ∙ ap (λ (xs : List Happening). xs ++ more) y.0) in
-          let it = (goes moment m).one l p.back rest a q.back more b none both (calm_last hs p.front p.back p.whole c) (calm_last ks q.front q.back q.whole d) (shorter moment m n le l p.back a q.first.0 x.1) y.1 in
+          let it = (goes moment m).one l p.back rest a q.back more b none both (calm_last hs p.prefix p.back p.whole c) (calm_last ks q.prefix q.back q.whole d) (shorter moment m n le l p.back a q.first.0 x.1) y.1 in
           (x.0 ∙ (it.0 ∙ sym y.0), it.1)
 
   -- ---- a turn
@@ -438,17 +438,17 @@ module _ (steps : StepsOnce) (queries : SameQueries) (asks : AsksOne) (bodies : 
 
   later_same : (moment : ℕ) → Onward (Later moment)
   later_same moment =
-      onward_then (TicksIfDue moment) (Then (AcceptsAt Ipp) (Then (AcceptsAt Lpd) (Then (AcceptsAt Devices) (Round moment)))) (settled_ticks moment) (onward (TicksIfDue moment) (tick_due moment))
-      (onward_then (AcceptsAt Ipp) (Then (AcceptsAt Lpd) (Then (AcceptsAt Devices) (Round moment))) (settled_accepts Ipp) (onward (AcceptsAt Ipp) (same_accepts Ipp))
-      (onward_then (AcceptsAt Lpd) (Then (AcceptsAt Devices) (Round moment)) (settled_accepts Lpd) (onward (AcceptsAt Lpd) (same_accepts Lpd))
-      (onward_then (AcceptsAt Devices) (Round moment) (settled_accepts Devices) (onward (AcceptsAt Devices) (same_accepts Devices)) (round_same moment))))
+      onward_then (TicksIfDue moment) (Then (AcceptsAt Ipp) (Then (AcceptsAt Lpd) (Then (AcceptsAt Devices) (Round moment)))) (unbroken_ticks moment) (onward (TicksIfDue moment) (tick_due moment))
+      (onward_then (AcceptsAt Ipp) (Then (AcceptsAt Lpd) (Then (AcceptsAt Devices) (Round moment))) (unbroken_accepts Ipp) (onward (AcceptsAt Ipp) (same_accepts Ipp))
+      (onward_then (AcceptsAt Lpd) (Then (AcceptsAt Devices) (Round moment)) (unbroken_accepts Lpd) (onward (AcceptsAt Lpd) (same_accepts Lpd))
+      (onward_then (AcceptsAt Devices) (Round moment) (unbroken_accepts Devices) (onward (AcceptsAt Devices) (same_accepts Devices)) (round_same moment))))
 
   turn_same : (moment : ℕ) → One (Turn moment)
   turn_same moment = record {
     one = λ l hs rest a ks more b e c d p q.
         let it = same_then_by {X = Unit {0}} (ClosesBroken moment) (ClosesBroken moment) (λ z zs w. NoneBroken z × Later moment z zs w) (λ z zs w. NoneBroken z × Later moment z zs w) l hs rest a ks more b e c d
-        (record { mid = p.mid; front = p.front; back = p.back; whole = p.whole; first = p.first; second = (p.first.1, p.second) }) (record { mid = q.mid; front = q.front; back = q.back; whole = q.whole; first = q.first; second = (q.first.1, q.second) })
-        (λ left right both calm still. let first = (closes_broken moment).one l p.front left p.mid q.front right q.mid both calm still p.first q.first in (tt, first.0, first.1))
+        (record { mid = p.mid; prefix = p.prefix; back = p.back; whole = p.whole; first = p.first; second = (p.first.1, p.second) }) (record { mid = q.mid; prefix = q.prefix; back = q.back; whole = q.whole; first = q.first; second = (q.first.1, q.second) })
+        (λ left right both calm still. let first = (closes_broken moment).one l p.prefix left p.mid q.prefix right q.mid both calm still p.first q.first in (tt, first.0, first.1))
         (λ u. record { one = λ z xs xrest w ys ymore v f g h x y. (later_same moment).one z xs xrest w ys ymore v x.0 f g h x.1 y.1 }) in
         (it.1, it.2);
   }
@@ -500,7 +500,7 @@ module _ (steps : StepsOnce) (queries : SameQueries) (asks : AsksOne) (bodies : 
   leads (action ∷ actions) (other ∷ others) old l m same c d (mid, does, runs) (next, did, ran) =
       let first : keyed_of action ≡ keyed_of other = cc in
       let rest : keyed_in actions ≡ keyed_in others = cc in
-      let one : mid ≡ next = action_same action other old mid next first (calm_front (happenings_of action) (happenings_in actions) c) (calm_front (happenings_of other) (happenings_in others) d) does did in
+      let one : mid ≡ next = action_same action other old mid next first (calm_prefix (happenings_of action) (happenings_in actions) c) (calm_prefix (happenings_of other) (happenings_in others) d) does did in
       leads actions others mid l m rest (calm_back (happenings_of action) (happenings_in actions) c) (calm_back (happenings_of other) (happenings_in others) d) runs (subst (λ (x : Ledger). Runs others x m) (sym one) ran)
 
   pub seen_leads_to_one : SeenLeadsToOne

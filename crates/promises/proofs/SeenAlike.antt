@@ -41,23 +41,23 @@ both_false : (x y : Bool) → x ≡ false → y ≡ false → (x || y) ≡ false
 both_false true y p q = p
 both_false false y p q = q
 
-pub calm_front : (hs ks : List Happening) → Calm (hs ++ ks) → Calm hs
-calm_front [] ks calm = refl
-calm_front (h ∷ hs) ks calm = both_false (is_refusal h) (has_refusal hs) (or_false_left (is_refusal h) (has_refusal (hs ++ ks)) calm) (calm_front hs ks (or_false_right (is_refusal h) (has_refusal (hs ++ ks)) calm))
+pub calm_prefix : (hs ks : List Happening) → Calm (hs ++ ks) → Calm hs
+calm_prefix [] ks calm = refl
+calm_prefix (h ∷ hs) ks calm = both_false (is_refusal h) (has_refusal hs) (or_false_left (is_refusal h) (has_refusal (hs ++ ks)) calm) (calm_prefix hs ks (or_false_right (is_refusal h) (has_refusal (hs ++ ks)) calm))
 
 pub calm_back : (hs ks : List Happening) → Calm (hs ++ ks) → Calm ks
 calm_back [] ks calm = calm
 calm_back (h ∷ hs) ks calm = calm_back hs ks (or_false_right (is_refusal h) (has_refusal (hs ++ ks)) calm)
 
-pub calm_first : (hs front back : List Happening) → hs ≡ front ++ back → Calm hs → Calm front
-calm_first hs front back whole calm = calm_front front back (subst Calm whole calm)
+pub calm_first : (hs prefix back : List Happening) → hs ≡ prefix ++ back → Calm hs → Calm prefix
+calm_first hs prefix back whole calm = calm_prefix prefix back (subst Calm whole calm)
 
-pub calm_last : (hs front back : List Happening) → hs ≡ front ++ back → Calm hs → Calm back
-calm_last hs front back whole calm = calm_back front back (subst Calm whole calm)
+pub calm_last : (hs prefix back : List Happening) → hs ≡ prefix ++ back → Calm hs → Calm back
+calm_last hs prefix back whole calm = calm_back prefix back (subst Calm whole calm)
 
 -- what is seen of two parts, with a rest
-pub keyed_parts : (hs front back rest : List Happening) → hs ≡ front ++ back → keyed hs ++ rest ≡ keyed front ++ (keyed back ++ rest)
-keyed_parts hs front back rest whole = ap (λ (x : List Happening). keyed x ++ rest) whole ∙ (ap (λ (x : List Happening). x ++ rest) (keyed_append front back) ∙ append_assoc (keyed front) (keyed back) rest)
+pub keyed_parts : (hs prefix back rest : List Happening) → hs ≡ prefix ++ back → keyed hs ++ rest ≡ keyed prefix ++ (keyed back ++ rest)
+keyed_parts hs prefix back rest whole = ap (λ (x : List Happening). keyed x ++ rest) whole ∙ (ap (λ (x : List Happening). x ++ rest) (keyed_append prefix back) ∙ append_assoc (keyed prefix) (keyed back) rest)
 
 -- the happenings and the end are functions of the ledger
 pub same_just : (hs : Ledger → List Happening) (to : Ledger → Ledger) → One (λ l ks a. (ks ≡ hs l) × (a ≡ to l))
@@ -77,21 +77,21 @@ same_chooses choice = same_just (λ l. Chosen choice ∷ []) (λ l. l)
 
 -- one part after the other, where the first part notifies how the second parts are the same
 pub same_then_by : {X : Type 0} (D D' R R' : Rel) (l : Ledger) (hs rest : List Happening) (a : Ledger) (ks more : List Happening) (b : Ledger) → keyed hs ++ rest ≡ keyed ks ++ more → Calm hs → Calm ks → (p : Then D R l hs a) (q : Then D' R' l ks b)
-    → ((left right : List Happening) → keyed p.front ++ left ≡ keyed q.front ++ right → Calm p.front → Calm q.front → X × (keyed p.front ≡ keyed q.front) × (p.mid ≡ q.mid)) → (X → Same R R') → X × (keyed hs ≡ keyed ks) × (a ≡ b)
+    → ((left right : List Happening) → keyed p.prefix ++ left ≡ keyed q.prefix ++ right → Calm p.prefix → Calm q.prefix → X × (keyed p.prefix ≡ keyed q.prefix) × (p.mid ≡ q.mid)) → (X → Same R R') → X × (keyed hs ≡ keyed ks) × (a ≡ b)
 same_then_by D D' R R' l hs rest a ks more b e c d p q notifies same =
-    let both : keyed p.front ++ (keyed p.back ++ rest) ≡ keyed q.front ++ (keyed q.back ++ more) = sym (keyed_parts hs p.front p.back rest p.whole) ∙ (e ∙ keyed_parts ks q.front q.back more q.whole) in
-    let first = notifies (keyed p.back ++ rest) (keyed q.back ++ more) both (calm_first hs p.front p.back p.whole c) (calm_first ks q.front q.back q.whole d) in
-    let left : keyed p.back ++ rest ≡ keyed q.back ++ more = append_cancel_left (keyed p.front) (keyed p.back ++ rest) (keyed q.back ++ more) (both ∙ ap (λ (x : List Happening). x ++ (keyed q.back ++ more)) (sym first.1)) in
-    let second = (same first.0).one p.mid p.back rest a q.back more b left (calm_last hs p.front p.back p.whole c) (calm_last ks q.front q.back q.whole d) p.second (subst (λ (x : Ledger). R' x q.back b) (sym first.2) q.second) in (
+    let both : keyed p.prefix ++ (keyed p.back ++ rest) ≡ keyed q.prefix ++ (keyed q.back ++ more) = sym (keyed_parts hs p.prefix p.back rest p.whole) ∙ (e ∙ keyed_parts ks q.prefix q.back more q.whole) in
+    let first = notifies (keyed p.back ++ rest) (keyed q.back ++ more) both (calm_first hs p.prefix p.back p.whole c) (calm_first ks q.prefix q.back q.whole d) in
+    let left : keyed p.back ++ rest ≡ keyed q.back ++ more = append_cancel_left (keyed p.prefix) (keyed p.back ++ rest) (keyed q.back ++ more) (both ∙ ap (λ (x : List Happening). x ++ (keyed q.back ++ more)) (sym first.1)) in
+    let second = (same first.0).one p.mid p.back rest a q.back more b left (calm_last hs p.prefix p.back p.whole c) (calm_last ks q.prefix q.back q.whole d) p.second (subst (λ (x : Ledger). R' x q.back b) (sym first.2) q.second) in (
       first.0,
-      ap keyed p.whole ∙ (keyed_append p.front p.back ∙ (ap (λ (x : List Happening). x ++ keyed p.back) first.1 ∙ (ap (λ (x : List Happening). keyed q.front ++ x) second.0 ∙ sym (ap keyed q.whole ∙ keyed_append q.front q.back)))),
+      ap keyed p.whole ∙ (keyed_append p.prefix p.back ∙ (ap (λ (x : List Happening). x ++ keyed p.back) first.1 ∙ (ap (λ (x : List Happening). keyed q.prefix ++ x) second.0 ∙ sym (ap keyed q.whole ∙ keyed_append q.prefix q.back)))),
       second.1,
     )
 
 pub same_then : {R R' S S' : Rel} → Same R R' → Same S S' → Same (Then R S) (Then R' S')
 same_then {R} {R'} {S} {S'} r s = record {
   one = λ l hs rest a ks more b e c d p q.
-      let it = same_then_by {X = Unit {0}} R R' S S' l hs rest a ks more b e c d p q (λ left right both calm still. let first = r.one l p.front left p.mid q.front right q.mid both calm still p.first q.first in (tt, first.0, first.1)) (λ x. s) in
+      let it = same_then_by {X = Unit {0}} R R' S S' l hs rest a ks more b e c d p q (λ left right both calm still. let first = r.one l p.prefix left p.mid q.prefix right q.mid both calm still p.first q.first in (tt, first.0, first.1)) (λ x. s) in
       (it.1, it.2);
 }
 
@@ -100,7 +100,7 @@ pub record Refuses (R : Rel) : Type 0 where
   pub never : (l : Ledger) (hs : List Happening) (a : Ledger) → R l hs a → Calm hs → ⊥
 
 pub refuses_then : (R S : Rel) → Refuses R → Refuses (Then R S)
-refuses_then R S r = record { never = λ l hs a it calm. r.never l it.front it.mid it.first (calm_first hs it.front it.back it.whole calm) }
+refuses_then R S r = record { never = λ l hs a it calm. r.never l it.prefix it.mid it.first (calm_first hs it.prefix it.back it.whole calm) }
 
 -- memory is refused in the second of two alternatives
 pub same_or : {R R' S S' : Rel} → Refuses S → Refuses S' → Same R R' → Same (Or R S) (Or R' S')
@@ -138,15 +138,15 @@ record Done (R : Rel) (n : ℕ) (Stop : Ledger → Type 0) (l : Ledger) (hs : Li
 
 until_one : (R : Rel) (Stop : Ledger → Type 0) → One R → ((l : Ledger) (hs : List Happening) (a : Ledger) → Stop l → R l hs a → ⊥) → (n m : ℕ) → (l : Ledger) (hs rest : List Happening) (a : Ledger) (ks more : List Happening) (b : Ledger) → keyed hs ++ rest ≡ keyed ks ++ more → Calm hs → Calm ks → Done R n Stop l hs a → Done R m Stop l ks b → (keyed hs ≡ keyed ks) × (a ≡ b)
 until_one R Stop r never zero zero l hs rest a ks more b e c d p q = (ap keyed (p.done.0 ∙ sym q.done.0), p.done.1 ∙ sym q.done.1)
-until_one R Stop r never zero (suc m) l hs rest a ks more b e c d p q = let first = times_cons m R l ks b q.done in absurd (never l first.front first.mid (subst Stop p.done.1 p.stop) first.first)
-until_one R Stop r never (suc n) zero l hs rest a ks more b e c d p q = let first = times_cons n R l hs a p.done in absurd (never l first.front first.mid (subst Stop q.done.1 q.stop) first.first)
+until_one R Stop r never zero (suc m) l hs rest a ks more b e c d p q = let first = times_cons m R l ks b q.done in absurd (never l first.prefix first.mid (subst Stop p.done.1 p.stop) first.first)
+until_one R Stop r never (suc n) zero l hs rest a ks more b e c d p q = let first = times_cons n R l hs a p.done in absurd (never l first.prefix first.mid (subst Stop q.done.1 q.stop) first.first)
 until_one R Stop r never (suc n) (suc m) l hs rest a ks more b e c d p q =
     let x = times_cons n R l hs a p.done in
     let y = times_cons m R l ks b q.done in
     let it = same_then_by {X = Unit {0}} R R (λ k xs z. (Times n R k xs z) × Stop z) (λ k xs z. (Times m R k xs z) × Stop z) l hs rest a ks more b e c d
-    (record { mid = x.mid; front = x.front; back = x.back; whole = x.whole; first = x.first; second = (x.second, p.stop) })
-    (record { mid = y.mid; front = y.front; back = y.back; whole = y.whole; first = y.first; second = (y.second, q.stop) })
-    (λ left right both calm still. let first = r.one l x.front left x.mid y.front right y.mid both calm still x.first y.first in (tt, first.0, first.1))
+    (record { mid = x.mid; prefix = x.prefix; back = x.back; whole = x.whole; first = x.first; second = (x.second, p.stop) })
+    (record { mid = y.mid; prefix = y.prefix; back = y.back; whole = y.whole; first = y.first; second = (y.second, q.stop) })
+    (λ left right both calm still. let first = r.one l x.prefix left x.mid y.prefix right y.mid both calm still x.first y.first in (tt, first.0, first.1))
     (λ u. record { one = λ k xs xrest z ys ymore w f g h s t. until_one R Stop r never n m k xs xrest z ys ymore w f g h (record { done = s.0; stop = s.1 }) (record { done = t.0; stop = t.1 }) }) in
     (it.1, it.2)
 
@@ -157,5 +157,5 @@ same_until R Stop r never = record {
 
 -- ---- the first happening that is seen
 
-pub first_seen : (x y : Happening) (hs rest ks more front back : List Happening) → keyed hs ++ rest ≡ keyed ks ++ more → keyed hs ≡ x ∷ front → keyed ks ≡ y ∷ back → x ≡ y
-first_seen x y hs rest ks more front back e p q = let both : x ∷ (front ++ rest) ≡ y ∷ (back ++ more) = sym (ap (λ (z : List Happening). z ++ rest) p) ∙ (e ∙ ap (λ (z : List Happening). z ++ more) q) in cc
+pub first_seen : (x y : Happening) (hs rest ks more prefix back : List Happening) → keyed hs ++ rest ≡ keyed ks ++ more → keyed hs ≡ x ∷ prefix → keyed ks ≡ y ∷ back → x ≡ y
+first_seen x y hs rest ks more prefix back e p q = let both : x ∷ (prefix ++ rest) ≡ y ∷ (back ++ more) = sym (ap (λ (z : List Happening). z ++ rest) p) ∙ (e ∙ ap (λ (z : List Happening). z ++ more) q) in cc

@@ -252,14 +252,14 @@ Calm = Sent (λ device. [])
 pub notes_append : (hs ks : List Happening) → run_notes (hs ++ ks) ≡ run_notes hs ++ run_notes ks
 notes_append hs ks = flat_map-append run_note hs ks
 
-no_notes : (hs front back : List Happening) → hs ≡ front ++ back → run_notes front ≡ [] → run_notes back ≡ [] → run_notes hs ≡ []
-no_notes hs front back whole p q = ap run_notes whole ∙ (notes_append front back ∙ (ap (λ (ns : List Note). ns ++ run_notes back) p ∙ q))
+no_notes : (hs prefix back : List Happening) → hs ≡ prefix ++ back → run_notes prefix ≡ [] → run_notes back ≡ [] → run_notes hs ≡ []
+no_notes hs prefix back whole p q = ap run_notes whole ∙ (notes_append prefix back ∙ (ap (λ (ns : List Note). ns ++ run_notes back) p ∙ q))
 
-pub sent_then : (sent more : ℕ → List ℕ) (l : Ledger) (front : List Happening) (mid : Ledger) (back : List Happening) (l' : Ledger) (hs : List Happening) → hs ≡ front ++ back → Sent sent l front mid → Sent more mid back l' → Sent (λ device. sent device ++ more device) l hs l'
-sent_then sent more l front mid back l' hs whole p q = record {
+pub sent_then : (sent more : ℕ → List ℕ) (l : Ledger) (prefix : List Happening) (mid : Ledger) (back : List Happening) (l' : Ledger) (hs : List Happening) → hs ≡ prefix ++ back → Sent sent l prefix mid → Sent more mid back l' → Sent (λ device. sent device ++ more device) l hs l'
+sent_then sent more l prefix mid back l' hs whole p q = record {
   core = q.core ∙ p.core;
   closed = q.closed ∙ p.closed;
-  notes = no_notes hs front back whole p.notes q.notes;
+  notes = no_notes hs prefix back whole p.notes q.notes;
   each = λ key. ordered_then sent more (l.entries key) (mid.entries key) (l'.entries key) (p.each key) (q.each key);
 }
 
@@ -366,7 +366,7 @@ enqueues_open false device key bytes e l hs l' unbroken there is others it =
 enqueues_open true device key bytes e l hs l' unbroken there is others (inl it) =
     let started : it.mid ≡ l = it.first.1 in
     sent_sets (to_device device bytes) key e (owing bytes e) l hs l' there (owing_to device bytes e is unbroken) (λ other apart. unsent_to device bytes (l.entries other) (others other apart))
-    (no_notes hs it.front it.back it.whole (ap run_notes it.first.0) (ap run_notes it.second.0)) (it.second.1 ∙ ap (λ (x : Ledger). with_entry key (owing bytes e) x) started)
+    (no_notes hs it.prefix it.back it.whole (ap run_notes it.first.0) (ap run_notes it.second.0)) (it.second.1 ∙ ap (λ (x : Ledger). with_entry key (owing bytes e) x) started)
 enqueues_open true device key bytes e l hs l' unbroken there is others (inr it) =
     sent_sets (to_device device bytes) key e (broken e) l hs l' there (ordered_broken (to_device device bytes) e (broken e) refl (λ other named. (named, refl)) (λ client. client) (λ client. (refl, refl, reads_still e (broken e) refl refl refl))) (λ other apart. unsent_to device bytes (l.entries other) (others other apart))
     (ap run_notes it.0) it.1
@@ -400,17 +400,17 @@ enqueues_on refusable device bytes l hs l' good (inr (absent, it)) = sent_still 
 sends_each : (cancels : List Cancel) (l : Ledger) (hs : List Happening) (l' : Ledger) → Good l → EachOf cancels Sends l hs l' → Sent (λ device. flat_map (cancel_for device) cancels) l hs l'
 sends_each [] l hs l' good it = calm_still l hs l' (ap run_notes it.0) it.1
 sends_each (cancel ∷ cancels) l hs l' good it =
-    let first = enqueues_on (needs_memory (cancel_line cancel.job)) cancel.device (cancel_line cancel.job) l it.front it.mid good it.first in
-    let later = sends_each cancels it.mid it.back l' (good_sent (to_device cancel.device (cancel_line cancel.job)) l it.front it.mid first good) it.second in
-    sent_then (to_device cancel.device (cancel_line cancel.job)) (λ device. flat_map (cancel_for device) cancels) l it.front it.mid it.back l' hs it.whole first later
+    let first = enqueues_on (needs_memory (cancel_line cancel.job)) cancel.device (cancel_line cancel.job) l it.prefix it.mid good it.first in
+    let later = sends_each cancels it.mid it.back l' (good_sent (to_device cancel.device (cancel_line cancel.job)) l it.prefix it.mid first good) it.second in
+    sent_then (to_device cancel.device (cancel_line cancel.job)) (λ device. flat_map (cancel_for device) cancels) l it.prefix it.mid it.back l' hs it.whole first later
 
 starts_each : (core : State) (starts : List Started) (l : Ledger) (hs : List Happening) (l' : Ledger) → l.core ≡ core → Good l → EachOf starts Starts l hs l' → Sent (λ device. flat_map (start_for device core) starts) l hs l'
 starts_each core [] l hs l' is good it = calm_still l hs l' (ap run_notes it.0) it.1
 starts_each core (start ∷ starts) l hs l' is good it =
-    let kept : EnqueuesOn (λ e. true) start.device (job_bytes core start.job) l it.front it.mid = subst (λ (c : State). EnqueuesOn (λ e. true) start.device (job_bytes c start.job) l it.front it.mid) is it.first in
-    let first = enqueues_on (λ e. true) start.device (job_bytes core start.job) l it.front it.mid good kept in
-    let later = starts_each core starts it.mid it.back l' (first.core ∙ is) (good_sent (to_device start.device (job_bytes core start.job)) l it.front it.mid first good) it.second in
-    sent_then (to_device start.device (job_bytes core start.job)) (λ device. flat_map (start_for device core) starts) l it.front it.mid it.back l' hs it.whole first later
+    let kept : EnqueuesOn (λ e. true) start.device (job_bytes core start.job) l it.prefix it.mid = subst (λ (c : State). EnqueuesOn (λ e. true) start.device (job_bytes c start.job) l it.prefix it.mid) is it.first in
+    let first = enqueues_on (λ e. true) start.device (job_bytes core start.job) l it.prefix it.mid good kept in
+    let later = starts_each core starts it.mid it.back l' (first.core ∙ is) (good_sent (to_device start.device (job_bytes core start.job)) l it.prefix it.mid first good) it.second in
+    sent_then (to_device start.device (job_bytes core start.job)) (λ device. flat_map (start_for device core) starts) l it.prefix it.mid it.back l' hs it.whole first later
 
 -- the bytes that an event sends to a device
 abbrev pub sent_by : Outcome → State → ℕ → List ℕ
@@ -424,7 +424,7 @@ starts_by dispatch.Planned core l hs l' is good it = starts_each core core.begun
 
 pub orders : (outcome : Outcome) (l : Ledger) (hs : List Happening) (l' : Ledger) → Good l → Orders outcome l hs l' → Sent (sent_by outcome l.core) l hs l'
 orders (Some handled) l hs l' good it =
-    let first = sends_each handled.effects.cancels.items l it.front it.mid good it.first in
-    let later = starts_by handled.dispatch l.core it.mid it.back l' first.core (good_sent (λ device. flat_map (cancel_for device) handled.effects.cancels.items) l it.front it.mid first good) it.second in
-    sent_then (λ device. flat_map (cancel_for device) handled.effects.cancels.items) (λ device. flat_map (start_for device l.core) (began_by handled.dispatch l.core)) l it.front it.mid it.back l' hs it.whole first later
+    let first = sends_each handled.effects.cancels.items l it.prefix it.mid good it.first in
+    let later = starts_by handled.dispatch l.core it.mid it.back l' first.core (good_sent (λ device. flat_map (cancel_for device) handled.effects.cancels.items) l it.prefix it.mid first good) it.second in
+    sent_then (λ device. flat_map (cancel_for device) handled.effects.cancels.items) (λ device. flat_map (start_for device l.core) (began_by handled.dispatch l.core)) l it.prefix it.mid it.back l' hs it.whole first later
 orders None l hs l' good it = calm_still l hs l' (ap run_notes it.0) it.1

@@ -264,8 +264,8 @@ no_name (Some (FailReport job)) name is = cc
 no_name (Some GoneReport) name is = cc
 
 named_already : (bytes : List ℕ) (reports : List ReportRecord) (name : List ℕ) (next : Bool) (left : List ℕ) → Leads true bytes (reports ++ HelloReport name ∷ []) next left → ⊥
-named_already bytes [] name next left (rest, front, more) = no_name (line_report (words_of (strip_carriage_return (take front.count bytes)))) name front.parses
-named_already bytes (one ∷ reports) name next left (rest, front, more) = named_already rest reports name next left more
+named_already bytes [] name next left (rest, prefix, more) = no_name (line_report (words_of (strip_carriage_return (take prefix.count bytes)))) name prefix.parses
+named_already bytes (one ∷ reports) name next left (rest, prefix, more) = named_already rest reports name next left more
 
 named_once : (bytes : List ℕ) (reports : List ReportRecord) (name : List ℕ) → HasReport reports → ParsesFirst bytes (reports ++ HelloReport name ∷ []) → ⊥
 named_once bytes [] name has first = absurd has

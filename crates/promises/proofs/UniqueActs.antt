@@ -73,8 +73,8 @@ module _ (steps : StepsOnce) (queries : SameQueries) (asks : AsksOne) where
   none_closes : (moment : ℕ) (l : Ledger) (hs : List Happening) (a : Ledger) → NoneBroken l → ClosesFirst moment l hs a → ⊥
   none_closes moment l hs a none it = none it.key (broken_there l it.key it.entry it.there it.is_broken)
 
-  pub fixed_settles : (moment : ℕ) → Fixed (ClosesBroken moment)
-  fixed_settles moment = fixed_until (ClosesFirst moment) NoneBroken (record { one = closes_first moment }) (none_closes moment)
+  pub fixed_closes_broken : (moment : ℕ) → Fixed (ClosesBroken moment)
+  fixed_closes_broken moment = fixed_until (ClosesFirst moment) NoneBroken (record { one = closes_first moment }) (none_closes moment)
 
   -- ---- devices that say their names
 
@@ -191,7 +191,7 @@ module _ (steps : StepsOnce) (queries : SameQueries) (asks : AsksOne) where
   acts_one : (moment key : ℕ) (l : Ledger) (hs rest : List Happening) (a : Ledger) (ks more : List Happening) (b : Ledger) → hs ++ rest ≡ ks ++ more → ActsNext moment key l hs a → ActsNext moment key l ks b → (hs ≡ ks) × (a ≡ b)
   acts_one moment key l hs rest a ks more b e (id, what, p) (other, said, q) =
       let it = then_one (Asks key id what) (Asks key other said) (ActsOn moment key id what) (ActsOn moment key other said) l hs rest a ks more b e p q
-      (λ left right both. asks_one key id other what said l p.front left p.mid q.front right q.mid both p.first q.first)
+      (λ left right both. asks_one key id other what said l p.prefix left p.mid q.prefix right q.mid both p.first q.first)
       (λ one. subst (λ (x : ℕ). Alike (ActsOn moment key id what) (ActsOn moment key x said)) one.ids (same_does moment key id what said one.same_ask)) in
       (it.1, it.2)
 

@@ -159,8 +159,8 @@ module _ (steps : StepsOnce) where
   found_kept (Some handled) kept = refl
   found_kept None kept = absurd kept
 
-  behind_head : (x : Happening) (xs ys : List Happening) → x ∷ xs ≡ x ∷ ys → xs ≡ ys
-  behind_head x xs ys same = cc
+  after_head : (x : Happening) (xs ys : List Happening) → x ∷ xs ≡ x ∷ ys → xs ≡ ys
+  after_head x xs ys same = cc
 
   decided_one : (moment : ℕ) (event other : Event) (outcome said : Outcome) (l : Ledger) (hs rest : List Happening) (a : Ledger) (ks more : List Happening) (b : Ledger) → SameEvent event other → is_query event ≡ is_query other → IsKept outcome → IsKept said
       → hs ++ rest ≡ ks ++ more → Decides moment event outcome l hs a → Decides moment other said l ks b → SameOutcome outcome said × (hs ≡ ks) × (a ≡ b)
@@ -168,7 +168,7 @@ module _ (steps : StepsOnce) where
       let left : hs ≡ Chosen Found ∷ map Notified p.notes = p.notified ∙ ap (λ (xs : List Happening). xs ++ map Notified p.notes) (found_kept outcome kept) in
       let right : ks ≡ Chosen Found ∷ map Notified q.notes = q.notified ∙ ap (λ (xs : List Happening). xs ++ map Notified q.notes) (found_kept said enqueues) in
       let both : Chosen Found ∷ (map Notified p.notes ++ rest) ≡ Chosen Found ∷ (map Notified q.notes ++ more) = sym (ap (λ (xs : List Happening). xs ++ rest) left) ∙ (e ∙ ap (λ (xs : List Happening). xs ++ more) right) in
-      let way = handled_one moment event other l.core outcome said p.notes q.notes p.state q.state rest more same query kept enqueues (behind_head (Chosen Found) (map Notified p.notes ++ rest) (map Notified q.notes ++ more) both) p.handles q.handles in (
+      let way = handled_one moment event other l.core outcome said p.notes q.notes p.state q.state rest more same query kept enqueues (after_head (Chosen Found) (map Notified p.notes ++ rest) (map Notified q.notes ++ more) both) p.handles q.handles in (
         way.outcome,
         left ∙ (ap (λ (ns : List Note). Chosen Found ∷ map Notified ns) way.notes_are ∙ sym right),
         p.after ∙ (ap (λ (s : State). record l { core = s; undispatched = undispatched_after outcome l.undispatched }) way.state
@@ -180,14 +180,14 @@ module _ (steps : StepsOnce) where
       → hs ++ rest ≡ ks ++ more → Happens moment event outcome l hs a → Happens moment other said l ks b → SameOutcome outcome said × (hs ≡ ks) × (a ≡ b)
   happened_one moment event other outcome said l hs rest a ks more b same query kept enqueues e p q =
       then_one (Decides moment event outcome) (Decides moment other said) (Orders outcome) (Orders said) l hs rest a ks more b e p q
-      (λ left right both. decided_one moment event other outcome said l p.front left p.mid q.front right q.mid same query kept enqueues both p.first q.first)
+      (λ left right both. decided_one moment event other outcome said l p.prefix left p.mid q.prefix right q.mid same query kept enqueues both p.first q.first)
       (λ way. same_orders outcome said way)
 
   -- a dropped event changes nothing
   dropped_one : (moment : ℕ) (event : Event) (l : Ledger) (hs : List Happening) (a : Ledger) → Happens moment event None l hs a → (hs ≡ []) × (a ≡ l)
   dropped_one moment event l hs a it =
       let notified : it.first.notes ≡ [] = it.first.handles.1 in
-      let still : it.front ≡ [] = it.first.notified ∙ ap (λ (ns : List Note). map Notified ns) notified in
+      let still : it.prefix ≡ [] = it.first.notified ∙ ap (λ (ns : List Note). map Notified ns) notified in
       let core : it.first.state ≡ l.core = it.first.handles.0 in (
         it.whole ∙ (ap (λ (xs : List Happening). xs ++ it.back) still ∙ it.second.0),
         it.second.1 ∙ (it.first.after ∙ ap (λ (s : State). record l { core = s }) core),
@@ -196,7 +196,7 @@ module _ (steps : StepsOnce) where
   -- the choice of an event is its first happening
   found_first : (moment : ℕ) (event : Event) (outcome : Outcome) (l : Ledger) (hs : List Happening) (a : Ledger) → IsKept outcome → Happens moment event outcome l hs a → BeginsAs is_choice true hs
   found_first moment event outcome l hs a kept it =
-      let left : it.front ≡ Chosen Found ∷ map Notified it.first.notes = it.first.notified ∙ ap (λ (xs : List Happening). xs ++ map Notified it.first.notes) (found_kept outcome kept) in
+      let left : it.prefix ≡ Chosen Found ∷ map Notified it.first.notes = it.first.notified ∙ ap (λ (xs : List Happening). xs ++ map Notified it.first.notes) (found_kept outcome kept) in
       begins_just is_choice true (Chosen Found) (map Notified it.first.notes ++ it.back) hs refl (it.whole ∙ ap (λ (xs : List Happening). xs ++ it.back) left)
 
   -- ---- an event that takes no memory, and isn't dropped
@@ -235,11 +235,11 @@ module _ (steps : StepsOnce) where
       -- a dropped event, with its note
       notified_first : (x : Event) (S : Option Effects → Rel) → Begins is_choice false (S None) → (l : Ledger) (hs : List Happening) (a : Ledger) → Then (Happens moment x None) (S None) l hs a → BeginsAs is_choice false hs
       notified_first x S begins l hs a it =
-          let none = dropped_one moment x l it.front it.mid it.first in
+          let none = dropped_one moment x l it.prefix it.mid it.first in
           subst (BeginsAs is_choice false) (sym (it.whole ∙ ap (λ (xs : List Happening). xs ++ it.back) none.0)) (begins.begins it.mid it.back a it.second)
 
       chosen_first : (x : Event) (S : Option Effects → Rel) (outcome : Outcome) → IsKept outcome → (l : Ledger) (hs : List Happening) (a : Ledger) → Then (Happens moment x outcome) (S (effects_of outcome)) l hs a → BeginsAs is_choice true hs
-      chosen_first x S outcome kept l hs a it = subst (BeginsAs is_choice true) (sym it.whole) (begins_append is_choice true it.front it.back (found_first moment x outcome l it.front it.mid kept it.first))
+      chosen_first x S outcome kept l hs a it = subst (BeginsAs is_choice true) (sym it.whole) (begins_append is_choice true it.prefix it.back (found_first moment x outcome l it.prefix it.mid kept it.first))
 
       as_dropped : (x : Event) (S : Option Effects → Rel) (outcome : Outcome) (l : Ledger) (hs : List Happening) (a : Ledger) → outcome ≡ None → Then (Happens moment x outcome) (S (effects_of outcome)) l hs a → Then (Happens moment x None) (S None) l hs a
       as_dropped x S outcome l hs a is it = subst (λ (o : Outcome). Then (Happens moment x o) (S (effects_of o)) l hs a) is it
@@ -248,7 +248,7 @@ module _ (steps : StepsOnce) where
           → Then (Happens moment event outcome) (Q (effects_of outcome)) l hs a → Then (Happens moment other said) (R (effects_of said)) l ks b → (hs ≡ ks) × (a ≡ b)
       by_kind outcome said l hs rest a ks more b e (inl kept) (inl enqueues) p q =
           let it = then_one (Happens moment event outcome) (Happens moment other said) (Q (effects_of outcome)) (R (effects_of said)) l hs rest a ks more b e p q
-          (λ left right both. happened_one moment event other outcome said l p.front left p.mid q.front right q.mid same query kept enqueues both p.first q.first)
+          (λ left right both. happened_one moment event other outcome said l p.prefix left p.mid q.prefix right q.mid same query kept enqueues both p.first q.first)
           (λ way. replies outcome said way) in
           (it.1, it.2)
       by_kind outcome said l hs rest a ks more b e (inl kept) (inr is) p q = apart is_choice hs rest ks more e (chosen_first event Q outcome kept l hs a p) (notified_first other R notified l ks b (as_dropped other R said l ks b is q))
@@ -256,8 +256,8 @@ module _ (steps : StepsOnce) where
       by_kind outcome said l hs rest a ks more b e (inr is) (inr its) p q =
           let left = as_dropped event Q outcome l hs a is p in
           let right = as_dropped other R said l ks b its q in
-          let none = dropped_one moment event l left.front left.mid left.first in
-          let nor = dropped_one moment other l right.front right.mid right.first in
+          let none = dropped_one moment event l left.prefix left.mid left.first in
+          let nor = dropped_one moment other l right.prefix right.mid right.first in
           (alike_then fixed_nothing dropped).one l hs rest a ks more b e
-          (record { mid = left.mid; front = left.front; back = left.back; whole = left.whole; first = none; second = left.second })
-          (record { mid = right.mid; front = right.front; back = right.back; whole = right.whole; first = nor; second = right.second })
+          (record { mid = left.mid; prefix = left.prefix; back = left.back; whole = left.whole; first = none; second = left.second })
+          (record { mid = right.mid; prefix = right.prefix; back = right.back; whole = right.whole; first = nor; second = right.second })

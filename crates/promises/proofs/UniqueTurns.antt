@@ -28,7 +28,7 @@ use Rattle.promises.proofs.Determined.{Alike, Fixed, fixed_just, fixed_nothing, 
 use Rattle.promises.proofs.UniqueDue.{fixed_sets, fixed_drops, drops_notifies, fixed_breaks}
 use Rattle.promises.proofs.UniqueEvents.{fixed_tick}
 use Rattle.promises.proofs.UniqueAnswers.{body_answered}
-use Rattle.promises.proofs.UniqueActs.{fixed_closes_as, fixed_settles, fixed_reports, same_self, fixed_acts_next, is_asked, asked_first, chosen_first}
+use Rattle.promises.proofs.UniqueActs.{fixed_closes_as, fixed_closes_broken, fixed_reports, same_self, fixed_acts_next, is_asked, asked_first, chosen_first}
 
 -- ---- accepts
 
@@ -80,7 +80,7 @@ module _ (steps : StepsOnce) (queries : SameQueries) (asks : AsksOne) (bodies : 
   -- ---- reads
 
   fixed_acts : (moment key : ℕ) → Fixed (Acts moment key)
-  fixed_acts moment key = alike_then (fixed_acts_next steps queries asks moment key) (fixed_settles steps queries asks moment)
+  fixed_acts moment key = alike_then (fixed_acts_next steps queries asks moment key) (fixed_closes_broken steps queries asks moment)
 
   fixed_rests : (moment key : ℕ) → Fixed (Then (Many (Acts moment key)) (Chooses Rested))
   fixed_rests moment key =
@@ -92,12 +92,12 @@ module _ (steps : StepsOnce) (queries : SameQueries) (asks : AsksOne) (bodies : 
   rests_first : (n moment key : ℕ) (l : Ledger) (hs : List Happening) (a : Ledger) → Then (Times n (Acts moment key)) (Chooses Rested) l hs a → BeginsAs is_choice true hs
   rests_first zero moment key l hs a it = begins_just is_choice true (Chosen Rested) [] hs refl (it.whole ∙ (ap (λ (xs : List Happening). xs ++ it.back) it.first.0 ∙ it.second.0))
   rests_first (suc n) moment key l hs a it =
-      let first = times_cons n (Acts moment key) l it.front it.mid it.first in
-      let begins = (begins_then is_choice true _ (ClosesBroken moment) (chosen_first moment key)).begins l first.front first.mid first.first in
-      subst (BeginsAs is_choice true) (sym it.whole) (begins_append is_choice true it.front it.back (subst (BeginsAs is_choice true) (sym first.whole) (begins_append is_choice true first.front first.back begins)))
+      let first = times_cons n (Acts moment key) l it.prefix it.mid it.first in
+      let begins = (begins_then is_choice true _ (ClosesBroken moment) (chosen_first moment key)).begins l first.prefix first.mid first.first in
+      subst (BeginsAs is_choice true) (sym it.whole) (begins_append is_choice true it.prefix it.back (subst (BeginsAs is_choice true) (sym first.whole) (begins_append is_choice true first.prefix first.back begins)))
 
   serves_first : (moment key : ℕ) (l : Ledger) (hs : List Happening) (a : Ledger) → Serves moment key l hs a → BeginsAs is_choice true hs
-  serves_first moment key l hs a (it, acted_on) = rests_first it.first.0 moment key l hs a (record { mid = it.mid; front = it.front; back = it.back; whole = it.whole; first = it.first.1; second = it.second })
+  serves_first moment key l hs a (it, acted_on) = rests_first it.first.0 moment key l hs a (record { mid = it.mid; prefix = it.prefix; back = it.back; whole = it.whole; first = it.first.1; second = it.second })
 
   fed_first : (moment key : ℕ) (e : Entry) → Begins is_choice true (Then (Sets key e) (Serves moment key))
   fed_first moment key e = record { begins = λ l hs a it. subst (BeginsAs is_choice true) (sym (it.whole ∙ ap (λ (xs : List Happening). xs ++ it.back) it.first.0)) (serves_first moment key it.mid it.back a it.second) }
@@ -105,7 +105,7 @@ module _ (steps : StepsOnce) (queries : SameQueries) (asks : AsksOne) (bodies : 
   fed_whole : (moment key : ℕ) (e : Entry) (bytes : List ℕ) → Fixed (FedWhole moment key e bytes)
   fed_whole moment key e bytes =
       fixed_or is_choice (fed_first moment key (reading bytes e)) (begins_then is_choice false (Drops At.Feed key e) (ClosesBroken moment) (drops_notifies At.Feed key e))
-      (alike_then (fixed_sets key (reading bytes e)) (fixed_serves moment key)) (alike_then (fixed_drops At.Feed key e) (fixed_settles steps queries asks moment))
+      (alike_then (fixed_sets key (reading bytes e)) (fixed_serves moment key)) (alike_then (fixed_drops At.Feed key e) (fixed_closes_broken steps queries asks moment))
 
   feeds_at : (moment key : ℕ) (bytes : List ℕ) (o : Option Entry) → Fixed (FeedsAt moment key bytes o)
   feeds_at moment key bytes None = fixed_nothing
@@ -115,7 +115,7 @@ module _ (steps : StepsOnce) (queries : SameQueries) (asks : AsksOne) (bodies : 
   fixed_feeds moment key bytes = record { one = λ l hs rest a ks more b e p q. (feeds_at moment key bytes (l.entries key)).one l hs rest a ks more b e p q }
 
   fixed_fails : (moment key : ℕ) → Fixed (Fails moment key)
-  fixed_fails moment key = alike_then (fixed_breaks key) (fixed_settles steps queries asks moment)
+  fixed_fails moment key = alike_then (fixed_breaks key) (fixed_closes_broken steps queries asks moment)
 
   reads_as : (moment key : ℕ) (e : Entry) (answer : Progress (List ℕ)) → Fixed (ReadsAs moment key e answer)
   reads_as moment key e (wire.Done bytes) = alike_then (fixed_polls (Reads e.id (wire.Done bytes))) (fixed_feeds moment key bytes)
@@ -133,7 +133,7 @@ module _ (steps : StepsOnce) (queries : SameQueries) (asks : AsksOne) (bodies : 
   same_read id answer other same = cc
 
   reads_open : (moment key : ℕ) (x : Entry) (l : Ledger) (hs rest : List Happening) (a : Ledger) (ks more : List Happening) (b : Ledger) → hs ++ rest ≡ ks ++ more → ReadsOpen moment key x l hs a → ReadsOpen moment key x l ks b → (hs ≡ ks) × (a ≡ b)
-  reads_open moment key x l hs rest a ks more b e (answer, piece, p) (other, its, q) =
+  reads_open moment key x l hs rest a ks more b e (answer, segment, p) (other, its, q) =
       let same : answer ≡ other = same_read x.id answer other (one_poll (Reads x.id answer) (Reads x.id other) hs rest ks more e (read_first moment key x answer l hs a p) (read_first moment key x other l ks b q)) in
       (reads_as moment key x answer).one l hs rest a ks more b e p (subst (λ (y : Progress (List ℕ)). ReadsAs moment key x y l ks b) (sym same) q)
 
@@ -162,7 +162,7 @@ module _ (steps : StepsOnce) (queries : SameQueries) (asks : AsksOne) (bodies : 
   same_write id offered bytes answer other same = (cc, cc)
 
   writes_open : (moment key : ℕ) (x : Entry) (l : Ledger) (hs rest : List Happening) (a : Ledger) (ks more : List Happening) (b : Ledger) → hs ++ rest ≡ ks ++ more → WritesOpen moment key x l hs a → WritesOpen moment key x l ks b → (hs ≡ ks) × (a ≡ b)
-  writes_open moment key x l hs rest a ks more b e (offered, front, answer, p) (bytes, its, other, q) =
+  writes_open moment key x l hs rest a ks more b e (offered, prefix, answer, p) (bytes, its, other, q) =
       let same = same_write x.id offered bytes answer other (one_poll (Writes x.id offered answer) (Writes x.id bytes other) hs rest ks more e (write_first moment key x offered answer l hs a p) (write_first moment key x bytes other l ks b q)) in
       (writes_as moment key x offered answer).one l hs rest a ks more b e p (subst (λ (y : Progress ℕ). WritesAs moment key x offered y l ks b) (sym same.1) (subst (λ (y : List ℕ). WritesAs moment key x y other l ks b) (sym same.0) q))
 
@@ -177,7 +177,7 @@ module _ (steps : StepsOnce) (queries : SameQueries) (asks : AsksOne) (bodies : 
 
   ends_at : (moment key : ℕ) (o : Option Entry) → Fixed (EndsAt moment key o)
   ends_at moment key None = fixed_nothing
-  ends_at moment key (Some e) = alike_if (is_done e) (alike_then (fixed_closes_as steps queries asks moment Drained key e) (fixed_settles steps queries asks moment)) fixed_nothing
+  ends_at moment key (Some e) = alike_if (is_done e) (alike_then (fixed_closes_as steps queries asks moment Drained key e) (fixed_closes_broken steps queries asks moment)) fixed_nothing
 
   fixed_ends : (moment key : ℕ) → Fixed (EndsOne moment key)
   fixed_ends moment key = record { one = λ l hs rest a ks more b e p q. (ends_at moment key (l.entries key)).one l hs rest a ks more b e p q }
@@ -189,7 +189,7 @@ module _ (steps : StepsOnce) (queries : SameQueries) (asks : AsksOne) (bodies : 
   fixed_ticks moment = record { one = λ l hs rest a ks more b e p q. (ticks_at moment (now_at moment l)).one l hs rest a ks more b e p q }
 
   fixed_tick_due : (moment : ℕ) → Fixed (TicksIfDue moment)
-  fixed_tick_due moment = record { one = λ l hs rest a ks more b e p q. (alike_if (is_tick_due moment l) (alike_then (fixed_ticks moment) (fixed_settles steps queries asks moment)) fixed_nothing).one l hs rest a ks more b e p q }
+  fixed_tick_due moment = record { one = λ l hs rest a ks more b e p q. (alike_if (is_tick_due moment l) (alike_then (fixed_ticks moment) (fixed_closes_broken steps queries asks moment)) fixed_nothing).one l hs rest a ks more b e p q }
 
   same_looked : (n m : ℕ) → Looked n ≡ Looked m → n ≡ m
   same_looked n m same = cc
@@ -208,7 +208,7 @@ module _ (steps : StepsOnce) (queries : SameQueries) (asks : AsksOne) (bodies : 
 
   fixed_turn : (moment : ℕ) → Fixed (Turn moment)
   fixed_turn moment =
-      alike_then (fixed_settles steps queries asks moment) (alike_then (fixed_tick_due moment) (alike_then (fixed_accepts Ipp) (alike_then (fixed_accepts Lpd) (alike_then (fixed_accepts Devices) (record { one = round_one moment })))))
+      alike_then (fixed_closes_broken steps queries asks moment) (alike_then (fixed_tick_due moment) (alike_then (fixed_accepts Ipp) (alike_then (fixed_accepts Lpd) (alike_then (fixed_accepts Devices) (record { one = round_one moment })))))
 
   -- ---- calls between turns
 

@@ -155,8 +155,8 @@ abbrev pub drained : List Act → Bool
 drained [] = false
 drained (a ∷ acts) = drains a.what || drained acts
 
-abbrev pub IsFrontOf : List ℕ → List ℕ → Type 0
-IsFrontOf front whole = (rest : List ℕ) × (whole ≡ front ++ rest)
+abbrev pub IsPrefixOf : List ℕ → List ℕ → Type 0
+IsPrefixOf prefix whole = (rest : List ℕ) × (whole ≡ prefix ++ rest)
 
 -- ---- the run
 
@@ -184,7 +184,7 @@ pub record IsAnswered (opening : State) (key : ℕ) (handled : List RunPart) (e 
   pub door : Door
   pub acts : List Act
   pub are : AreActs e.id (opening_peer door) acts e.progress
-  pub fronts : All (λ (a : Act). IsFrontOf a.read e.read) acts
+  pub prefixes : All (λ (a : Act). IsPrefixOf a.read e.read) acts
   pub over : drained acts ≡ true → e.draining ≡ true
   pub states : All (λ (a : Act). IsStateOf a.state opening handled) acts
   pub asked : asked_by key since ≡ flat_map (λ (a : Act). a.asked) acts
@@ -194,7 +194,7 @@ pub record IsAnswered (opening : State) (key : ℕ) (handled : List RunPart) (e 
 abbrev pub IsLast : State → List RunPart → List ℕ → PeerRecord → PeerRecord → Type 0
 IsLast opening handled whole after progress =
     (after ≡ progress)
-    ⊎ ((state : State) × (read : List ℕ) × (what : Step) × IsStateOf state opening handled × IsFrontOf read whole × IsNext state.settings read after what progress)
+    ⊎ ((state : State) × (read : List ℕ) × (what : Step) × IsStateOf state opening handled × IsPrefixOf read whole × IsNext state.settings read after what progress)
 
 abbrev pub IsEvent : Happened → Type 0
 IsEvent (EventComes event outcome) = Unit {0}
@@ -212,7 +212,7 @@ pub record BrokeAfter (opening : State) (key : ℕ) (handled since : List RunPar
   pub acts : List Act
   pub after : PeerRecord
   pub are : AreActs e.id before acts after
-  pub fronts : All (λ (a : Act). IsFrontOf a.read e.read) acts
+  pub prefixes : All (λ (a : Act). IsPrefixOf a.read e.read) acts
   pub states : All (λ (a : Act). IsStateOf a.state opening handled) acts
   pub unanswered : List RunPart
   pub one : IsOneAtMost unanswered
@@ -237,11 +237,11 @@ ClientTalk (Link reports device) = ⊥
 
 -- a client's connection that was closed without having broken was answered, by the events before
 abbrev pub WasAnswered : State → List RunPart → Entry → Type 0
-WasAnswered opening handled e = ClientTalk e.progress → e.broken ≡ false → (key : ℕ) × (before : List RunPart) × (behind : List RunPart) × (handled ≡ before ++ behind) × IsAnswered opening key before e
+WasAnswered opening handled e = ClientTalk e.progress → e.broken ≡ false → (key : ℕ) × (before : List RunPart) × (tail : List RunPart) × (handled ≡ before ++ tail) × IsAnswered opening key before e
 
 -- a client's connection that broke and was closed was answered until it broke
 abbrev pub WasCutOff : State → List RunPart → Entry → Type 0
-WasCutOff opening handled e = ClientTalk e.progress → e.broken ≡ true → (key : ℕ) × (before : List RunPart) × (behind : List RunPart) × (handled ≡ before ++ behind) × IsCutOff opening key before e
+WasCutOff opening handled e = ClientTalk e.progress → e.broken ≡ true → (key : ℕ) × (before : List RunPart) × (tail : List RunPart) × (handled ≡ before ++ tail) × IsCutOff opening key before e
 
 -- the items acted on are a prefix of those that the bytes read contain, by HTTP or by RFC 1179
 abbrev pub IsFirst : List ℕ → PeerRecord → Type 0

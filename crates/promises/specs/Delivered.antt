@@ -80,7 +80,7 @@ progress_of it = it.0.progress
 abbrev pub HasBroken : PeerRecord → Ledger → Type 0
 HasBroken progress l =
     ((key : ℕ) × (e : Entry) × (l.entries key ≡ Some e) × (e.progress ≡ progress) × (e.broken ≡ true))
-    ⊎ ((before : List (Entry × Fate)) × (it : Entry × Fate) × (behind : List (Entry × Fate)) × (l.closed ≡ before ++ it ∷ behind) × (it.0.progress ≡ progress) × (it.0.broken ≡ true))
+    ⊎ ((before : List (Entry × Fate)) × (it : Entry × Fate) × (tail : List (Entry × Fate)) × (l.closed ≡ before ++ it ∷ tail) × (it.0.progress ≡ progress) × (it.0.broken ≡ true))
 
 -- the device has another connection: this connection has no device any more, and broke
 abbrev pub IsGivenUp : PeerRecord → Ledger → Type 0
@@ -105,7 +105,7 @@ pub record IsReported (device : ℕ) (notified : List ReportRecord) (l : Ledger)
 
 -- the reports acted on are the first reports of a prefix of the bytes read
 abbrev pub IsRead : Entry → Type 0
-IsRead e = (front : List ℕ) × (rest : List ℕ) × (e.read ≡ front ++ rest) × ParsesFirst front (said_on e.progress)
+IsRead e = (prefix : List ℕ) × (rest : List ℕ) × (e.read ≡ prefix ++ rest) × ParsesFirst prefix (said_on e.progress)
 
 -- a state of the run: the opening, or the state after an event
 abbrev pub IsStateIn : State → State → List Came → Type 0

@@ -68,17 +68,17 @@ due_in x = invitation x.invites ++ x.answer
 -- ---- the part after the whole exchanges
 
 -- nothing, or the beginning of one more exchange
-pub data Front : Type 0 where
-  Nothing : Front
-  Begun : (closes invites : Bool) (body : List ℕ) → Front
+pub data Prefix : Type 0 where
+  Nothing : Prefix
+  Begun : (closes invites : Bool) (body : List ℕ) → Prefix
 
-abbrev pub elements_of_front : Front → List HttpElement
-elements_of_front Nothing = []
-elements_of_front (Begun closes invites body) = elements_of_begun closes invites body
+abbrev pub elements_of_prefix : Prefix → List HttpElement
+elements_of_prefix Nothing = []
+elements_of_prefix (Begun closes invites body) = elements_of_begun closes invites body
 
-abbrev pub due_front : Front → List ℕ
-due_front Nothing = []
-due_front (Begun closes invites body) = invitation invites
+abbrev pub due_prefix : Prefix → List ℕ
+due_prefix Nothing = []
+due_prefix (Begun closes invites body) = invitation invites
 
 -- the rest may be refused
 abbrev pub elements_of_refusal : Option HttpRejection → List HttpElement
@@ -96,11 +96,11 @@ pub record AreExchanges (id : ℕ) (acted_on : List HttpElement) (handled : List
   pub order : in_order Between acted_on ≡ true
   pub exchanges : List Exchange
   pub each : All (λ (x : Exchange). IsExchange id x) exchanges
-  pub front : Front
+  pub prefix : Prefix
   pub refusal : Option HttpRejection
-  pub said : acted_on ≡ flat_map elements_of_exchange exchanges ++ (elements_of_front front ++ elements_of_refusal refusal)
+  pub said : acted_on ≡ flat_map elements_of_exchange exchanges ++ (elements_of_prefix prefix ++ elements_of_refusal refusal)
   pub asked : handled ≡ flat_map (λ (x : Exchange). x.asked) exchanges
-  pub due : bytes ≡ flat_map due_in exchanges ++ (due_front front ++ due_refusal refusal)
+  pub due : bytes ≡ flat_map due_in exchanges ++ (due_prefix prefix ++ due_refusal refusal)
 
 -- all acts of an IPP client are such exchanges
 abbrev pub ActsAreExchanges : Type 0
@@ -138,7 +138,7 @@ IsByExchanges key handled progress e = Unit {0}
 
 -- a connection that was closed has this property, by the events before
 abbrev pub WasByExchanges : List RunPart → Entry → Type 0
-WasByExchanges handled e = (key : ℕ) × (before : List RunPart) × (behind : List RunPart) × (handled ≡ before ++ behind) × IsByExchanges key before e.progress e
+WasByExchanges handled e = (key : ℕ) × (before : List RunPart) × (tail : List RunPart) × (handled ≡ before ++ tail) × IsByExchanges key before e.progress e
 
 -- The events of a trace are one run of the core, whose parts give the observer's notes, and by which each IPP client is answered exchange by exchange, even if its connection was closed. On each connection the exchanges are a prefix of the exchanges that its bytes contain. On an open connection they are all of these, unless the connection is draining or broken.
 pub record AreByExchanges (opening : State) (trace : Trace) (l : Ledger) : Type 0 where

@@ -151,15 +151,15 @@ due_by device before (it ∷ later) = due_by device ((if names device it.named t
 
 -- a device's connection that was closed without having broken was sent its orders, by the events before
 abbrev pub WasSent : List RunPart → Entry → Type 0
-WasSent handled e = (device : ℕ) → device_of e.progress ≡ Some device → e.broken ≡ false → (before : List RunPart) × (behind : List RunPart) × (handled ≡ before ++ behind) × (e.due ≡ due_by device [] before)
+WasSent handled e = (device : ℕ) → device_of e.progress ≡ Some device → e.broken ≡ false → (before : List RunPart) × (tail : List RunPart) × (handled ≡ before ++ tail) × (e.due ≡ due_by device [] before)
 
 -- the bytes due are a prefix of the orders for a device, by the events up to one of these
-abbrev pub IsFrontSent : List RunPart → ℕ → List ℕ → Type 0
-IsFrontSent handled device due = (before : List RunPart) × (behind : List RunPart) × (handled ≡ before ++ behind) × (rest : List ℕ) × (due ++ rest ≡ due_by device [] before)
+abbrev pub IsPrefixSent : List RunPart → ℕ → List ℕ → Type 0
+IsPrefixSent handled device due = (before : List RunPart) × (tail : List RunPart) × (handled ≡ before ++ tail) × (rest : List ℕ) × (due ++ rest ≡ due_by device [] before)
 
 -- a device's connection that broke was sent a prefix of its orders
 abbrev pub WasHalted : List RunPart → Entry → Type 0
-WasHalted handled e = (device : ℕ) → device_of e.progress ≡ Some device → e.broken ≡ true → IsFrontSent handled device e.due
+WasHalted handled e = (device : ℕ) → device_of e.progress ≡ Some device → e.broken ≡ true → IsPrefixSent handled device e.due
 
 -- The events of a trace are one run of the core, whose parts give the observer's notes. On each open connection of a device that isn't broken, the bytes due are the run's orders for the device since it gave its name: the line of each cancel, and for each job the line and the documents as they were when the job began. The same holds for each that was closed without having broken, by the events before. On one that broke, a prefix of the orders is due.
 pub record AreSent (opening : State) (trace : Trace) (l : Ledger) : Type 0 where

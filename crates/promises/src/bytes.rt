@@ -2,7 +2,7 @@
 ghost use Rattle.std.specs.Prelude.{ℕ, [], List};
 ghost use Rattle.print_room.specs.State.{State};
 ghost use Rattle.server.specs.State.{EngineState};
-ghost use Rattle.server.specs.Refinement.{StandsAt};
+ghost use Rattle.server.specs.Refinement.{IsAt};
 ghost use Rattle.promises.specs.Answers.{AreAnswered};
 ghost use Rattle.promises.specs.Calls.{Call, AreMade, IsAccounted};
 ghost use Rattle.promises.specs.Carried.{NumbersDiffer, IsCarried};
@@ -87,7 +87,7 @@ pub fn others_are_spared()
 /// leads to a ledger that represents the engine. Hence on each open connection the bytes that the wire took
 /// and those that wait are exactly the bytes due.
 pub fn due_after_calls<W: Wire, N: Observer>()
-    ensures { (opening : State) (calls : List Call) (u v : W × N) (old new : EngineState) → StandsAt opening [] old → AreMade W.polled N.notified calls u old v new → IsAccounted W.polled N.notified opening calls u v new }
+    ensures { (opening : State) (calls : List Call) (u v : W × N) (old new : EngineState) → IsAt opening [] old → AreMade W.polled N.notified calls u old v new → IsAccounted W.polled N.notified opening calls u v new }
 {}
 
 /// From the start of an engine on, two traces lead to one ledger if the wire and the observer see them alike,
@@ -101,9 +101,9 @@ pub fn one_seen_ledger()
     dispatcher::same_needs();
     connections::one_ask();
     ipp_operations::one_asked();
-    http_front::some_saying();
+    http_front::some_parse();
     http_front::given_first();
-    lpd::one_front();
-    lpd::one_saying();
-    device_link::one_front();
+    lpd::one_prefix();
+    lpd::one_parse();
+    device_link::one_prefix();
 }

@@ -19,6 +19,6 @@ pub fn exchanges_are_answered()
     ensures due { (opening : State) (trace : Trace) (ledger : Ledger) → Runs trace (opening_ledger opening) ledger → AreByExchanges opening trace ledger }
 {
     http_front::exchanges_in_order();
-    http_front::some_saying();
+    http_front::some_parse();
     http_front::given_first();
 }

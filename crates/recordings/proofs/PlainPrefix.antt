@@ -21,15 +21,15 @@ plain (byte ∷ bytes) fails =
 pub all_plain : (bytes : List ℕ) → IsFirstByte (is_byte2 10 92) bytes None → escaped bytes ≡ bytes
 all_plain bytes nowhere = plain bytes (λ k low. not_true (is_byte2 10 92 (slice_index bytes k)) (nowhere k (omega arith) low))
 
-pub front_plain : (bytes : List ℕ) (place : ℕ) → IsFirstByte (is_byte2 10 92) bytes (Some place) → escaped (take place bytes) ≡ take place bytes
-front_plain bytes place found =
+pub prefix_plain : (bytes : List ℕ) (place : ℕ) → IsFirstByte (is_byte2 10 92) bytes (Some place) → escaped (take place bytes) ≡ take place bytes
+prefix_plain bytes place found =
     let within : place < length bytes = found.0.high in
     plain (take place bytes) (λ k low.
     let short : k < place = omega (arith, low, length-take-le place bytes (omega (arith, within))) in
     rw (get_or-take place bytes k 0 short) (not_true (is_byte2 10 92 (slice_index bytes k)) (found.0.before k (omega arith) short)))
 
-pub cut : (bytes : List ℕ) (place byte : ℕ) (front back more : List ℕ) → IsFirstByte (is_byte2 10 92) bytes (Some place) → front ≡ take place bytes → back ≡ drop place bytes → back ≡ byte ∷ more → escaped bytes ≡ front ++ (escape byte ++ escaped more)
-cut bytes place byte front back more found first second later =
+pub cut : (bytes : List ℕ) (place byte : ℕ) (prefix back more : List ℕ) → IsFirstByte (is_byte2 10 92) bytes (Some place) → prefix ≡ take place bytes → back ≡ drop place bytes → back ≡ byte ∷ more → escaped bytes ≡ prefix ++ (escape byte ++ escaped more)
+cut bytes place byte prefix back more found first second later =
     ap escaped (sym (take-append-drop place bytes) ∙ ap (λ l. take place bytes ++ l) (sym second ∙ later))
     ∙ flat_map-append escape (take place bytes) (byte ∷ more)
-    ∙ ap (λ l. l ++ escaped (byte ∷ more)) (front_plain bytes place found ∙ sym first)
+    ∙ ap (λ l. l ++ escaped (byte ∷ more)) (prefix_plain bytes place found ∙ sym first)

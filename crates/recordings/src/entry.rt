@@ -158,7 +158,7 @@ fn read_zeros(alloc: Global, said: &[u8]) -> Result<Option<Entry>, AllocError> {
 }
 
 /// The number of octets that follow this line as they are, before a line feed. `None` if none follow.
-pub fn octets_behind(line: &[u8]) -> Option<usize> {
+pub fn octets_after(line: &[u8]) -> Option<usize> {
     let said = line.strip_prefix(b"octets ")?;
     let (_, count) = cut_at(said, b' ')?;
     Some(read_id(count)? as usize)

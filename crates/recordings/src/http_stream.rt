@@ -28,7 +28,7 @@ impl HttpStream {
 
     /// The number of leading bytes that are those of a body, or aren't read any more; other bytes are
     /// read by lines.
-    pub(crate) fn body_front(&self, bytes: &[u8]) -> usize
+    pub(crate) fn body_prefix(&self, bytes: &[u8]) -> usize
         ensures { result ≤ length bytes.now }
     {
         if self.over {

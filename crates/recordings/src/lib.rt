@@ -32,7 +32,7 @@ mod sum;
 mod write;
 
 pub use comments::are_comments;
-pub use entry::{Accepted, Came, CameZeros, Entry, Sent, octets_behind, read_entry};
+pub use entry::{Accepted, Came, CameZeros, Entry, Sent, octets_after, read_entry};
 pub use lines::{LineReader, fill};
 pub use recording_wire::{RecordedText, RecordingWire};
 pub use replay_wire::{Divergence, NumberedEntry, ReplayWire, ReplayedOutput, ServerCall};

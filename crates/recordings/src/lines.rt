@@ -1,14 +1,14 @@
 //! The lines of a recording, which may be longer than memory.
 ghost use Rattle.std.specs.Io.{ReadsAtMost};
 
-use crate::entry::octets_behind;
+use crate::entry::octets_after;
 use std::alloc::Global;
 use std::cmp::min;
 use std::io;
 use std::io::Read;
 
 /// The number of bytes that one read asks for.
-const PIECE: usize = 65_536;
+const SEGMENT: usize = 65_536;
 
 /// Reads bytes into the beginning of a buffer. Returns their number.
 pub fn fill<R: Read>(reader: &mut R, buffer: &mut [u8]) -> io::Result<usize>
@@ -21,10 +21,10 @@ pub fn fill<R: Read>(reader: &mut R, buffer: &mut [u8]) -> io::Result<usize>
 #[derive(Drop)]
 pub struct LineReader<'a, R: Read> {
     reader: &'a mut R,
-    piece: Vec<u8>,
-    /// The number of bytes of the piece that were taken.
+    segment: Vec<u8>,
+    /// The number of bytes of the segment that were taken.
     start: usize,
-    /// The number of bytes of the piece.
+    /// The number of bytes of the segment.
     end: usize,
     /// The number of line feeds that were passed.
     passed: u64,
@@ -33,10 +33,10 @@ pub struct LineReader<'a, R: Read> {
 impl<'a, R: Read> LineReader<'a, R> {
     /// Creates the reader of lines. The only error is out of memory.
     pub fn new(alloc: Global, reader: &'a mut R) -> io::Result<LineReader<'a, R>> {
-        let piece = vec![in alloc; 0; PIECE]?;
+        let segment = vec![in alloc; 0; SEGMENT]?;
         Ok(LineReader {
             reader,
-            piece,
+            segment,
             start: 0,
             end: 0,
             passed: 0,
@@ -68,7 +68,7 @@ impl<'a, R: Read> LineReader<'a, R> {
         if !self.read(line)? {
             return Ok(false);
         }
-        match octets_behind(line) {
+        match octets_after(line) {
             Some(count) => self.read_octets(line, count),
             None => Ok(true),
         }
@@ -94,12 +94,12 @@ impl<'a, R: Read> LineReader<'a, R> {
         Ok(true)
     }
 
-    /// Appends at most `most` octets of the piece. Returns their number.
+    /// Appends at most `most` octets of the segment. Returns their number.
     fn takes_octets(&mut self, line: &mut Vec<u8>, most: usize) -> io::Result<usize> {
-        if self.start > self.end || self.end > self.piece.len() {
+        if self.start > self.end || self.end > self.segment.len() {
             return Ok(0);
         }
-        let rest = &self.piece[self.start..self.end];
+        let rest = &self.segment[self.start..self.end];
         let taken = min(most, rest.len());
         let octets = &rest[..taken];
         line.extend_from_slice(octets)?;
@@ -109,12 +109,12 @@ impl<'a, R: Read> LineReader<'a, R> {
         Ok(taken)
     }
 
-    /// Appends the bytes of the piece up to a line feed. Returns whether the line is complete.
+    /// Appends the bytes of the segment up to a line feed. Returns whether the line is complete.
     fn takes(&mut self, line: &mut Vec<u8>) -> io::Result<bool> {
-        if self.start > self.end || self.end > self.piece.len() {
+        if self.start > self.end || self.end > self.segment.len() {
             return Ok(false);
         }
-        let rest = &self.piece[self.start..self.end];
+        let rest = &self.segment[self.start..self.end];
         match rest.iter().position(|byte| *byte == b'\n') {
             Some(place) => {
                 line.extend_from_slice(&rest[..place])?;
@@ -130,9 +130,9 @@ impl<'a, R: Read> LineReader<'a, R> {
         }
     }
 
-    /// Reads another piece. Returns whether there are more bytes.
+    /// Reads another segment. Returns whether there are more bytes.
     fn fills(&mut self) -> io::Result<bool> {
-        let count = self.reader.read(&mut self.piece)?;
+        let count = self.reader.read(&mut self.segment)?;
         self.start = 0;
         self.end = count;
         Ok(count > 0)

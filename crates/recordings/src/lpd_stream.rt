@@ -52,7 +52,7 @@ impl LpdStream {
     }
 
     /// The number of leading bytes that are octets of a data file; other bytes are read by lines.
-    pub(crate) fn body_front(&self, bytes: &[u8]) -> usize
+    pub(crate) fn body_prefix(&self, bytes: &[u8]) -> usize
         ensures { result ≤ length bytes.now }
     {
         match self.next {
@@ -78,7 +78,7 @@ impl LpdStream {
     fn pass_data(&mut self, bytes: &[u8], output: &mut RedactedRead) -> Result<usize, AllocError>
         ensures { IfOk result (λ count. count ≤ length bytes.now × (output.new ≡ output.old + count)) }
     {
-        let count = self.body_front(bytes);
+        let count = self.body_prefix(bytes);
         if let Next::Data(left) = self.next {
             self.next = if count < left {
                 Next::Data(left.saturating_sub(count))

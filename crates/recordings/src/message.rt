@@ -9,26 +9,26 @@ use std::alloc::AllocError;
 #[derive(Clone, Copy)]
 enum Next {
     /// This many bytes that are passed over, and the part after them.
-    Passed(u32, Behind),
+    Passed(u32, NextField),
     /// The tag of a group or of an attribute.
     Tag,
     /// The first byte of a length, and the part after this many bytes.
-    High(Behind),
+    High(NextField),
     /// The second byte of a length, whose first byte is this, and the part after this many bytes.
-    Low(u8, Behind),
+    Low(u8, NextField),
     /// The document.
     Document,
 }
 
 /// The part after bytes that are passed over.
 #[derive(Clone, Copy)]
-enum Behind {
+enum NextField {
     Tag,
     ValueLength,
 }
 
 /// The number of bytes before the groups: a version, an operation or status, and a request-id.
-const FRONT: u32 = Limits::IPP_HEADER_BYTES as u32;
+const PREFIX: u32 = Limits::IPP_HEADER_BYTES as u32;
 
 /// The end-of-attributes tag.
 const END_OF_ATTRIBUTES: u8 = 3;
@@ -43,11 +43,11 @@ pub(crate) struct Message {
 }
 
 /// The part after the bytes of a length.
-fn passing(count: u32, behind: Behind) -> Next {
-    match (count, behind) {
-        (0, Behind::Tag) => Next::Tag,
-        (0, Behind::ValueLength) => Next::High(Behind::Tag),
-        _ => Next::Passed(count, behind),
+fn passing(count: u32, tail: NextField) -> Next {
+    match (count, tail) {
+        (0, NextField::Tag) => Next::Tag,
+        (0, NextField::ValueLength) => Next::High(NextField::Tag),
+        _ => Next::Passed(count, tail),
     }
 }
 
@@ -58,17 +58,17 @@ fn after_tag(tag: u8) -> Next {
     } else if tag < FIRST_VALUE {
         Next::Tag
     } else {
-        Next::High(Behind::ValueLength)
+        Next::High(NextField::ValueLength)
     }
 }
 
 /// The part after a byte.
 fn after(next: Next, byte: u8) -> Next {
     match next {
-        Next::Passed(count, behind) => passing(count.saturating_sub(1), behind),
+        Next::Passed(count, tail) => passing(count.saturating_sub(1), tail),
         Next::Tag => after_tag(byte),
-        Next::High(behind) => Next::Low(byte, behind),
-        Next::Low(high, behind) => { passing(u32::from(u16::from_be_bytes([high, byte])), behind) }
+        Next::High(tail) => Next::Low(byte, tail),
+        Next::Low(high, tail) => { passing(u32::from(u16::from_be_bytes([high, byte])), tail) }
         Next::Document => Next::Document,
     }
 }
@@ -77,7 +77,7 @@ impl Message {
     /// Creates the reader of a message of which nothing was read.
     pub(crate) fn new() -> Message {
         Message {
-            next: Next::Passed(FRONT, Behind::Tag),
+            next: Next::Passed(PREFIX, NextField::Tag),
         }
     }
 

@@ -7,7 +7,7 @@ use std::cmp::min;
 use std::io::IoSlice;
 
 /// Appends a prefix of bytes in parts, of at most `count` bytes. Returns its length.
-pub(crate) fn put_front(
+pub(crate) fn put_prefix(
     output: &mut Vec<u8>,
     parts: &[IoSlice<'_>],
     count: usize,
@@ -18,7 +18,7 @@ pub(crate) fn put_front(
         [] => Ok(0),
         [part, others @ ..] => {
             let first = put_part(output, part, count)?;
-            let more = put_front(output, others, count.saturating_sub(first))?;
+            let more = put_prefix(output, others, count.saturating_sub(first))?;
             Ok(first.saturating_add(more))
         }
     }

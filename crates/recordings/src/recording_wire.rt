@@ -7,7 +7,7 @@ ghost use Rattle.recordings.specs.Noting.{NoteState, Notes, NotesComments, EndsT
 use crate::recorded_lines::RecordedLines;
 use crate::redacted_read::RedactedRead;
 use crate::redactor::Redactor;
-use crate::sum::sum_of_front;
+use crate::sum::sum_of_prefix;
 use base_types::Moment;
 use std::alloc::{AllocError, Global};
 use std::io::IoSlice;
@@ -182,7 +182,7 @@ impl RecordedText {
     /// The sum of the bytes that a write took, if it took some and the sum is noted.
     fn sum_taken(&self, id: WireId, parts: &[IoSlice<'_>], answer: Progress<usize>) -> Option<u32> {
         match answer {
-            Progress::Done(count) if self.notes_sum(id) => Some(sum_of_front(parts, count)),
+            Progress::Done(count) if self.notes_sum(id) => Some(sum_of_prefix(parts, count)),
             _ => None,
         }
     }

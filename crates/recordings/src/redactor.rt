@@ -45,20 +45,20 @@ fn line_end(bytes: &[u8]) -> usize
 
 impl Stream {
     /// The number of leading bytes that are read at once: those of a body or a data file, or of a line.
-    fn piece(&self, bytes: &[u8]) -> usize
+    fn segment(&self, bytes: &[u8]) -> usize
         requires { 0 < length bytes.now }
         ensures low { 0 < result }
         ensures high { result ≤ length bytes.now }
     {
         let body = match self {
-            Stream::Http(http) => http.body_front(bytes),
-            Stream::Lpd(lpd) => lpd.body_front(bytes),
+            Stream::Http(http) => http.body_prefix(bytes),
+            Stream::Lpd(lpd) => lpd.body_prefix(bytes),
             Stream::Device => bytes.len(),
         };
         if body > 0 { body } else { line_end(bytes) }
     }
 
-    /// Reads a piece, and leaves out the octets of documents. The only error is out of memory.
+    /// Reads a segment, and leaves out the octets of documents. The only error is out of memory.
     fn redact(&mut self, bytes: &[u8], output: &mut RedactedRead) -> Result<(), AllocError>
         ensures { OnOk result (output.new ≡ output.old + length bytes.now) }
     {
@@ -69,14 +69,14 @@ impl Stream {
         }
     }
 
-    /// Reads bytes, piece by piece. The only error is out of memory.
+    /// Reads bytes, segment by segment. The only error is out of memory.
     fn redact_all(&mut self, bytes: &[u8], output: &mut RedactedRead) -> Result<(), AllocError>
         ensures { OnOk result (output.new ≡ output.old + length bytes.now) }
     {
         let mut rest = bytes;
         while !rest.is_empty() {
-            let (piece, later) = rest.split_at(self.piece(rest));
-            self.redact(piece, output)?;
+            let (segment, later) = rest.split_at(self.segment(rest));
+            self.redact(segment, output)?;
             rest = later;
         }
         Ok(())

@@ -4,7 +4,7 @@ ghost use Rattle.std.specs.Io.Slices.{io_slices_bytes};
 ghost use Rattle.wires.specs.Poll.{IsCount, HasCause};
 
 use crate::entry::{Accepted, Came, Entry, Sent};
-use crate::parts::put_front;
+use crate::parts::put_prefix;
 use crate::sum::sum_of;
 use std::alloc::{AllocError, Global};
 use std::io::IoSlice;
@@ -168,7 +168,7 @@ impl ReplayWire {
         ensures cause { HasCause self.old.faults self.new.faults result }
     {
         let mut bytes = Vec::new(self.alloc);
-        let Ok(count) = put_front(&mut bytes, parts, wanted.count) else {
+        let Ok(count) = put_prefix(&mut bytes, parts, wanted.count) else {
             self.strays(ServerCall::Unknown);
             return Progress::Waiting;
         };

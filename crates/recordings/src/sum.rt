@@ -58,8 +58,8 @@ impl Sum {
 
     /// Adds bytes.
     fn add(&mut self, bytes: &[u8]) {
-        let (front, rest) = bytes.split_at(min(self.missing, bytes.len()));
-        self.add_bytes(front);
+        let (prefix, rest) = bytes.split_at(min(self.missing, bytes.len()));
+        self.add_bytes(prefix);
         let (words, last) = rest.as_chunks::<WORD>();
         self.add_words(words);
         self.add_bytes(last);
@@ -151,7 +151,7 @@ pub(crate) fn sum_of(bytes: &[u8]) -> u32 {
 }
 
 /// The sum of a prefix of bytes in parts, of at most `count` bytes, computed without a copy.
-pub(crate) fn sum_of_front(parts: &[IoSlice<'_>], count: usize) -> u32 {
+pub(crate) fn sum_of_prefix(parts: &[IoSlice<'_>], count: usize) -> u32 {
     let mut sum = Sum::new();
     let mut left = count;
     for part in parts {

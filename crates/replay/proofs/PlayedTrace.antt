@@ -38,7 +38,7 @@ serves old new body line observed text answer log ready served replies printed i
     record {
       actions = Served_body old.moment body answer served.happenings ∷ [];
       is = (record { answer = answer; line = line; happenings = served.happenings; replies = replies; does = refl; printed = is ∙ ap (λ t. line ++ t) all.0 }, still);
-      moves = served.stands;
+      moves = served.reaches;
       log = all.1;
       prompt = fine ∙ ready.prompt;
     }
@@ -50,7 +50,7 @@ calls old new action observed result log ready called good printed fine still =
     record {
       actions = action called.happenings ∷ [];
       is = (record { happenings = called.happenings; unrefused = called.ok good; does = refl; printed = all.0 }, still);
-      moves = called.stands;
+      moves = called.reaches;
       log = all.1;
       prompt = fine ∙ ready.prompt;
     }
@@ -69,7 +69,7 @@ took_turn old new stirred wire begins turned is still same =
           (ap (λ (w : TraceWire). w.failed) (sym begins) ∙ all.0, subst (λ (w : TraceWire). Leads PeersSee w.memory.peers.items turned.happenings new.peers.wire.memory.peers.items) begins all.1);
       observes = observed.observes;
       log = observed.log;
-      moves = turned.stands;
+      moves = turned.reaches;
       moment = still;
       connections = same;
     }
@@ -152,7 +152,7 @@ ran old mid new observed text ready (turns, till, takes) fine printed is marked 
         sees = (takes.sees fine).1;
         does = refl;
         printed = is ∙ ap (λ h. h ++ connections_text peers mid.peers.connections.items) (notified.2 ∙ ap (λ b. b ++ happenings_text old.log.texts old.log.names (all_turns turns)) empty) ∙ ap (λ cs. happenings_text old.log.texts old.log.names (all_turns turns) ++ connections_text peers cs) same;
-        after = stands new.moment old.moment new.peers.connections.items (map (seen peers) old.peers.connections.items) new.peers.wire.memory.peers.items (map emptied peers) (moment ∙ takes.moment) (marked ∙ ap (map (seen peers)) same) cleared;
+        after = reaches new.moment old.moment new.peers.connections.items (map (seen peers) old.peers.connections.items) new.peers.wire.memory.peers.items (map emptied peers) (moment ∙ takes.moment) (marked ∙ ap (map (seen peers)) same) cleared;
       };
       moves = subst (λ e. Moves old.engine (map (Turned old.moment) turns) e) (sym engine) takes.moves;
       log = printed.1 ∙ ap (λ (l : LogRecord). record l { observed = Some [] }) takes.log ∙ ap (λ (o : Option (List ℕ)). record old.log { observed = o }) (sym ready.silent);
@@ -162,14 +162,14 @@ ran old mid new observed text ready (turns, till, takes) fine printed is marked 
     some_is : (text : List ℕ) → Some text ≡ Some [] → text ≡ []
     some_is text e = cc e
 
-    stands : (m n : ℕ) (cs ds : List Connection) (ps qs : List PeerState) → m ≡ n → cs ≡ ds → ps ≡ qs → ◌≡◌ {A = Standing} (record { moment = m; connections = cs; peers = ps }) (record { moment = n; connections = ds; peers = qs })
-    stands m n cs ds ps qs em ec ep = rw (em, ec, ep) refl
+    reaches : (m n : ℕ) (cs ds : List Connection) (ps qs : List PeerState) → m ≡ n → cs ≡ ds → ps ≡ qs → ◌≡◌ {A = Standing} (record { moment = m; connections = cs; peers = ps }) (record { moment = n; connections = ds; peers = qs })
+    reaches m n cs ds ps qs em ec ep = rw (em, ec, ep) refl
 
 -- a change of connections alone comes before
 pub from_here : (old mid new : Play) (s : Standing) (text : List ℕ) → Becomes old mid s → TakesActions mid new (λ actions. Turns mid.log.texts mid.log.names (standing mid) actions text (standing new)) → TakesActions old new (λ actions. Turns old.log.texts old.log.names s actions text (standing new))
 from_here old mid new s text is does = record {
   actions = does.actions;
-  is = subst (λ t. Turns old.log.texts old.log.names t does.actions text (standing new)) is.stands (subst (λ (l : LogRecord). Turns l.texts l.names (standing mid) does.actions text (standing new)) is.log does.is);
+  is = subst (λ t. Turns old.log.texts old.log.names t does.actions text (standing new)) is.reaches (subst (λ (l : LogRecord). Turns l.texts l.names (standing mid) does.actions text (standing new)) is.log does.is);
   moves = subst (λ e. Moves e does.actions new.engine) is.engine does.moves;
   log = does.log ∙ is.log;
   prompt = does.prompt;
@@ -180,14 +180,14 @@ still_ready old mid s is ready = record { silent = ap (λ (l : LogRecord). l.obs
 
 -- the connections and their peers changed
 pub becomes : (old mid : Play) (s : Standing) → Holds s.connections s.peers old.peers.wire.failed mid.peers → mid.engine ≡ old.engine → mid.log ≡ old.log → mid.moment ≡ s.moment → Becomes old mid s
-becomes old mid s holds engine log moment = record { engine = engine; log = log; prompt = holds.failed; stands = rw (moment, holds.connections, holds.peers) refl }
+becomes old mid s holds engine log moment = record { engine = engine; log = log; prompt = holds.failed; reaches = rw (moment, holds.connections, holds.peers) refl }
 
 -- the moment is notified
 pub printed_moment : (old new : Play) (line : Line) (moment : ℕ) (text : List ℕ) → IsReady old → line ≡ Form.At moment → text ≡ [] → new.engine ≡ old.engine → new.log ≡ old.log → new.peers.wire.failed ≡ old.peers.wire.failed → standing new ≡ record (standing old) { moment = moment }
     → TakesActions old new (λ actions. Plays old.log.texts old.log.names line (standing old) actions text (standing new))
-printed_moment old new line moment text ready is none engine log fine stands = record {
+printed_moment old new line moment text ready is none engine log fine reaches = record {
   actions = [];
-  is = subst (λ l. Plays old.log.texts old.log.names l (standing old) [] text (standing new)) (sym is) (refl, none, stands);
+  is = subst (λ l. Plays old.log.texts old.log.names l (standing old) [] text (standing new)) (sym is) (refl, none, reaches);
   moves = subst (λ e. Moves old.engine [] e) (sym engine) (moves_nothing old.engine);
   log = log;
   prompt = fine ∙ ready.prompt;

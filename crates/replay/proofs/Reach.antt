@@ -2,7 +2,7 @@
 use Rattle.std.proofs.Common.{◌≡◌, ℕ, suc, Bool, true, List, [], ◌∷◌, ◌++◌, refl, sym, ap, ◌∙◌, subst, inl, inr, codes, append_assoc, append-nil, Option, Some, None, Result, Ok, Err, OnErr}
 use Rattle.std.specs.Fmt.{decimal}
 use Rattle.server.specs.State.{EngineState}
-use Rattle.server.specs.Refinement.{StandsAt}
+use Rattle.server.specs.Refinement.{IsAt}
 use Rattle.server.specs.Turn.{Trace}
 use Rattle.program.specs.declared.exit_status.ExitStatus.{ExitStatus}
 use Rattle.program.specs.declared.exit_status.ExitStatus.TheVariants as Ends
@@ -16,10 +16,10 @@ use Rattle.replay.specs.Playing.{Standing, IsBad, may_come, Plays, LinesPlay}
 use Rattle.traces.specs.TraceLine.{IsLine}
 
 pub moves_nothing : (e : EngineState) → Moves e [] e
-moves_nothing e opening trace stands = subst (λ t. StandsAt opening t e) (sym (append-nil trace)) stands
+moves_nothing e opening trace reaches = subst (λ t. IsAt opening t e) (sym (append-nil trace)) reaches
 
 pub moves_then : (a b c : EngineState) (first later : Trace) → Moves a first b → Moves b later c → Moves a (first ++ later) c
-moves_then a b c first later p q opening trace stands = subst (λ t. StandsAt opening t c) (append_assoc trace first later) (q opening (trace ++ first) (p opening trace stands))
+moves_then a b c first later p q opening trace reaches = subst (λ t. IsAt opening t c) (append_assoc trace first later) (q opening (trace ++ first) (p opening trace reaches))
 
 -- The result of the lines before. With it, the result of any lines after them is the result of all lines.
 pub record Reached (texts : Bool) (names : List (List ℕ)) (first : ℕ) (all : List (List ℕ)) (begun : Standing) (start : EngineState) (done : List ℕ) (number : ℕ) (rest : List (List ℕ)) (now : Standing) (engine : EngineState) : Type 0 where

@@ -49,14 +49,14 @@ alone before text none = ap (λ b. said_after b text) none
 
 lines_give : (texts : Bool) (read : ServerSettings) (play : Play) (number : ℕ) (lines : List (List ℕ)) (before : List ℕ) (all : ProgramOutput) → IsStart texts read play → before ≡ [] → PlaysAll play number lines before all → LinesGive texts read number lines all
 lines_give texts read play number lines before all starts none plays =
-    let stands = plays.moves (opening read 1) [] starts.stands in
+    let reaches = plays.moves (opening read 1) [] starts.reaches in
     let as_printed : plays.said ≡ all = sym (plays.printed ∙ alone before plays.said none) in
     let named : LinesPlay texts (device_names read) number lines (standing play) plays.actions plays.said = subst (λ (l : LogRecord). LinesPlay l.texts l.names number lines (standing play) plays.actions plays.said) starts.log plays.plays in
     record {
       actions = plays.actions;
-      ledger = stands.0;
+      ledger = reaches.0;
       plays = subst (λ s. LinesPlay texts (device_names read) number lines start plays.actions s) as_printed (subst (λ s. LinesPlay texts (device_names read) number lines s plays.actions plays.said) starts.starts named);
-      runs = stands.1;
+      runs = reaches.1;
     }
 
 pub settings_give : (texts : Bool) (settings rest : List ℕ) (count : ℕ) (play : Play) (before out : List ℕ) (status : ExitStatus) (utf8 : IsUtf8 settings) → (read : ServerSettings) → settings_of settings ≡ Ok read → IsStart texts read play → before ≡ []

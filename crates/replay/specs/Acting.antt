@@ -7,7 +7,7 @@ use Rattle.print_room.specs.State.{State}
 use Rattle.server.specs.Polls.{Happening, Leads}
 use Rattle.server.specs.Turn.{Trace, Turned}
 use Rattle.server.specs.State.{EngineState}
-use Rattle.server.specs.Refinement.{StandsAt}
+use Rattle.server.specs.Refinement.{IsAt}
 use Rattle.program.specs.declared.exit_status.ExitStatus.TheVariants as Ends
 use Rattle.program.specs.Said.{ProgramOutput, said_after}
 use Rattle.replay.specs.declared.play.Play.{Play}
@@ -25,7 +25,7 @@ standing p = record { moment = p.moment; connections = p.peers.connections.items
 
 -- for each trace at which the old engine is, the new one is at that trace with these actions after it
 abbrev pub Moves : EngineState → Trace → EngineState → Type 0
-Moves old actions new = (opening : State) (trace : Trace) → StandsAt opening trace old → StandsAt opening (trace ++ actions) new
+Moves old actions new = (opening : State) (trace : Trace) → IsAt opening trace old → IsAt opening (trace ++ actions) new
 
 -- all notes were printed, and no poll of the wire has failed
 pub record IsReady (p : Play) : Type 0 where
@@ -37,14 +37,14 @@ pub record IsStart (texts : Bool) (settings : ServerSettings) (p : Play) : Type 
   pub log : p.log ≡ record { texts = texts; names = device_names settings; observed = Some [] }
   pub prompt : p.peers.wire.failed ≡ false
   pub starts : standing p ≡ start
-  pub stands : StandsAt (opening settings 1) [] p.engine
+  pub reaches : IsAt (opening settings 1) [] p.engine
 
 -- only the connections and their peers have changed
 pub record Becomes (old new : Play) (s : Standing) : Type 0 where
   pub engine : new.engine ≡ old.engine
   pub log : new.log ≡ old.log
   pub prompt : new.peers.wire.failed ≡ old.peers.wire.failed
-  pub stands : standing new ≡ s
+  pub reaches : standing new ≡ s
 
 -- the play took actions with this property, and printed all notes
 pub record TakesActions (old new : Play) (Is : Trace → Type 0) : Type 0 where

@@ -17,7 +17,7 @@ ghost use Rattle.replay.specs.Replay.{SettingsGive, SettingsLeave, TraceGives, T
 use crate::objection::{Objection, about_settings};
 use crate::play::Play;
 use base_types::Limits;
-use program::{ExitStatus, InputFault, read_whole, refusal_line, write_front};
+use program::{ExitStatus, InputFault, read_whole, refusal_line, write_prefix};
 use settings_file::{SettingsFault, read_settings_bytes};
 use std::alloc::{AllocError, Global};
 use std::io::{Read, Write};
@@ -63,7 +63,7 @@ fn play_input<R: Read, W: Write>(
 {
     let mut output = Vec::new(alloc);
     let due = answer_input(alloc, reader, texts, &mut output, objection);
-    if write_front(writer, &output) < output.len() {
+    if write_prefix(writer, &output) < output.len() {
         return ExitStatus::Failed;
     }
     match due {

@@ -14,7 +14,7 @@ abbrev pub IsSome : List ℕ → Type 0
 IsSome list = 0 < length list
 
 -- a prefix of the waiting bytes that isn't empty
-pub record IsFront (offered waits : List ℕ) : Type 0 where
+pub record IsPrefix (offered waits : List ℕ) : Type 0 where
   pub some : 0 < length offered
   pub rest : List ℕ
   pub whole : waits ≡ offered ++ rest
@@ -27,7 +27,7 @@ OffersAs polled id offered waits wire offer.Waiting left wire' = polled wire (Wr
 OffersAs polled id offered waits wire offer.Ended left wire' = (polled wire (Writes id offered End) wire' ⊎ polled wire (Writes id offered Fault) wire') × (left ≡ waits)
 
 -- a prefix of the waiting bytes is offered, if any bytes wait
-abbrev pub OffersFront : {W : Type 0} → (W → Poll → W → Type 0) → ℕ → List ℕ → W → Offered → List ℕ → W → Type 0
-OffersFront polled id waits wire answer left wire' =
+abbrev pub OffersPrefix : {W : Type 0} → (W → Poll → W → Type 0) → ℕ → List ℕ → W → Offered → List ℕ → W → Type 0
+OffersPrefix polled id waits wire answer left wire' =
     ((waits ≡ []) × (answer ≡ offer.Nothing) × (left ≡ []) × (wire' ≡ wire))
-    ⊎ ((offered : List ℕ) × IsFront offered waits × OffersAs polled id offered waits wire answer left wire')
+    ⊎ ((offered : List ℕ) × IsPrefix offered waits × OffersAs polled id offered waits wire answer left wire')

@@ -2,10 +2,10 @@
 ghost use Rattle.std.specs.Prelude.{◌≡◌, false, ◌<◌, ◌≤◌, ◌+◌, ◌++◌, [], IfOk, OnOk, OnErr, ◌==◌, nat_lt, length, drop, slice_index_or, vec_len, vec_capacity};
 ghost use Rattle.std.specs.List.{flat_map, All};
 ghost use Rattle.std.specs.Io.Slices.{io_slice_bytes, io_slices_bytes};
-ghost use Rattle.octets.specs.Document.{IsFrontOf};
+ghost use Rattle.octets.specs.Document.{IsPrefixOf};
 ghost use Rattle.send_queues.specs.Outgoing.{bytes_of, is_job};
 ghost use Rattle.send_queues.specs.Reply.{http_reply, refusal_head};
-ghost use Rattle.send_queues.specs.SendQueue.{OffersFront, IsSome, joined};
+ghost use Rattle.send_queues.specs.SendQueue.{OffersPrefix, IsSome, joined};
 
 use crate::outgoing::{Outgoing, OutgoingJob};
 use device_link::{write_cancel, write_job};
@@ -34,13 +34,13 @@ pub enum Offered {
 /// Returns the octets from `start` on that lie together in memory, and the place after them.
 fn part(octets: &Octets, start: usize) -> (IoSlice<'_>, usize)
     requires { start ≤ length octets.now }
-    ensures front { IsFrontOf (io_slice_bytes result.0) (drop start octets.now) }
-    ensures behind { result.1 ≡ start + length (io_slice_bytes result.0) }
+    ensures prefix { IsPrefixOf (io_slice_bytes result.0) (drop start octets.now) }
+    ensures tail { result.1 ≡ start + length (io_slice_bytes result.0) }
     ensures within { result.1 ≤ length octets.now }
 {
-    let piece = octets.piece(start);
-    let left = octets.len() - start - piece.len();
-    (IoSlice::new(piece), octets.len() - left)
+    let segment = octets.segment(start);
+    let left = octets.len() - start - segment.len();
+    (IoSlice::new(segment), octets.len() - left)
 }
 
 /// The rest of octets that may have other owners too. In clauses it is the list of these octets, which isn't
@@ -72,8 +72,8 @@ impl Rest {
     }
 
     /// A prefix of the octets, in the parts in which they lie: as many parts as a system call takes.
-    fn front(&self) -> [IoSlice<'_>; 4]
-        ensures front { IsFrontOf (io_slices_bytes result) self.now }
+    fn prefix(&self) -> [IoSlice<'_>; 4]
+        ensures prefix { IsPrefixOf (io_slices_bytes result) self.now }
         ensures some { 0 < length self.now }
     {
         let (first, second_at) = part(&self.octets, self.start);
@@ -90,7 +90,7 @@ impl Rest {
         self.octets.len() - self.start
     }
 
-    /// Removes `count` octets from the front. Some octets are left.
+    /// Removes `count` octets from the beginning. Some octets are left.
     fn pass(&mut self, count: usize)
         requires { count < length self.old }
         ensures { self.new ≡ drop count self.old }
@@ -193,7 +193,7 @@ impl SendQueue {
 
     /// Offers a prefix of the waiting bytes to the wire, which may take some of them.
     pub fn offer<W: Wire>(&mut self, id: WireId, wire: &mut W) -> Offered
-        ensures { OffersFront W.polled id self.old wire.old result self.new wire.new }
+        ensures { OffersPrefix W.polled id self.old wire.old result self.new wire.new }
     {
         if !self.shared.is_empty() {
             return offer_first(&mut self.shared, id, wire);
@@ -209,10 +209,10 @@ impl SendQueue {
 fn offer_first<W: Wire>(shared: &mut Vec<Rest>, id: WireId, wire: &mut W) -> Offered
     requires there { 0 < length shared.old.items }
     requires were { All IsSome shared.old.items }
-    ensures offers { OffersFront W.polled id (joined shared.old.items) wire.old result (joined shared.new.items) wire.new }
+    ensures offers { OffersPrefix W.polled id (joined shared.old.items) wire.old result (joined shared.new.items) wire.new }
     ensures some { All IsSome shared.new.items }
 {
-    match wire.poll_write(id, &shared[0].front()) {
+    match wire.poll_write(id, &shared[0].prefix()) {
         Progress::Done(count) => {
             pass(shared, count);
             Offered::Done(count)
@@ -241,7 +241,7 @@ fn pass(shared: &mut Vec<Rest>, count: usize)
 /// Offers the text to the wire. The text's room stays.
 fn offer_text<W: Wire>(text: &mut Vec<u8>, id: WireId, wire: &mut W) -> Offered
     requires { 0 < length text.old.items }
-    ensures offers { OffersFront W.polled id text.old.items wire.old result text.new.items wire.new }
+    ensures offers { OffersPrefix W.polled id text.old.items wire.old result text.new.items wire.new }
     ensures capacity { vec_capacity text.new ≡ vec_capacity text.old }
 {
     match wire.poll_write(id, &[IoSlice::new(text)]) {
@@ -255,7 +255,7 @@ fn offer_text<W: Wire>(text: &mut Vec<u8>, id: WireId, wire: &mut W) -> Offered
     }
 }
 
-/// Removes `count` bytes from the front. The room stays.
+/// Removes `count` bytes from the beginning. The room stays.
 fn drop_taken(text: &mut Vec<u8>, count: usize)
     requires { count ≤ length text.old.items }
     ensures left { text.new.items ≡ drop count text.old.items }

@@ -31,7 +31,7 @@ use Rattle.server.proofs.ReadsAndAsks.{fits_still}
 
 nothing_asked : (a : EngineState) (slots : Slots) (key : ℕ) → OnSlot key (Becomes (Asking a.core.settings None)) a.slots slots → AsksBy key None a (with_slots slots a)
 nothing_asked a slots key on = record {
-  stands = λ l fits.
+  reaches = λ l fits.
       let f = found l a key on.before fits on.there in
       let became = on.changes f.entry f.fits in
       let fits' : RepresentsConnection f.entry on.after = subst (λ (e : Entry). RepresentsConnection e on.after) became.1.1 became.2 in (
@@ -46,7 +46,7 @@ something_asked : (a : EngineState) (slots : Slots) (key : ℕ) (asked : Connect
 something_asked a slots key asked on =
     let fewer : load on.after < load on.before = on.changes.2 in
     record {
-      stands = λ l fits.
+      reaches = λ l fits.
           let f = found l a key on.before fits on.there in
           let became = on.changes.1 f.entry f.fits in
           let asks : AsksNext l.core.settings asked.ask f.entry became.0 = subst (λ (s : State). AsksNext s.settings asked.ask f.entry became.0) (sym fits.core) became.1 in (
@@ -63,7 +63,7 @@ something_asked a slots key asked on =
 
 pub asks_by : (a : EngineState) (slots : Slots) (key : ℕ) (what : Option ConnectionAsk) → AsksAt a.core.settings key what a.slots slots → AsksBy key what a (with_slots slots a)
 asks_by a slots key None (inl none) = record {
-  stands = λ l fits. (l, (subst (λ (o : Option Entry). IsActedOnAt o) (sym (absent l a key fits none.there)) tt, refl), subst (λ (xs : Slots). Represents l (with_slots xs a)) (sym none.same) fits);
+  reaches = λ l fits. (l, (subst (λ (o : Option Entry). IsActedOnAt o) (sym (absent l a key fits none.there)) tt, refl), subst (λ (xs : Slots). Represents l (with_slots xs a)) (sym none.same) fits);
   less = tt;
 }
 asks_by a slots key None (inr on) = nothing_asked a slots key on
@@ -78,9 +78,9 @@ acts polled notified u v w a b c d moment key asked asks refines settled =
     let acted : Refinement.Refines (alone notified) (ActsNext moment key) u a v c = record {
       happenings = refines.happenings;
       leads = refines.leads;
-      stands = λ l fits.
-          let s = asks.stands l fits in
-          let r = refines.stands s.0 s.2 in
+      reaches = λ l fits.
+          let s = asks.reaches l fits in
+          let r = refines.reaches s.0 s.2 in
           (r.0, seen_as (Then (Asks key asked.id asked.ask) (ActsOn moment key asked.id asked.ask)) (ActsNext moment key) l refines.happenings r.0 (λ hs it. (asked.id, asked.ask, it)) (seen_then (Asks key asked.id asked.ask) (ActsOn moment key asked.id asked.ask) l [] s.0 refines.happenings r.0 s.1 r.1), r.2);
     } in
     refines_then (moved polled notified) (ActsNext moment key) (ClosesBroken moment) u v w a c d (refines_moved polled notified (ActsNext moment key) u v a c acted) (aloud (moved polled notified) (ClosesBroken moment) v w c d settled)

@@ -48,8 +48,8 @@ pub fits_broken : (e : Entry) (c : ConnectionState) → RepresentsConnection e c
 fits_broken e c f = record { id = f.id; peer = broken_peer e.read e.progress e.broken c.peer f.peer; ended = f.ended; draining = f.draining; broken = refl; due = f.due }
 
 given_peer : (read : List ℕ) (progress : PeerRecord) (off : Bool) (p : Peer) → FitsPeer read progress off p → FitsPeer read (unnamed progress) true (has_no_name p)
-given_peer read progress off (of.Ipp t) f = record { said = f.said; body = f.body; unreported = f.unreported; all_reported = f.all_reported; is = ap unnamed f.is; stands = f.stands; body_read = f.body_read }
-given_peer read progress off (of.Lpd t) f = record { items = f.items; is = ap unnamed f.is; stands = f.stands }
+given_peer read progress off (of.Ipp t) f = record { said = f.said; body = f.body; unreported = f.unreported; all_reported = f.all_reported; is = ap unnamed f.is; reaches = f.reaches; body_read = f.body_read }
+given_peer read progress off (of.Lpd t) f = record { items = f.items; is = ap unnamed f.is; reaches = f.reaches }
 given_peer read progress off (of.Device t) f = record { reports = f.reports; is = ap unnamed f.is; linked = λ no. let never : true ≡ false = no in cc }
 
 pub fits_given : (e : Entry) (c : ConnectionState) → RepresentsConnection e c → RepresentsConnection (superseded_entry e) (superseded c)
@@ -76,13 +76,13 @@ load_as c d e is less = subst (λ (x : ConnectionState). load x ≤ load c) (sym
 
 -- ---- the waiting bytes
 
-drop_front-append : (xs ys : List ℕ) → drop (length xs) (xs ++ ys) ≡ ys
-drop_front-append [] ys = refl
-drop_front-append (x ∷ xs) ys = drop_front-append xs ys
+drop_prefix-append : (xs ys : List ℕ) → drop (length xs) (xs ++ ys) ≡ ys
+drop_prefix-append [] ys = refl
+drop_prefix-append (x ∷ xs) ys = drop_prefix-append xs ys
 
 -- the waiting bytes by the entry are the bytes that the connection holds
 pub waits : (e : Entry) (c : ConnectionState) → RepresentsConnection e c → waiting e ≡ c.output
-waits e c f = ap (λ (due : List ℕ). drop (length e.taken) due) (sym f.due) ∙ drop_front-append e.taken c.output
+waits e c f = ap (λ (due : List ℕ). drop (length e.taken) due) (sym f.due) ∙ drop_prefix-append e.taken c.output
 
 -- ---- due bytes
 

@@ -46,11 +46,11 @@ left_false true y is = is
 left_false false y is = refl
 
 -- if no memory was refused in all happenings, none was refused in a part of them
-pub none_before : (hs front back : List Happening) → hs ≡ front ++ back → has_refusal hs ≡ false → has_refusal front ≡ false
-none_before hs front back whole none = left_false (has_refusal front) (has_refusal back) (sym (ap has_refusal whole ∙ refusals_append front back) ∙ none)
+pub none_before : (hs prefix back : List Happening) → hs ≡ prefix ++ back → has_refusal hs ≡ false → has_refusal prefix ≡ false
+none_before hs prefix back whole none = left_false (has_refusal prefix) (has_refusal back) (sym (ap has_refusal whole ∙ refusals_append prefix back) ∙ none)
 
-pub none_after : (hs front back : List Happening) → hs ≡ front ++ back → has_refusal hs ≡ false → has_refusal back ≡ false
-none_after hs front back whole none = right_false (has_refusal front) (has_refusal back) (sym (ap has_refusal whole ∙ refusals_append front back) ∙ none)
+pub none_after : (hs prefix back : List Happening) → hs ≡ prefix ++ back → has_refusal hs ≡ false → has_refusal back ≡ false
+none_after hs prefix back whole none = right_false (has_refusal prefix) (has_refusal back) (sym (ap has_refusal whole ∙ refusals_append prefix back) ∙ none)
 
 -- the memory that was refused wasn't for a dispatch of the core
 abbrev pub IsOther : AllocationSite → Option ℕ → Type 0
@@ -118,9 +118,9 @@ calm_nothing l hs l' it = calm_by [] l l hs l' tt refl refl it
 
 pub calm_then : {R S : Rel} → Calmly R → Calmly S → Calmly (Then R S)
 calm_then {R} {S} f g l hs l' it =
-    let p = f l it.front it.mid it.first in
+    let p = f l it.prefix it.mid it.first in
     let q = g it.mid it.back l' it.second in
-    record { core = q.core ∙ p.core; closed = q.closed ∙ p.closed; only = subst OnlyRefusals (sym it.whole) (only_append it.front it.back p.only q.only) }
+    record { core = q.core ∙ p.core; closed = q.closed ∙ p.closed; only = subst OnlyRefusals (sym it.whole) (only_append it.prefix it.back p.only q.only) }
 
 pub calm_or : {R S : Rel} → Calmly R → Calmly S → Calmly (Or R S)
 calm_or f g l hs l' (inl it) = f l hs l' it
@@ -258,7 +258,7 @@ happened moment event outcome l hs l' it =
 -- an event came, and then its reply became due
 pub happened_then : (moment : ℕ) (event : Event) (outcome : Outcome) (Q : Rel) → Calmly Q → (l : Ledger) (hs : List Happening) (l' : Ledger) → Then (Happens moment event outcome) Q l hs l' → Happened moment event outcome l hs l'
 happened_then moment event outcome Q calm l hs l' it =
-    let one = happened moment event outcome l it.front it.mid it.first in
+    let one = happened moment event outcome l it.prefix it.mid it.first in
     let rest = calm it.mid it.back l' it.second in
     record {
       notes = one.notes;
@@ -287,4 +287,4 @@ whole_light moment event None l hs l' it light none = it.handled.2 light
 pub whole_notified : (moment : ℕ) (event : Event) (outcome : Outcome) (Q : Option Effects → Rel) → ((l : Ledger) (hs : List Happening) (l' : Ledger) → Q None l hs l' → has_refusal hs ≡ true)
     → (l : Ledger) (hs : List Happening) (l' : Ledger) → Then (Happens moment event outcome) (Q (effects_of outcome)) l hs l' → Happened moment event outcome l hs l' → has_refusal hs ≡ false → IsWhole outcome
 whole_notified moment event (Some handled) Q notified l hs l' it done none = dispatched moment event handled l hs l' done none
-whole_notified moment event None Q notified l hs l' it done none = never (has_refusal it.back) (notified it.mid it.back l' it.second) (none_after hs it.front it.back it.whole none)
+whole_notified moment event None Q notified l hs l' it done none = never (has_refusal it.back) (notified it.mid it.back l' it.second) (none_after hs it.prefix it.back it.whole none)

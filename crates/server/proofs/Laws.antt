@@ -44,7 +44,7 @@ stays_taken moment = record {
   calm = λ l hs l' it all. same_closed l l' it.closed all;
   event = λ l hs l' it all. same_closed l l' it.closed all;
   leaves = λ fate key e l hs l' it all. subst AllTaken (sym (ap (λ (x : Ledger). x.closed) it.2)) (one_more l.closed e fate it.1 all);
-  chain = λ l front mid back l' p q all. q (p all);
+  chain = λ l prefix mid back l' p q all. q (p all);
 }
 
 taken_on : (trace : Trace) (old new : Ledger) → Runs trace old new → AllTaken old.closed → AllTaken new.closed
@@ -114,14 +114,14 @@ is_run moment = record {
         whole = λ none. All-cons IsWhole it.outcome [] (it.whole none) (All-nil IsWhole);
       };
   leaves = λ fate key e l hs l' it. no_event moment l hs l' (ap (λ (x : Ledger). x.core) it.2) (ap core_notes it.0);
-  chain = λ l front mid back l' p q.
+  chain = λ l prefix mid back l' p q.
       record {
         events = p.events ++ q.events;
         outcomes = p.outcomes ++ q.outcomes;
         timed = All-append (λ (t : Timed). t.moment ≡ moment) p.events q.events p.timed q.timed;
-        run = subst (λ (ns : List Note). Run Collects l.core [] (p.events ++ q.events) (p.outcomes ++ q.outcomes) l'.core ns) (sym (notes_append front back))
-            (run_then [] (core_notes front) (core_notes back) l.core mid.core l'.core p.events q.events p.outcomes q.outcomes p.run q.run);
-        whole = λ none. whole_then front back p.outcomes q.outcomes p.whole q.whole none;
+        run = subst (λ (ns : List Note). Run Collects l.core [] (p.events ++ q.events) (p.outcomes ++ q.outcomes) l'.core ns) (sym (notes_append prefix back))
+            (run_then [] (core_notes prefix) (core_notes back) l.core mid.core l'.core p.events q.events p.outcomes q.outcomes p.run q.run);
+        whole = λ none. whole_then prefix back p.outcomes q.outcomes p.whole q.whole none;
       };
 }
 
@@ -167,7 +167,7 @@ event_served : (moment request : ℕ) (event : Event) (bytes : List ℕ) (answer
 event_served moment request event bytes answer l hs l' none is (outcome, it) =
     let came = happened_then moment event outcome (Answers request (effects_of outcome) bytes) (calm_answers request (effects_of outcome) bytes) l hs l' it in
     let whole = whole_notified moment event outcome (λ reply. Answers request reply bytes) (λ a ks b notified. ap has_refusal notified.0) l hs l' it came none in
-    let are = are_bytes request (effects_of outcome) bytes it.mid it.back l' (none_after hs it.front it.back it.whole none) it.second in
+    let are = are_bytes request (effects_of outcome) bytes it.mid it.back l' (none_after hs it.prefix it.back it.whole none) it.second in
     (are.0, bytes, is, are.2, one_event moment event outcome are.0 l hs l' none whole are.1 came)
 
 is_served : (moment : ℕ) (asked : ParsedRequest) (served answer : Given) (l : Ledger) (hs : List Happening) (l' : Ledger) → has_refusal hs ≡ false → answer ≡ served → BodyAsks moment asked served l hs l' → IsServed moment asked answer l.core hs l'.core
@@ -190,7 +190,7 @@ served_seen moment (asks.Event request event) answer old hs ks new same (reply, 
 
 body_served : (moment : ℕ) (body : List ℕ) (served answer : Given) (l : Ledger) (hs : List Happening) (l' : Ledger) → has_refusal hs ≡ false → answer ≡ served → BodyComes moment body served l hs l' → (asked : ParsedRequest) × Asks body asked × IsServed moment asked answer l.core hs l'.core
 body_served moment body served answer l hs l' none same (inl (asked, are, it)) =
-    let after = is_served moment asked served answer it.mid it.back l' (none_after hs it.front it.back it.whole none) same it.second in
+    let after = is_served moment asked served answer it.mid it.back l' (none_after hs it.prefix it.back it.whole none) same it.second in
     let core : it.mid.core ≡ l.core = ap (λ (x : Ledger). x.core) it.first.1 in
     let sight : seen hs ≡ seen it.back = ap seen (it.whole ∙ ap (λ (ks : List Happening). ks ++ it.back) it.first.0) in
     (asked, are, served_seen moment asked answer l.core it.back hs l'.core sight (subst (λ (s : State). IsServed moment asked answer s it.back l'.core) core after))

@@ -78,7 +78,7 @@ pub record Holds (moment : ℕ) (P : Rel) : Type 0 where
   pub calm : (l : Ledger) (hs : List Happening) (l' : Ledger) → IsCalm l hs l' → P l hs l'
   pub event : (l : Ledger) (hs : List Happening) (l' : Ledger) → IsEvent moment l hs l' → P l hs l'
   pub leaves : (fate : Fate) (key : ℕ) (e : Entry) (l : Ledger) (hs : List Happening) (l' : Ledger) → Leaves fate key e l hs l' → P l hs l'
-  pub chain : (l : Ledger) (front : List Happening) (mid : Ledger) (back : List Happening) (l' : Ledger) → P l front mid → P mid back l' → P l (front ++ back) l'
+  pub chain : (l : Ledger) (prefix : List Happening) (mid : Ledger) (back : List Happening) (l' : Ledger) → P l prefix mid → P mid back l' → P l (prefix ++ back) l'
 
 abbrev pub Within : Rel → Rel → Type 0
 Within P R = (l : Ledger) (hs : List Happening) (l' : Ledger) → R l hs l' → P l hs l'
@@ -209,7 +209,7 @@ module _ (moment : ℕ) (P : Rel) (k : Holds moment P) where
   nothing_in = calmly_in calm_nothing
 
   then_in : {R S : Rel} → Within P R → Within P S → Within P (Then R S)
-  then_in f g l hs l' it = subst (λ (x : List Happening). P l x l') (sym it.whole) (k.chain l it.front it.mid it.back l' (f l it.front it.mid it.first) (g it.mid it.back l' it.second))
+  then_in f g l hs l' it = subst (λ (x : List Happening). P l x l') (sym it.whole) (k.chain l it.prefix it.mid it.back l' (f l it.prefix it.mid it.first) (g it.mid it.back l' it.second))
 
   or_in : {R S : Rel} → Within P R → Within P S → Within P (Or R S)
   or_in f g l hs l' (inl it) = f l hs l' it
@@ -274,11 +274,11 @@ module _ (moment : ℕ) (P : Rel) (k : Holds moment P) where
   closes_first_in : Within P (ClosesFirst moment)
   closes_first_in l hs l' it = closes_in Broken it.key it.entry l hs l' it.closes
 
-  settles_in : Within P (ClosesBroken moment)
-  settles_in l hs l' it = many_in (ClosesFirst moment) closes_first_in l hs l' it.0
+  closes_broken_in : Within P (ClosesBroken moment)
+  closes_broken_in l hs l' it = many_in (ClosesFirst moment) closes_first_in l hs l' it.0
 
   fails_in : (key : ℕ) → Within P (Fails moment key)
-  fails_in key = then_in (calmly_in (calm_breaks key)) settles_in
+  fails_in key = then_in (calmly_in (calm_breaks key)) closes_broken_in
 
   -- ---- the asks of connections
 
@@ -323,10 +323,10 @@ module _ (moment : ℕ) (P : Rel) (k : Holds moment P) where
   acts_next_in key l hs l' (id, what, it) = then_in (asks_in key id what) (refines_in key id what) l hs l' it
 
   serves_in : (key : ℕ) → Within P (Serves moment key)
-  serves_in key l hs l' it = then_in (many_in (Acts moment key) (then_in (acts_next_in key) settles_in)) (chooses_in Rested) l hs l' it.0
+  serves_in key l hs l' it = then_in (many_in (Acts moment key) (then_in (acts_next_in key) closes_broken_in)) (chooses_in Rested) l hs l' it.0
 
   fed_whole_in : (key : ℕ) (e : Entry) (bytes : List ℕ) → Within P (FedWhole moment key e bytes)
-  fed_whole_in key e bytes = or_in (then_in (sets_in key (reading bytes e)) (serves_in key)) (then_in (calmly_in (calm_drops At.Feed key e refl)) settles_in)
+  fed_whole_in key e bytes = or_in (then_in (sets_in key (reading bytes e)) (serves_in key)) (then_in (calmly_in (calm_drops At.Feed key e refl)) closes_broken_in)
 
   fed_in : (key : ℕ) (e : Entry) (bytes : List ℕ) → Within P (FedOpen moment key e bytes)
   fed_in key e bytes = if_in e.draining (Sets key e) (FedWhole moment key e bytes) (sets_in key e) (fed_whole_in key e bytes)
@@ -370,7 +370,7 @@ module _ (moment : ℕ) (P : Rel) (k : Holds moment P) where
 
   ends_at_in : (key : ℕ) (o : Option Entry) → Within P (EndsAt moment key o)
   ends_at_in key None = nothing_in
-  ends_at_in key (Some e) = if_in (is_done e) (Then (ClosesAs moment Drained key e) (ClosesBroken moment)) Nothing (then_in (closes_in Drained key e) settles_in) nothing_in
+  ends_at_in key (Some e) = if_in (is_done e) (Then (ClosesAs moment Drained key e) (ClosesBroken moment)) Nothing (then_in (closes_in Drained key e) closes_broken_in) nothing_in
 
   ends_one_in : (key : ℕ) → Within P (EndsOne moment key)
   ends_one_in key l hs l' it = ends_at_in key (l.entries key) l hs l' it
@@ -389,7 +389,7 @@ module _ (moment : ℕ) (P : Rel) (k : Holds moment P) where
   accepts_in door l hs l' it = if_in (nat_lt l.count CONNECTIONS) (AcceptsOne door) Nothing (λ a ks b (answer, is). accepts_as_in door answer a ks b is) nothing_in l hs l' it
 
   tick_due_in : Within P (TicksIfDue moment)
-  tick_due_in l hs l' it = if_in (is_tick_due moment l) (Then (Ticks moment) (ClosesBroken moment)) Nothing (then_in ticks_in settles_in) nothing_in l hs l' it
+  tick_due_in l hs l' it = if_in (is_tick_due moment l) (Then (Ticks moment) (ClosesBroken moment)) Nothing (then_in ticks_in closes_broken_in) nothing_in l hs l' it
 
   round_in : Within P (Round moment)
   round_in l hs l' (n, it) =
@@ -398,7 +398,7 @@ module _ (moment : ℕ) (P : Rel) (k : Holds moment P) where
       l hs l' it
 
   turn_in : Within P (Turn moment)
-  turn_in = then_in settles_in (then_in tick_due_in (then_in (accepts_in Ipp) (then_in (accepts_in Lpd) (then_in (accepts_in Devices) round_in))))
+  turn_in = then_in closes_broken_in (then_in tick_due_in (then_in (accepts_in Ipp) (then_in (accepts_in Lpd) (then_in (accepts_in Devices) round_in))))
 
   -- ---- calls between turns
 

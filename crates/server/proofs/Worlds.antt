@@ -35,5 +35,5 @@ turned polled notified u v w n a b moment wire notes refines =
     let led : Leads (both polled notified) (u.wire.now, u.notes.now) refines.happenings (w, n) =
     subst (λ x. Leads (both polled notified) (u.wire.now, u.notes.now) refines.happenings (x, n)) (sym (wire same))
     (subst (λ y. Leads (both polled notified) (u.wire.now, u.notes.now) refines.happenings (v.wire.now, y)) (sym (notes same)) (leads_apart polled notified u v refines.happenings refines.leads)) in
-    let apart : Refines (both polled notified) (Turn moment) (u.wire.now, u.notes.now) a (w, n) b = record { happenings = refines.happenings; leads = led; stands = refines.stands } in
+    let apart : Refines (both polled notified) (Turn moment) (u.wire.now, u.notes.now) a (w, n) b = record { happenings = refines.happenings; leads = led; reaches = refines.reaches } in
     one_turn (both polled notified) (u.wire.now, u.notes.now) (w, n) a b moment apart

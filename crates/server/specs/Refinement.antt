@@ -45,7 +45,7 @@ pub record Represents (l : Ledger) (engine : EngineState) : Type 0 where
 pub record Refines {S : Type 0} (moves : S → Happening → S → Type 0) (R : Rel) (world : S) (old : EngineState) (world' : S) (new : EngineState) : Type 0 where
   pub happenings : List Happening
   pub leads : Leads moves world happenings world'
-  pub stands : (l : Ledger) → Represents l old → (l' : Ledger) × Seen R l happenings l' × Represents l' new
+  pub reaches : (l : Ledger) → Represents l old → (l' : Ledger) × Seen R l happenings l' × Represents l' new
 
 -- no connection can bring more steps than before, and no more connections are open than before
 pub record IsQuiet (old new : EngineState) : Type 0 where
@@ -56,7 +56,7 @@ pub record IsQuiet (old new : EngineState) : Type 0 where
 pub record RefinesQuietly {S : Type 0} (moves : S → Happening → S → Type 0) (R : Rel) (world : S) (old : EngineState) (world' : S) (new : EngineState) : Type 0 where
   pub happenings : List Happening
   pub leads : Leads moves world happenings world'
-  pub stands : (l : Ledger) → Represents l old → (l' : Ledger) × Seen R l happenings l' × Represents l' new
+  pub reaches : (l : Ledger) → Represents l old → (l' : Ledger) × Seen R l happenings l' × Represents l' new
   pub quiet : IsQuiet old new
 
 -- as `RefinesQuietly`, and `refused` indicates whether the allocator refused memory for a growth
@@ -98,7 +98,7 @@ HasLess key None old new = Unit {0}
 HasLess key (Some what) old new = IsQuiet old new × (work_at new.slots key < work_at old.slots key)
 
 pub record AsksBy (key : ℕ) (what : Option ConnectionAsk) (old new : EngineState) : Type 0 where
-  pub stands : (l : Ledger) → Represents l old → (l' : Ledger) × AsksAs key what l l' × Represents l' new
+  pub reaches : (l : Ledger) → Represents l old → (l' : Ledger) × AsksAs key what l l' × Represents l' new
   pub less : HasLess key what old new
 
 -- the device gave its name on the connection under the key `other`, which isn't `key`, and on none of a lower key but `key`
@@ -120,21 +120,21 @@ RefinesAnyFate moves moment key world old world' new =
 -- ---- traces
 
 -- the engine is at a trace that began with this core: the trace leads to a ledger that represents the engine
-abbrev pub StandsAt : State → Trace → EngineState → Type 0
-StandsAt opening trace engine = (l : Ledger) × Allows trace (opening_ledger opening) l × Represents l engine
+abbrev pub IsAt : State → Trace → EngineState → Type 0
+IsAt opening trace engine = (l : Ledger) × Allows trace (opening_ledger opening) l × Represents l engine
 
 -- A turn leads the world on. It leads each ledger that represents the old engine to a ledger that represents the new engine. If the old engine is at a trace, the new engine is at the trace and then this turn.
 pub record RefinesTurn {S : Type 0} (moves : S → Happening → S → Type 0) (moment : ℕ) (world : S) (old : EngineState) (world' : S) (new : EngineState) : Type 0 where
   pub happenings : List Happening
   pub leads : Leads moves world happenings world'
   pub turns : (l : Ledger) → Represents l old → (l' : Ledger) × Seen (Turn moment) l happenings l' × Represents l' new
-  pub stands : (opening : State) (trace : Trace) → StandsAt opening trace old → StandsAt opening (trace ++ Turned moment happenings ∷ []) new
+  pub reaches : (opening : State) (trace : Trace) → IsAt opening trace old → IsAt opening (trace ++ Turned moment happenings ∷ []) new
 
 -- as `RefinesTurn`, for a call between turns; the call fails if and only if memory was refused
 pub record RefinesCall {S : Type 0} (moves : S → Happening → S → Type 0) (action : List Happening → Action) (world : S) (old : EngineState) (world' : S) (new : EngineState) (result : Result (Unit {0}) AllocError) : Type 0 where
   pub happenings : List Happening
   pub leads : Leads moves world happenings world'
-  pub stands : (opening : State) (trace : Trace) → StandsAt opening trace old → StandsAt opening (trace ++ action happenings ∷ []) new
+  pub reaches : (opening : State) (trace : Trace) → IsAt opening trace old → IsAt opening (trace ++ action happenings ∷ []) new
   pub ok : IsOk result → has_refusal happenings ≡ false
   pub err : IsErr result → has_refusal happenings ≡ true
 
@@ -142,7 +142,7 @@ pub record RefinesCall {S : Type 0} (moves : S → Happening → S → Type 0) (
 pub record RefinesBody {S : Type 0} (moves : S → Happening → S → Type 0) (moment : ℕ) (body : List ℕ) (world : S) (old : EngineState) (world' : S) (new : EngineState) (answer : Outcome) : Type 0 where
   pub happenings : List Happening
   pub leads : Leads moves world happenings world'
-  pub stands : (opening : State) (trace : Trace) → StandsAt opening trace old → StandsAt opening (trace ++ Served_body moment body answer happenings ∷ []) new
+  pub reaches : (opening : State) (trace : Trace) → IsAt opening trace old → IsAt opening (trace ++ Served_body moment body answer happenings ∷ []) new
 
 -- the outcome of a served body, by the result of the function
 abbrev pub said_of : Result Served AllocError → Outcome

@@ -8,7 +8,7 @@ ghost use Rattle.spool.specs.Calls.{paused_at, unfinished_jobs};
 ghost use Rattle.connections.specs.Slots.{is_of};
 ghost use Rattle.server.specs.Polls.{both};
 ghost use Rattle.server.specs.State.{EngineState};
-ghost use Rattle.server.specs.Refinement.{StandsAt, RefinesTurn};
+ghost use Rattle.server.specs.Refinement.{IsAt, RefinesTurn};
 
 use crate::world::World;
 use base_types::{DeviceId, DeviceNow, JobId, Moment, PrinterId};
@@ -49,7 +49,7 @@ impl<P: Planner + Drop> Engine<P> {
     /// memory.
     pub fn new(alloc: Global, settings: Settings, planner: P) -> Result<Engine<P>, AllocError>
         requires { MeetsLimits settings }
-        ensures { IfOk result (StandsAt (opening settings 1) []) }
+        ensures { IfOk result (IsAt (opening settings 1) []) }
     {
         let first = JobId::new(JobId::FIRST).unwrap();
         Engine::starting_at(alloc, settings, planner, first)
@@ -63,7 +63,7 @@ impl<P: Planner + Drop> Engine<P> {
         first: JobId,
     ) -> Result<Engine<P>, AllocError>
         requires { MeetsLimits settings }
-        ensures { IfOk result (StandsAt (opening settings first) []) }
+        ensures { IfOk result (IsAt (opening settings first) []) }
     {
         let core = Core::starting_at(alloc, settings, planner, first)?;
         let connections = Slab::new(alloc);

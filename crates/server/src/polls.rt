@@ -13,7 +13,7 @@ use send_queues::Offered;
 use wires::{Door, Progress, Wire, WireId};
 
 /// The largest number of bytes of one read.
-pub(crate) const PIECE: usize = 4096;
+pub(crate) const SEGMENT: usize = 4096;
 
 /// One accept, one read or one write, with all that the poll brings.
 impl<P: Planner + Drop> Engine<P> {
@@ -49,12 +49,12 @@ impl<P: Planner + Drop> Engine<P> {
     }
 
     /// Reads the connection under a key once, if it is to be read, and acts on the items that the read
-    /// completes. The piece that is read is written to the buffer `piece`.
+    /// completes. The segment that is read is written to the buffer `segment`.
     pub(crate) fn read_one<W: Wire + Observer>(
         &mut self,
         moment: Moment,
         key: usize,
-        piece: &mut [u8; PIECE],
+        segment: &mut [u8; SEGMENT],
         world: &mut W,
     )
         ensures { Refines (moved W.polled W.notified) (ReadsOne moment key) world.old self.old world.new self.new }
@@ -62,19 +62,25 @@ impl<P: Planner + Drop> Engine<P> {
         let Some(id) = to_read(&self.connections, key) else {
             return;
         };
-        match world.poll_read(id, piece) {
-            Progress::Done(count) => self.take(moment, key, &piece[..count], world),
+        match world.poll_read(id, segment) {
+            Progress::Done(count) => self.take(moment, key, &segment[..count], world),
             Progress::Waiting => {}
             Progress::End => end(&mut self.connections, key),
             Progress::Fault => self.fail(moment, key, world),
         }
     }
 
-    /// Feeds a piece that was read to the connection under a key, and acts on what the connection asks.
-    fn take<W: Wire + Observer>(&mut self, moment: Moment, key: usize, piece: &[u8], world: &mut W)
-        ensures { Refines (moved W.polled W.notified) (FeedsOne moment key piece.now) world.old self.old world.new self.new }
+    /// Feeds a segment that was read to the connection under a key, and acts on what the connection asks.
+    fn take<W: Wire + Observer>(
+        &mut self,
+        moment: Moment,
+        key: usize,
+        segment: &[u8],
+        world: &mut W,
+    )
+        ensures { Refines (moved W.polled W.notified) (FeedsOne moment key segment.now) world.old self.old world.new self.new }
     {
-        let Some(fed) = feed(&mut self.connections, key, piece) else {
+        let Some(fed) = feed(&mut self.connections, key, segment) else {
             return;
         };
         match fed {

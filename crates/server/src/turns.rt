@@ -8,7 +8,7 @@ ghost use Rattle.server.specs.State.{slot_at};
 ghost use Rattle.server.specs.Refinement.{Refines};
 
 use crate::engine::Engine;
-use crate::polls::PIECE;
+use crate::polls::SEGMENT;
 use base_types::Moment;
 use connections::table::keys;
 use dispatcher::Observer;
@@ -52,9 +52,9 @@ impl<P: Planner + Drop> Engine<P> {
     fn read_all<W: Wire + Observer>(&mut self, moment: Moment, keys: usize, world: &mut W)
         ensures { Refines (moved W.polled W.notified) (Each keys (ReadsOne moment)) world.old self.old world.new self.new }
     {
-        let mut piece = [0; PIECE];
+        let mut segment = [0; SEGMENT];
         for key in 0..keys {
-            self.read_one(moment, key, &mut piece, world);
+            self.read_one(moment, key, &mut segment, world);
         }
     }
 

@@ -5,8 +5,8 @@ use std::alloc::Global;
 use std::cmp::min;
 use std::io::Write;
 
-/// The number of bytes in one write: as many as a pipe takes in one piece.
-const PIECE: usize = 4_096;
+/// The number of bytes in one write: as many as a pipe takes in one segment.
+const SEGMENT: usize = 4_096;
 
 /// A writer of the lines of a log. Lines that the output doesn't take at once are dropped. Once there is
 /// room, a line with the number of dropped lines is written. The output has to return an error for a write
@@ -22,10 +22,10 @@ pub struct LogWriter<'a, W: Write> {
 }
 
 /// The length of the longest prefix of whole lines that one write has; of the first line, if that is longer.
-fn front(text: &[u8]) -> usize
+fn prefix(text: &[u8]) -> usize
     ensures { result ≤ length text.now }
 {
-    let most = min(text.len(), PIECE);
+    let most = min(text.len(), SEGMENT);
     let place = text[..most].iter().rposition(|byte| *byte == b'\n');
     let Some(last) = place else {
         return match text.iter().position(|byte| *byte == b'\n') {
@@ -59,7 +59,7 @@ impl<'a, W: Write> LogWriter<'a, W> {
             if rest.is_empty() {
                 return;
             }
-            let (lines, others) = rest.split_at(front(rest));
+            let (lines, others) = rest.split_at(prefix(rest));
             rest = others;
             if !self.writes_lost() || !self.writes(lines) {
                 self.lost = self.lost.saturating_add(lines_in(lines));
@@ -86,12 +86,12 @@ impl<'a, W: Write> LogWriter<'a, W> {
         written
     }
 
-    /// Writes bytes in pieces. Returns whether all of them were taken.
+    /// Writes bytes in segments. Returns whether all of them were taken.
     fn writes(&mut self, lines: &[u8]) -> bool {
         let mut begun = false;
-        for piece in lines.chunks(PIECE) {
-            match self.output.write(piece) {
-                Ok(count) if count == piece.len() => begun = true,
+        for segment in lines.chunks(SEGMENT) {
+            match self.output.write(segment) {
+                Ok(count) if count == segment.len() => begun = true,
                 Ok(_) => {
                     self.cut = true;
                     return false;

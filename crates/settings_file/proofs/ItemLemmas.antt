@@ -3,7 +3,7 @@ use Rattle.std.proofs.Common.{◌≡◌, ℕ, List, [], ◌∷◌, ◌++◌, Opt
 use Rattle.toml.specs.Data.{Data, Members, Items, item, as_str, as_table}
 use Rattle.settings_file.specs.Fault.{Fault}
 use Rattle.settings_file.specs.Settings.{DeviceEntry, PrinterEntry}
-use Rattle.settings_file.specs.Entry.{in_front, item_texts, item_tables}
+use Rattle.settings_file.specs.Entry.{first_then, item_texts, item_tables}
 use Rattle.settings_file.specs.Device.{place_of, device_of, devices_of}
 use Rattle.settings_file.specs.Printer.{places_of, printer_of, printers_of}
 use Rattle.text.specs.Steps.{◌>>=◌}
@@ -18,7 +18,7 @@ places_followed found rest = rest >>= (λ others. Ok (found ++ others))
 
 -- the next is the last of those found, or the first of the rest
 
-next_followed : {A : Type 0} (found : List A) (next : A) (rest : Option (List A)) → followed found (in_front (Some next) rest) ≡ followed (found ++ next ∷ []) rest
+next_followed : {A : Type 0} (found : List A) (next : A) (rest : Option (List A)) → followed found (first_then (Some next) rest) ≡ followed (found ++ next ∷ []) rest
 next_followed found next None = refl
 next_followed found next (Some others) = ap Some (sym (append_assoc found (next ∷ []) others))
 

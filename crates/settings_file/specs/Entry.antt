@@ -64,19 +64,19 @@ text_of key (Some value) = text_in key (as_str value)
 abbrev pub text : Key → Members → Result (List ℕ) Fault
 text key table = text_of key (value_at key table)
 
-abbrev pub in_front : {A : Type 0} → Option A → Option (List A) → Option (List A)
-in_front None rest = None
-in_front (Some first) rest = option_map (λ others. first ∷ others) rest
+abbrev pub first_then : {A : Type 0} → Option A → Option (List A) → Option (List A)
+first_then None rest = None
+first_then (Some first) rest = option_map (λ others. first ∷ others) rest
 
 -- the texts of an array, if it has only texts
 abbrev pub item_texts : Items → Option (List (List ℕ))
 item_texts no_items = Some []
-item_texts (item d ds) = in_front (as_str d) (item_texts ds)
+item_texts (item d ds) = first_then (as_str d) (item_texts ds)
 
 -- the tables of an array, if it has only tables
 abbrev pub item_tables : Items → Option (List Members)
 item_tables no_items = Some []
-item_tables (item d ds) = in_front (as_table d) (item_tables ds)
+item_tables (item d ds) = first_then (as_table d) (item_tables ds)
 
 -- whether the text is among those found
 unfoldable pub is_among : List (List ℕ) → List ℕ → Bool

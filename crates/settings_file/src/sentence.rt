@@ -32,8 +32,8 @@ pub fn explain(alloc: Global, file: &str, bytes: &[u8]) -> Result<Option<String>
 
 /// The line, counted from 1, of the byte at `count`.
 fn line_after(bytes: &[u8], count: usize) -> usize {
-    let front = bytes.get(..count).unwrap_or(bytes);
-    1 + front.iter().filter(|byte| **byte == b'\n').count()
+    let prefix = bytes.get(..count).unwrap_or(bytes);
+    1 + prefix.iter().filter(|byte| **byte == b'\n').count()
 }
 
 /// The sentence about bytes that aren't UTF-8 from `count` on.
@@ -123,9 +123,9 @@ fn no_toml(alloc: Global, file: &str, text: &str) -> Result<String, AllocError> 
 
 /// The column, counted from 1 and in bytes, of the byte at `count`.
 fn column_after(bytes: &[u8], count: usize) -> usize {
-    let front = bytes.get(..count).unwrap_or(bytes);
+    let prefix = bytes.get(..count).unwrap_or(bytes);
     let mut column: usize = 1;
-    for byte in front {
+    for byte in prefix {
         column = if *byte == b'\n' {
             1
         } else {

@@ -54,8 +54,8 @@ impl<'a> Statements<'a> {
 /// The line, counted from 1, at which this rest of a text begins.
 fn line_at(text: &str, rest: &str) -> usize {
     let count = text.len().saturating_sub(rest.len());
-    let front = text.as_bytes().get(..count).unwrap_or(&[]);
-    1 + front.iter().filter(|byte| **byte == b'\n').count()
+    let prefix = text.as_bytes().get(..count).unwrap_or(&[]);
+    1 + prefix.iter().filter(|byte| **byte == b'\n').count()
 }
 
 /// The key, if it has no dots.
@@ -96,8 +96,8 @@ fn entry<'a>(alloc: Global, start: &'a str) -> Option<(Said<'a>, &'a str)> {
 fn after_value<'a>(alloc: Global, value: &'a str) -> Option<&'a str> {
     let mut rest = value;
     let mut depth = 0;
-    for _piece in 0..value.len() {
-        rest = after_piece(alloc, rest, &mut depth)?;
+    for _segment in 0..value.len() {
+        rest = after_segment(alloc, rest, &mut depth)?;
         if depth == 0 {
             return Some(rest);
         }
@@ -108,7 +108,7 @@ fn after_value<'a>(alloc: Global, value: &'a str) -> Option<&'a str> {
 
 /// The rest after a bracket, a separator, a string or a word. `depth` is the number of open brackets, before
 /// and after it.
-fn after_piece<'a>(alloc: Global, rest: &'a str, depth: &mut usize) -> Option<&'a str> {
+fn after_segment<'a>(alloc: Global, rest: &'a str, depth: &mut usize) -> Option<&'a str> {
     if starts_string(rest) {
         return Some(quoted(alloc, rest).ok()?.1);
     }

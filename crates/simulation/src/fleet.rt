@@ -30,9 +30,9 @@ const NO_MORE: &str =
     " more: a name has 1 to 32 letters, digits, _ and -, there are 32 devices at most, and a device has at most 16 media and formats";
 
 /// The fault of the device with a name, by the words before and after the name.
-fn device_fault(alloc: Global, before: &str, name: &str, behind: &str) -> DayFault {
+fn device_fault(alloc: Global, before: &str, name: &str, tail: &str) -> DayFault {
     let sentence = Page::new(alloc).put("the settings ").put(before);
-    refused(sentence.put(" \"").put(name).put("\"").put(behind))
+    refused(sentence.put(" \"").put(name).put("\"").put(tail))
 }
 
 /// The place of the device with a name, or the fault that there is none.

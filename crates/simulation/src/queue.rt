@@ -149,7 +149,7 @@ impl<'a> Queue<'a> {
     }
 
     /// The place after the last waiting job that is at least as urgent and, at the same priority, no longer.
-    fn place_behind(&self, priority: u8, length: u64) -> usize {
+    fn place_later(&self, priority: u8, length: u64) -> usize {
         for (place, waiting) in self.waiting.iter().enumerate() {
             let is_longer = waiting.priority == priority && waiting.length > length;
             if is_longer || waiting.priority < priority {
@@ -170,10 +170,10 @@ impl<'a> Queue<'a> {
             length: self.length_of(job),
             device: self.device_for(job),
         };
-        let behind = self
-            .place_behind(waiting.priority, waiting.length)
+        let tail = self
+            .place_later(waiting.priority, waiting.length)
             .min(self.waiting.len());
-        self.waiting.insert(behind, waiting)?;
+        self.waiting.insert(tail, waiting)?;
         if let Some(device) = waiting.device {
             self.count(device);
         }
@@ -215,9 +215,9 @@ impl<'a> Queue<'a> {
     /// around to the last used device itself.
     fn next_free(&self, job: &DayJob) -> Option<usize> {
         let count = job.members.len();
-        let behind = self.last_of(job.printer).saturating_add(1);
+        let tail = self.last_of(job.printer).saturating_add(1);
         for step in 0..count {
-            let place = behind.saturating_add(step).checked_rem(count)?;
+            let place = tail.saturating_add(step).checked_rem(count)?;
             let member = job.members.get(place)?;
             if self.can_begin(*member) {
                 return Some(member.device);

@@ -18,10 +18,10 @@ use std::net::Shutdown;
 const MOST: usize = 64;
 
 /// The most bytes that one read drops.
-const PIECE: usize = 16_384;
+const SEGMENT: usize = 16_384;
 
-/// The most pieces that are dropped of a connection in a turn.
-const PIECES: usize = 128;
+/// The most segments that are dropped of a connection in a turn.
+const SEGMENTS: usize = 128;
 
 /// The first token of a lingering connection at the poll. No connection's own token is in this range.
 const FIRST: usize = 0x1_0000_0000;
@@ -37,24 +37,24 @@ struct Lingering {
 impl Lingering {
     /// Drops the bytes that have come. Returns whether the connection is to be closed now.
     fn ends(&mut self, moment: Moment) -> bool {
-        for _ in 0..PIECES {
+        for _ in 0..SEGMENTS {
             if self.linger_limit.is_used_up(moment) {
                 return true;
             }
             if !self.readable {
                 return false;
             }
-            if self.drop_piece() {
+            if self.drop_segment() {
                 return true;
             }
         }
         false
     }
 
-    /// Drops a piece. Returns whether the peer has ended.
-    fn drop_piece(&mut self) -> bool {
-        let mut piece = [0u8; PIECE];
-        match self.stream.read(&mut piece) {
+    /// Drops a segment. Returns whether the peer has ended.
+    fn drop_segment(&mut self) -> bool {
+        let mut segment = [0u8; SEGMENT];
+        match self.stream.read(&mut segment) {
             Ok(count) => {
                 self.linger_limit.dropped(count);
                 count == 0

@@ -121,7 +121,7 @@ impl Link {
             return Ok(self.ahead.take(buffer));
         }
         if !self.much || !self.ahead.has_room() {
-            return self.read_piece(buffer);
+            return self.read_segment(buffer);
         }
         self.read_ahead()?;
         Ok(self.ahead.take(buffer))
@@ -135,7 +135,7 @@ impl Link {
     }
 
     /// Reads from the socket into `buffer`.
-    fn read_piece(&mut self, buffer: &mut [u8]) -> io::Result<usize>
+    fn read_segment(&mut self, buffer: &mut [u8]) -> io::Result<usize>
         ensures { ReadsAtMost result buffer.new }
     {
         let read = self.stream.read(buffer);

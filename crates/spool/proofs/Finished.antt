@@ -12,7 +12,7 @@ use Rattle.job_objects.specs.JobState.{is_finished}
 use Rattle.job_objects.specs.Job.{JobRecord}
 use Rattle.job_objects.specs.JobStep.{changed_from, job_after, ends_print}
 use Rattle.octets.specs.Document.{DocumentRecord}
-use Rattle.spool.specs.Spooled.{SpooledRecord, settled, on_device_after, changed, let_go, reported, attached, is_overdue, expired, marked}
+use Rattle.spool.specs.Spooled.{SpooledRecord, retired, on_device_after, changed, let_go, reported, attached, is_overdue, expired, marked}
 use Rattle.spool.specs.Calls.{is_ready, marked_by}
 use Rattle.spool.proofs.Ids.{either}
 
@@ -56,7 +56,7 @@ same_keeps s is = is
 
 pub changed_keeps : (change : JobChange) (now : ℕ) → KeepsFinished (changed change now)
 changed_keeps change now s is =
-    ap (λ (o : Option JobRecord). is_finished (option_map_or (λ job. settled (record s { job = job; on_device = on_device_after change s.on_device })) o s).job.state) (no_step change now s is) ∙ is
+    ap (λ (o : Option JobRecord). is_finished (option_map_or (λ job. retired (record s { job = job; on_device = on_device_after change s.on_device })) o s).job.state) (no_step change now s is) ∙ is
 
 let_go_keeps : (change : JobChange) (now : ℕ) → KeepsFinished (let_go change now)
 let_go_keeps change now s is =

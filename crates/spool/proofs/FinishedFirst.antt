@@ -1,4 +1,4 @@
--- Each call leaves the jobs at the front finished.
+-- Each call leaves the jobs at the beginning finished.
 use Rattle.std.proofs.Common.{◌≡◌, ◌∙◌, ◌==◌, inl, inr, ℕ, zero, suc, ◌+◌, ◌<◌, ◌≤◌, Bool, true, false, cond, eqb, not, ◌&&◌, List, [], ◌∷◌, ◌++◌, length, map, take, drop, get_or, Some, refl, sym, ap, subst, arith, add-one, remove, slice_get, true≢false}
 use Rattle.std.specs.Prelude.{nat_eq}
 use Rattle.std.specs.List.{list_any}
@@ -14,7 +14,7 @@ use Rattle.spool.specs.Spooled.{SpooledRecord, marked}
 use Rattle.spool.specs.Jobs.{Keyed, jobs_of, with_job, map_at}
 use Rattle.spool.specs.Calls.{is_unfinished, unfinished_jobs, is_ready, marked_by, paused_at}
 use Rattle.spool.specs.Ready.{ready_jobs}
-use Rattle.spool.specs.Front.{AllFinished}
+use Rattle.spool.specs.Leading.{AllFinished}
 use Rattle.spool.proofs.Entries.{set_job, jobs_at, jobs_remove, new_entry, jobs_push}
 use Rattle.spool.proofs.Finished.{KeepsFinished}
 
@@ -37,13 +37,13 @@ first_map_at zero f keeps (suc count) (s ∷ jobs) first = (keeps s first.0, fir
 first_map_at (suc place) f keeps (suc count) (s ∷ jobs) first = (first.0, first_map_at place f keeps count jobs first.1)
 
 -- a job after them goes
-first_behind : (place count : ℕ) (jobs : List SpooledRecord) → count ≤ place → AllFinished count jobs → AllFinished count (remove jobs place)
-first_behind place zero jobs behind first = tt
-first_behind zero (suc count) jobs behind first = absurd (omega (arith, behind))
-first_behind (suc place) (suc count) [] behind first = first
-first_behind (suc place) (suc count) (s ∷ jobs) behind first = (first.0, first_behind place count jobs (omega (arith, behind)) first.1)
+first_after : (place count : ℕ) (jobs : List SpooledRecord) → count ≤ place → AllFinished count jobs → AllFinished count (remove jobs place)
+first_after place zero jobs tail first = tt
+first_after zero (suc count) jobs tail first = absurd (omega (arith, tail))
+first_after (suc place) (suc count) [] tail first = first
+first_after (suc place) (suc count) (s ∷ jobs) tail first = (first.0, first_after place count jobs (omega (arith, tail)) first.1)
 
--- one of the jobs at the front is removed
+-- one of the jobs at the beginning is removed
 first_among : (place count : ℕ) (jobs : List SpooledRecord) → place ≤ count → AllFinished (suc count) jobs → AllFinished count (remove jobs place)
 first_among place zero jobs among first = tt
 first_among zero (suc count) [] among first = first
@@ -56,7 +56,7 @@ first_push zero jobs more first = tt
 first_push (suc count) [] more first = absurd first
 first_push (suc count) (s ∷ jobs) more first = (first.0, first_push count jobs more first.1)
 
--- one more job at the front is finished
+-- one more job at the beginning is finished
 next_finished : (count : ℕ) (jobs : List SpooledRecord) (s : SpooledRecord) → count < length jobs → s ≡ get_or jobs count s → is_finished s.job.state ≡ true → AllFinished count jobs → AllFinished (suc count) jobs
 next_finished count [] s inside is finished first = absurd (omega (arith, inside))
 next_finished zero (j ∷ jobs) s inside is finished first = (ap (λ (x : SpooledRecord). is_finished x.job.state) (sym is) ∙ finished, tt)
@@ -82,11 +82,11 @@ pub first_at : (f : SpooledRecord → SpooledRecord) → KeepsFinished f → (co
 first_at f keeps count place es s w is written first =
     rw (written, jobs_at place es s f is) (first_map_at place f keeps count (jobs_of es) first)
 
--- the jobs at the front that stay finished once the job at a place is gone
+-- the jobs at the beginning that stay finished once the job at a place is gone
 pub first_removed : (count now place : ℕ) (es : List (ℕ × SpooledRecord)) → (place < count → suc now ≡ count) → (count ≤ place → now ≡ count) → AllFinished count (jobs_of es) → AllFinished now (jobs_of (remove es place))
-first_removed count now place es among behind first = rw (jobs_remove place es) (elim (cases_lt place count) [
+first_removed count now place es among tail first = rw (jobs_remove place es) (elim (cases_lt place count) [
   | inl lt ↦ first_among place now (jobs_of es) (omega (arith, lt, among lt)) (subst (λ (n : ℕ). AllFinished n (jobs_of es)) (sym (among lt)) first)
-  | inr past ↦ first_behind place now (jobs_of es) (omega (arith, past, behind past)) (subst (λ (n : ℕ). AllFinished n (jobs_of es)) (sym (behind past)) first)
+  | inr past ↦ first_after place now (jobs_of es) (omega (arith, past, tail past)) (subst (λ (n : ℕ). AllFinished n (jobs_of es)) (sym (tail past)) first)
 ])
 
 -- a new entry goes last
@@ -110,24 +110,24 @@ finished_not_ready Completed b is = refl
 not_ready : (paused : List Bool) (s : SpooledRecord) → is_finished s.job.state ≡ true → is_ready paused s.job ≡ false
 not_ready paused s is = finished_not_ready s.job.state (not (paused_at paused s.job.needs.printer)) is
 
--- the ready jobs stand behind them
-pub ready_behind : (paused : List Bool) (count : ℕ) (jobs : List SpooledRecord) → AllFinished count jobs → ready_jobs paused (drop count jobs) ≡ ready_jobs paused jobs
-ready_behind paused zero jobs first = refl
-ready_behind paused (suc count) [] first = absurd first
-ready_behind paused (suc count) (s ∷ jobs) first =
-    ready_behind paused count jobs first.1 ∙ ap (λ (b : Bool). cond b (s.job ∷ ready_jobs paused jobs) (ready_jobs paused jobs)) (sym (not_ready paused s first.0))
+-- the ready jobs are after them
+pub ready_after : (paused : List Bool) (count : ℕ) (jobs : List SpooledRecord) → AllFinished count jobs → ready_jobs paused (drop count jobs) ≡ ready_jobs paused jobs
+ready_after paused zero jobs first = refl
+ready_after paused (suc count) [] first = absurd first
+ready_after paused (suc count) (s ∷ jobs) first =
+    ready_after paused count jobs first.1 ∙ ap (λ (b : Bool). cond b (s.job ∷ ready_jobs paused jobs) (ready_jobs paused jobs)) (sym (not_ready paused s first.0))
 
 -- nor is one of them unfinished
-pub unfinished_behind : (count : ℕ) (jobs : List SpooledRecord) → AllFinished count jobs → unfinished_jobs (drop count jobs) ≡ unfinished_jobs jobs
-unfinished_behind zero jobs first = refl
-unfinished_behind (suc count) [] first = absurd first
-unfinished_behind (suc count) (s ∷ jobs) first = omega (arith, unfinished_behind count jobs first.1, sum_by-cons (λ x. cond (is_unfinished x) 1 0) s jobs, ap {B = ℕ} (λ (b : Bool). cond (not b) 1 0) first.0)
+pub unfinished_after : (count : ℕ) (jobs : List SpooledRecord) → AllFinished count jobs → unfinished_jobs (drop count jobs) ≡ unfinished_jobs jobs
+unfinished_after zero jobs first = refl
+unfinished_after (suc count) [] first = absurd first
+unfinished_after (suc count) (s ∷ jobs) first = omega (arith, unfinished_after count jobs first.1, sum_by-cons (λ x. cond (is_unfinished x) 1 0) s jobs, ap {B = ℕ} (λ (b : Bool). cond (not b) 1 0) first.0)
 
 -- no mark changes them
-pub marked_behind : (paused : List Bool) (stranded : List Stranded) (count : ℕ) (jobs : List SpooledRecord) → AllFinished count jobs → map (marked_by paused stranded) (take count jobs) ++ drop count jobs ≡ jobs
-marked_behind paused stranded zero jobs first = refl
-marked_behind paused stranded (suc count) [] first = absurd first
-marked_behind paused stranded (suc count) (s ∷ jobs) first =
+pub marked_after : (paused : List Bool) (stranded : List Stranded) (count : ℕ) (jobs : List SpooledRecord) → AllFinished count jobs → map (marked_by paused stranded) (take count jobs) ++ drop count jobs ≡ jobs
+marked_after paused stranded zero jobs first = refl
+marked_after paused stranded (suc count) [] first = absurd first
+marked_after paused stranded (suc count) (s ∷ jobs) first =
     let same : marked_by paused stranded s ≡ s = ap (λ (b : Bool). cond b (marked (list_any (λ e. e.job == s.job.id) stranded) s) s) (not_ready paused s first.0) in
     ap (λ (x : SpooledRecord). x ∷ map (marked_by paused stranded) (take count jobs) ++ drop count jobs) same
-    ∙ ap (λ (js : List SpooledRecord). s ∷ js) (marked_behind paused stranded count jobs first.1)
+    ∙ ap (λ (js : List SpooledRecord). s ∷ js) (marked_after paused stranded count jobs first.1)

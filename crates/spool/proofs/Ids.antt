@@ -10,7 +10,7 @@ use Rattle.job_objects.specs.declared.job_change.JobChange.{JobChange}
 use Rattle.job_objects.specs.declared.job_change.JobChange.TheVariants.{Close, Hold, Release, Begin, Stop, Continue, Cancel, Done, Fail}
 use Rattle.job_objects.specs.Job.{JobRecord}
 use Rattle.job_objects.specs.JobStep.{waiting, moved, ended, changed_from, job_after, ends_print}
-use Rattle.spool.specs.Spooled.{SpooledRecord, is_settled, settled, on_device_after, changed, let_go, reported, is_overdue, expired, marked}
+use Rattle.spool.specs.Spooled.{SpooledRecord, is_retired, retired, on_device_after, changed, let_go, reported, is_overdue, expired, marked}
 use Rattle.spool.specs.Calls.{is_ready, marked_by}
 
 abbrev pub KeepsId : (SpooledRecord → SpooledRecord) → Type 0
@@ -65,11 +65,11 @@ either P false x y of_x of_y = of_y
 pub changed_id : (change : JobChange) (now : ℕ) → KeepsId (changed change now)
 changed_id change now s = after (job_after change now s.job) (id_after change s.job.state now s.job)
   where
-    after : (o : Option JobRecord) → IfSome o (λ job. job.id ≡ s.job.id) → (option_map_or (λ job. settled (record s { job = job; on_device = on_device_after change s.on_device })) o s).job.id ≡ s.job.id
+    after : (o : Option JobRecord) → IfSome o (λ job. job.id ≡ s.job.id) → (option_map_or (λ job. retired (record s { job = job; on_device = on_device_after change s.on_device })) o s).job.id ≡ s.job.id
     after None is = refl
     after (Some job) is =
         let x : SpooledRecord = record s { job = job; on_device = on_device_after change s.on_device } in
-        either (λ y. y.job.id ≡ s.job.id) (is_settled x) (record x { documents = [] }) x is is
+        either (λ y. y.job.id ≡ s.job.id) (is_retired x) (record x { documents = [] }) x is is
 
 let_go_id : (change : JobChange) (now : ℕ) → KeepsId (let_go change now)
 let_go_id change now s =

@@ -1,4 +1,4 @@
--- A list changed from its front on, place by place.
+-- A list changed from its beginning on, place by place.
 use Rattle.std.proofs.Common.{◌≡◌, ℕ, zero, suc, ◌+◌, ◌<◌, List, [], ◌∷◌, ◌++◌, length, map, take, drop, refl, ◌∙◌, ap, arith}
 use Rattle.spool.specs.Spooled.{SpooledRecord}
 use Rattle.spool.specs.Jobs.{SpoolRecord, map_at}
@@ -9,8 +9,8 @@ map_more f (s ∷ jobs) zero inside = refl
 map_more f (s ∷ jobs) (suc i) inside = ap (λ (js : List SpooledRecord). f s ∷ js) (map_more f jobs i (omega (arith, inside)))
 
 -- the job at the next place is changed too
-pub changed_more : (f : SpooledRecord → SpooledRecord) (old front spool : SpoolRecord) (i : ℕ) → i < length old.jobs → front ≡ record old { jobs = map f (take i old.jobs) ++ drop i old.jobs } → spool ≡ record front { jobs = map_at i f front.jobs } → spool ≡ record old { jobs = map f (take (i + 1) old.jobs) ++ drop (i + 1) old.jobs }
-changed_more f old front spool i inside so_far is =
+pub changed_more : (f : SpooledRecord → SpooledRecord) (old leading spool : SpoolRecord) (i : ℕ) → i < length old.jobs → leading ≡ record old { jobs = map f (take i old.jobs) ++ drop i old.jobs } → spool ≡ record leading { jobs = map_at i f leading.jobs } → spool ≡ record old { jobs = map f (take (i + 1) old.jobs) ++ drop (i + 1) old.jobs }
+changed_more f old leading spool i inside so_far is =
     let next : suc i ≡ i + 1 = omega arith in
     is
     ∙ (ap (λ (s : SpoolRecord). record s { jobs = map_at i f s.jobs }) so_far

@@ -12,7 +12,7 @@ use Rattle.job_objects.specs.declared.job_change.JobChange.TheVariants as Change
 use Rattle.job_objects.specs.Job.{JobRecord}
 use Rattle.job_objects.specs.JobStep.{job_after, ends_print}
 use Rattle.octets.specs.Document.{DocumentRecord}
-use Rattle.spool.specs.Spooled.{SpooledRecord, settled, on_device_after, changed, let_go, reported, is_overdue, expired, marked}
+use Rattle.spool.specs.Spooled.{SpooledRecord, retired, on_device_after, changed, let_go, reported, is_overdue, expired, marked}
 use Rattle.spool.specs.Jobs.{spooled_at, with_job}
 use Rattle.spool.specs.Kept.{is_kept, later_jobs, retained, jobs_reported}
 use Rattle.spool.specs.Calls.{is_ready, marked_by}
@@ -171,8 +171,8 @@ stay_before jobs more id on =
 
 -- ---- the change of a job by each call
 
-settled_same : (s : SpooledRecord) → s.on_device ≡ true → settled s ≡ s
-settled_same s on = ap (λ (b : Bool). cond b (record s { documents = [] }) s) (unsettled (is_finished s.job.state) s.on_device on)
+retired_same : (s : SpooledRecord) → s.on_device ≡ true → retired s ≡ s
+retired_same s on = ap (λ (b : Bool). cond b (record s { documents = [] }) s) (unsettled (is_finished s.job.state) s.on_device on)
 
 on_after : (change : JobChange) (on : Bool) → on ≡ true → on_device_after change on ≡ true
 on_after Change.Begin on is = refl
@@ -185,11 +185,11 @@ changed_on change now = record {
   documents = λ s on. (both s on (job_after change now s.job)).1;
 }
   where
-    both : (s : SpooledRecord) → s.on_device ≡ true → (o : Option JobRecord) → ((option_map_or (λ job. settled (record s { job = job; on_device = on_device_after change s.on_device })) o s).on_device ≡ true) × ((option_map_or (λ job. settled (record s { job = job; on_device = on_device_after change s.on_device })) o s).documents ≡ s.documents)
+    both : (s : SpooledRecord) → s.on_device ≡ true → (o : Option JobRecord) → ((option_map_or (λ job. retired (record s { job = job; on_device = on_device_after change s.on_device })) o s).on_device ≡ true) × ((option_map_or (λ job. retired (record s { job = job; on_device = on_device_after change s.on_device })) o s).documents ≡ s.documents)
     both s on None = (on, refl)
     both s on (Some job) =
         let still = on_after change s.on_device on in
-        let same = settled_same (record s { job = job; on_device = on_device_after change s.on_device }) still in
+        let same = retired_same (record s { job = job; on_device = on_device_after change s.on_device }) still in
         (ap (λ (x : SpooledRecord). x.on_device) same ∙ still, ap (λ (x : SpooledRecord). x.documents) same)
 
 pub expired_on : (now : ℕ) → KeepsOn (expired now)

@@ -7,7 +7,7 @@ use Rattle.std.proofs.lemmas.Iterator.Adapters.{position_from-zero}
 use Rattle.std.proofs.lemmas.List.Sums.{sum_by-remove, sum_by-le-sum_by}
 use Rattle.std.proofs.lemmas.List.Quantifiers.{position-Some}
 use Rattle.base_types.specs.declared.limits.TheConstants.Limits.{FINISHED_JOBS_KEPT}
-use Rattle.spool.specs.Spooled.{SpooledRecord, is_settled}
+use Rattle.spool.specs.Spooled.{SpooledRecord, is_retired}
 use Rattle.spool.specs.Jobs.{SpoolRecord}
 use Rattle.spool.specs.Kept.{is_later, later_jobs, is_kept, retained}
 
@@ -42,8 +42,8 @@ later_than_later a b c ab bc = grind (arith, nat_tests, ab, bc)
 
 -- ---- the kept jobs
 
-also_later : (a b c : SpooledRecord) → is_later b c ≡ true → (is_settled a && is_later a b) ≡ true → (is_settled a && is_later a c) ≡ true
-also_later a b c bc ab = and_map (is_settled a) (is_later a b) (is_later a c) (λ l. later_than_later a b c l bc) ab
+also_later : (a b c : SpooledRecord) → is_later b c ≡ true → (is_retired a && is_later a b) ≡ true → (is_retired a && is_later a c) ≡ true
+also_later a b c bc ab = and_map (is_retired a) (is_later a b) (is_later a c) (λ l. later_than_later a b c l bc) ab
   where
     and_map : (x y z : Bool) → (y ≡ true → z ≡ true) → (x && y) ≡ true → (x && z) ≡ true
     and_map true y z f is = f is
@@ -51,10 +51,10 @@ also_later a b c bc ab = and_map (is_settled a) (is_later a b) (is_later a c) (�
 
 -- whether the first is one of those that are finished later than the second
 abbrev later_than : SpooledRecord → SpooledRecord → Bool
-later_than first second = is_settled first && is_later first second
+later_than first second = is_retired first && is_later first second
 
 not_later_than_itself : (s : SpooledRecord) → later_than s s ≡ false
-not_later_than_itself s = not_both (is_settled s) (is_later s s) (later_than_itself s)
+not_later_than_itself s = not_both (is_retired s) (is_later s s) (later_than_itself s)
   where
     not_both : (a b : Bool) → b ≡ false → (a && b) ≡ false
     not_both true b is = is
@@ -75,12 +75,12 @@ kept_same jobs i d y inside out =
     let x = get_or jobs i d in
     let of_y : later_jobs (remove jobs i) y + one_if (later_than x y) ≡ later_jobs jobs y = count_removed (λ o. later_than o y) jobs i d inside in
     let of_x : later_jobs (remove jobs i) x + one_if (later_than x x) ≡ later_jobs jobs x = count_removed (λ o. later_than o x) jobs i d inside in
-    let many : FINISHED_JOBS_KEPT ≤ later_jobs jobs x = not_below (later_jobs jobs x) FINISHED_JOBS_KEPT (is_settled x) out in
+    let many : FINISHED_JOBS_KEPT ≤ later_jobs jobs x = not_below (later_jobs jobs x) FINISHED_JOBS_KEPT (is_retired x) out in
     let still : FINISHED_JOBS_KEPT ≤ later_jobs (remove jobs i) x = omega (arith, many, of_x, ap one_if (not_later_than_itself x)) in
     let test : nat_lt (later_jobs jobs y) FINISHED_JOBS_KEPT ≡ nat_lt (later_jobs (remove jobs i) y) FINISHED_JOBS_KEPT =
     same_test (later_than x y) (later_jobs jobs y) (later_jobs (remove jobs i) y) FINISHED_JOBS_KEPT of_y
-    (λ later. let more : later_jobs (remove jobs i) x ≤ later_jobs (remove jobs i) y = count_more (λ o. later_than o x) (λ o. later_than o y) (λ z zx. also_later z x y (later_of (is_settled x) (is_later x y) later) zx) (remove jobs i) in omega (arith, still, more)) in
-    ap (λ (b : Bool). not (is_settled y) || b) (sym test)
+    (λ later. let more : later_jobs (remove jobs i) x ≤ later_jobs (remove jobs i) y = count_more (λ o. later_than o x) (λ o. later_than o y) (λ z zx. also_later z x y (later_of (is_retired x) (is_later x y) later) zx) (remove jobs i) in omega (arith, still, more)) in
+    ap (λ (b : Bool). not (is_retired y) || b) (sym test)
   where
     later_of : (a b : Bool) → (a && b) ≡ true → b ≡ true
     later_of true b is = is
@@ -129,32 +129,32 @@ spool_is now jobs next of_jobs of_next = λ i. record { jobs = of_jobs i; next =
 
 -- ---- where so few are finished that all are kept
 
--- a job that isn't kept is settled
-out_settled : (b c : Bool) → (not b || c) ≡ false → b ≡ true
-out_settled true c is = refl
-out_settled false c is = absurd (true≢false is)
+-- a job that isn't kept is retired
+out_retired : (b c : Bool) → (not b || c) ≡ false → b ≡ true
+out_retired true c is = refl
+out_retired false c is = absurd (true≢false is)
 
-later_settled : (a b : Bool) → (a && b) ≡ true → a ≡ true
-later_settled true b is = refl
-later_settled false b is = absurd (true≢false (sym is))
+later_retired : (a b : Bool) → (a && b) ≡ true → a ≡ true
+later_retired true b is = refl
+later_retired false b is = absurd (true≢false (sym is))
 
--- beside a job that isn't kept there are more settled jobs than are kept
-more_settled : (jobs : List SpooledRecord) (i : ℕ) (d : SpooledRecord) → i < length jobs → is_kept jobs (get_or jobs i d) ≡ false → FINISHED_JOBS_KEPT < count_by is_settled jobs
-more_settled jobs i d inside out =
+-- beside a job that isn't kept there are more retired jobs than are kept
+more_retired : (jobs : List SpooledRecord) (i : ℕ) (d : SpooledRecord) → i < length jobs → is_kept jobs (get_or jobs i d) ≡ false → FINISHED_JOBS_KEPT < count_by is_retired jobs
+more_retired jobs i d inside out =
     let x = get_or jobs i d in
     let of_x : later_jobs (remove jobs i) x + one_if (later_than x x) ≡ later_jobs jobs x = count_removed (λ o. later_than o x) jobs i d inside in
-    let all : count_by is_settled (remove jobs i) + one_if (is_settled x) ≡ count_by is_settled jobs = count_removed is_settled jobs i d inside in
-    let many : FINISHED_JOBS_KEPT ≤ later_jobs jobs x = not_below (later_jobs jobs x) FINISHED_JOBS_KEPT (is_settled x) out in
-    let others : later_jobs (remove jobs i) x ≤ count_by is_settled (remove jobs i) = count_more (λ o. later_than o x) is_settled (λ z zx. later_settled (is_settled z) (is_later z x) zx) (remove jobs i) in
-    omega (arith, of_x, all, many, others, ap one_if (not_later_than_itself x), ap one_if (out_settled (is_settled x) (nat_lt (later_jobs jobs x) FINISHED_JOBS_KEPT) out))
+    let all : count_by is_retired (remove jobs i) + one_if (is_retired x) ≡ count_by is_retired jobs = count_removed is_retired jobs i d inside in
+    let many : FINISHED_JOBS_KEPT ≤ later_jobs jobs x = not_below (later_jobs jobs x) FINISHED_JOBS_KEPT (is_retired x) out in
+    let others : later_jobs (remove jobs i) x ≤ count_by is_retired (remove jobs i) = count_more (λ o. later_than o x) is_retired (λ z zx. later_retired (is_retired z) (is_later z x) zx) (remove jobs i) in
+    omega (arith, of_x, all, many, others, ap one_if (not_later_than_itself x), ap one_if (out_retired (is_retired x) (nat_lt (later_jobs jobs x) FINISHED_JOBS_KEPT) out))
 
-none_out : (jobs : List SpooledRecord) (d : SpooledRecord) (o : Option ℕ) → position (λ s. not (is_kept jobs s)) jobs ≡ o → count_by is_settled jobs ≤ FINISHED_JOBS_KEPT → o ≡ None
+none_out : (jobs : List SpooledRecord) (d : SpooledRecord) (o : Option ℕ) → position (λ s. not (is_kept jobs s)) jobs ≡ o → count_by is_retired jobs ≤ FINISHED_JOBS_KEPT → o ≡ None
 none_out jobs d None is few = refl
 none_out jobs d (Some i) is few =
     let at = found_out jobs i d is in
-    absurd (omega (arith, few, more_settled jobs i d at.0 at.1))
+    absurd (omega (arith, few, more_retired jobs i d at.0 at.1))
 
 -- no search finds one
-pub few_kept : (jobs : List SpooledRecord) → count_by is_settled jobs ≤ FINISHED_JOBS_KEPT → position (λ s. not (is_kept jobs s)) jobs ≡ None
+pub few_kept : (jobs : List SpooledRecord) → count_by is_retired jobs ≤ FINISHED_JOBS_KEPT → position (λ s. not (is_kept jobs s)) jobs ≡ None
 few_kept [] few = refl
 few_kept (s ∷ jobs) few = none_out (s ∷ jobs) s (position (λ t. not (is_kept (s ∷ jobs) t)) (s ∷ jobs)) refl few

@@ -71,7 +71,7 @@ jobs_ids : (jobs : List SpooledRecord) → map (λ j. j.id) (map (λ s. s.job) j
 jobs_ids [] = refl
 jobs_ids (s ∷ jobs) = ap (λ (xs : List ℕ). s.job.id ∷ xs) (jobs_ids jobs)
 
--- the jobs of a spool stand by rising id, and so do those of them that are ready
+-- the jobs of a spool are by rising id, and so do those of them that are ready
 module _ (spool : SpoolRecord) (is : IsSpool spool) where
   pub job_ids_rise : RisesFrom 0 (map (λ j. j.id) (map (λ s. s.job) spool.jobs))
   job_ids_rise = subst (λ (xs : List ℕ). RisesFrom 0 xs) (sym (jobs_ids spool.jobs)) (rises_from_increasing 0 (map (λ s. s.job.id) spool.jobs) (λ some. omega arith) is.rising)

@@ -15,7 +15,7 @@ use Rattle.job_objects.specs.Job.{JobRecord}
 use Rattle.job_objects.specs.JobStep.{waiting, moved, ended, changed_from, job_after}
 use Rattle.octets.specs.Document.{DocumentRecord}
 use Rattle.spool.specs.Submission.{Submission, spooled_of}
-use Rattle.spool.specs.Spooled.{SpooledRecord, is_settled, settled, on_device_after, changed, let_go, reported, attached, is_overdue, expired, marked}
+use Rattle.spool.specs.Spooled.{SpooledRecord, is_retired, retired, on_device_after, changed, let_go, reported, attached, is_overdue, expired, marked}
 use Rattle.spool.specs.Jobs.{Keyed, jobs_of, spooled_at, with_job, map_at}
 use Rattle.spool.specs.Calls.{is_ready, marked_by}
 use Rattle.spool.specs.Sound.{FitsState, IsSound}
@@ -78,15 +78,15 @@ fits_after Fail _ now job on is fits = tt
 
 -- ---- the change of a job by each call
 
-settled_sound : (s : SpooledRecord) → IsSound s → IsSound (settled s)
-settled_sound s sound = either IsSound (is_settled s) (record s { documents = [] }) s sound sound
+retired_sound : (s : SpooledRecord) → IsSound s → IsSound (retired s)
+retired_sound s sound = either IsSound (is_retired s) (record s { documents = [] }) s sound sound
 
 pub changed_sound : (change : JobChange) (now : ℕ) → KeepsSound (changed change now)
 changed_sound change now s sound = after (job_after change now s.job) (fits_after change s.job.state now s.job s.on_device refl sound)
   where
-    after : (o : Option JobRecord) → IfSome o (λ job. Fits job (on_device_after change s.on_device)) → IsSound (option_map_or (λ job. settled (record s { job = job; on_device = on_device_after change s.on_device })) o s)
+    after : (o : Option JobRecord) → IfSome o (λ job. Fits job (on_device_after change s.on_device)) → IsSound (option_map_or (λ job. retired (record s { job = job; on_device = on_device_after change s.on_device })) o s)
     after None fits = sound
-    after (Some job) fits = settled_sound (record s { job = job; on_device = on_device_after change s.on_device }) fits
+    after (Some job) fits = retired_sound (record s { job = job; on_device = on_device_after change s.on_device }) fits
 
 -- a job that ends, or was finished before, isn't on a device any more
 done_fits : (state : JobState) (now : ℕ) (job : JobRecord) (on : Bool) → state ≡ job.state → FitsState state job.incoming job.held on → Fits (unwrap_or (changed_from Done state now job) job) false

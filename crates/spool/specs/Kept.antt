@@ -3,7 +3,7 @@ use Rattle.std.specs.Prelude.{ℕ, Bool, not, ◌||◌, ◌&&◌, ◌==◌, nat_
 use Rattle.base_types.specs.declared.limits.TheConstants.Limits.{FINISHED_JOBS_KEPT}
 use Rattle.job_objects.specs.declared.job_change.JobChange.{JobChange}
 use Rattle.job_objects.specs.JobStep.{ends_print}
-use Rattle.spool.specs.Spooled.{SpooledRecord, is_settled, reported}
+use Rattle.spool.specs.Spooled.{SpooledRecord, is_retired, reported}
 use Rattle.spool.specs.Jobs.{with_job}
 
 -- the moment at which a job was finished
@@ -14,13 +14,13 @@ end_of spooled = unwrap_or spooled.job.finished 0
 abbrev pub is_later : SpooledRecord → SpooledRecord → Bool
 is_later first second = nat_lt (end_of second) (end_of first) || ((end_of first == end_of second) && nat_lt second.job.id first.job.id)
 
--- the number of settled jobs that were finished later than this job
+-- the number of retired jobs that were finished later than this job
 abbrev pub later_jobs : List SpooledRecord → SpooledRecord → ℕ
-later_jobs jobs spooled = count_by (λ other. is_settled other && is_later other spooled) jobs
+later_jobs jobs spooled = count_by (λ other. is_retired other && is_later other spooled) jobs
 
--- a settled job is kept while fewer than FINISHED_JOBS_KEPT settled jobs were finished later; any other job is kept
+-- a retired job is kept while fewer than FINISHED_JOBS_KEPT retired jobs were finished later; any other job is kept
 abbrev pub is_kept : List SpooledRecord → SpooledRecord → Bool
-is_kept jobs spooled = not (is_settled spooled) || nat_lt (later_jobs jobs spooled) FINISHED_JOBS_KEPT
+is_kept jobs spooled = not (is_retired spooled) || nat_lt (later_jobs jobs spooled) FINISHED_JOBS_KEPT
 
 -- the jobs that are kept
 abbrev pub retained : List SpooledRecord → List SpooledRecord

@@ -8,4 +8,4 @@ pub mod Kept
 pub mod Calls
 pub mod Ready
 pub mod Spool
-pub mod Front
+pub mod Leading

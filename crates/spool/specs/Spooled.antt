@@ -20,12 +20,12 @@ pub record SpooledRecord : Type 0 where
   pub on_device : Bool
 
 -- the job is finished, and no device has it
-abbrev pub is_settled : SpooledRecord → Bool
-is_settled spooled = is_finished spooled.job.state && not spooled.on_device
+abbrev pub is_retired : SpooledRecord → Bool
+is_retired spooled = is_finished spooled.job.state && not spooled.on_device
 
--- a settled job drops its documents
-abbrev pub settled : SpooledRecord → SpooledRecord
-settled spooled = if is_settled spooled then record spooled { documents = [] } else spooled
+-- a retired job drops its documents
+abbrev pub retired : SpooledRecord → SpooledRecord
+retired spooled = if is_retired spooled then record spooled { documents = [] } else spooled
 
 -- a device has the job from its beginning on, and only the job's end changes that
 abbrev pub on_device_after : JobChange → Bool → Bool
@@ -34,7 +34,7 @@ on_device_after _ on_device = on_device
 
 -- the job is changed, if its state allows the change
 abbrev pub changed : JobChange → ℕ → SpooledRecord → SpooledRecord
-changed change now spooled = option_map_or (λ job. settled (record spooled { job = job; on_device = on_device_after change spooled.on_device })) (job_after change now spooled.job) spooled
+changed change now spooled = option_map_or (λ job. retired (record spooled { job = job; on_device = on_device_after change spooled.on_device })) (job_after change now spooled.job) spooled
 
 -- the device that has the job ends it: the job is changed unless it is finished, and its documents are gone
 abbrev pub let_go : JobChange → ℕ → SpooledRecord → SpooledRecord

@@ -1,7 +1,7 @@
 //! The finished jobs that are kept.
 ghost use Rattle.std.specs.Prelude.{◌≡◌, count_by, not, position};
 ghost use Rattle.spool.specs.Calls.{is_unfinished, unfinished_jobs};
-ghost use Rattle.spool.specs.Spooled.{is_settled};
+ghost use Rattle.spool.specs.Spooled.{is_retired};
 ghost use Rattle.spool.specs.Kept.{end_of, is_later, later_jobs, is_kept, retained};
 
 use crate::spool::Spool;
@@ -44,7 +44,7 @@ impl Spool {
     pub fn unfinished(&self) -> usize
         ensures { result ≡ unfinished_jobs self.now.jobs }
     {
-        self.behind_finished()
+        self.after_finished()
             .iter()
             .filter(|spooled| spooled.is_unfinished())
             .count()
@@ -56,7 +56,7 @@ impl Spool {
     {
         self.jobs()
             .iter()
-            .filter(|other| other.is_settled() && other.is_later(spooled))
+            .filter(|other| other.is_retired() && other.is_later(spooled))
             .count()
     }
 
@@ -65,16 +65,16 @@ impl Spool {
     fn is_kept(&self, spooled: &SpooledJob) -> bool
         ensures { result ≡ is_kept self.now.jobs spooled.now }
     {
-        !spooled.is_settled() || self.later_jobs(spooled) < Limits::FINISHED_JOBS_KEPT
+        !spooled.is_retired() || self.later_jobs(spooled) < Limits::FINISHED_JOBS_KEPT
     }
 
     /// Returns the number of finished jobs that no device has.
-    fn settled(&self) -> usize
-        ensures { result ≡ count_by is_settled self.now.jobs }
+    fn retired(&self) -> usize
+        ensures { result ≡ count_by is_retired self.now.jobs }
     {
         self.jobs()
             .iter()
-            .filter(|spooled| spooled.is_settled())
+            .filter(|spooled| spooled.is_retired())
             .count()
     }
 
@@ -83,7 +83,7 @@ impl Spool {
     fn outdated(&self) -> Option<usize>
         ensures { result ≡ position (λ s. not (is_kept self.now.jobs s)) self.now.jobs }
     {
-        if self.settled() <= Limits::FINISHED_JOBS_KEPT {
+        if self.retired() <= Limits::FINISHED_JOBS_KEPT {
             return None;
         }
         self.first_outdated()

@@ -64,7 +64,7 @@ impl Spool {
         ensures rising { IsStrictlyIncreasing (map (λ job. job.id) (ready_rest result)) }
     {
         Ready {
-            jobs: self.behind_finished(),
+            jobs: self.after_finished(),
             printers,
         }
     }

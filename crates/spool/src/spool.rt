@@ -9,7 +9,7 @@ ghost use Rattle.spool.specs.Calls.{allows, marked_by, unfinished_jobs};
 ghost use Rattle.spool.specs.Jobs.{spooled_at, with_job, map_at, documents_released};
 ghost use Rattle.spool.specs.Spool.{IsSpool};
 ghost use Rattle.spool.specs.Ready.{ready_jobs};
-ghost use Rattle.spool.specs.Front.{AllFinished};
+ghost use Rattle.spool.specs.Leading.{AllFinished};
 ghost use Rattle.spool.specs.Sound.{IsSound};
 ghost use Rattle.spool.specs.OnDevice.{AllStay, OthersStay};
 ghost use Rattle.job_objects.specs.JobStep.{ends_print};
@@ -28,7 +28,7 @@ use std::marker::Model;
 pub struct Spool {
     entries: IndexMap<u32, SpooledJob>,
     /// The number of leading jobs that are known to be finished; a plan skips them.
-    front: usize,
+    leading: usize,
     next: u32,
     alloc: Global,
 }
@@ -40,21 +40,25 @@ impl Model for Spool {
     ghost use Rattle.spool.specs.Jobs.{SpoolRecord, jobs_of, Keyed};
     ghost use Rattle.spool.specs.Calls.{unfinished_jobs};
     ghost use Rattle.spool.specs.Sound.{IsSound};
-    ghost use Rattle.spool.specs.Front.{AllFinished};
+    ghost use Rattle.spool.specs.Leading.{AllFinished};
 
     ghost Value = { SpoolRecord };
 
     ghost view = { λ s. record { jobs = jobs_of s.entries.entries; next = s.next } };
 
-    ghost invariant = { λ s. Keyed s.entries.entries 0 s.next × (1 ≤ s.next) × (s.next ≤ LAST_JOB_ID + 1) × (unfinished_jobs (jobs_of s.entries.entries) ≤ UNFINISHED_JOBS) × All IsSound (jobs_of s.entries.entries) × AllFinished s.front (jobs_of s.entries.entries) };
+    ghost invariant = { λ s. Keyed s.entries.entries 0 s.next × (1 ≤ s.next) × (s.next ≤ LAST_JOB_ID + 1) × (unfinished_jobs (jobs_of s.entries.entries) ≤ UNFINISHED_JOBS) × All IsSound (jobs_of s.entries.entries) × AllFinished s.leading (jobs_of s.entries.entries) };
 }
 
 /// The number of leading jobs known to be finished, after the job at a place is removed.
-fn front_without(front: usize, place: usize) -> usize
-    ensures among { place < front → suc result ≡ front }
-    ensures behind { front ≤ place → result ≡ front }
+fn leading_without(leading: usize, place: usize) -> usize
+    ensures among { place < leading → suc result ≡ leading }
+    ensures tail { leading ≤ place → result ≡ leading }
 {
-    if place < front { front - 1 } else { front }
+    if place < leading {
+        leading - 1
+    } else {
+        leading
+    }
 }
 
 impl Spool {
@@ -64,7 +68,7 @@ impl Spool {
     {
         Spool {
             entries: IndexMap::new(alloc),
-            front: 0,
+            leading: 0,
             next: first.number(),
             alloc,
         }
@@ -92,31 +96,31 @@ impl Spool {
     }
 
     /// The number of leading jobs that are known to be finished.
-    pub(crate) fn front(&self) -> usize
+    pub(crate) fn leading(&self) -> usize
         ensures finished { AllFinished result self.now.jobs }
         ensures inside { result ≤ length self.now.jobs }
     {
-        self.front
+        self.leading
     }
 
     /// The jobs after the leading ones that are known to be finished. All ready jobs and all unfinished
     /// jobs are among them.
-    pub fn behind_finished(&self) -> &[SpooledJob]
+    pub fn after_finished(&self) -> &[SpooledJob]
         ensures ready { (paused : List Bool) → ready_jobs paused result.now ≡ ready_jobs paused self.now.jobs }
         ensures unfinished { unfinished_jobs result.now ≡ unfinished_jobs self.now.jobs }
         ensures kept { IsSpool self.now }
     {
-        let front = self.front();
-        &self.jobs()[front..]
+        let leading = self.leading();
+        &self.jobs()[leading..]
     }
 
     /// Returns the number of leading jobs that are finished, whether known to be finished or not.
     fn count_finished(&self) -> usize
         ensures { AllFinished result self.now.jobs }
     {
-        let front = self.front();
+        let leading = self.leading();
         let jobs = self.jobs();
-        for place in front..jobs.len() {
+        for place in leading..jobs.len() {
             let job = jobs[place].job();
             if !job.state.is_finished() {
                 return place;
@@ -130,7 +134,7 @@ impl Spool {
         ensures { self.new ≡ self.old }
     {
         let spool = &*self;
-        self.front = spool.count_finished();
+        self.leading = spool.count_finished();
     }
 
     /// The job of an id, with its documents.
@@ -228,7 +232,7 @@ impl Spool {
     pub(crate) fn remove(&mut self, place: usize)
         ensures { self.new ≡ record self.old { jobs = remove self.old.jobs place } }
     {
-        self.front = front_without(self.front, place);
+        self.leading = leading_without(self.leading, place);
         let _removed = self.entries.shift_remove_index(place);
     }
 

@@ -1,7 +1,7 @@
 //! A job with its documents.
 ghost use Rattle.std.specs.Prelude.{◌≡◌, ◌≤◌, ◌<◌, ◌+◌, [], OnOk, OnErr, IfErr, length, is_ok, is_some, if◌then◌else◌};
 ghost use Rattle.job_objects.specs.JobStep.{job_after};
-ghost use Rattle.spool.specs.Spooled.{changed, on_device_after, let_go, reported, handed_out, settled, is_settled, counted, attached, expired, is_overdue, marked};
+ghost use Rattle.spool.specs.Spooled.{changed, on_device_after, let_go, reported, handed_out, retired, is_retired, counted, attached, expired, is_overdue, marked};
 
 use base_types::{Limits, Moment, Text};
 use job_objects::{Job, JobChange, StateRefusal, estimated_impressions, job_step};
@@ -58,19 +58,19 @@ impl SpooledJob {
     }
 
     /// Returns whether the job is finished and no device has it.
-    pub(crate) fn is_settled(&self) -> bool
-        ensures { result ≡ is_settled self.now }
+    pub(crate) fn is_retired(&self) -> bool
+        ensures { result ≡ is_retired self.now }
     {
         self.job.state.is_finished() && !self.on_device
     }
 
     /// Drops the documents, if the job is finished and no device has it.
-    fn settle(&mut self)
-        ensures after { self.new ≡ settled self.old }
+    fn retire(&mut self)
+        ensures after { self.new ≡ retired self.old }
         ensures same_job { self.new.job.id ≡ self.old.job.id }
     {
         let spooled = &*self;
-        if spooled.is_settled() {
+        if spooled.is_retired() {
             self.documents.clear();
         }
     }
@@ -84,7 +84,7 @@ impl SpooledJob {
     {
         job_step(&mut self.job, change, now)?;
         self.on_device = on_device_after(change, self.on_device);
-        self.settle();
+        self.retire();
         Ok(())
     }
 

@@ -36,7 +36,7 @@ impl Spool {
         ensures jobs { self.new ≡ record self.old { jobs = map (marked_by printers.now stranded.now) self.old.jobs } }
         ensures stay { AllStay self.old.jobs self.new.jobs }
     {
-        for place in self.front()..self.len() {
+        for place in self.leading()..self.len() {
             self.mark_by(place, printers, stranded);
         }
     }

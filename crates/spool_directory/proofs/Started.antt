@@ -3,7 +3,7 @@ use Rattle.std.proofs.Common.{◌≡◌, ℕ, List, [], ◌++◌, sym, subst}
 use Rattle.settings_file.specs.Settings.{ServerSettings, MeetsLimits}
 use Rattle.print_room.specs.Opening.{opening}
 use Rattle.server.specs.State.{EngineState}
-use Rattle.server.specs.Refinement.{StandsAt}
+use Rattle.server.specs.Refinement.{IsAt}
 use Rattle.journal.specs.File.{HasPlayed, KeepsPlayed}
 use Rattle.journal.specs.Resuming.{Extends, RestartsAs}
 use Rattle.journal.specs.declared.resumption.Resumption.{Resumption}
@@ -24,16 +24,16 @@ restarted r s playing restarts =
       settings = playing.settings;
       within = playing.within;
       first = playing.first;
-      played = subst (λ (t : List ℕ). HasPlayed (opening playing.settings playing.first) t s.engine) (sym p.2) (record { trace = p.1.trace ++ p.1.lost; stands = p.1.stands; is_file = p.1.is_longer });
+      played = subst (λ (t : List ℕ). HasPlayed (opening playing.settings playing.first) t s.engine) (sym p.2) (record { trace = p.1.trace ++ p.1.lost; reaches = p.1.reaches; is_file = p.1.is_longer });
     }
 
 -- no line was played
-pub begun : (settings : ServerSettings) (first : ℕ) (lines : List ℕ) (engine : EngineState) → MeetsLimits settings → StandsAt (opening settings first) [] engine → lines ≡ [] → HasStarted lines engine
-begun settings first lines engine within stands none = record {
+pub begun : (settings : ServerSettings) (first : ℕ) (lines : List ℕ) (engine : EngineState) → MeetsLimits settings → IsAt (opening settings first) [] engine → lines ≡ [] → HasStarted lines engine
+begun settings first lines engine within reaches none = record {
   settings = settings;
   within = within;
   first = first;
-  played = record { trace = []; stands = stands; is_file = none };
+  played = record { trace = []; reaches = reaches; is_file = none };
 }
 
 -- turns were stored after them
@@ -41,6 +41,6 @@ pub later : (lines more : List ℕ) (old new : EngineState) → HasStarted lines
 later lines more old new started keeps = record { settings = started.settings; within = started.within; first = started.first; played = keeps (opening started.settings started.first) started.played }
 
 -- no line was played, and turns were stored then
-pub renewed : (settings : ServerSettings) (first : ℕ) (none more : List ℕ) (fresh renewed : EngineState) → MeetsLimits settings → StandsAt (opening settings first) [] fresh → none ≡ []
+pub renewed : (settings : ServerSettings) (first : ℕ) (none more : List ℕ) (fresh renewed : EngineState) → MeetsLimits settings → IsAt (opening settings first) [] fresh → none ≡ []
     → KeepsPlayed none fresh more renewed → HasStarted more renewed
-renewed settings first none more fresh new within stands empty keeps = later none more fresh new (begun settings first none fresh within stands empty) keeps
+renewed settings first none more fresh new within reaches empty keeps = later none more fresh new (begun settings first none fresh within reaches empty) keeps

@@ -14,9 +14,9 @@ fn write(file: &mut File, octets: &Octets) -> io::Result<()> {
         if start >= octets.len() {
             break;
         }
-        let piece = octets.piece(start);
-        file.write_all(piece)?;
-        start = start.saturating_add(piece.len());
+        let segment = octets.segment(start);
+        file.write_all(segment)?;
+        start = start.saturating_add(segment.len());
     }
     file.sync_all()
 }

@@ -2,7 +2,7 @@
 ghost use Rattle.std.specs.Prelude.{◌≡◌, [], IfOk, OnOk};
 ghost use Rattle.settings_file.specs.Settings.{MeetsLimits};
 ghost use Rattle.print_room.specs.Opening.{opening};
-ghost use Rattle.server.specs.Refinement.{StandsAt};
+ghost use Rattle.server.specs.Refinement.{IsAt};
 ghost use Rattle.journal.specs.File.{KeepsPlayed};
 ghost use Rattle.spool_directory.specs.Starting.{HasStarted};
 
@@ -72,7 +72,7 @@ fn fresh_engine(
     first: JobId,
 ) -> Result<JournaledEngine, ResubmissionFault>
     requires { MeetsLimits settings }
-    ensures { IfOk result (StandsAt (opening settings first) []) }
+    ensures { IfOk result (IsAt (opening settings first) []) }
 {
     let planner = Pausable::new(AugmentingPaths::new(alloc));
     match Engine::starting_at(alloc, settings, planner, first) {

@@ -1,4 +1,4 @@
--- A text, cut where a byte stands first.
+-- A text, cut where a byte is first.
 use Rattle.std.specs.Prelude.{ℕ, ◌≡◌, ◌==◌, ◌+◌, ◌<◌, true, false, List, [], ◌∷◌, length, take, drop, Some, None, position, slice_index_or}
 use Rattle.std.proofs.Common.{rules, arith, add-one, refl, ap, ◌∙◌}
 use Rattle.std.proofs.lemmas.Bool.{eq-eqb}
@@ -22,7 +22,7 @@ cut_found wanted bytes place found =
     let is : slice_index_or bytes place 0 ≡ wanted = search (rules, at.1) in
     record { lacks = before wanted bytes place at.0 at.2; joined = rw (← is, add-one place) (split_at bytes place 0 at.0) }
 
--- a byte that isn't found stands nowhere
+-- a byte that isn't found is nowhere
 pub found_nowhere : (wanted : ℕ) (bytes : List ℕ) → position (λ byte. byte == wanted) bytes ≡ None → Lacks wanted bytes
 found_nowhere wanted bytes absent = each_fails (λ byte. byte == wanted) bytes absent
 

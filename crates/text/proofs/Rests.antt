@@ -2,5 +2,5 @@
 use Rattle.std.specs.Prelude.{ℕ, ◌≡◌, ◌≤◌, ◌++◌, List, length, drop}
 use Rattle.std.proofs.lemmas.List.{drop-append-le}
 
-pub rest_with : (start : ℕ) (bytes piece : List ℕ) → start ≤ length bytes → drop start (bytes ++ piece) ≡ drop start bytes ++ piece
-rest_with start bytes piece within = drop-append-le start bytes piece within
+pub rest_with : (start : ℕ) (bytes segment : List ℕ) → start ≤ length bytes → drop start (bytes ++ segment) ≡ drop start bytes ++ segment
+rest_with start bytes segment within = drop-append-le start bytes segment within

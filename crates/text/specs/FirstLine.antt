@@ -1,4 +1,4 @@
--- The first line of bytes that come in pieces. It is whole once its line feed is there, and its length is bounded.
+-- The first line of bytes that come in segments. It is whole once its line feed is there, and its length is bounded.
 use Rattle.std.specs.Prelude.{ℕ, ◌==◌, nat_lt, if◌then◌else◌, List, length, Option, Some, None, position}
 use Rattle.text.specs.declared.line.FirstLine.{FirstLine}
 use Rattle.text.specs.declared.line.FirstLine.TheVariants.{Whole, TooLong, Unfinished}

@@ -1,4 +1,4 @@
-//! Searches for a byte, and removal from the front.
+//! Searches for a byte, and removal from the beginning.
 ghost use Rattle.std.specs.Prelude.{◌≡◌, ◌==◌, ◌≤◌, ◌-◌, drop, length, position};
 
 /// The first place of a byte.
@@ -8,8 +8,8 @@ pub fn find_byte(bytes: &[u8], wanted: u8) -> Option<usize>
     bytes.iter().position(|byte| *byte == wanted)
 }
 
-/// Removes `count` bytes from the front.
-pub fn drop_front(bytes: &mut Vec<u8>, count: usize)
+/// Removes `count` bytes from the beginning.
+pub fn drop_prefix(bytes: &mut Vec<u8>, count: usize)
     requires { count ≤ length bytes.old.items }
     ensures { bytes.new.items ≡ drop count bytes.old.items }
 {

@@ -17,7 +17,7 @@ mod split;
 mod trim;
 mod unread;
 
-pub use bytes::{drop_front, find_byte};
+pub use bytes::{drop_prefix, find_byte};
 pub use digits::{capped_value, decimal, is_number, number_up_to};
 pub use line::{FirstLine, first_line};
 pub use split::{cut_at, parts, words};

@@ -1,12 +1,12 @@
 //! The bytes that a reader was given and hasn't read.
 ghost use Rattle.std.specs.Prelude.{◌≡◌, ◌<◌, ◌≤◌, ◌+◌, ◌++◌, [], IfOk, OnOk, OnErr, take, drop, length};
 
-use crate::bytes::drop_front;
+use crate::bytes::drop_prefix;
 use std::alloc::{AllocError, Global};
 use std::marker::Model;
 use std::mem;
 
-/// The bytes that a reader was given, in pieces of any length, and hasn't read yet. In clauses they are their
+/// The bytes that a reader was given, in segments of any length, and hasn't read yet. In clauses they are their
 /// list.
 #[derive(Drop)]
 pub struct Unread {
@@ -45,12 +45,12 @@ impl Unread {
 
     /// Appends bytes. The only error is out of memory, and nothing is appended then.
     #[tactic(auto, using(crate::proofs::Rests::rest_with))]
-    pub fn append(&mut self, piece: &[u8]) -> Result<(), AllocError>
-        ensures ok { OnOk result (self.new ≡ self.old ++ piece.now) }
+    pub fn append(&mut self, segment: &[u8]) -> Result<(), AllocError>
+        ensures ok { OnOk result (self.new ≡ self.old ++ segment.now) }
         ensures err { OnErr result (self.new ≡ self.old) }
     {
         self.forget_read();
-        self.buffer.extend_from_slice(piece)
+        self.buffer.extend_from_slice(segment)
     }
 
     /// Passes over `count` bytes.
@@ -71,30 +71,30 @@ impl Unread {
 
     /// Removes and returns the first `count` bytes, without a copy of them. The only error is out of memory,
     /// for the rest of the bytes; nothing is removed then.
-    pub fn take_front(&mut self, count: usize) -> Result<Vec<u8>, AllocError>
+    pub fn take_prefix(&mut self, count: usize) -> Result<Vec<u8>, AllocError>
         requires { count ≤ length self.old }
-        ensures taken { IfOk result (λ front. front.items ≡ take count self.old) }
+        ensures taken { IfOk result (λ prefix. prefix.items ≡ take count self.old) }
         ensures ok { OnOk result (self.new ≡ drop count self.old) }
         ensures err { OnErr result (self.new ≡ self.old) }
     {
-        drop_front(&mut self.buffer, self.start);
+        drop_prefix(&mut self.buffer, self.start);
         self.start = 0;
-        split_front(&mut self.buffer, count)
+        split_prefix(&mut self.buffer, count)
     }
 
     /// Removes the bytes that are read from the buffer.
     fn forget_read(&mut self)
         ensures { self.new ≡ self.old }
     {
-        drop_front(&mut self.buffer, self.start);
+        drop_prefix(&mut self.buffer, self.start);
         self.start = 0;
     }
 }
 
 /// Splits the first `count` bytes off.
-fn split_front(buffer: &mut Vec<u8>, count: usize) -> Result<Vec<u8>, AllocError>
+fn split_prefix(buffer: &mut Vec<u8>, count: usize) -> Result<Vec<u8>, AllocError>
     requires { count ≤ length buffer.old.items }
-    ensures front { IfOk result (λ front. front.items ≡ take count buffer.old.items) }
+    ensures prefix { IfOk result (λ prefix. prefix.items ≡ take count buffer.old.items) }
     ensures ok { OnOk result (buffer.new.items ≡ drop count buffer.old.items) }
     ensures err { OnErr result (buffer.new.items ≡ buffer.old.items) }
 {

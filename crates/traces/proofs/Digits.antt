@@ -96,9 +96,9 @@ pairs_back i (a ∷ b ∷ digits) bytes is low =
     let small = digit_small b second.0 lower in
     let top : pair.0 / 16 ≡ first.0 = omega (arith, byte, small) in
     let end : pair.0 % 16 ≡ second.0 = omega (arith, byte, small) in
-    let front : slice_index lower_digits (pair.0 / 16) ≡ a = ap (slice_index lower_digits) top ∙ written_back a first.0 high both.0 in
+    let prefix : slice_index lower_digits (pair.0 / 16) ≡ a = ap (slice_index lower_digits) top ∙ written_back a first.0 high both.0 in
     let back_end : slice_index lower_digits (pair.0 % 16) ≡ b = ap (slice_index lower_digits) end ∙ written_back b second.0 lower rest.0 in
-    rw (← whole, front, back_end) (ap (λ l. a ∷ b ∷ l) back)
+    rw (← whole, prefix, back_end) (ap (λ l. a ∷ b ∷ l) back)
 
 -- digits that can be decoded, without a capital, are the written digits of bytes
 pub written_of : (digits bytes : List ℕ) → decode_of digits ≡ Ok bytes → has_capital digits ≡ false → digits ≡ encode_lower bytes

@@ -75,8 +75,8 @@ stopped trace rest line after count passed some lines stop =
     let whole = whole_before passed.settings rest passed.whole some in
     let long : length trace ≡ length passed.settings + length rest = ap length passed.joined ∙ length-append passed.settings rest in
     let place : length trace - length rest ≡ length passed.settings = omega (arith, long) in
-    let front : take (length trace - length rest) trace ≡ passed.settings =
+    let prefix : take (length trace - length rest) trace ≡ passed.settings =
     ap (λ n. take n trace) place ∙ ap (take (length passed.settings)) passed.joined ∙ take-append_seam passed.settings rest in
     let all : lines_of trace ≡ lines_of passed.settings ++ (codes "." ∷ lines_of after) =
     ap lines_of passed.joined ∙ lines_joined passed.settings rest whole ∙ ap (λ l. lines_of passed.settings ++ l) (lines ∙ ap (λ l. l ∷ lines_of after) stop) in
-    rw front (record { lines = all; none = passed.none; number = rw passed.number (omega arith); front = (rest, passed.joined); whole = whole })
+    rw prefix (record { lines = all; none = passed.none; number = rw passed.number (omega arith); prefix = (rest, passed.joined); whole = whole })

@@ -14,13 +14,13 @@ nothing_in [] none = refl
 nothing_in (byte ∷ bytes) none = absurd (omega (arith, none))
 
 -- the texts before the last text are kept, also the empty texts
-end_after : (front : List (List ℕ)) (text : List ℕ) (more : List (List ℕ)) → without_end (front ++ (text ∷ more)) ≡ front ++ without_end (text ∷ more)
+end_after : (prefix : List (List ℕ)) (text : List ℕ) (more : List (List ℕ)) → without_end (prefix ++ (text ∷ more)) ≡ prefix ++ without_end (text ∷ more)
 unfolding without_end
 end_after [] text more = refl
 end_after ([] ∷ []) text more = refl
 end_after ((x ∷ xs) ∷ []) text more = refl
-end_after ([] ∷ next ∷ front) text more = ap (λ l. [] ∷ l) (end_after (next ∷ front) text more)
-end_after ((x ∷ xs) ∷ next ∷ front) text more = ap (λ l. (x ∷ xs) ∷ l) (end_after (next ∷ front) text more)
+end_after ([] ∷ next ∷ prefix) text more = ap (λ l. [] ∷ l) (end_after (next ∷ prefix) text more)
+end_after ((x ∷ xs) ∷ next ∷ prefix) text more = ap (λ l. (x ∷ xs) ∷ l) (end_after (next ∷ prefix) text more)
 
 -- a line and its line feed
 pub first_line : (line rest : List ℕ) → Lacks 10 line → lines_of (line ++ (10 ∷ rest)) ≡ line ∷ lines_of rest
@@ -56,17 +56,17 @@ texts_joined (x ∷ xs) ys = by_byte (texts_joined xs ys) (x == 10) refl
         let it = parts (λ byte. byte == 10) xs in
         rw (slice_split-cons_no (λ byte. byte == 10) x (xs ++ (10 ∷ ys)) is, slice_split-cons_no (λ byte. byte == 10) x xs is, more) (onto (texts_of xs) (texts_of ys) it.first it.later it.cut)
 
-lines_after : (front rest : List ℕ) → lines_of (front ++ (10 ∷ rest)) ≡ texts_of front ++ lines_of rest
-lines_after front rest =
+lines_after : (prefix rest : List ℕ) → lines_of (prefix ++ (10 ∷ rest)) ≡ texts_of prefix ++ lines_of rest
+lines_after prefix rest =
     let it = parts (λ byte. byte == 10) rest in
-    rw (texts_joined front rest, it.cut) (end_after (texts_of front) it.first it.later)
+    rw (texts_joined prefix rest, it.cut) (end_after (texts_of prefix) it.first it.later)
 
 pub lines_joined : (bytes rest : List ℕ) → IsEnded bytes → lines_of (bytes ++ rest) ≡ lines_of bytes ++ lines_of rest
 lines_joined bytes rest (inl empty) = rw (empty, no_line) refl
 lines_joined bytes rest (inr whole) =
-    let front = whole.0 in
-    let ended : lines_of (front ++ (10 ∷ [])) ≡ texts_of front = lines_after front [] ∙ rw no_line (append-nil (texts_of front)) in
-    rw (whole.1, append_assoc front (10 ∷ []) rest, ended) (lines_after front rest)
+    let prefix = whole.0 in
+    let ended : lines_of (prefix ++ (10 ∷ [])) ≡ texts_of prefix = lines_after prefix [] ∙ rw no_line (append-nil (texts_of prefix)) in
+    rw (whole.1, append_assoc prefix (10 ∷ []) rest, ended) (lines_after prefix rest)
 
 pub no_lines : (bytes : List ℕ) → lines_of bytes ≡ [] → bytes ≡ []
 no_lines [] none = refl

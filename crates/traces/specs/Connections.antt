@@ -22,7 +22,7 @@ with_connection added connections = insert connections (position_or_len (λ c. n
 
 -- a peer that has sent nothing yet, and takes all bytes that are written to it
 abbrev pub new_peer : Door → PeerState
-new_peer door = record { door = door; accepted = false; closed = false; input = []; piece = 2 ^ 64 - 1; ended = false; taken = []; most = 2 ^ 64 - 1 }
+new_peer door = record { door = door; accepted = false; closed = false; input = []; segment = 2 ^ 64 - 1; ended = false; taken = []; most = 2 ^ 64 - 1 }
 
 -- the peer at a place is changed, if there is one
 abbrev pub changed_at : ℕ → (PeerState → PeerState) → List PeerState → List PeerState

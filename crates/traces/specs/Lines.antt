@@ -24,7 +24,7 @@ IsFirst bytes line rest = (bytes ≡ line ++ (codes "\n" ++ rest)) ⊎ ((bytes �
 
 -- the last line has its line feed
 abbrev pub IsEnded : List ℕ → Type 0
-IsEnded bytes = (bytes ≡ []) ⊎ ((front : List ℕ) × (bytes ≡ front ++ codes "\n"))
+IsEnded bytes = (bytes ≡ []) ⊎ ((prefix : List ℕ) × (bytes ≡ prefix ++ codes "\n"))
 
 abbrev pub is_stop : List ℕ → Bool
 is_stop line = bytes_eq line (codes ".")
@@ -38,5 +38,5 @@ pub record IsSplit (trace settings rest : List ℕ) (count : ℕ) : Type 0 where
   pub lines : lines_of trace ≡ lines_of settings ++ (codes "." ∷ lines_of rest)
   pub none : HasNoStop settings
   pub number : count ≡ suc (length (lines_of settings))
-  pub front : (later : List ℕ) × (trace ≡ settings ++ later)
+  pub prefix : (later : List ℕ) × (trace ≡ settings ++ later)
   pub whole : IsEnded settings

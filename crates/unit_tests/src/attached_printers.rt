@@ -56,7 +56,7 @@ fn add_items(alloc: Global, reader: &mut OrderReader, text: &mut String) -> Resu
     Ok(())
 }
 
-/// The items of a stream that comes in two pieces, as a text. The only error is out of memory.
+/// The items of a stream that comes in two segments, as a text. The only error is out of memory.
 fn items_of(alloc: Global, first: &[u8], second: &[u8]) -> Result<String, AllocError> {
     let mut text = String::new(alloc);
     let mut reader = OrderReader::new(alloc);
@@ -68,7 +68,7 @@ fn items_of(alloc: Global, first: &[u8], second: &[u8]) -> Result<String, AllocE
 }
 
 #[test]
-fn orders_in_two_pieces(rt: HostRuntime) -> Result<(), Fail> {
+fn orders_in_two_segments(rt: HostRuntime) -> Result<(), Fail> {
     for &count in &[0, 5, 32, 35, 40, 46] {
         let (first, second) = STREAM.split_at(count);
         let text = items_of(rt.alloc(), first, second)?;

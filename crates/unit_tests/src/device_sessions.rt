@@ -103,7 +103,7 @@ fn is_kept(alloc: Global, session: DeviceSession, cut: (usize, usize)) -> Result
 
 /// The octets of the sessions are cut in several ways.
 #[test]
-fn sessions_in_pieces(rt: HostRuntime) -> Result<(), Fail> {
+fn sessions_in_segments(rt: HostRuntime) -> Result<(), Fail> {
     for &session in &SESSIONS {
         for &cut in &CUTS {
             let kept = is_kept(rt.alloc(), session, cut)?;
@@ -118,7 +118,7 @@ fn sessions_in_pieces(rt: HostRuntime) -> Result<(), Fail> {
 fn slow_device(alloc: Global, lines: &[u8]) -> Result<MemoryWire, AllocError> {
     let mut wire = print_room(alloc, PLAIN.sent, &[lines], (4096, 4096))?;
     if let Some(device) = wire.peers.get_mut(1) {
-        device.piece = GREETING.len();
+        device.segment = GREETING.len();
         device.most = 3;
     }
     Ok(wire)
@@ -181,7 +181,7 @@ fn name_taken_over(rt: HostRuntime) -> Result<(), Fail> {
 }
 
 /// Returns whether a device got a prefix of the job, and all of the job unless a connection is closed.
-fn is_front(wire: &MemoryWire) -> bool {
+fn is_prefix(wire: &MemoryWire) -> bool {
     match wire.peers.get(1) {
         Some(peer) => JOB.starts_with(peer.taken.as_slice())
             && (peer.closed || peer.taken.as_slice() == JOB || is_closed(wire, 0)),
@@ -194,7 +194,7 @@ fn is_cut_off(alloc: Global, fault_at: u64) -> Result<bool, AllocError> {
     let mut wire = print_room(alloc, PLAIN.sent, &[lines], (64, 10))?;
     wire.fault_at = fault_at;
     let mut notes = NoteLog::new(alloc);
-    Ok(serve(alloc, &mut wire, &mut notes, 60) && is_front(&wire))
+    Ok(serve(alloc, &mut wire, &mut notes, 60) && is_prefix(&wire))
 }
 
 /// A fault at any poll: the octets taken are a prefix of the octets due.

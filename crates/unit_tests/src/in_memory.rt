@@ -20,7 +20,7 @@ const EXCHANGES: [Exchange; 7] = [
     SHORT_BODY,
 ];
 
-/// The sizes of the pieces: the bytes of a read, and the bytes of a write.
+/// The sizes of the segments: the bytes of a read, and the bytes of a write.
 pub(crate) const CUTS: [(usize, usize); 3] = [(4096, 4096), (7, 3), (1, 1)];
 
 /// The turns that suffice for any of the exchanges, a byte at a time.
@@ -97,9 +97,9 @@ fn is_answered(alloc: Global, exchange: Exchange, cut: (usize, usize)) -> Result
     )
 }
 
-/// Each client gets its answer, and the connection closes where it is to close, for each size of the pieces.
+/// Each client gets its answer, and the connection closes where it is to close, for each size of the segments.
 #[test]
-fn exchanges_in_pieces(rt: HostRuntime) -> Result<(), Fail> {
+fn exchanges_in_segments(rt: HostRuntime) -> Result<(), Fail> {
     for &exchange in &EXCHANGES {
         for &cut in &CUTS {
             let answered = is_answered(rt.alloc(), exchange, cut)?;
@@ -110,7 +110,7 @@ fn exchanges_in_pieces(rt: HostRuntime) -> Result<(), Fail> {
 }
 
 /// Returns whether a prefix of an answer was taken, and all of the answer unless the connection is closed.
-fn is_front(wire: &MemoryWire, answered: &[u8]) -> bool {
+fn is_prefix(wire: &MemoryWire, answered: &[u8]) -> bool {
     match wire.peers.first() {
         Some(peer) => answered.starts_with(peer.taken.as_slice())
             && (peer.closed || peer.taken.as_slice() == answered),
@@ -124,7 +124,7 @@ fn is_cut_off(alloc: Global, fault_at: u64) -> Result<bool, AllocError> {
     let mut wire = clients(alloc, &[PLAIN.sent], (64, 100))?;
     wire.fault_at = fault_at;
     let mut notes = NoteLog::new(alloc);
-    Ok(serve(alloc, &mut wire, &mut notes, 60) && is_front(&wire, PLAIN.answered))
+    Ok(serve(alloc, &mut wire, &mut notes, 60) && is_prefix(&wire, PLAIN.answered))
 }
 
 /// A fault at any poll: the octets taken are a prefix of the octets due, and the connection with the fault is

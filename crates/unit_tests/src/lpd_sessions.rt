@@ -104,7 +104,7 @@ fn is_answered(
 
 /// The octets of the sessions are cut in several ways.
 #[test]
-fn lpd_sessions_in_pieces(rt: HostRuntime) -> Result<(), Fail> {
+fn lpd_sessions_in_segments(rt: HostRuntime) -> Result<(), Fail> {
     for &session in &SESSIONS {
         for &cut in &CUTS {
             let answered = is_answered(rt.alloc(), session, cut)?;

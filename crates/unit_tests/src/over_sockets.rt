@@ -96,8 +96,8 @@ fn is_answered(rt: &HostRuntime, server: &mut Server, exchange: Exchange) -> io:
 /// A client connects, and leaves in the middle of a body.
 fn leave_midway(rt: &HostRuntime, server: &mut Server) -> io::Result<()> {
     let mut client = connect(rt, server)?;
-    if let Some(front) = PLAIN.sent.get(..150) {
-        client.write_all(front)?;
+    if let Some(prefix) = PLAIN.sent.get(..150) {
+        client.write_all(prefix)?;
     }
     turns(server, 5)?;
     drop(client);
@@ -156,8 +156,8 @@ fn turns_at(server: &mut Server, millis: u64) -> io::Result<()> {
 
 /// Returns whether a client has read the end of its stream.
 fn has_ended(client: &mut TcpStream) -> bool {
-    let mut piece = [0; 1];
-    match client.read(&mut piece) {
+    let mut segment = [0; 1];
+    match client.read(&mut segment) {
         Ok(count) => count == 0,
         Err(_) => false,
     }

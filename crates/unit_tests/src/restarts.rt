@@ -255,7 +255,7 @@ fn survives(alloc: Global, kill: Kill) -> Result<bool, Fail> {
 struct Damage {
     /// The turns of the server, to which a client prints.
     turns: usize,
-    /// The number of bytes that are gone from the front, and from the end.
+    /// The number of bytes that are gone from the beginning, and from the end.
     gone: (usize, usize),
     /// The bytes that are added at the end.
     added: &'static [u8],
@@ -300,14 +300,14 @@ const DAMAGES: [Damage; 5] = [
     },
 ];
 
-/// The bytes without so many at the front and at the end.
+/// The bytes without so many at the beginning and at the end.
 fn left_of(bytes: &[u8], gone: (usize, usize)) -> &[u8] {
-    let (front, end) = gone;
+    let (prefix, end) = gone;
     let kept = bytes.len().saturating_sub(end);
-    if kept < front {
+    if kept < prefix {
         return &[];
     }
-    &bytes[front..kept]
+    &bytes[prefix..kept]
 }
 
 /// Returns whether a damaged journal is played or refused as it is to be.

@@ -7,7 +7,7 @@ pub record PeerState : Type 0 where
   pub accepted : Bool
   pub closed : Bool
   pub input : List ℕ
-  pub piece : ℕ
+  pub segment : ℕ
   pub ended : Bool
   pub taken : List ℕ
   pub most : ℕ

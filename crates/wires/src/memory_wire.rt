@@ -9,7 +9,7 @@ use std::alloc::{AllocError, Global};
 use std::cmp::min;
 use std::io::IoSlice;
 use std::marker::Model;
-use text::drop_front;
+use text::drop_prefix;
 
 /// A peer: the bytes that it sends, and those that it has got.
 #[derive(Drop)]
@@ -23,7 +23,7 @@ pub struct MemoryPeer {
     /// The bytes that are still to be read.
     pub input: Vec<u8>,
     /// The most bytes of one read.
-    pub piece: usize,
+    pub segment: usize,
     /// Whether the stream ends after the input.
     pub ended: bool,
     /// The bytes that the peer took.
@@ -42,7 +42,7 @@ impl Model for MemoryPeer {
       accepted = p.accepted;
       closed = p.closed;
       input = p.input.items;
-      piece = p.piece;
+      segment = p.segment;
       ended = p.ended;
       taken = p.taken.items;
       most = p.most;
@@ -127,15 +127,15 @@ impl MemoryWire {
 }
 
 impl MemoryPeer {
-    /// Creates a peer that isn't accepted yet. A read brings at most `piece` bytes of its input, and a write
+    /// Creates a peer that isn't accepted yet. A read brings at most `segment` bytes of its input, and a write
     /// takes at most `most` bytes.
-    pub fn new(alloc: Global, door: Door, input: Vec<u8>, piece: usize, most: usize) -> MemoryPeer
+    pub fn new(alloc: Global, door: Door, input: Vec<u8>, segment: usize, most: usize) -> MemoryPeer
         ensures { result ≡ record {
           door = door;
           accepted = false;
           closed = false;
           input = input.items;
-          piece = piece;
+          segment = segment;
           ended = false;
           taken = [];
           most = most;
@@ -146,7 +146,7 @@ impl MemoryPeer {
             accepted: false,
             closed: false,
             input,
-            piece,
+            segment,
             ended: false,
             taken: Vec::new(alloc),
             most,
@@ -174,19 +174,19 @@ impl MemoryPeer {
         self.accepted && !self.closed
     }
 
-    /// Moves a piece of the input to the beginning of the buffer. Returns its length, or `None` if there is
+    /// Moves a segment of the input to the beginning of the buffer. Returns its length, or `None` if there is
     /// nothing to send.
     fn send(&mut self, buffer: &mut [u8]) -> Option<usize>
         ensures sent { IfSome result (λ n. Sends (take n buffer.new) self.old self.new) }
         ensures count { IfSome result (λ n. (0 < n) × (n ≤ length buffer.old)) }
         ensures none { IfNone result (self.new ≡ self.old) }
     {
-        let n = min(min(self.input.len(), self.piece), buffer.len());
+        let n = min(min(self.input.len(), self.segment), buffer.len());
         if n == 0 || !self.is_open() {
             return None;
         }
         buffer[..n].copy_from_slice(&self.input[..n]);
-        drop_front(&mut self.input, n);
+        drop_prefix(&mut self.input, n);
         Some(n)
     }
 

@@ -4,7 +4,7 @@ use Rattle.httparse.specs.Spans.{IsChunkLineAt}
 use Rattle.httparse.proofs.ChunkLemmas.{chunk_line_unique}
 use Rattle.http_front.proofs.chunk.size_in.Goals as goal
 
--- a line at the front that is not all of the bytes leaves no line that is
+-- a line at the beginning that is not all of the bytes leaves no line that is
 two_lengths : (bytes : List ℕ) (count size : ℕ) → ((l : ChunkLine) × IsChunkLineAt bytes count size l) → (l : ChunkLine) → ReadsChunkLine bytes l [] → count ≡ length bytes
 two_lengths bytes count size found l whole =
     let same = chunk_line_unique bytes found.0 l _ [] found.1.reads whole in

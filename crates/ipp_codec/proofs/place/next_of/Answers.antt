@@ -1,6 +1,6 @@
 use Rattle.std.proofs.Common.{◌≡◌, arith, Bool, IsTrue, ◌↔◌, true, false}
 use Rattle.std.proofs.lemmas.Result.{err_from_is_err_and}
-use Rattle.ipp_codec.proofs.Steps.{AtTagOf, opened_steps, field_fails, value_breaks, value_stands}
+use Rattle.ipp_codec.proofs.Steps.{AtTagOf, opened_steps, field_fails, value_breaks, value_reaches}
 use Rattle.ipp_codec.proofs.place.next_of.Goals as goal
 
 refused : (b : Bool) (P : Type 0) → IsTrue b ↔ P → b ≡ false → ¬ P
@@ -24,4 +24,4 @@ returns-in_err-next_place c =
 pub returns : goal.returns
 returns c =
     let at : AtTagOf c.args.place c.args.bytes.now = (c.in-len1-up.len_at_least, c.if-tag-lt-FIRST_VALUE_TAG.false, refused _ _ c.is_outside.ensures c.if-is_outside.false, λ i. omega (arith, c.type_inv.bytes i)) in
-    value_stands c.args.place c.args.bytes.now (c.in_ok-name.name.now, c.in_ok-name.value.now, c.in_ok-name.rest.now) c.in_ok-next_place.next_place at c.in_ok-name.ensures c.in_ok-next_place.ensures
+    value_reaches c.args.place c.args.bytes.now (c.in_ok-name.name.now, c.in_ok-name.value.now, c.in_ok-name.rest.now) c.in_ok-next_place.next_place at c.in_ok-name.ensures c.in_ok-next_place.ensures

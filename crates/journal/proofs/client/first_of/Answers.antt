@@ -1,5 +1,5 @@
 use Rattle.std.proofs.Common.{◌++◌, ℕ, List, ap, sym, ◌∙◌}
-use Rattle.wires.proofs.Fronts.{first_part}
+use Rattle.wires.proofs.Prefixes.{first_part}
 use Rattle.journal.proofs.client.first_of.Goals as goal
 
 pub returns-in-len1-up : goal.returns-in-len1-up

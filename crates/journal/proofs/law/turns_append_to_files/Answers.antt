@@ -1,5 +1,5 @@
-use Rattle.journal.proofs.Played.{filed_behind}
+use Rattle.journal.proofs.Played.{filed_after}
 use Rattle.journal.proofs.law.turns_append_to_files.Goals as goal
 
 pub returns : goal.returns
-returns c trace file moment hs text is turn = filed_behind moment hs text turn trace file is
+returns c trace file moment hs text is turn = filed_after moment hs text turn trace file is

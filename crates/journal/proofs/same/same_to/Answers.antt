@@ -3,4 +3,4 @@ use Rattle.journal.proofs.same.same_to.Goals as goal
 
 pub returns-clause-same : goal.returns-clause-same
 returns-clause-same c before =
-    same_further c.args.first.now c.args.second.now c.args.start c.in_ok-count.count _ _ c.piece-piece.ensures c.piece-other.ensures c.in_ok-count.ensures.within.1 c.in_ok-count.ensures.within.2 c.in_ok-count.ensures.same before
+    same_further c.args.first.now c.args.second.now c.args.start c.in_ok-count.count _ _ c.segment-segment.ensures c.segment-other.ensures c.in_ok-count.ensures.within.1 c.in_ok-count.ensures.within.2 c.in_ok-count.ensures.same before

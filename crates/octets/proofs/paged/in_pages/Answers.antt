@@ -11,9 +11,9 @@ loop-rest-preserved c =
     let rest = c.loop-rest.rest.now in
     let pages = c.loop-rest.pages.items in
     let page = c.in_ok-page_of.field-0 in
-    let behind = c.split_at.result.1.now in
+    let tail = c.split_at.result.1.now in
     let page_is : page ≡ c.split_at.result.0.now = c.in_ok-page_of.ensures {u = tt} in
-    let cut : rest ≡ page ++ behind = rw (page_is, c.split_at.ensures.front, c.split_at.ensures.back) (sym (take-append-drop PAGE_BYTES rest)) in
+    let cut : rest ≡ page ++ tail = rw (page_is, c.split_at.ensures.front, c.split_at.ensures.back) (sym (take-append-drop PAGE_BYTES rest)) in
     let full : IsFull page = omega (arith, ap length page_is, c.split_at.ensures.front_len) in
-    subst (λ (l : List (List ℕ)). (c.args.octets.now ≡ joined l ++ behind) × AllByRecursion IsFull l) (sym (c.in_ok-push.ensures {u = tt}).items)
-    (one_more c.args.octets.now pages page rest behind c.loop-rest.invariant.0 cut, full-append pages (page ∷ []) c.loop-rest.invariant.1 (full, tt))
+    subst (λ (l : List (List ℕ)). (c.args.octets.now ≡ joined l ++ tail) × AllByRecursion IsFull l) (sym (c.in_ok-push.ensures {u = tt}).items)
+    (one_more c.args.octets.now pages page rest tail c.loop-rest.invariant.0 cut, full-append pages (page ∷ []) c.loop-rest.invariant.1 (full, tt))

@@ -1,5 +1,5 @@
 use Rattle.std.proofs.Common.{◌≡◌, ◌++◌, sym, subst, OnOk}
-use Rattle.plan_audit.proofs.Slots.{starts_at, stands}
+use Rattle.plan_audit.proofs.Slots.{starts_at, reaches}
 use Rattle.plan_audit.proofs.starts.put_job_start.Goals as goal
 
 pub returns-in-Some : goal.returns-in-Some
@@ -9,4 +9,4 @@ returns-in-Some c =
     c.put_slot.ensures
 
 pub returns-in-None : goal.returns-in-None
-returns-in-None c = absurd (stands c.args.class.now.problem c.args.class.now.priced.way c.args.job c.requires.proved.is_way c.requires.known c.in-None.ensures.start)
+returns-in-None c = absurd (reaches c.args.class.now.problem c.args.class.now.priced.way c.args.job c.requires.proved.is_way c.requires.known c.in-None.ensures.start)

@@ -7,7 +7,7 @@ use Rattle.plan_problem.proofs.Places.{place_at}
 use Rattle.plan_prices.specs.Able.{EachAble}
 use Rattle.plan_prices.proofs.able.each_able.Goals as goal
 
--- a time stands in the job's row
+-- a time is in the job's row
 row_of_id : (c : Class) → IsClass c → (k d : ℕ) → k < length c.ids → time_in c (get_or c.ids k 0) d ≡ get_or (get_or c.rows k []) d None
 row_of_id c ok k d lt = ap (λ p. get_or (get_or c.rows p []) d None) (place_at c.ids ok.rising k lt)
 

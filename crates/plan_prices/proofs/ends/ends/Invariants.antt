@@ -1,6 +1,6 @@
 use Rattle.std.proofs.Common.{◌≡◌, ℕ, ◌<◌, length, All}
 use Rattle.plan_prices.specs.Way.{queue_of}
-use Rattle.plan_prices.specs.Settling.{IsEnd}
+use Rattle.plan_prices.specs.OrderedSoFar.{IsEnd}
 use Rattle.plan_prices.proofs.ends.ends.Given as goal
 
 abbrev pub invariant-loop-place : goal.invariant-loop-place

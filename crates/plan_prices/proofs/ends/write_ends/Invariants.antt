@@ -1,7 +1,7 @@
 use Rattle.std.proofs.Common.{◌≡◌, ℕ, ◌+◌, ◌<◌, length, take, get_or}
 use Rattle.plan_problem.specs.Class.{wait_in}
 use Rattle.plan_prices.specs.Total.{busy_time}
-use Rattle.plan_prices.specs.Settling.{IsEnd}
+use Rattle.plan_prices.specs.OrderedSoFar.{IsEnd}
 use Rattle.plan_prices.proofs.ends.write_ends.Given as goal
 
 abbrev pub invariant-loop-job : goal.invariant-loop-job

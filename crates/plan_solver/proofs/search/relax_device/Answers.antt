@@ -79,8 +79,8 @@ loop-after-preserved c =
     let rank = ap (λ (v : Vec ℕ). get_or v.items column 0) i.ranks in
     let reach = ap (λ (e : Exit). e.length) i.exit in
     let on : (get_or s.columns.items column nowhere).device ≡ c.args.device = ap (λ (x : Place). x.device) p.1 in
-    let stands : (get_or s.columns.items column nowhere).after ≡ at = ap (λ (x : Place). x.after) p.1 in
-    let rest = i.rest column (omega (arith, p.0)) (λ _ _. omega (arith, stands)) in
+    let reaches : (get_or s.columns.items column nowhere).after ≡ at = ap (λ (x : Place). x.after) p.1 in
+    let rest = i.rest column (omega (arith, p.0)) (λ _ _. omega (arith, reaches)) in
     record {
       listed = t.listed;
       sizes = search rules;
@@ -100,7 +100,7 @@ loop-after-preserved c =
             relaxed_before _ _ _ _ _ _ _ _ _ _ (i.done k lt is before) other.0 other.1
       ];
       rest = λ k le far.
-          let apart : k ≢ column = λ e. let lt : k < vec_len s.columns = omega (arith, e, p.0) in omega (arith, far lt (ap (λ a. (get_or s.columns.items a nowhere).device) e ∙ on), ap (λ a. (get_or s.columns.items a nowhere).after) e, stands) in
+          let apart : k ≢ column = λ e. let lt : k < vec_len s.columns = omega (arith, e, p.0) in omega (arith, far lt (ap (λ a. (get_or s.columns.items a nowhere).device) e ∙ on), ap (λ a. (get_or s.columns.items a nowhere).after) e, reaches) in
           let other = t.others k apart in
           let old = i.rest k le (λ lt is. omega (arith, far lt is)) in
           (other.0 ∙ old.0, other.1 ∙ old.1);

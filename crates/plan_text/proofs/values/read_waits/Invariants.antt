@@ -1,8 +1,8 @@
 use Rattle.std.proofs.Common.{◌≡◌, map, drop}
 use Rattle.base_types.specs.declared.limits.TheConstants.Limits.{WAIT}
-use Rattle.plan_text.specs.Reading.{with_front}
+use Rattle.plan_text.specs.Reading.{with_prefix}
 use Rattle.plan_text.specs.Word.{numbers_at}
 use Rattle.plan_text.proofs.values.read_waits.Given as goal
 
 abbrev pub invariant-loop-word : goal.invariant-loop-word
-invariant-loop-word l = with_front l.waits.items (numbers_at 0 WAIT (map (λ word. word.now) (drop l.word-index l.words))) ≡ numbers_at 0 WAIT (map (λ word. word.now) l.words)
+invariant-loop-word l = with_prefix l.waits.items (numbers_at 0 WAIT (map (λ word. word.now) (drop l.word-index l.words))) ≡ numbers_at 0 WAIT (map (λ word. word.now) l.words)

@@ -9,13 +9,13 @@ left_to_write : (texts : Bool) (before after : Option (List ℕ)) (due : List �
 left_to_write texts before after due None gives leaves = leaves refl
 left_to_write texts before after due (Some status) gives leaves = inr (inr (record { text = due; status = status }, gives, refl))
 
-pub returns-then-write_front-len : goal.returns-then-write_front-len
-returns-then-write_front-len g c =
+pub returns-then-write_prefix-len : goal.returns-then-write_prefix-len
+returns-then-write_prefix-len g c =
     let due : List ℕ = c.answer_input-due.new.output.items in
     inr (
       refl,
       due,
-      c.write_front.result,
+      c.write_prefix.result,
       left_to_write c.args.texts (g.R.Read.remaining c.args.reader.now) (g.R.Read.remaining c.answer_input-due.new.reader) due c.answer_input-due.result c.answer_input-due.ensures.some c.answer_input-due.ensures.none,
-      subst (λ (bytes : List ℕ). Appends (g.W.Write.contents c.args.writer.now) (g.W.Write.contents c.write_front.new.writer) (take c.write_front.result bytes)) c.deref.ensures.value c.write_front.ensures.front,
+      subst (λ (bytes : List ℕ). Appends (g.W.Write.contents c.args.writer.now) (g.W.Write.contents c.write_prefix.new.writer) (take c.write_prefix.result bytes)) c.deref.ensures.value c.write_prefix.ensures.prefix,
     )

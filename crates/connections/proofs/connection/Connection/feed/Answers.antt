@@ -16,5 +16,5 @@ returns-in-Ok c =
       broken = c.self.inside.broken;
       output = c.self.inside.output;
     } in
-    subst (λ (s : ConnectionState). Becomes (Feeds c.args.piece.now how.Fed) s k) c.self.view_is
-    (fed c.args.piece.now _ k c.feed.new.self (search rules) (search rules) (search rules))
+    subst (λ (s : ConnectionState). Becomes (Feeds c.args.segment.now how.Fed) s k) c.self.view_is
+    (fed c.args.segment.now _ k c.feed.new.self (search rules) (search rules) (search rules))

@@ -12,7 +12,7 @@ returns g c =
     record {
       happenings = hs;
       turns = turn.turns;
-      stands = turn.stands;
+      reaches = turn.reaches;
       are_passed =
           subst (λ (p : Pass). ArePassed p (calls_in hs)) c.set.ensures.pass
           (are_passed _ (λ a poll b. b.history.calls ≡ a.history.calls ++ poll ∷ []) (λ w. w.0.wire.wire) (λ w. w.0.wire.pass) (λ x poll y moved. moved.0.0) (λ x note y moved. ap (λ w. w.wire.pass) moved.1) (λ x choice y moved. moved) hs _ _ turn.leads);

@@ -3,7 +3,7 @@ use Rattle.http_front.specs.declared.chunk.ChunkEnd.TheVariants as end
 use Rattle.http_front.specs.declared.reader.Step.TheVariants as step
 use Rattle.http_front.specs.Chunk.{chunk_end}
 use Rattle.http_front.specs.Stream.{Steps}
-use Rattle.http_front.proofs.Fronts.{chunk_within, breaks_chunk, ends_chunk}
+use Rattle.http_front.proofs.Prefixes.{chunk_within, breaks_chunk, ends_chunk}
 use Rattle.http_front.proofs.reader.HttpReader.end_chunk.Goals as goal
 
 pub returns-in-Broken : goal.returns-in-Broken

@@ -1,7 +1,7 @@
 use Rattle.std.proofs.Common.{arith, subst, sym, ◌≡◌, ◌<◌, ◌∙◌, List, ℕ, length, false, ◌==◌}
 use Rattle.http_front.specs.declared.reader.Step.TheVariants as step
 use Rattle.http_front.specs.Stream.{Steps, begins_head}
-use Rattle.http_front.proofs.Fronts.{passes_blank}
+use Rattle.http_front.proofs.Prefixes.{passes_blank}
 use Rattle.http_front.proofs.reader.HttpReader.step_head.Goals as goal
 
 not_empty : (bytes : List ℕ) → (length bytes == 0) ≡ false → 0 < length bytes

@@ -3,7 +3,7 @@ use Rattle.text.specs.declared.line.FirstLine.TheVariants.{Whole, TooLong, Unfin
 use Rattle.base_types.specs.declared.limits.TheConstants.Limits.{HTTP_HEAD_BYTES}
 use Rattle.http_front.specs.Section.{section_in}
 use Rattle.http_front.proofs.Sections.{section_within}
-use Rattle.http_front.proofs.Fronts.{waits_head, refuses_long}
+use Rattle.http_front.proofs.Prefixes.{waits_head, refuses_long}
 use Rattle.http_front.proofs.reader.HttpReader.step_lines.Goals as goal
 
 pub take_head-requires-clause-within : goal.take_head-requires-clause-within

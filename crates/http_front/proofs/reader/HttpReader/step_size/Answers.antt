@@ -2,7 +2,7 @@ use Rattle.std.proofs.Common.{sym, ◌≡◌, ◌∙◌}
 use Rattle.text.specs.FirstLine.{first_line_of}
 use Rattle.text.specs.declared.line.FirstLine.TheVariants.{TooLong}
 use Rattle.base_types.specs.declared.limits.TheConstants.Limits.{HTTP_CHUNK_LINE_BYTES}
-use Rattle.http_front.proofs.Fronts.{refuses_long_size}
+use Rattle.http_front.proofs.Prefixes.{refuses_long_size}
 use Rattle.http_front.proofs.reader.HttpReader.step_size.Goals as goal
 
 pub returns-in-TooLong : goal.returns-in-TooLong

@@ -6,7 +6,7 @@ use Rattle.http_front.specs.declared.reader.Step.TheVariants as step
 use Rattle.http_front.specs.Section.{section_in}
 use Rattle.http_front.specs.Stream.{Steps, after_body}
 use Rattle.http_front.proofs.Sections.{section_within}
-use Rattle.http_front.proofs.Fronts.{behind, refuses_trailer, ends_trailer}
+use Rattle.http_front.proofs.Prefixes.{tail, refuses_trailer, ends_trailer}
 use Rattle.http_front.proofs.reader.HttpReader.step_trailer.Goals as goal
 
 pub pass-requires : goal.pass-requires
@@ -23,5 +23,5 @@ pub returns-in-Whole : goal.returns-in-Whole
 returns-in-Whole c =
     let old = c.args.self.now in
     let lines : section_in HTTP_TRAILER_BYTES c.args.self.now.rest ≡ Whole c.in-Whole.count = rw (sym c.rest.ensures) (sym c.section_in.ensures ∙ c.in-Whole.is) in
-    let new : c.pass.new.self ≡ behind old c.in-Whole.count (after_body c.args.last) = search (rules, c.pass.ensures, c.after_body.ensures) in
+    let new : c.pass.new.self ≡ tail old c.in-Whole.count (after_body c.args.last) = search (rules, c.pass.ensures, c.after_body.ensures) in
     subst (λ new. Steps old (step.Gives item.BodyEnd) new) (sym new) (ends_trailer old c.args.last c.in-Whole.count c.requires lines)

@@ -5,7 +5,7 @@ use Rattle.http_front.specs.declared.awaited.Awaited.TheVariants.{Trailer}
 use Rattle.http_front.specs.declared.reader.Step.TheVariants as step
 use Rattle.http_front.specs.Chunk.{IsSizeOf}
 use Rattle.http_front.specs.Stream.{Steps, is_last}
-use Rattle.http_front.proofs.Fronts.{behind, refuses_size, last_size, large_size, some_size}
+use Rattle.http_front.proofs.Prefixes.{tail, refuses_size, last_size, large_size, some_size}
 use Rattle.http_front.proofs.reader.HttpReader.take_size.Goals as goal
 
 pub returns-in_default : goal.returns-in_default
@@ -18,7 +18,7 @@ pub returns-then-size-eq0 : goal.returns-then-size-eq0
 returns-then-size-eq0 c =
     let old = c.args.self.now in
     let tells : IsSizeOf (take (c.args.count + 1) old.rest) (Some c.in-Some.size) = rw (sym c.rest.ensures) c.in-Some.ensures in
-    let new : c.pass.new.self ≡ behind old (c.args.count + 1) (Trailer (is_last c.args.closes (HTTP_BODY_BYTES - c.args.room))) = search (rules, c.pass.ensures, c.is_last.ensures) in
+    let new : c.pass.new.self ≡ tail old (c.args.count + 1) (Trailer (is_last c.args.closes (HTTP_BODY_BYTES - c.args.room))) = search (rules, c.pass.ensures, c.is_last.ensures) in
     subst (λ new. Steps old step.Passes new) (sym new) (last_size old c.args.count c.args.room c.args.closes c.in-Some.size c.requires.size c.requires.whole tells c.if-size-eq0.true)
 
 pub returns-then-size-from : goal.returns-then-size-from

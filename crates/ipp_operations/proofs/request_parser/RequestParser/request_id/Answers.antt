@@ -8,4 +8,4 @@ pub returns : goal.returns
 returns c = λ bytes has_read.
     let reader : ReaderState = record { decoder = c.self.inside.decoder; document = c.self.inside.document } in
     let same : HasRead bytes reader = subst (λ (r : ReaderState). HasRead bytes r) (sym c.self.view_is) has_read in
-    c.request_id.ensures ∙ ap request_id_of c.head.ensures ∙ id_kept bytes reader.decoder same.stands
+    c.request_id.ensures ∙ ap request_id_of c.head.ensures ∙ id_kept bytes reader.decoder same.reaches

@@ -20,8 +20,8 @@ refit-requires-clause-agree c =
     (agree_device c.args.place (doing (activity_after c.args.now report s.spool.jobs d)) s.devices s.spool.jobs d found
     (same_or_none (change_by report d.activity) (job_on d.activity) (job_on (activity_after c.args.now report s.spool.jobs d)) (activity_leaves c.args.now report s.spool.jobs d)) agree)
 
-pub settle-requires : goal.settle-requires
-settle-requires c =
+pub change_job-requires : goal.change_job-requires
+change_job-requires c =
     let s : State = c.advance.new.self in
     let d : Device = c.in-Some.device.now in
     let report = c.args.report.now in
@@ -49,13 +49,13 @@ returns-clause-reports c =
     let all : with_jobs (fitted (record old { last = c.args.now })) ≡ state_after c.args.now c.args.place report d old = rw (job, change, next) refl in
     let jobs : State → List _ = λ (t : State). documents_out c.job_on-job.result c.change_by-change.result t.spool.jobs in
     let out : jobs old ≡ documents_out (job_on d.activity) (change_by report d.activity) old.spool.jobs = rw (job, change) refl in
-    subst (λ (o : Option Device). MatchOption o ((c.settle.new.self ≡ record old { last = c.args.now }) × (c.settle.result.items ≡ [])) (λ device. (c.settle.new.self ≡ state_after c.args.now c.args.place report device old) × (c.settle.result.items ≡ documents_out (job_on device.activity) (change_by report device.activity) old.spool.jobs))) (sym found) (
-      c.settle.ensures.jobs ∙ (ap with_jobs (c.refit.ensures ∙ ap fitted same) ∙ all),
-      c.settle.ensures.documents ∙ (ap jobs (c.refit.ensures ∙ ap fitted same) ∙ out),
+    subst (λ (o : Option Device). MatchOption o ((c.change_job.new.self ≡ record old { last = c.args.now }) × (c.change_job.result.items ≡ [])) (λ device. (c.change_job.new.self ≡ state_after c.args.now c.args.place report device old) × (c.change_job.result.items ≡ documents_out (job_on device.activity) (change_by report device.activity) old.spool.jobs))) (sym found) (
+      c.change_job.ensures.jobs ∙ (ap with_jobs (c.refit.ensures ∙ ap fitted same) ∙ all),
+      c.change_job.ensures.documents ∙ (ap jobs (c.refit.ensures ∙ ap fitted same) ∙ out),
     )
 
 pub returns-clause-keep : goal.returns-clause-keep
 returns-clause-keep c =
     let old : State = c.args.self.now in
     let agree : Agree old.devices old.spool.jobs = subst (λ (t : State). Agree t.devices t.spool.jobs) (c.self.view_is ∙ c.advance.ensures.state) c.self.invariant.3 in
-    reports_keep c.args.now c.args.place c.args.report.now old c.settle.result.items c.settle.new.self agree (returns-clause-reports c)
+    reports_keep c.args.now c.args.place c.args.report.now old c.change_job.result.items c.change_job.new.self agree (returns-clause-reports c)

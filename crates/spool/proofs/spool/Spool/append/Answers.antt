@@ -24,7 +24,7 @@ invariant_of-self-2 c =
       omega (arith, c.number-number.ensures.in_range.1, c.number-number.ensures.value),
       few_new c.number-number.result c.self.inside.next c.self.inside.entries.entries c.insert.new.self.entries c.args.self.now c.taken-spooled.result c.self.invariant.0 c.self.view_is next entries c.requires.room,
       sound_new c.number-number.result c.self.inside.next c.self.inside.entries.entries c.insert.new.self.entries c.taken-spooled.result c.self.invariant.0 next entries (subst (λ (s : SpooledRecord). IsSound s) (sym c.taken-spooled.ensures) (new_sound c.args.new c.args.id c.args.incoming)) c.self.invariant.4,
-      first_new c.self.inside.front c.number-number.result c.self.inside.next c.self.inside.entries.entries c.insert.new.self.entries c.taken-spooled.result c.self.invariant.0 next entries c.self.invariant.5,
+      first_new c.self.inside.leading c.number-number.result c.self.inside.next c.self.inside.entries.entries c.insert.new.self.entries c.taken-spooled.result c.self.invariant.0 next entries c.self.invariant.5,
     )
 
 pub returns-clause-ok : goal.returns-clause-ok

@@ -29,8 +29,8 @@ invariant_of-self-2 c = (
       c.attach.ensures.ok c.attach.ensures.kept),
   rw (c.get_mut.follows.holds c.attach.new.self).0
       (either_way c.attach.result
-      (λ after. first_set (attached c.args.document c.args.now) (attached_keeps c.args.document c.args.now) c.self.inside.front c.number.result c.self.inside.next c.self.inside.entries.entries c.in-Some.spooled.now c.attach.new.self c.self.invariant.0 (sym (c.in-Some.ensures {u = tt}).value) after c.self.invariant.5)
-      (λ same. first_set (λ s. s) same_keeps c.self.inside.front c.number.result c.self.inside.next c.self.inside.entries.entries c.in-Some.spooled.now c.attach.new.self c.self.invariant.0 (sym (c.in-Some.ensures {u = tt}).value) same c.self.invariant.5)
+      (λ after. first_set (attached c.args.document c.args.now) (attached_keeps c.args.document c.args.now) c.self.inside.leading c.number.result c.self.inside.next c.self.inside.entries.entries c.in-Some.spooled.now c.attach.new.self c.self.invariant.0 (sym (c.in-Some.ensures {u = tt}).value) after c.self.invariant.5)
+      (λ same. first_set (λ s. s) same_keeps c.self.inside.leading c.number.result c.self.inside.next c.self.inside.entries.entries c.in-Some.spooled.now c.attach.new.self c.self.invariant.0 (sym (c.in-Some.ensures {u = tt}).value) same c.self.invariant.5)
       c.attach.ensures.ok c.attach.ensures.kept),
 )
 

@@ -26,7 +26,7 @@ invariant_of-self-2 c = (
   c.self.invariant.2,
   rw (c.get_mut.follows.holds c.change.new.self).0 (few_set (changed c.args.change c.args.now) (changed_keeps c.args.change c.args.now) c.number.result c.self.inside.next c.self.inside.entries.entries c.in-Some.spooled.now c.change.new.self c.self.invariant.0 (sym (c.in-Some.ensures {u = tt}).value) c.change.ensures.after c.self.invariant.3),
   rw (c.get_mut.follows.holds c.change.new.self).0 (sound_set (changed c.args.change c.args.now) (changed_sound c.args.change c.args.now) c.number.result c.self.inside.next c.self.inside.entries.entries c.in-Some.spooled.now c.change.new.self c.self.invariant.0 (sym (c.in-Some.ensures {u = tt}).value) c.change.ensures.after c.self.invariant.4),
-  rw (c.get_mut.follows.holds c.change.new.self).0 (first_set (changed c.args.change c.args.now) (changed_keeps c.args.change c.args.now) c.self.inside.front c.number.result c.self.inside.next c.self.inside.entries.entries c.in-Some.spooled.now c.change.new.self c.self.invariant.0 (sym (c.in-Some.ensures {u = tt}).value) c.change.ensures.after c.self.invariant.5),
+  rw (c.get_mut.follows.holds c.change.new.self).0 (first_set (changed c.args.change c.args.now) (changed_keeps c.args.change c.args.now) c.self.inside.leading c.number.result c.self.inside.next c.self.inside.entries.entries c.in-Some.spooled.now c.change.new.self c.self.invariant.0 (sym (c.in-Some.ensures {u = tt}).value) c.change.ensures.after c.self.invariant.5),
 )
 
 pub returns-clause-after : goal.returns-clause-after

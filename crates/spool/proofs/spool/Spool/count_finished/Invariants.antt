@@ -1,4 +1,4 @@
-use Rattle.spool.specs.Front.{AllFinished}
+use Rattle.spool.specs.Leading.{AllFinished}
 use Rattle.spool.proofs.spool.Spool.count_finished.Given as goal
 
 abbrev pub invariant-loop-place : goal.invariant-loop-place

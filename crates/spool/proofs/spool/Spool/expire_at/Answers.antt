@@ -14,7 +14,7 @@ invariant_of-self-2 c = (
   c.self.invariant.2,
   few_at (expired c.args.now) (expired_keeps c.args.now) c.args.place c.self.inside.entries.entries c.in-Some.spooled.now c.expire.new.self (sym (c.in-Some.ensures {u = tt}).value) c.expire.ensures.after c.self.invariant.3,
   sound_at (expired c.args.now) (expired_sound c.args.now) c.args.place c.self.inside.entries.entries c.in-Some.spooled.now c.expire.new.self (sym (c.in-Some.ensures {u = tt}).value) c.expire.ensures.after c.self.invariant.4,
-  first_at (expired c.args.now) (expired_keeps c.args.now) c.self.inside.front c.args.place c.self.inside.entries.entries c.in-Some.spooled.now c.expire.new.self (sym (c.in-Some.ensures {u = tt}).value) c.expire.ensures.after c.self.invariant.5,
+  first_at (expired c.args.now) (expired_keeps c.args.now) c.self.inside.leading c.args.place c.self.inside.entries.entries c.in-Some.spooled.now c.expire.new.self (sym (c.in-Some.ensures {u = tt}).value) c.expire.ensures.after c.self.invariant.5,
 )
 
 pub returns : goal.returns

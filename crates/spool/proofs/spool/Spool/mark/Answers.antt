@@ -6,13 +6,13 @@ use Rattle.spool.proofs.OnDevice.{marked_on, stay_map}
 use Rattle.spool.specs.Calls.{marked_by}
 use Rattle.spool.specs.Spooled.{SpooledRecord}
 use Rattle.spool.proofs.MappedJobs.{changed_more}
-use Rattle.spool.proofs.FinishedFirst.{marked_behind}
+use Rattle.spool.proofs.FinishedFirst.{marked_after}
 use Rattle.spool.proofs.spool.Spool.mark.Goals as goal
 
 pub loop-place-init : goal.loop-place-init
 loop-place-init c =
     let jobs = c.args.self.now.jobs in
-    sym (ap (λ (js : List SpooledRecord). record c.args.self.now { jobs = js }) (marked_behind c.args.printers.now c.args.stranded.now c.front-place.result jobs c.front-place.ensures.finished))
+    sym (ap (λ (js : List SpooledRecord). record c.args.self.now { jobs = js }) (marked_after c.args.printers.now c.args.stranded.now c.leading-place.result jobs c.leading-place.ensures.finished))
 
 pub loop-place-preserved : goal.loop-place-preserved
 loop-place-preserved c =

@@ -14,7 +14,7 @@ invariant_of-self-2 c = (
   c.self.invariant.2,
   few_at (marked_by c.args.printers.now c.args.stranded.now) (marked_keeps c.args.printers.now c.args.stranded.now) c.args.place c.self.inside.entries.entries c.in-Some.spooled.now c.mark_by.new.self (sym (c.in-Some.ensures {u = tt}).value) c.mark_by.ensures.after c.self.invariant.3,
   sound_at (marked_by c.args.printers.now c.args.stranded.now) (marked_sound c.args.printers.now c.args.stranded.now) c.args.place c.self.inside.entries.entries c.in-Some.spooled.now c.mark_by.new.self (sym (c.in-Some.ensures {u = tt}).value) c.mark_by.ensures.after c.self.invariant.4,
-  first_at (marked_by c.args.printers.now c.args.stranded.now) (marked_keeps c.args.printers.now c.args.stranded.now) c.self.inside.front c.args.place c.self.inside.entries.entries c.in-Some.spooled.now c.mark_by.new.self (sym (c.in-Some.ensures {u = tt}).value) c.mark_by.ensures.after c.self.invariant.5,
+  first_at (marked_by c.args.printers.now c.args.stranded.now) (marked_keeps c.args.printers.now c.args.stranded.now) c.self.inside.leading c.args.place c.self.inside.entries.entries c.in-Some.spooled.now c.mark_by.new.self (sym (c.in-Some.ensures {u = tt}).value) c.mark_by.ensures.after c.self.invariant.5,
 )
 
 pub returns : goal.returns

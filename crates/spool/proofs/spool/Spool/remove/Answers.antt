@@ -9,7 +9,7 @@ use Rattle.spool.proofs.spool.Spool.remove.Goals as goal
 
 pub invariant_of-self : goal.invariant_of-self
 invariant_of-self c =
-    (rw c.shift_remove_index-removed.ensures.entries (keyed_remove c.args.place 0 c.self.inside.next c.self.inside.entries.entries c.self.invariant.0), c.self.invariant.1, c.self.invariant.2, rw c.shift_remove_index-removed.ensures.entries (few_removed c.args.place c.self.inside.entries.entries c.self.invariant.3), rw c.shift_remove_index-removed.ensures.entries (sound_removed c.args.place c.self.inside.entries.entries c.self.invariant.4), rw c.shift_remove_index-removed.ensures.entries (first_removed c.self.inside.front c.front_without-self-inside.result c.args.place c.self.inside.entries.entries c.front_without-self-inside.ensures.among c.front_without-self-inside.ensures.behind c.self.invariant.5))
+    (rw c.shift_remove_index-removed.ensures.entries (keyed_remove c.args.place 0 c.self.inside.next c.self.inside.entries.entries c.self.invariant.0), c.self.invariant.1, c.self.invariant.2, rw c.shift_remove_index-removed.ensures.entries (few_removed c.args.place c.self.inside.entries.entries c.self.invariant.3), rw c.shift_remove_index-removed.ensures.entries (sound_removed c.args.place c.self.inside.entries.entries c.self.invariant.4), rw c.shift_remove_index-removed.ensures.entries (first_removed c.self.inside.leading c.leading_without-self-inside.result c.args.place c.self.inside.entries.entries c.leading_without-self-inside.ensures.among c.leading_without-self-inside.ensures.tail c.self.invariant.5))
 
 pub returns : goal.returns
 returns c =

@@ -1,5 +1,0 @@
-use Rattle.std.proofs.Common.{length}
-use Rattle.announcements.proofs.port.+behind_colon.Given as goal
-
-abbrev pub decreases-behind_colon : goal.decreases-behind_colon
-decreases-behind_colon l = length l.authority.now
