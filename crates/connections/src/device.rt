@@ -64,6 +64,7 @@ impl Device {
 
     /// Returns the step for the next report of the stream if it is whole, or for the first fault.
     #[tactic(auto, using(crate::proofs::Readers::report_acted_on))]
+    #[inline(never)]
     pub fn next(&mut self, settings: &Settings) -> Option<Step>
         ensures { NextDevice (device_named settings.now) result self.old self.new }
     {

@@ -114,7 +114,9 @@ impl IppClient {
         self.next_item()
     }
 
-    /// Returns the step for the next item of the stream, if one is whole.
+    /// Returns the step for the next item of the stream, if one is whole. It isn't inlined, since most steps of a long
+    /// body only report its bytes.
+    #[inline(never)]
     fn next_item(&mut self) -> Option<Step>
         ensures { TakesIfItem result self.old self.new }
     {

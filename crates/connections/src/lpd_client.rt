@@ -57,6 +57,7 @@ impl LpdClient {
     }
 
     /// Returns the step for the next item of the stream if it is whole, or for the first fault.
+    #[inline(never)]
     pub fn next(&mut self, settings: &Settings) -> Option<Step>
         ensures { NextLpd (is_queue settings.now) result self.old self.new }
     {

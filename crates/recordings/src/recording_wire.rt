@@ -119,8 +119,19 @@ impl RecordedText {
         self.lines.end_turn(moment, refused);
     }
 
-    /// Notes an accept with its answer.
+    /// Notes an accept with its answer. It is inlined, since most accepts of a turn have to wait and aren't noted.
+    #[inline(always)]
     fn accepted(&mut self, door: Door, answer: Progress<WireId>)
+        ensures { Notes (Accepts door answer) self.old self.new }
+    {
+        match answer {
+            Progress::Waiting => {}
+            _ => self.note_accept(door, answer),
+        }
+    }
+
+    /// Notes an accept that didn't have to wait.
+    fn note_accept(&mut self, door: Door, answer: Progress<WireId>)
         ensures { Notes (Accepts door answer) self.old self.new }
     {
         self.lines.accepted(door, answer);

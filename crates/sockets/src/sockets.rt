@@ -341,6 +341,16 @@ impl Sockets {
         if !self.listen_sockets.may_have(door) {
             return Progress::Waiting;
         }
+        self.accept_next(door)
+    }
+
+    /// Accepts a connection at a door that may have one. It isn't inlined into [`Sockets::try_accept`], since most
+    /// accepts of a turn have to wait.
+    #[inline(never)]
+    fn accept_next(&mut self, door: Door) -> Progress<WireId>
+        ensures cause { HasCause self.old.failures self.new.failures result }
+        ensures calls { self.new.history ≡ self.old.history }
+    {
         let (link, peer) = match self.accept(door) {
             Ok(accepted) => accepted,
             Err(error) => {
