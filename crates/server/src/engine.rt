@@ -10,6 +10,7 @@ ghost use Rattle.server.specs.Polls.{both};
 ghost use Rattle.server.specs.State.{EngineState};
 ghost use Rattle.server.specs.Refinement.{IsAt, RefinesTurn};
 
+use crate::polls::SEGMENT;
 use crate::world::World;
 use base_types::{DeviceId, DeviceNow, JobId, Moment, PrinterId};
 use connections::Connection;
@@ -34,6 +35,8 @@ pub struct Engine<P: Planner + Drop> {
     /// Whether the last dispatch was refused memory.
     pub(crate) undispatched: bool,
     pub(crate) alloc: Global,
+    /// The buffer of all reads, except while they are made.
+    pub(crate) segment: Option<Box<[u8; SEGMENT]>>,
 }
 
 impl<P: Planner + Drop> Model for Engine<P> {
@@ -73,6 +76,7 @@ impl<P: Planner + Drop> Engine<P> {
             ticked: None,
             undispatched: false,
             alloc,
+            segment: Some(Box::new(alloc, [0; SEGMENT])?),
         })
     }
 

@@ -47,14 +47,32 @@ impl<P: Planner + Drop> Engine<P> {
         keys(&self.connections)
     }
 
-    /// Reads each connection once. All reads use one buffer.
-    #[tactic(auto, using(crate::proofs::Joins::next_more))]
+    /// Reads each connection once. All reads use the engine's buffer.
     fn read_all<W: Wire + Observer>(&mut self, moment: Moment, keys: usize, world: &mut W)
         ensures { Refines (moved W.polled W.notified) (Each keys (ReadsOne moment)) world.old self.old world.new self.new }
     {
-        let mut segment = [0; SEGMENT];
+        match self.segment.take() {
+            Some(mut segment) => {
+                self.read_each(moment, keys, &mut segment, world);
+                self.segment = Some(segment);
+            }
+            None => self.read_each(moment, keys, &mut [0; SEGMENT], world),
+        }
+    }
+
+    /// Reads each connection once, into a buffer.
+    #[tactic(auto, using(crate::proofs::Joins::next_more))]
+    fn read_each<W: Wire + Observer>(
+        &mut self,
+        moment: Moment,
+        keys: usize,
+        segment: &mut [u8; SEGMENT],
+        world: &mut W,
+    )
+        ensures { Refines (moved W.polled W.notified) (Each keys (ReadsOne moment)) world.old self.old world.new self.new }
+    {
         for key in 0..keys {
-            self.read_one(moment, key, &mut segment, world);
+            self.read_one(moment, key, segment, world);
         }
     }
 
