@@ -62,61 +62,55 @@ fn check_day(alloc: Global, day: &Day) -> Result<(), DayFault> {
     Ok(())
 }
 
-/// The day of a list with a core whose devices are ready from now on, except those that are away.
-fn ready_stage(
-    alloc: Global,
-    core: &mut Core<AugmentingPaths>,
-    listed: &[ListedJob],
-    question: Question<'_>,
-) -> Result<Stage, DayFault> {
-    make_ready(alloc, core, question.away)?;
-    let stage = stage_of(alloc, core, listed, question.noise)?;
-    check_day(alloc, &stage.day)?;
-    Ok(stage)
+/// A day that was played: the names of the devices, the jobs, and what came of them.
+#[derive(Drop)]
+struct PlayedList {
+    stage: Stage,
+    /// The outcomes: first that of the plan, and then one for each policy of the question.
+    outcomes: Vec<Outcome>,
 }
 
-/// Plays a day with a core whose devices are ready, except those that are away. Returns the table of the
-/// outcomes, or a picture.
+/// Plays a day with a core whose devices are ready, except those that are away.
 fn play_with<W: Watch>(
     alloc: Global,
     core: &mut Core<AugmentingPaths>,
     listed: &[ListedJob],
     question: Question<'_>,
     watch: &mut W,
-) -> Result<String, DayFault> {
-    let stage = ready_stage(alloc, core, listed, question)?;
-    Ok(play_on(alloc, core, listed, &stage, question, watch)?)
+) -> Result<PlayedList, DayFault> {
+    make_ready(alloc, core, question.away)?;
+    let stage = stage_of(alloc, core, listed, question.noise)?;
+    check_day(alloc, &stage.day)?;
+    let outcomes = play_all(alloc, core, listed, &stage.day, question.policies, watch)?;
+    Ok(PlayedList { stage, outcomes })
 }
 
-/// Plays a day. Returns the table of the outcomes, or a picture.
-fn play_on<W: Watch>(
-    alloc: Global,
-    core: &mut Core<AugmentingPaths>,
-    listed: &[ListedJob],
-    stage: &Stage,
-    question: Question<'_>,
-    watch: &mut W,
-) -> Result<String, AllocError> {
-    let Stage { names, day } = stage;
-    let outcomes = play_all(alloc, core, listed, day, question.policies, watch)?;
-    match question.drawn {
-        Some(form) => picture_of(alloc, names, day, &outcomes, form),
-        None => table_of(alloc, names, day, &outcomes),
-    }
-}
-
-/// Plays the jobs of a list on the devices of some settings. Returns the table of the outcomes, or a picture.
+/// Plays the jobs of a list on the devices of some settings.
 fn play_settings<W: Watch>(
     alloc: Global,
     settings: Settings,
     listed: &[ListedJob],
     question: Question<'_>,
     watch: &mut W,
-) -> Result<String, DayFault>
+) -> Result<PlayedList, DayFault>
     requires { MeetsLimits settings }
 {
     let mut core = Core::new(alloc, settings, AugmentingPaths::new(alloc))?;
     play_with(alloc, &mut core, listed, question, watch)
+}
+
+/// Plays the jobs of a list on the devices of some settings and the devices that the question adds.
+fn play_day<W: Watch>(
+    alloc: Global,
+    settings: Settings,
+    listed: &[ListedJob],
+    question: Question<'_>,
+    watch: &mut W,
+) -> Result<PlayedList, DayFault>
+    requires { MeetsLimits settings }
+{
+    let settings = with_devices(alloc, settings, question.added)?;
+    play_settings(alloc, settings, listed, question, watch)
 }
 
 /// Plays the jobs of a list, which is one for these settings, on their devices: once as the core plans it,
@@ -135,8 +129,17 @@ pub fn run_simulation<W: Watch>(
 ) -> Result<String, DayFault>
     requires { MeetsLimits settings }
 {
-    let settings = with_devices(alloc, settings, question.added)?;
-    play_settings(alloc, settings, listed, question, watch)
+    let played = play_day(alloc, settings, listed, question, watch)?;
+    Ok(shown(alloc, &played, question.drawn)?)
+}
+
+/// The picture of a day in a form, or the table of its outcomes. The only error is out of memory.
+fn shown(alloc: Global, played: &PlayedList, drawn: Option<Form>) -> Result<String, AllocError> {
+    let Stage { names, day } = &played.stage;
+    match drawn {
+        Some(form) => picture_of(alloc, names, day, &played.outcomes, form),
+        None => table_of(alloc, names, day, &played.outcomes),
+    }
 }
 
 /// The figures of a day.
@@ -161,36 +164,6 @@ fn rules_of(
     Ok(rules)
 }
 
-/// Plays a day with a core whose devices are ready, except those that are away. Returns its figures.
-fn figures_with<W: Watch>(
-    alloc: Global,
-    core: &mut Core<AugmentingPaths>,
-    listed: &[ListedJob],
-    question: Question<'_>,
-    watch: &mut W,
-) -> Result<Figures, DayFault> {
-    let Stage { day, .. } = ready_stage(alloc, core, listed, question)?;
-    let outcomes = play_all(alloc, core, listed, &day, question.policies, watch)?;
-    Ok(Figures {
-        rules: rules_of(alloc, &day, &outcomes)?,
-        stranded: day.stranded.len(),
-    })
-}
-
-/// Plays the jobs of a list on the devices of some settings. Returns their figures.
-fn figures_in<W: Watch>(
-    alloc: Global,
-    settings: Settings,
-    listed: &[ListedJob],
-    question: Question<'_>,
-    watch: &mut W,
-) -> Result<Figures, DayFault>
-    requires { MeetsLimits settings }
-{
-    let mut core = Core::new(alloc, settings, AugmentingPaths::new(alloc))?;
-    figures_with(alloc, &mut core, listed, question, watch)
-}
-
 /// Plays as [`run_simulation`] does, with its errors. Returns the figures.
 pub(crate) fn figures_of<W: Watch>(
     alloc: Global,
@@ -201,6 +174,10 @@ pub(crate) fn figures_of<W: Watch>(
 ) -> Result<Figures, DayFault>
     requires { MeetsLimits settings }
 {
-    let settings = with_devices(alloc, settings, question.added)?;
-    figures_in(alloc, settings, listed, question, watch)
+    let played = play_day(alloc, settings, listed, question, watch)?;
+    let day = &played.stage.day;
+    Ok(Figures {
+        rules: rules_of(alloc, day, &played.outcomes)?,
+        stranded: day.stranded.len(),
+    })
 }
