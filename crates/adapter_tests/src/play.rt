@@ -1,5 +1,6 @@
 //! Rows, played.
-use crate::script::{Script, Scripted, ScriptedStream, Step};
+use crate::row::AdapterRow;
+use crate::script::{Script, Scripted, ScriptedStream};
 use adapter::{Adapter, Device};
 use adapter_printers::{Connector, HostPort, NetworkPrinter, Peer, Printer, PrinterLink, Protocol};
 use std::alloc::{AllocError, Global};
@@ -7,34 +8,11 @@ use std::cell::RefCell;
 use std::rc::Rc;
 use std::rt::Files;
 
-/// The first lines of a device that prints.
-pub(crate) const READY: &[u8] = b"HELLO hall\nREADY\n";
-
-/// No first steps.
-pub(crate) const NOTHING: &[Step] = &[];
-
-/// The first steps of an adapter whose server and printer are there.
-pub(crate) const LINKED: &[Step] = &[
-    Step::Connects(Peer::Server),
-    Step::Connects(Peer::Printer),
-    Step::Writes(Peer::Server, READY),
-];
-
 /// The turns that suffice for any row.
 const TURNS: usize = 400;
 
 /// The turns after the end of a script, in which the adapter has to do nothing.
 const LAST_TURNS: usize = 3;
-
-/// A script, and the log that the adapter writes with it.
-#[derive(Clone, Copy)]
-pub(crate) struct AdapterRow {
-    pub(crate) name: &'static str,
-    /// The first steps, and the steps after them.
-    pub(crate) start: &'static [Step],
-    pub(crate) steps: &'static [Step],
-    pub(crate) log: &'static str,
-}
 
 /// What an adapter writes: each event, or what needs a person, in words.
 #[derive(Clone, Copy)]
@@ -43,34 +21,29 @@ pub(crate) enum Detail {
     Words,
 }
 
-/// What came of a row: empty if it went as it is written.
+/// Plays a row. Returns how what came of it differs from the row; nothing, if it doesn't.
 pub(crate) fn play<F: Files, P: Printer<ScriptedStream>>(
     alloc: Global,
     files: &F,
     row: AdapterRow,
     printer: P,
-) -> Result<String, AllocError> {
-    play_with(alloc, files, row, printer, Detail::Events)
+    detail: Detail,
+) -> Result<Option<String>, AllocError> {
+    let AdapterRow { name, steps, log } = row;
+    let script = Rc::new(alloc, RefCell::new(Script::new(alloc, steps)))?;
+    let network = Scripted { script };
+    let mut adapter = Adapter::new(alloc, device(alloc, detail)?, printer)?;
+    let written = run(alloc, files, &network, &mut adapter)?;
+    if network.is_played() && written.as_slice() == log.as_bytes() {
+        return Ok(None);
+    }
+    Ok(Some(difference(alloc, &name, network.place(), &written)?))
 }
 
-/// What came of a row, where the adapter writes its log in this detail.
-pub(crate) fn play_with<F: Files, P: Printer<ScriptedStream>>(
-    alloc: Global,
-    files: &F,
-    row: AdapterRow,
-    printer: P,
-    detail: Detail,
-) -> Result<String, AllocError> {
-    let script = Rc::new(
-        alloc,
-        RefCell::new(Script::new(alloc, row.start, row.steps)),
-    )?;
-    let network = Scripted {
-        script: script.clone()?,
-    };
-    let mut adapter = Adapter::new(alloc, device(alloc, detail)?, printer)?;
-    let log = run(alloc, files, &network, &mut adapter)?;
-    verdict(alloc, row, &network, &log)
+/// What came of a row that differs: the number of the step at which it does, and the log that was written.
+fn difference(alloc: Global, name: &str, place: usize, log: &[u8]) -> Result<String, AllocError> {
+    let log = String::from_utf8_lossy(alloc, log)?;
+    format!(in alloc; "{name}: step {place}, {log:?}")
 }
 
 /// The device of each row.
@@ -112,36 +85,8 @@ fn run<F: Files, P: Printer<ScriptedStream>>(
     Ok(log)
 }
 
-/// What is wrong with a row; empty if nothing is.
-fn verdict(
-    alloc: Global,
-    row: AdapterRow,
-    network: &Scripted,
-    log: &[u8],
-) -> Result<String, AllocError> {
-    let name = row.name;
-    let place = network.place();
-    let is_played = network.is_played();
-    if !is_played || log != row.log.as_bytes() {
-        let text = String::from_utf8_lossy(alloc, log)?;
-        return format!(in alloc; "{name}: step {place}, {text}; ");
-    }
-    Ok(String::new(alloc))
-}
-
-/// The time for which a printer may be silent, in ms.
-const TIMEOUT: u64 = 300_000;
-
-/// A printer with a protocol.
-pub(crate) fn network<P: Protocol>(
-    alloc: Global,
-    protocol: P,
-) -> Result<NetworkPrinter<ScriptedStream, P>, AllocError> {
-    patient(alloc, TIMEOUT, protocol)
-}
-
 /// A printer with a protocol, which may be silent for `timeout` ms.
-pub(crate) fn patient<P: Protocol>(
+pub(crate) fn network<P: Protocol>(
     alloc: Global,
     timeout: u64,
     protocol: P,

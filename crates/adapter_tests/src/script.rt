@@ -2,57 +2,23 @@
 ghost use Rattle.std.specs.Prelude.{◌≤◌, length};
 ghost use Rattle.std.specs.Io.{ReadsAtMost, WritesAtMost};
 
+use crate::step::{Act, Step};
 use adapter_printers::{HostPort, Network, Peer, Stream};
-use std::alloc::{AllocError, Global};
+use std::alloc::Global;
 use std::cell::RefCell;
 use std::io;
 use std::io::ErrorKind;
 use std::rc::Rc;
 use std::rt::Files;
 
-/// A step of a script. The adapter has to take the steps in their order: a call that belongs to a later step
-/// has to wait, as a call to a slow peer does.
-#[derive(Clone, Copy)]
-pub(crate) enum Step {
-    /// The adapter connects to a peer, and the connection is made.
-    Connects(Peer),
-    /// The adapter tries to connect to a peer, in vain.
-    Misses(Peer),
-    /// The adapter writes these bytes.
-    Writes(Peer, &'static [u8]),
-    /// The adapter writes a request of IPP with this operation, which contains these bytes.
-    Asks(u16, &'static [u8]),
-    /// The adapter writes the beginning of a request of IPP, which ends with these bytes.
-    Begins(&'static [u8]),
-    /// A peer sends these bytes.
-    Sends(Peer, &'static [u8]),
-    /// The printer answers a request of IPP: the status, the id of the request, and the groups of attributes.
-    Answers(u16, u32, &'static [u8]),
-    /// The adapter ends its side of a connection.
-    Finishes(Peer),
-    /// A peer ends its side of a connection.
-    Ends(Peer),
-    /// A connection breaks.
-    Breaks(Peer),
-    /// From now on so many written bytes count as not acknowledged.
-    Holds(u64),
-    /// The adapter's standard input is closed.
-    Closes,
-    /// So many ms pass, in which the adapter writes nothing to the server, and connects to nobody.
-    Passes(u64),
-}
-
 /// A script, and how far it is played.
 #[derive(Drop)]
 pub(crate) struct Script {
-    alloc: Global,
-    /// The first steps, and the steps after them.
-    start: &'static [Step],
-    steps: &'static [Step],
+    steps: Vec<Step>,
     /// The number of the next step, and of its bytes that have gone.
     place: usize,
     offset: usize,
-    /// The bytes of the request or the reply of IPP that is sent.
+    /// The bytes of the request of IPP that the adapter writes.
     message: Vec<u8>,
     /// The ms of the step that have passed.
     passed: u64,
@@ -62,10 +28,8 @@ pub(crate) struct Script {
 }
 
 impl Script {
-    pub(crate) fn new(alloc: Global, start: &'static [Step], steps: &'static [Step]) -> Script {
+    pub(crate) fn new(alloc: Global, steps: Vec<Step>) -> Script {
         Script {
-            alloc,
-            start,
             steps,
             place: 0,
             offset: 0,
@@ -76,12 +40,22 @@ impl Script {
         }
     }
 
-    /// The next step.
-    fn step(&self) -> Option<Step> {
-        match self.place.checked_sub(self.start.len()) {
-            Some(place) => self.steps.get(place).copied(),
-            None => self.start.get(self.place).copied(),
+    /// What happens at the next step.
+    fn act(&self) -> Option<Act> {
+        self.steps.get(self.place).map(|step| step.act)
+    }
+
+    /// The bytes of the next step.
+    fn bytes(&self) -> &[u8] {
+        match self.steps.get(self.place) {
+            Some(step) => step.bytes.as_slice(),
+            None => &[],
         }
+    }
+
+    /// The bytes of the next step that haven't gone.
+    fn rest(&self) -> &[u8] {
+        self.bytes().get(self.offset..).unwrap_or(&[])
     }
 
     /// Records that the adapter did what no step allows.
@@ -95,7 +69,7 @@ impl Script {
         self.offset = 0;
         self.passed = 0;
         self.message.clear();
-        if let Some(Step::Holds(count)) = self.step() {
+        if let Some(Act::Holds(count)) = self.act() {
             self.held = count;
             self.place = self.place.saturating_add(1);
         }
@@ -103,7 +77,7 @@ impl Script {
 
     /// Lets at most `most` ms pass, if the next step is that time passes. Returns how many passed.
     fn pass(&mut self, most: u64) -> u64 {
-        let Some(Step::Passes(ms)) = self.step() else {
+        let Some(Act::Passes(ms)) = self.act() else {
             return 0;
         };
         let count = ms.saturating_sub(self.passed).min(most);
@@ -116,7 +90,7 @@ impl Script {
 
     /// Goes on if the next step is that standard input is closed. Returns whether it was.
     fn close(&mut self) -> bool {
-        let closes = matches!(self.step(), Some(Step::Closes));
+        let closes = matches!(self.act(), Some(Act::Closes));
         if closes {
             self.advance();
         }
@@ -125,12 +99,12 @@ impl Script {
 
     /// Connects to a peer.
     fn connect(&mut self, peer: Peer) -> io::Result<()> {
-        match self.step() {
-            Some(Step::Connects(one)) if one == peer => {
+        match self.act() {
+            Some(Act::Connects(one)) if one == peer => {
                 self.advance();
                 Ok(())
             }
-            Some(Step::Misses(one)) if one == peer => {
+            Some(Act::Misses(one)) if one == peer => {
                 self.advance();
                 Err(io::Error::from(ErrorKind::ConnectionRefused))
             }
@@ -146,17 +120,13 @@ impl Script {
         ensures { ReadsAtMost result buffer.new }
     {
         self.end_request();
-        match self.step() {
-            Some(Step::Sends(one, bytes)) if one == peer => Ok(self.send(bytes, buffer)),
-            Some(Step::Answers(status, request, groups)) if peer == Peer::Printer => {
-                let reply = reply(self.alloc, status, request, groups)?;
-                Ok(self.send(&reply, buffer))
-            }
-            Some(Step::Ends(one)) if one == peer => {
+        match self.act() {
+            Some(Act::Sends(one)) if one == peer => Ok(self.send(buffer)),
+            Some(Act::Ends(one)) if one == peer => {
                 self.advance();
                 Ok(0)
             }
-            Some(Step::Breaks(one)) if one == peer => {
+            Some(Act::Breaks(one)) if one == peer => {
                 self.advance();
                 Err(io::Error::from(ErrorKind::ConnectionReset))
             }
@@ -164,39 +134,44 @@ impl Script {
         }
     }
 
-    /// Sends the next of these bytes.
-    fn send(&mut self, bytes: &[u8], buffer: &mut [u8]) -> usize
+    /// Sends the next bytes of the step.
+    fn send(&mut self, buffer: &mut [u8]) -> usize
         ensures { result ≤ length buffer.new }
     {
-        let rest = bytes.get(self.offset..).unwrap_or(&[]);
+        let rest = self.rest();
         let count = rest.len().min(buffer.len());
         buffer[..count].copy_from_slice(&rest[..count]);
+        self.pass_bytes(count);
+        count
+    }
+
+    /// Notes that so many bytes of the step have gone, and goes on after the last.
+    fn pass_bytes(&mut self, count: usize) {
         self.offset = self.offset.saturating_add(count);
-        if self.offset >= bytes.len() {
+        if self.offset >= self.bytes().len() {
             self.advance();
         }
-        count
     }
 
     /// Takes bytes that the adapter writes to a peer.
     fn write(&mut self, peer: Peer, bytes: &[u8]) -> io::Result<usize>
         ensures { WritesAtMost result bytes.now }
     {
-        match self.step() {
-            Some(Step::Writes(one, wanted)) if one == peer => Ok(self.take(wanted, bytes)),
-            Some(Step::Asks(..)) if peer == Peer::Printer => {
+        match self.act() {
+            Some(Act::Writes(one)) if one == peer => Ok(self.take(bytes)),
+            Some(Act::Asks(_)) if peer == Peer::Printer => {
                 self.message.extend_from_slice(bytes)?;
                 Ok(bytes.len())
             }
-            Some(Step::Begins(part)) if peer == Peer::Printer => {
+            Some(Act::Begins) if peer == Peer::Printer => {
                 self.message.extend_from_slice(bytes)?;
-                Ok(self.take_up_to(part, bytes.len()))
+                Ok(self.take_up_to_part(bytes.len()))
             }
-            Some(Step::Breaks(one)) if one == peer => {
+            Some(Act::Breaks(one)) if one == peer => {
                 self.advance();
                 Err(io::Error::from(ErrorKind::BrokenPipe))
             }
-            None | Some(Step::Passes(_)) if peer == Peer::Server => {
+            None | Some(Act::Passes(_)) if peer == Peer::Server => {
                 self.fault();
                 Err(io::Error::from(ErrorKind::WouldBlock))
             }
@@ -204,47 +179,55 @@ impl Script {
         }
     }
 
-    /// Takes the next of the wanted bytes.
-    fn take(&mut self, wanted: &[u8], bytes: &[u8]) -> usize
+    /// Takes the next bytes of the step.
+    fn take(&mut self, bytes: &[u8]) -> usize
         ensures { result ≤ length bytes.now }
     {
-        let rest = wanted.get(self.offset..).unwrap_or(&[]);
+        let rest = self.rest();
         let count = rest.len().min(bytes.len());
-        if rest[..count] != bytes[..count] {
+        let differs = rest[..count] != bytes[..count];
+        if differs {
             self.fault();
         }
-        self.offset = self.offset.saturating_add(count);
-        if self.offset >= wanted.len() {
-            self.advance();
-        }
+        self.pass_bytes(count);
         count
     }
 
-    /// Goes on if the request contains this part. Returns how many of its last `count` bytes are taken: those up to
-    /// the part's end.
-    fn take_up_to(&mut self, part: &[u8], count: usize) -> usize
+    /// The length of the request up to the end of the step's bytes, if it contains them.
+    fn length_up_to_part(&self) -> Option<usize> {
+        let part = self.bytes();
+        find(&self.message, part).map(|place| place.saturating_add(part.len()))
+    }
+
+    /// Goes on if the request contains the step's bytes. Returns how many of its last `count` bytes are taken: those
+    /// up to the end of the step's.
+    fn take_up_to_part(&mut self, count: usize) -> usize
         ensures { result ≤ count }
     {
-        let Some(place) = find(&self.message, part) else {
+        let Some(end) = self.length_up_to_part() else {
             return count;
         };
-        let end = place.saturating_add(part.len());
         let rest = self.message.len().saturating_sub(end);
         self.advance();
         count.saturating_sub(rest)
     }
 
+    /// Whether the request of IPP is as a step with this operation has it; nothing, if it isn't whole.
+    fn is_asked(&self, operation: u16) -> Option<bool> {
+        let body = whole_body(&self.message)?;
+        let code = operation.to_be_bytes();
+        Some(body.get(2..4) == Some(code.as_slice()) && find(&self.message, self.bytes()).is_some())
+    }
+
     /// Goes on if the next step is a request of IPP that is whole. The adapter reads once it has written.
     fn end_request(&mut self) {
-        let Some(Step::Asks(operation, part)) = self.step() else {
+        let Some(Act::Asks(operation)) = self.act() else {
             return;
         };
-        let Some(body) = whole_body(&self.message) else {
+        let Some(is_asked) = self.is_asked(operation) else {
             return;
         };
-        let code = operation.to_be_bytes();
-        let is_asked = body.get(2..4) == Some(code.as_slice());
-        if !is_asked || find(&self.message, part).is_none() {
+        if !is_asked {
             self.fault();
         }
         self.advance();
@@ -252,32 +235,12 @@ impl Script {
 
     /// Ends the adapter's side of a connection.
     fn finish(&mut self, peer: Peer) {
-        match self.step() {
-            Some(Step::Finishes(one)) if one == peer => self.advance(),
+        match self.act() {
+            Some(Act::Finishes(one)) if one == peer => self.advance(),
             _ => self.fault(),
         }
     }
 }
-
-/// The reply of a printer with IPP (RFC 8010, sections 3.1 and 4).
-fn reply(alloc: Global, status: u16, request: u32, groups: &[u8]) -> Result<Vec<u8>, AllocError> {
-    let length = HEADER.len().saturating_add(groups.len()).saturating_add(9);
-    let head = format!(in alloc;
-        "HTTP/1.1 200 OK\r\nContent-Type: application/ipp\r\nContent-Length: {length}\r\n\r\n"
-    )?;
-    let mut bytes = Vec::from_slice(alloc, head.as_bytes())?;
-    bytes.extend_from_slice(b"\x01\x01")?;
-    bytes.extend_from_slice(&status.to_be_bytes())?;
-    bytes.extend_from_slice(&request.to_be_bytes())?;
-    bytes.extend_from_slice(HEADER)?;
-    bytes.extend_from_slice(groups)?;
-    bytes.extend_from_slice(b"\x03")?;
-    Ok(bytes)
-}
-
-/// The attributes at the head of each reply (RFC 8011, section 4.1.4).
-const HEADER: &[u8] =
-    b"\x01\x47\x00\x12attributes-charset\x00\x05utf-8\x48\x00\x1battributes-natural-language\x00\x02en";
 
 /// The body of a request of HTTP, once all of the request is there (RFC 9112, section 6).
 fn whole_body(message: &[u8]) -> Option<&[u8]> {
@@ -330,7 +293,7 @@ impl Scripted {
     /// Returns whether the script is played to its end, without a call that no step allows.
     pub(crate) fn is_played(&self) -> bool {
         match self.script.try_borrow() {
-            Ok(script) => script.step().is_none() && script.wrong.is_none(),
+            Ok(script) => script.act().is_none() && script.wrong.is_none(),
             Err(_) => false,
         }
     }
