@@ -11,9 +11,29 @@ use daemon::{Recording, serve};
 use program::ExitStatus;
 use settings_file::Settings;
 use sockets::{Listening, Sockets};
+use std::alloc::AllocError;
 use std::io;
 use std::net::SocketAddr;
 use wires::Door;
+
+/// The number of bytes of the block that [`keep_freed_memory`] frees.
+const FREED_BLOCK: usize = 4_194_304;
+
+/// Has the C library keep freed memory for the next documents, up to twice as much as [`FREED_BLOCK`]: its limit
+/// follows the largest block that was freed (mallopt(3), `M_TRIM_THRESHOLD`). Else it would return the memory of
+/// most documents to the system, and ask for it again. If there is no such block, nothing changes.
+fn keep_freed_memory(rt: &HostRuntime) {
+    if let Ok(mut block) = Vec::with_capacity(rt.alloc(), FREED_BLOCK) {
+        let _kept = begin(&mut block);
+    }
+}
+
+/// Writes the first byte of a block. It isn't inlined, since a block that nothing uses wouldn't be taken.
+#[inline(never)]
+fn begin(block: &mut Vec<u8>) -> Result<(), AllocError> {
+    block.push(0)?;
+    Ok(())
+}
 
 /// Reports that a door can't listen at an address, and returns the exit status.
 fn cannot_listen(rt: &HostRuntime, listening: Listening, error: io::Error) -> ExitStatus {
@@ -159,6 +179,7 @@ fn serve_settings(
 ) -> Result<ExitStatus, ExitStatus>
     requires { MeetsLimits settings }
 {
+    keep_freed_memory(rt);
     let mut log = log_of(rt, serving)?;
     let sockets = open(rt, serving)?;
     if let Some(spooling) = serving.spool {
