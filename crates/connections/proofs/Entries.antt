@@ -3,7 +3,7 @@ use Rattle.std.proofs.Common.{◌≡◌, ◌<◌, arith, ℕ, Bool, true, false,
 use Rattle.std.specs.Prelude.{◌||◌, nat_lt}
 use Rattle.std.proofs.lemmas.Bool.Decides.{nat_tests}
 use Rattle.settings_file.specs.Settings.{ServerSettings}
-use Rattle.send_queues.specs.declared.queue.TheConstants.{RESERVED_BYTES}
+use Rattle.connections.specs.declared.queue.TheConstants.{RESERVED_BYTES}
 use Rattle.connections.specs.declared.ask.Ask.{Ask}
 use Rattle.connections.specs.declared.connection.Fed.TheVariants as how
 use Rattle.connections.specs.declared.peer.Peer.{Peer}

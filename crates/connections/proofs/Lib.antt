@@ -1,3 +1,4 @@
+pub mod Prefixes
 pub mod Readers
 pub mod Loads
 pub mod Entries

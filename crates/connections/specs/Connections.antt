@@ -1,7 +1,7 @@
 -- A connection as plain data, and the change that each call makes of it.
 use Rattle.std.specs.Prelude.{ℕ, ◌≡◌, ◌⊎◌, ◌||◌, ◌&&◌, ◌==◌, ◌+◌, ◌<◌, not, nat_lt, Bool, true, false, List, ◌++◌, length, if◌then◌else◌}
 use Rattle.base_types.specs.declared.limits.TheConstants.Limits.{WAITING_OUTPUT_BYTES}
-use Rattle.send_queues.specs.declared.queue.TheConstants.{RESERVED_BYTES}
+use Rattle.connections.specs.declared.queue.TheConstants.{RESERVED_BYTES}
 use Rattle.connections.specs.Steps.{due_bytes}
 use Rattle.connections.specs.Peers.{work, unnamed}
 use Rattle.connections.specs.declared.ask.Ask.{Ask}

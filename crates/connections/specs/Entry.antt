@@ -4,7 +4,7 @@ use Rattle.base_types.specs.Report.{ReportRecord}
 use Rattle.http_front.specs.Stream.{HttpElement}
 use Rattle.lpd.specs.Items.{ItemRecord}
 use Rattle.lpd.specs.Session.{SessionState}
-use Rattle.send_queues.specs.declared.queue.TheConstants.{RESERVED_BYTES}
+use Rattle.connections.specs.declared.queue.TheConstants.{RESERVED_BYTES}
 use Rattle.wires.specs.declared.wire.Door.{Door}
 use Rattle.wires.specs.declared.wire.Door.TheVariants.{Ipp, Lpd, Devices}
 

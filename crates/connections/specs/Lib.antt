@@ -1,3 +1,6 @@
+pub mod SendQueue
+pub mod Reply
+pub mod Outgoing
 pub mod States
 pub mod Session
 pub mod Commands

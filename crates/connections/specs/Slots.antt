@@ -4,10 +4,10 @@ use Rattle.std.specs.Option.{option_map_or}
 use Rattle.settings_file.specs.Settings.{ServerSettings}
 use Rattle.wires.specs.Poll.{Poll, Closes}
 use Rattle.wires.specs.declared.wire.Door.{Door}
-use Rattle.send_queues.specs.SendQueue.{OffersPrefix}
-use Rattle.send_queues.specs.declared.queue.TheConstants.{RESERVED_BYTES}
-use Rattle.send_queues.specs.declared.queue.Offered.{Offered}
-use Rattle.send_queues.specs.declared.queue.Offered.TheVariants as offer
+use Rattle.connections.specs.SendQueue.{OffersPrefix}
+use Rattle.connections.specs.declared.queue.TheConstants.{RESERVED_BYTES}
+use Rattle.connections.specs.declared.queue.Offered.{Offered}
+use Rattle.connections.specs.declared.queue.Offered.TheVariants as offer
 use Rattle.connections.specs.declared.table.ConnectionAsk.{ConnectionAsk}
 use Rattle.connections.specs.declared.connection.Fed.{Fed}
 use Rattle.connections.specs.Entry.{opening_entry}

@@ -16,7 +16,7 @@ use Rattle.ipp_operations.specs.declared.parsed_request.ParsedRequest.TheVariant
 use Rattle.ipp_operations.specs.ParsedRequest.{Asks, request_id_of}
 use Rattle.ipp_operations.specs.Reply.{refusal_bytes}
 use Rattle.ipp_operations.specs.declared.queue_text.TheConstants.{REFUSED}
-use Rattle.send_queues.specs.Reply.{http_reply, refusal_head}
+use Rattle.connections.specs.Reply.{http_reply, refusal_head}
 use Rattle.connections.specs.declared.ask.Ask.TheVariants as ask
 use Rattle.connections.specs.declared.ask.Client.TheVariants as client
 use Rattle.connections.specs.declared.ask.AllocFailure.TheVariants as growth

@@ -1,8 +1,8 @@
 //! A connection with its peer and its waiting bytes.
 ghost use Rattle.std.specs.Prelude.{◌≡◌, ◌<◌, ◌++◌, false, IfOk, IfSome, IsTrue, OnOk, OnErr, length};
-ghost use Rattle.send_queues.specs.Outgoing.{bytes_of, is_job};
-ghost use Rattle.send_queues.specs.declared.queue.TheConstants.{RESERVED_BYTES};
-ghost use Rattle.send_queues.specs.SendQueue.{OffersPrefix};
+ghost use Rattle.connections.specs.Outgoing.{bytes_of, is_job};
+ghost use Rattle.connections.specs.declared.queue.TheConstants.{RESERVED_BYTES};
+ghost use Rattle.connections.specs.SendQueue.{OffersPrefix};
 ghost use Rattle.connections.specs.Entry.{opening_entry, ending, broken, superseded_entry};
 ghost use Rattle.connections.specs.Steps.{due_bytes};
 ghost use Rattle.connections.specs.Asking.{Asking, Feeds};
@@ -11,11 +11,12 @@ ghost use Rattle.connections.specs.Connections.{load, is_read, is_done, is_ended
 ghost use Rattle.connections.specs.Representation.{RepresentsConnection, Becomes};
 
 use crate::ask::{AllocFailure, Ask};
+use crate::outgoing::Outgoing;
 use crate::peer::Peer;
+use crate::queue::{Offered, SendQueue};
 use crate::step::{Due, Step};
 use base_types::{DeviceId, Limits};
 use ipp_operations::ipp_refusal;
-use send_queues::{Offered, Outgoing, SendQueue};
 use settings_file::Settings;
 use std::alloc::{AllocError, Global};
 use std::marker::Model;

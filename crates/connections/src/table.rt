@@ -2,14 +2,15 @@
 ghost use Rattle.std.specs.Prelude.{◌≡◌, ◌≢◌, ◌≤◌, ◌<◌, ℕ, true, false, None, Some, IsTrue, IsFalse, IfSome, IfNone};
 ghost use Rattle.std.specs.Option.{option_map_or};
 ghost use Rattle.slab.specs.Slab.{get};
-ghost use Rattle.send_queues.specs.Outgoing.{bytes_of, is_job};
+ghost use Rattle.connections.specs.Outgoing.{bytes_of, is_job};
 ghost use Rattle.connections.specs.Connections.{ConnectionState, is_broken, is_ended, superseded, is_read, is_done};
 ghost use Rattle.connections.specs.Slots.{EnqueuesAt, IsGrowth, closes_at, IsReadAt, AsksAt, FeedsAt, changed_at, device_at, is_of, broken_at, ended_at, IsIn, LeavesAs, OffersAt};
 
 use crate::ask::Ask;
 use crate::connection::{Connection, Fed};
+use crate::outgoing::Outgoing;
+use crate::queue::Offered;
 use base_types::DeviceId;
-use send_queues::{Offered, Outgoing};
 use settings_file::Settings;
 use slab::Slab;
 use std::alloc::Global;

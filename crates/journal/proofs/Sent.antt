@@ -8,7 +8,7 @@ use Rattle.wires.specs.declared.wire.Door.{Door}
 use Rattle.wires.specs.declared.wire.Door.TheVariants.{Ipp, Lpd, Devices}
 use Rattle.wires.specs.declared.wire.Progress.{Progress}
 use Rattle.wires.specs.declared.wire.Progress.TheVariants.{Done, Waiting, End, Fault}
-use Rattle.send_queues.specs.SendQueue.{IsPrefix}
+use Rattle.connections.specs.SendQueue.{IsPrefix}
 use Rattle.connections.specs.Entry.{Entry, waiting}
 use Rattle.server.specs.Polls.{Happening, Polled, Chosen, Looked}
 use Rattle.server.specs.Ledger.{Ledger, Fate, Broken, Drained}

@@ -9,7 +9,7 @@ use Rattle.print_room.specs.Activity.{job_on}
 use Rattle.dispatcher.specs.Notes.{Note, Planned}
 use Rattle.wires.specs.declared.wire.Progress.TheVariants.{Done}
 use Rattle.wires.specs.Poll.{Poll, Writes}
-use Rattle.send_queues.specs.SendQueue.{IsPrefix}
+use Rattle.connections.specs.SendQueue.{IsPrefix}
 use Rattle.connections.specs.Entry.{Entry, waiting}
 use Rattle.server.specs.Polls.{Happening, Notified}
 use Rattle.server.specs.Ledger.{Ledger}

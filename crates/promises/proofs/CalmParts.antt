@@ -20,7 +20,7 @@ use Rattle.dispatcher.specs.declared.handled.Dispatch.{Dispatch}
 use Rattle.dispatcher.specs.declared.handled.Dispatch.TheVariants as dispatch
 use Rattle.dispatcher.specs.Run.{Outcome, Handles}
 use Rattle.ipp_operations.specs.QueueText.{ack_of, text_of}
-use Rattle.send_queues.specs.Reply.{http_reply}
+use Rattle.connections.specs.Reply.{http_reply}
 use Rattle.wires.specs.Poll.{Poll}
 use Rattle.connections.specs.declared.ask.Client.{Client}
 use Rattle.connections.specs.declared.ask.Client.TheVariants as client

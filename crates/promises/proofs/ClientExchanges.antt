@@ -13,7 +13,7 @@ use Rattle.http_front.specs.Stream.{HttpElement, HasHead, Invites, HasByte, Ends
 use Rattle.http_front.specs.Order.{Place, Between, Headed, Within, is_none, in_order, ElementsInOrder}
 use Rattle.ipp_operations.specs.declared.parsed_request.ParsedRequest.{ParsedRequest}
 use Rattle.ipp_operations.specs.declared.parsed_request.ParsedRequest.TheVariants as asks
-use Rattle.send_queues.specs.Reply.{refusal_head}
+use Rattle.connections.specs.Reply.{refusal_head}
 use Rattle.wires.specs.declared.wire.Door.{Door}
 use Rattle.wires.specs.declared.wire.Door.TheVariants.{Ipp, Lpd, Devices}
 use Rattle.connections.specs.declared.step.Step.{Step}

@@ -45,7 +45,7 @@ use Rattle.dispatcher.specs.declared.observer.AllocationSite.{AllocationSite}
 use Rattle.dispatcher.specs.declared.observer.AllocationSite.TheVariants as At
 use Rattle.dispatcher.specs.Notes.{Note, DeviceRefused, Refused}
 use Rattle.ipp_operations.specs.QueueText.{ack_of, text_of}
-use Rattle.send_queues.specs.Reply.{http_reply}
+use Rattle.connections.specs.Reply.{http_reply}
 use Rattle.server.specs.Answering as Ans
 use Rattle.server.specs.Hello.{IsSupersededAt, IsSuperseded, GivesName, HandlesHello}
 use Rattle.server.specs.Acting.{place_of, place_of_part, Asks, ActsOn, ActsNext}

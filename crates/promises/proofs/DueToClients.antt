@@ -14,7 +14,7 @@ use Rattle.dispatcher.specs.declared.observer.AllocationSite.TheVariants as At
 use Rattle.dispatcher.specs.Notes.{Note, Refused}
 use Rattle.ipp_operations.specs.Reply.{IsReply}
 use Rattle.ipp_operations.specs.QueueText.{ack_of, text_of}
-use Rattle.send_queues.specs.Reply.{http_reply}
+use Rattle.connections.specs.Reply.{http_reply}
 use Rattle.connections.specs.declared.ask.Client.{Client}
 use Rattle.connections.specs.declared.ask.Client.TheVariants as client
 use Rattle.connections.specs.Steps.{http_status, silent}

@@ -27,7 +27,7 @@ use Rattle.dispatcher.specs.declared.handled.Dispatch.{Dispatch}
 use Rattle.dispatcher.specs.declared.handled.Dispatch.TheVariants as dispatch
 use Rattle.dispatcher.specs.Run.{Outcome, effects_of}
 use Rattle.ipp_operations.specs.QueueText.{ack_of, text_of}
-use Rattle.send_queues.specs.Reply.{http_reply}
+use Rattle.connections.specs.Reply.{http_reply}
 use Rattle.wires.specs.Poll.{Poll, Reads, Writes}
 use Rattle.wires.specs.declared.wire.Progress.{Progress as WireAnswer}
 use Rattle.wires.specs.declared.wire.Progress.TheVariants as wire

@@ -4,7 +4,7 @@ use Rattle.device_link.specs.Orders.{cancel_line}
 use Rattle.print_room.specs.declared.started.Started.{Started}
 use Rattle.events.specs.declared.status.Status.{Status}
 use Rattle.events.specs.declared.effects.Cancel.{Cancel}
-use Rattle.send_queues.specs.Reply.{http_reply}
+use Rattle.connections.specs.Reply.{http_reply}
 use Rattle.dispatcher.specs.declared.observer.AllocationSite.{AllocationSite}
 use Rattle.dispatcher.specs.declared.observer.AllocationSite.TheVariants.{Enqueue}
 use Rattle.dispatcher.specs.declared.handled.Dispatch.{Dispatch}

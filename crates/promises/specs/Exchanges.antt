@@ -13,7 +13,7 @@ use Rattle.dispatcher.specs.declared.observer.AllocationSite.TheVariants as At
 use Rattle.ipp_operations.specs.declared.parsed_request.ParsedRequest.{ParsedRequest}
 use Rattle.ipp_operations.specs.declared.parsed_request.ParsedRequest.TheVariants as asks
 use Rattle.ipp_operations.specs.ParsedRequest.{Asks, request_id_of}
-use Rattle.send_queues.specs.Reply.{refusal_head}
+use Rattle.connections.specs.Reply.{refusal_head}
 use Rattle.connections.specs.declared.ask.Client.TheVariants as client
 use Rattle.connections.specs.Steps.{http_status}
 use Rattle.connections.specs.Entry.{PeerRecord, Http, Entry, opening_peer}

@@ -3,8 +3,8 @@ use Rattle.std.proofs.Common.{◌≡◌, ◌≤◌, ◌<◌, ◌+◌, arith, ℕ
 use Rattle.std.specs.Prelude.{slice_index_or, slice_set, nat_lt, is_some, ◌||◌, if◌then◌else◌}
 use Rattle.std.specs.Option.{option_map_or}
 use Rattle.std.proofs.lemmas.Bool.Decides.{nat_tests}
-use Rattle.send_queues.specs.Reply.{http_reply}
-use Rattle.send_queues.specs.declared.queue.TheConstants.{RESERVED_BYTES}
+use Rattle.connections.specs.Reply.{http_reply}
+use Rattle.connections.specs.declared.queue.TheConstants.{RESERVED_BYTES}
 use Rattle.events.specs.declared.status.Status.{Status}
 use Rattle.dispatcher.specs.declared.observer.AllocationSite.TheVariants.{Enqueue}
 use Rattle.dispatcher.specs.Notes.{Note, Refused}

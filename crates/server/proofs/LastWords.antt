@@ -11,9 +11,9 @@ use Rattle.events.specs.declared.status.Status.{Status}
 use Rattle.ipp_operations.specs.Reply.{refusal_bytes}
 use Rattle.server.specs.Rel.{Nothing, If}
 use Rattle.server.specs.Enqueuing.{EnqueuesOpen, EnqueuesAt}
-use Rattle.send_queues.specs.Reply.{http_reply, refusal_head}
+use Rattle.connections.specs.Reply.{http_reply, refusal_head}
 use Rattle.server.specs.Law.{AreKept, AreOwed}
-use Rattle.send_queues.specs.declared.queue.TheConstants.{RESERVED_BYTES}
+use Rattle.connections.specs.declared.queue.TheConstants.{RESERVED_BYTES}
 use Rattle.connections.specs.Entry.{Entry, needs_memory}
 use Rattle.connections.specs.Steps.{http_status}
 

@@ -8,13 +8,12 @@ use crate::acting::EventOrigin;
 use crate::engine::Engine;
 use crate::handling::effects_of;
 use base_types::Moment;
-use connections::Client;
 use connections::table::break_off;
+use connections::{Client, Outgoing};
 use dispatcher::{AllocationSite, Observer};
 use events::{Effects, Event, IppResponse, LpdResponse, Response, Status};
 use ipp_operations::{REFUSED, ipp_refusal, ipp_response, lpd_ack, lpd_queue_text};
 use plan_prices::Planner;
-use send_queues::Outgoing;
 
 impl<P: Planner + Drop> Engine<P> {
     /// Handles an event of a client, and enqueues its reply.

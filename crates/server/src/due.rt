@@ -1,15 +1,15 @@
 //! The bytes that become due on a connection.
 ghost use Rattle.std.specs.Prelude.{◌≡◌, false};
 ghost use Rattle.std.specs.Option.{is_some};
-ghost use Rattle.send_queues.specs.Outgoing.{bytes_of, is_job};
+ghost use Rattle.connections.specs.Outgoing.{bytes_of, is_job};
 ghost use Rattle.server.specs.Enqueuing.{Enqueues, EnqueuesResponse};
 ghost use Rattle.server.specs.Refinement.{RefinesNotified, NotifiedOf};
 
 use crate::engine::Engine;
+use connections::Outgoing;
 use connections::table::{closes, enqueue};
 use dispatcher::{AllocationSite, Observer};
 use plan_prices::Planner;
-use send_queues::Outgoing;
 use wires::WireId;
 
 /// Functions that enqueue messages. If memory for the bytes is refused, the observer is notified and the

@@ -9,11 +9,11 @@ use crate::due::notify;
 use crate::engine::Engine;
 use crate::starting::start_all;
 use base_types::Moment;
+use connections::Outgoing;
 use connections::table::{enqueue, key_of};
 use dispatcher::{Dispatch, Handled, Observer, Timed};
 use events::{Cancel, Effects, Event};
 use plan_prices::Planner;
-use send_queues::Outgoing;
 
 /// The result of an event: what the core did, unless the event was dropped.
 #[derive(Drop)]

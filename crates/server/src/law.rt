@@ -5,7 +5,7 @@ ghost use Rattle.http_front.specs.declared.refusal.HttpRejection.{HttpRejection}
 ghost use Rattle.events.specs.declared.status.Status.{Status};
 ghost use Rattle.print_room.specs.State.{State};
 ghost use Rattle.server.specs.Ledger.{Ledger, opening_ledger};
-ghost use Rattle.send_queues.specs.Reply.{refusal_head};
+ghost use Rattle.connections.specs.Reply.{refusal_head};
 ghost use Rattle.connections.specs.Steps.{http_status};
 ghost use Rattle.server.specs.Law.{IsOneRun, IsAtMostOne, AllTaken, AreKept, AreOwed};
 ghost use Rattle.server.specs.Turn.{Action, DoesAction, Trace, Runs};

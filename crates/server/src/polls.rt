@@ -5,11 +5,10 @@ ghost use Rattle.server.specs.Refinement.{Refines};
 
 use crate::engine::Engine;
 use base_types::{Limits, Moment};
-use connections::Fed;
 use connections::table::{end, feed, insert, offer, to_read};
+use connections::{Fed, Offered};
 use dispatcher::{AllocationSite, Observer};
 use plan_prices::Planner;
-use send_queues::Offered;
 use wires::{Door, Progress, Wire, WireId};
 
 /// The largest number of bytes of one read.

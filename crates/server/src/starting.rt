@@ -1,17 +1,16 @@
 //! The bytes of the jobs that begin.
 ghost use Rattle.std.specs.Prelude.{◌≡◌};
-ghost use Rattle.send_queues.specs.Outgoing.{bytes_of};
+ghost use Rattle.connections.specs.Outgoing.{bytes_of};
 ghost use Rattle.server.specs.Ledger.{job_bytes};
 ghost use Rattle.server.specs.Happening.{Starts, StartsAll};
 ghost use Rattle.server.specs.Refinement.{ReportsAmong};
 
 use crate::due::notify;
 use base_types::JobId;
-use connections::Connection;
 use connections::table::{enqueue, key_of};
+use connections::{Connection, Outgoing, OutgoingJob};
 use dispatcher::{Core, Observer, Started};
 use plan_prices::Planner;
-use send_queues::{Outgoing, OutgoingJob};
 use slab::Slab;
 
 /// Enqueues the bytes of the jobs that began with the last plan, by device. Returns whether memory was

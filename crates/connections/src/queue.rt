@@ -3,9 +3,9 @@ ghost use Rattle.std.specs.Prelude.{◌≡◌, false, ◌<◌, ◌≤◌, ◌+�
 ghost use Rattle.std.specs.List.{flat_map, All};
 ghost use Rattle.std.specs.Io.Slices.{io_slice_bytes, io_slices_bytes};
 ghost use Rattle.octets.specs.Document.{IsPrefixOf};
-ghost use Rattle.send_queues.specs.Outgoing.{bytes_of, is_job};
-ghost use Rattle.send_queues.specs.Reply.{http_reply, refusal_head};
-ghost use Rattle.send_queues.specs.SendQueue.{OffersPrefix, IsSome, joined};
+ghost use Rattle.connections.specs.Outgoing.{bytes_of, is_job};
+ghost use Rattle.connections.specs.Reply.{http_reply, refusal_head};
+ghost use Rattle.connections.specs.SendQueue.{OffersPrefix, IsSome, joined};
 
 use crate::outgoing::{Outgoing, OutgoingJob};
 use device_link::{write_cancel, write_job};
@@ -115,8 +115,8 @@ pub struct SendQueue {
 impl Model for SendQueue {
     ghost use Rattle.std.specs.Prelude.{ℕ, ◌≤◌, List, ◌++◌, vec_capacity};
     ghost use Rattle.std.specs.List.{All};
-    ghost use Rattle.send_queues.specs.declared.queue.TheConstants.{RESERVED_BYTES};
-    ghost use Rattle.send_queues.specs.SendQueue.{joined, IsSome};
+    ghost use Rattle.connections.specs.declared.queue.TheConstants.{RESERVED_BYTES};
+    ghost use Rattle.connections.specs.SendQueue.{joined, IsSome};
 
     ghost Value = { List ℕ };
 

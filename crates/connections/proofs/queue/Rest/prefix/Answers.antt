@@ -1,8 +1,8 @@
 use Rattle.std.proofs.Common.{◌++◌, [], List, ℕ, subst}
 use Rattle.std.specs.Io.Slices.{io_slice_bytes}
 use Rattle.octets.specs.Document.{IsPrefixOf}
-use Rattle.send_queues.proofs.Prefixes.{part_alone, part_more}
-use Rattle.send_queues.proofs.queue.Rest.prefix.Goals as goal
+use Rattle.connections.proofs.Prefixes.{part_alone, part_more}
+use Rattle.connections.proofs.queue.Rest.prefix.Goals as goal
 
 pub returns-clause-prefix : goal.returns-clause-prefix
 returns-clause-prefix c =

@@ -2,9 +2,9 @@
 use Rattle.std.specs.Prelude.{ℕ, Bool, true, false, List}
 use Rattle.device_link.specs.Orders.{cancel_line}
 use Rattle.http_front.specs.Reply.{continue_head}
-use Rattle.send_queues.specs.Reply.{http_reply, refusal_head}
-use Rattle.send_queues.specs.declared.outgoing.Outgoing.{Outgoing}
-use Rattle.send_queues.specs.declared.outgoing.Outgoing.TheVariants as sends
+use Rattle.connections.specs.Reply.{http_reply, refusal_head}
+use Rattle.connections.specs.declared.outgoing.Outgoing.{Outgoing}
+use Rattle.connections.specs.declared.outgoing.Outgoing.TheVariants as sends
 
 abbrev pub bytes_of : Outgoing → List ℕ
 bytes_of (sends.Bytes bytes) = bytes.now

@@ -1,7 +1,7 @@
 use Rattle.std.proofs.Common.{◌≡◌, ◌++◌, take}
 use Rattle.std.specs.List.{flat_map, All}
-use Rattle.send_queues.specs.SendQueue.{joined, IsSome}
-use Rattle.send_queues.proofs.queue.add_all.Given as goal
+use Rattle.connections.specs.SendQueue.{joined, IsSome}
+use Rattle.connections.proofs.queue.add_all.Given as goal
 
 abbrev pub invariant-loop-document : goal.invariant-loop-document
 invariant-loop-document l =

@@ -1,6 +1,6 @@
 use Rattle.std.proofs.Common.{ap, length, arith}
-use Rattle.send_queues.proofs.Prefixes.{prefix_within}
-use Rattle.send_queues.proofs.queue.part.Goals as goal
+use Rattle.connections.proofs.Prefixes.{prefix_within}
+use Rattle.connections.proofs.queue.part.Goals as goal
 
 pub overflow_sub-left-2 : goal.overflow_sub-left-2
 overflow_sub-left-2 c =

@@ -1,8 +1,8 @@
 use Rattle.std.proofs.Common.{[], length, ap, arith, ◌∙◌}
 use Rattle.std.proofs.lemmas.List.{get_or_default}
 use Rattle.std.specs.Io.Slices.{io_slices_bytes}
-use Rattle.send_queues.proofs.Prefixes.{prefix_at_most}
-use Rattle.send_queues.proofs.queue.offer_first.Goals as goal
+use Rattle.connections.proofs.Prefixes.{prefix_at_most}
+use Rattle.connections.proofs.queue.offer_first.Goals as goal
 
 pub pass-requires-clause-within : goal.pass-requires-clause-within
 pass-requires-clause-within g c =

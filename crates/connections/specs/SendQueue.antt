@@ -2,8 +2,8 @@
 use Rattle.std.specs.Prelude.{ℕ, ◌≡◌, ◌<◌, ◌≤◌, ◌⊎◌, List, [], ◌++◌, length, drop}
 use Rattle.std.specs.List.{flat_map}
 use Rattle.wires.specs.Poll.{Poll, Writes}
-use Rattle.send_queues.specs.declared.queue.Offered.{Offered}
-use Rattle.send_queues.specs.declared.queue.Offered.TheVariants as offer
+use Rattle.connections.specs.declared.queue.Offered.{Offered}
+use Rattle.connections.specs.declared.queue.Offered.TheVariants as offer
 use Rattle.wires.specs.declared.wire.Progress.TheVariants.{Done, Waiting, End, Fault}
 
 -- lists one after the other

@@ -1,3 +1,0 @@
-pub mod SendQueue
-pub mod Reply
-pub mod Outgoing
